@@ -1,6 +1,6 @@
 -- The normal form of a plain grammar: its literal tokens by first sight, and its rules with their steps by number.
-use Rattle.std.specs.Prelude.{◌≡◌, ℕ, ◌+◌, ◌≤◌, suc, Bool, false, not, ◌&&◌, nat_eq, nat_le, nat_lt, if◌then◌else◌, List, [], ◌∷◌, ◌++◌, length, map, sum, count_by, Option, Some, None, option_map, option_and_then, unwrap_or, is_none, All}
-use Rattle.std.specs.List.{filter, fold, position_or_len}
+use Rattle.std.specs.Prelude.{◌≡◌, ℕ, ◌+◌, ◌≤◌, suc, Bool, true, false, not, ◌&&◌, nat_eq, nat_le, nat_lt, if◌then◌else◌, List, [], ◌∷◌, ◌++◌, length, map, sum, count_by, Option, Some, None, option_map, option_and_then, unwrap_or, is_none, All}
+use Rattle.std.specs.List.{filter, fold, position_or_len, list_all}
 use Rattle.std.specs.Str.{bytes_eq}
 use Rattle.indexmap.specs.IndexSet.{insert_key}
 use Rattle.ts_core.specs.declared.symbol.Symbol.{Symbol}
@@ -109,7 +109,7 @@ next_by next (Some text) = next
 abbrev pub numbered : List (List ℕ) → List (List ℕ) → ℕ → List NamedRule → List (List ℕ × ℕ)
 numbered all texts next [] = []
 numbered all texts next (rule ∷ rules) =
-  (rule.0, number_by texts next (token_named all rule)) ∷ numbered all texts (next_by next (token_named all rule)) rules
+    (rule.0, number_by texts next (token_named all rule)) ∷ numbered all texts (next_by next (token_named all rule)) rules
 
 -- the symbols of all names: the start rule comes right after the tokens, and the others follow
 abbrev pub symbols_by : List (List ℕ) → List (List ℕ) → NamedRule → List NamedRule → List (List ℕ × ℕ)
@@ -157,7 +157,7 @@ plain_grammar tokens rules = record { tokens = tokens; rules = rules }
 
 abbrev pub normal_with : List (List ℕ) → List (List ℕ) → NamedRule → List NamedRule → Option PlainGrammar
 normal_with all texts start others =
-  option_map (plain_grammar (tokens_by all others texts)) (rules_by texts (symbols_by all texts start others) (start ∷ kept all others))
+    option_map (plain_grammar (tokens_by all others texts)) (rules_by texts (symbols_by all texts start others) (start ∷ kept all others))
 
 abbrev pub normal_by : List (List ℕ) → NamedRule → List NamedRule → Option PlainGrammar
 normal_by all start others = normal_with all (first_sights all) start others
@@ -166,6 +166,24 @@ normal_by all start others = normal_with all (first_sights all) start others
 abbrev pub Normal : List NamedRule → Option PlainGrammar
 Normal [] = None
 Normal (start ∷ others) = normal_by (all_literals (start ∷ others)) start others
+
+-- ---- what makes rules plain
+
+-- A name that begins with a low line hides its rule.
+abbrev pub is_hidden : List ℕ → Bool
+is_hidden [] = false
+is_hidden (byte ∷ bytes) = nat_eq byte 95
+
+-- one layer of a rule tree, with the answers of the inner trees in their places
+abbrev pub filled_step : Rule-F Bool → Bool
+filled_step (Rule-F.Literal text) = not (nat_eq (length text) 0)
+filled_step (Rule-F.Symbol name) = true
+filled_step (Rule-F.Seq trees) = not (nat_eq (length trees) 0) && list_all (λ filled. filled) trees
+filled_step _ = false
+
+-- whether the tree is made of texts, names and sequences, none of them empty
+abbrev pub is_filled : Rule → Bool
+is_filled = fold-Rule Bool filled_step
 
 -- ---- limits
 
@@ -180,8 +198,11 @@ characters text = count_by is_first_byte text
 abbrev pub positions_of : LiteralToken → ℕ
 positions_of token = characters token.text
 
--- the rules have this normal form, which passes no limit, and no rule of it comes back to itself
+-- The rules are plain, and this is their normal form: no rule is hidden, empty in a part or comes back to itself,
+-- and no limit is passed.
 pub record IsPlain (rules : List NamedRule) (g : PlainGrammar) : Type 0 where
+  pub shown : All (λ rule. is_hidden rule.0 ≡ false) rules
+  pub filled : All (λ rule. is_filled rule.1 ≡ true) rules
   pub normal : Normal rules ≡ Some g
   pub few_rules : length rules ≤ 4096
   -- the end counts among the symbols

@@ -35,9 +35,9 @@ pub record IsRule (g : PlainGrammar) (symbol : ℕ) (rule : PlainRule) : Type 0 
 abbrev mutual
   pub Expands : PlainGrammar → ℕ → Node → Type 0
   Expands g symbol (node own pad size children) =
-    (own ≡ symbol)
-    × (((token : LiteralToken) × IsToken g symbol token × (pad ≡ 0) × (size ≡ length token.text) × (children ≡ no_nodes))
-    ⊎ ((rule : PlainRule) × IsRule g symbol rule × (pad ≡ first_pad children) × (pad + size ≡ extent_of_all children) × ExpandsAll g rule.steps children))
+      (own ≡ symbol)
+      × (((token : LiteralToken) × IsToken g symbol token × (pad ≡ 0) × (size ≡ length token.text) × (children ≡ no_nodes))
+      ⊎ ((rule : PlainRule) × IsRule g symbol rule × (pad ≡ first_pad children) × (pad + size ≡ extent_of_all children) × ExpandsAll g rule.steps children))
 
   pub ExpandsAll : PlainGrammar → List Symbol → Nodes → Type 0
   ExpandsAll g [] no_nodes = Unit {0}
@@ -99,9 +99,9 @@ pub data Ending : Type 0 where
 -- made only once the next token is found, so it is then that it can be too deep.
 abbrev pub walk : PlainGrammar → List ℕ → List Event → ℕ → ℕ → Ending
 walk g text [] place depth =
-  if finds_end text place then (if nat_lt most_depth depth then deep else accepted) else stuck place
+    if finds_end text place then (if nat_lt most_depth depth then deep else accepted) else stuck place
 walk g text (token number ∷ events) place depth =
-  if finds g text place number
+    if finds g text place number
     then (if nat_lt most_depth depth then deep else walk g text events (place + length (token_text g number)) 0)
     else stuck place
 walk g text (complete d ∷ events) place depth = walk g text events place (max depth d)

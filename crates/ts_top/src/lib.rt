@@ -1,0 +1,4 @@
+//! The one public call of the program, `run`, over its private parts.
+#![tactic(auto)]
+
+mod plain_form;
