@@ -1,0 +1,54 @@
+-- The characters of a string (RFC 8259, section 7), with two narrowings: an escape of a high surrogate is followed by one of a low surrogate, and no low one stands
+-- alone. A raw byte here is any byte that is no control character, quote or backslash: that the whole text is UTF-8 is asked in `Reads`.
+use Rattle.std.specs.Prelude.{◌≡◌, ◌≢◌, ℕ, zero, suc, ◌+◌, ◌-◌, ◌*◌, ◌<◌, ◌≤◌, ◌⊎◌, List, [], ◌∷◌, ◌++◌}
+use Rattle.std.specs.Char.{encode_utf8, digit_value}
+
+abbrev pub IsRaw : ℕ → Type 0
+IsRaw c = (32 ≤ c) × (c ≢ 34) × (c ≢ 92)
+
+-- a backslash and x stand for the character c
+abbrev pub IsShort : ℕ → ℕ → Type 0
+IsShort x c =
+    ((x ≡ 34) × (c ≡ 34)) ⊎ (((x ≡ 92) × (c ≡ 92)) ⊎ (((x ≡ 47) × (c ≡ 47)) ⊎ (((x ≡ 98) × (c ≡ 8))
+    ⊎ (((x ≡ 102) × (c ≡ 12)) ⊎ (((x ≡ 110) × (c ≡ 10)) ⊎ (((x ≡ 114) × (c ≡ 13)) ⊎ ((x ≡ 116) × (c ≡ 9))))))))
+
+-- w begins with this many hex digits, which after the number n spell the number u, and r follows
+abbrev pub Hex : ℕ → ℕ → ℕ → List ℕ → List ℕ → Type 0
+Hex zero n u w r = (u ≡ n) × (r ≡ w)
+Hex (suc k) n u w r = (d : ℕ) × (v : List ℕ) × (w ≡ d ∷ v) × (digit_value d < 16) × Hex k (n * 16 + digit_value d) u v r
+
+-- w begins with an escape of the code unit u, and r follows
+abbrev pub Unit16 : ℕ → List ℕ → List ℕ → Type 0
+Unit16 u w r = (v : List ℕ) × (w ≡ 92 ∷ 117 ∷ v) × Hex 4 0 u v r
+
+abbrev pub IsHigh : ℕ → Type 0
+IsHigh u = (55296 ≤ u) × (u < 56320)
+
+abbrev pub IsLow : ℕ → Type 0
+IsLow u = (56320 ≤ u) × (u < 57344)
+
+abbrev pub IsAlone : ℕ → Type 0
+IsAlone u = (u < 55296) ⊎ (57344 ≤ u)
+
+abbrev pub pair_of : ℕ → ℕ → ℕ
+pair_of high low = 65536 + (high - 55296) * 1024 + (low - 56320)
+
+-- how one character is written
+pub data Mark : Type 0 where
+  raw : ℕ → Mark
+  short : ℕ → ℕ → Mark
+  unit : ℕ → Mark
+  pair : ℕ → ℕ → Mark
+
+-- w begins with characters written like this and the quote that ends the string, the characters' UTF-8 is s, and r follows
+abbrev pub Characters : List Mark → List ℕ → List ℕ → List ℕ → Type 0
+Characters [] s w r = (s ≡ []) × (w ≡ 34 ∷ r)
+Characters (raw c ∷ ms) s w r = (t : List ℕ) × (v : List ℕ) × IsRaw c × (w ≡ c ∷ v) × (s ≡ c ∷ t) × Characters ms t v r
+Characters (short x c ∷ ms) s w r = (t : List ℕ) × (v : List ℕ) × IsShort x c × (w ≡ 92 ∷ x ∷ v) × (s ≡ c ∷ t) × Characters ms t v r
+Characters (unit u ∷ ms) s w r = (t : List ℕ) × (v : List ℕ) × IsAlone u × Unit16 u w v × (s ≡ encode_utf8 u ++ t) × Characters ms t v r
+Characters (pair h l ∷ ms) s w r =
+    (t : List ℕ) × (m : List ℕ) × (v : List ℕ) × IsHigh h × IsLow l × Unit16 h w m × Unit16 l m v × (s ≡ encode_utf8 (pair_of h l) ++ t) × Characters ms t v r
+
+-- w begins with a string whose characters' UTF-8 is s, and r follows
+abbrev pub Quoted : List ℕ → List ℕ → List ℕ → Type 0
+Quoted s w r = (v : List ℕ) × (ms : List Mark) × (w ≡ 34 ∷ v) × Characters ms s v r

@@ -1,0 +1,67 @@
+-- What is read from which bytes, and what each refusal says.
+use Rattle.std.specs.Prelude.{◌≡◌, ℕ, ◌+◌, ◌-◌, ◌≤◌, ◌<◌, List, ◌∷◌, [], ◌++◌, length, take, drop, ⊤, IsUtf8}
+use Rattle.std.specs.Str.{IsValidUpTo}
+use Rattle.ts_ojson.specs.declared.value.OJson.{OJson}
+use Rattle.ts_ojson.specs.declared.fault.OFault.{OFault}
+use Rattle.ts_ojson.specs.declared.fault.OFault.TheVariants.{Syntax, Utf8, Deep, Duplicate, Memory}
+use Rattle.ts_ojson.specs.Json.{Json, json_of, depth, HasDistinctNames}
+use Rattle.ts_ojson.specs.Characters.{Quoted}
+use Rattle.ts_ojson.specs.Text.{IsText}
+
+-- arrays and objects nest no deeper than is read
+abbrev pub IsShallow : Json → Type 0
+IsShallow j = depth j ≤ 256
+
+-- the bytes are a text of this value, in UTF-8
+pub record Reads (v : OJson) (w : List ℕ) : Type 0 where
+  pub utf8 : IsUtf8 w
+  pub text : IsText (json_of v) w
+  pub shallow : IsShallow (json_of v)
+  pub distinct : HasDistinctNames (json_of v)
+
+-- the bytes are a front of some text, of a value that is so
+abbrev pub Begins : (Json → Type 0) → List ℕ → Type 0
+Begins P u = (rest : List ℕ) × (j : Json) × IsText j (u ++ rest) × P j
+
+abbrev pub IsAny : Json → Type 0
+IsAny j = ⊤
+
+-- nothing in these bytes is too deep, and no name in them stands twice
+abbrev pub IsKept : List ℕ → Type 0
+IsKept u = Begins (λ j. IsShallow j × HasDistinctNames j) u
+
+-- the first p bytes are the longest front that begins a text, and the whole is none
+pub record IsSyntaxFault (w : List ℕ) (p : ℕ) : Type 0 where
+  pub utf8 : IsUtf8 w
+  pub within : p ≤ length w
+  pub before : IsKept (take p w)
+  pub longest : (q : ℕ) → p < q → q ≤ length w → Begins IsAny (take q w) → ⊥
+  pub no_text : (j : Json) → IsText j w → ⊥
+
+-- with the byte at p the nesting passes what is read
+pub record IsDeepFault (w : List ℕ) (p : ℕ) : Type 0 where
+  pub utf8 : IsUtf8 w
+  pub within : p < length w
+  pub before : IsKept (take p w)
+  pub begins : Begins IsAny (take (p + 1) w)
+  pub deep : Begins IsShallow (take (p + 1) w) → ⊥
+
+-- a string stands from p to before q, blanks could stand before it, and with its last quote a name stands twice
+pub record IsDuplicateFault (w : List ℕ) (p : ℕ) : Type 0 where
+  pub utf8 : IsUtf8 w
+  pub close : ℕ
+  pub within : (p < close) × (close < length w)
+  pub name : List ℕ
+  pub string : Quoted name (take (close + 1 - p) (drop p w)) []
+  pub starts : Begins IsAny (take p w ++ 32 ∷ [])
+  pub before : IsKept (take close w)
+  pub begins : Begins IsAny (take (close + 1) w)
+  pub twice : Begins HasDistinctNames (take (close + 1) w) → ⊥
+
+-- the cause of each refusal; want of memory has none
+abbrev pub IsFault : OFault → List ℕ → Type 0
+IsFault (Syntax p) w = IsSyntaxFault w p
+IsFault (Utf8 p) w = IsValidUpTo w p
+IsFault (Deep p) w = IsDeepFault w p
+IsFault (Duplicate p) w = IsDuplicateFault w p
+IsFault Memory w = ⊤

@@ -1,0 +1,26 @@
+-- Where a text may be cut, and where bytes stop being UTF-8.
+use Rattle.std.proofs.Common.{◌≡◌, ℕ, ◌<◌, List, length, sym, ◌∙◌, arith}
+use Rattle.std.proofs.lemmas.Str.{utf8_valid_len-IsUtf8, utf8_valid_len-IsValidUpTo, IsCharBoundary-start, IsCharBoundary-end}
+use Rattle.std.specs.Str.{IsUtf8, IsValidUpTo, IsCharBoundary}
+use Rattle.std.specs.Str.Lossy.{utf8_valid_len}
+use Rattle.ts_text.specs.Text.{IsText, BreaksAt}
+
+-- bytes that are UTF-8 break nowhere
+pub whole_breaks_nowhere : (bytes : List ℕ) (n : ℕ) → IsUtf8 bytes → BreaksAt bytes n → ⊥
+whole_breaks_nowhere bytes n whole broken =
+    let all : utf8_valid_len bytes ≡ length bytes = utf8_valid_len-IsUtf8 bytes whole in
+    let some : utf8_valid_len bytes ≡ n = utf8_valid_len-IsValidUpTo bytes n broken.breaks in
+    let short : n < length bytes = broken.breaks.short in
+    omega arith
+
+-- bytes break at one place
+pub breaks_once : (bytes : List ℕ) (m n : ℕ) → IsValidUpTo bytes m → IsValidUpTo bytes n → m ≡ n
+breaks_once bytes m n one other =
+    sym (utf8_valid_len-IsValidUpTo bytes m one) ∙ utf8_valid_len-IsValidUpTo bytes n other
+
+-- both ends of a text are on characters
+pub start_is_boundary : (text : List ℕ) → IsText text → IsCharBoundary text 0
+start_is_boundary text is = IsCharBoundary-start text is.utf8
+
+pub end_is_boundary : (text : List ℕ) → IsCharBoundary text (length text)
+end_is_boundary text = IsCharBoundary-end text

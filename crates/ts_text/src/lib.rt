@@ -1,0 +1,14 @@
+//! Texts of at most 1 MiB of UTF-8, edits of them, and the rows and columns of their places.
+//!
+//! A place is a count of bytes from the text's start, and lies between two bytes or at an end.
+#![tactic(auto)]
+
+mod edit;
+mod point;
+#[cfg(test)]
+mod tests;
+mod text;
+
+pub use edit::{Edit, EditFault, apply};
+pub use point::PointWalk;
+pub use text::{MOST_BYTES, Text, TextFault};
