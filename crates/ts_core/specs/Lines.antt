@@ -1,6 +1,7 @@
 -- The lines that the program prints: a compact JSON object, its members in byte order, and a newline.
-use Rattle.std.specs.Prelude.{ℕ, Bool, List, [], ◌∷◌, ◌++◌, codes}
+use Rattle.std.specs.Prelude.{ℕ, List, [], ◌∷◌, ◌++◌, map, codes}
 use Rattle.serde_json.specs.Data.{Data, string, number, unsigned, boolean, array, object, Items, no_items, item, Members, no_members, member}
+use Rattle.serde_json.specs.View.{items_of}
 use Rattle.serde_json.specs.Written.{compact_text}
 use Rattle.ts_core.specs.declared.shown.Shown.{Shown}
 
@@ -11,8 +12,7 @@ abbrev pub count : ℕ → Data
 count n = number (unsigned n)
 
 abbrev pub text_items : List (List ℕ) → Items
-text_items [] = no_items
-text_items (text ∷ texts) = item (string text) (text_items texts)
+text_items texts = items_of (map string texts)
 
 -- depth, kind, named, fields, start, end, row and column
 abbrev pub node_data : Shown → Data
@@ -21,8 +21,7 @@ node_data n =
     (item (count n.start) (item (count n.end) (item (count n.row) (item (count n.column) no_items))))))))
 
 abbrev pub node_items : List Shown → Items
-node_items [] = no_items
-node_items (n ∷ ns) = item (node_data n) (node_items ns)
+node_items nodes = items_of (map node_data nodes)
 
 -- ---- outcomes
 
