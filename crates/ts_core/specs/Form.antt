@@ -1,5 +1,5 @@
 -- Grammar files of the plain form: the rules that a JSON value holds, and which bytes are such a file.
-use Rattle.std.specs.Prelude.{◌≡◌, ℕ, ◌≤◌, Bool, true, false, ◌&&◌, if◌then◌else◌, List, [], ◌∷◌, length, Option, Some, None, option_map, unwrap_or, is_some, codes}
+use Rattle.std.specs.Prelude.{◌≡◌, ℕ, ◌≤◌, Bool, true, false, ◌&&◌, if◌then◌else◌, List, [], ◌∷◌, length, Option, Some, None, option_map, option_and_then, unwrap_or, is_some, codes}
 use Rattle.std.specs.Str.{bytes_eq}
 use Rattle.ts_ojson.specs.Json.{Json, null, boolean, number, string, array, object, Items, no_items, item, Members, no_members, member, json_of}
 use Rattle.ts_ojson.specs.Reads.{Reads}
@@ -20,27 +20,27 @@ abbrev pub text_of : Option Json → Option (List ℕ)
 text_of (Some (string text)) = Some text
 text_of _ = None
 
-abbrev pub is_absent : Option Json → Bool
-is_absent None = true
-is_absent (Some value) = false
+abbrev pub members_in : Json → Option Members
+members_in (object ms) = Some ms
+members_in _ = None
 
--- `word` may be null, which says that there is none.
-abbrev pub is_absent_or_null : Option Json → Bool
-is_absent_or_null None = true
-is_absent_or_null (Some null) = true
-is_absent_or_null (Some _) = false
+abbrev pub absent_or : (Json → Bool) → Option Json → Bool
+absent_or test None = true
+absent_or test (Some value) = test value
 
-abbrev pub is_absent_or_no_items : Option Json → Bool
-is_absent_or_no_items None = true
-is_absent_or_no_items (Some (array no_items)) = true
-is_absent_or_no_items (Some _) = false
+abbrev pub is_null : Json → Bool
+is_null null = true
+is_null _ = false
 
--- `reserved` is an object or an array.
-abbrev pub is_absent_or_empty : Option Json → Bool
-is_absent_or_empty None = true
-is_absent_or_empty (Some (array no_items)) = true
-is_absent_or_empty (Some (object no_members)) = true
-is_absent_or_empty (Some _) = false
+abbrev pub has_no_items : Json → Bool
+has_no_items (array no_items) = true
+has_no_items _ = false
+
+-- an array or an object with nothing in it
+abbrev pub is_hollow : Json → Bool
+is_hollow (array no_items) = true
+is_hollow (object no_members) = true
+is_hollow _ = false
 
 -- ---- rules
 
@@ -87,29 +87,32 @@ abbrev pub rules_in : Members → Option (List NamedRule)
 rules_in no_members = Some []
 rules_in (member name value ms) = in_front (rule_at name value) (rules_in ms)
 
-abbrev pub rules_at : Option Json → Option (List NamedRule)
-rules_at (Some (object ms)) = rules_in ms
-rules_at _ = None
-
 -- ---- the file
 
--- a name is there, and of the optional members none that has something in it
+-- A name is there. `word` is absent or null, and the other optional members are absent or empty.
+abbrev pub has_no_lists : Members → Bool
+has_no_lists ms =
+    absent_or has_no_items (find (codes "extras") ms)
+    && absent_or has_no_items (find (codes "conflicts") ms)
+    && absent_or has_no_items (find (codes "precedences") ms)
+    && absent_or has_no_items (find (codes "externals") ms)
+    && absent_or has_no_items (find (codes "inline") ms)
+    && absent_or has_no_items (find (codes "supertypes") ms)
+
 abbrev pub is_bare : Members → Bool
 is_bare ms =
     is_some (text_of (find (codes "name") ms))
-    && is_absent_or_null (find (codes "word") ms)
-    && is_absent_or_no_items (find (codes "extras") ms)
-    && is_absent_or_no_items (find (codes "conflicts") ms)
-    && is_absent_or_no_items (find (codes "precedences") ms)
-    && is_absent_or_no_items (find (codes "externals") ms)
-    && is_absent_or_empty (find (codes "reserved") ms)
-    && is_absent_or_no_items (find (codes "inline") ms)
-    && is_absent_or_no_items (find (codes "supertypes") ms)
+    && absent_or is_null (find (codes "word") ms)
+    && absent_or is_hollow (find (codes "reserved") ms)
+    && has_no_lists ms
+
+-- the rules of the object at the member `rules`
+abbrev pub file_rules : Members → Option (List NamedRule)
+file_rules ms = if is_bare ms then option_and_then rules_in (option_and_then members_in (find (codes "rules") ms)) else None
 
 -- the rules of a grammar file, where it has the plain form
 abbrev pub grammar_rules : Json → Option (List NamedRule)
-grammar_rules (object ms) = if is_bare ms then rules_at (find (codes "rules") ms) else None
-grammar_rules _ = None
+grammar_rules file = option_and_then file_rules (members_in file)
 
 -- the bytes are a grammar file of the plain form, whose rules have this normal form
 pub record IsBuilt (bytes : List ℕ) (g : PlainGrammar) : Type 0 where

@@ -14,6 +14,6 @@ nodes_have_none [] = refl
 nodes_have_none (node ∷ nodes) = rw (texts_have_none node.fields) (nodes_have_none nodes)
 
 pub tree_has_none : (nodes : List Shown) (all whole : Data) → all ≡ array (node_items nodes)
-  → whole ≡ object (member (codes "nodes") all (member (codes "outcome") (string (codes "tree")) no_members))
-  → has_float whole ≡ false
+    → whole ≡ object (member (codes "nodes") all (member (codes "outcome") (string (codes "tree")) no_members))
+    → has_float whole ≡ false
 tree_has_none nodes all whole is built = rw built (rw is (rw (nodes_have_none nodes) refl))

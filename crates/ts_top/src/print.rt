@@ -21,7 +21,10 @@ pub(crate) fn tree(alloc: Global, nodes: &List<Shown>) -> Result<String, AllocEr
 pub(crate) fn stuck(alloc: Global, place: u32) -> Result<String, AllocError>
     ensures { IfOk result (λ s. string_bytes s ≡ stuck_line place) }
 {
-    line(alloc, json!(in alloc; {"outcome": "stuck", "place": place})?)
+    line(
+        alloc,
+        json!(in alloc; {"outcome": "stuck", "place": place})?,
+    )
 }
 
 /// The line of a parse that came to a tree too deep.
@@ -39,17 +42,28 @@ pub(crate) fn fault(alloc: Global, word: &str, status: u8) -> Result<String, All
 }
 
 /// The line of a fault at a path.
-pub(crate) fn fault_at(alloc: Global, path: &str, word: &str, status: u8) -> Result<String, AllocError>
+pub(crate) fn fault_at(
+    alloc: Global,
+    path: &str,
+    word: &str,
+    status: u8,
+) -> Result<String, AllocError>
     ensures { IfOk result (λ s. string_bytes s ≡ fault_line_at path.now word.now status) }
 {
-    line(alloc, json!(in alloc; {"at": path, "fault": word, "status": status})?)
+    line(
+        alloc,
+        json!(in alloc; {"at": path, "fault": word, "status": status})?,
+    )
 }
 
 /// The line of a text that is no UTF-8 from a place on.
 pub(crate) fn text_fault(alloc: Global, path: &str, place: u32) -> Result<String, AllocError>
     ensures { IfOk result (λ s. string_bytes s ≡ text_line path.now place) }
 {
-    line(alloc, json!(in alloc; {"at": path, "fault": "text", "place": place, "status": 9u8})?)
+    line(
+        alloc,
+        json!(in alloc; {"at": path, "fault": "text", "place": place, "status": 9u8})?,
+    )
 }
 
 /// One line: the value and a newline.
