@@ -1,2 +1,4 @@
 pub mod Members
+pub mod Order
 pub mod PlainForm
+pub mod Walk

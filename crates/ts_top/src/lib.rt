@@ -2,5 +2,9 @@
 #![tactic(auto)]
 
 mod form;
+mod order;
 mod plain_form;
 mod print;
+#[cfg(test)]
+mod tests_walk;
+mod walk;

@@ -1,0 +1,133 @@
+ghost use Rattle.std.specs.Prelude.{◌≡◌, ℕ, ◌+◌, ◌<◌, ◌≤◌, length, map, IfOk, IfSome, IfNone, IsTrue, IsFalse, slice_get, Some};
+ghost use Rattle.ts_core.specs.Plain.{IsClosed, Leads, start_of};
+ghost use Rattle.ts_top.specs.PlainForm.{IsRanked};
+ghost use Rattle.ts_top.specs.Order.{AllDone, AllUnseen, Falls, Goes, IsDone, Lead, unseen};
+ghost use Rattle.ts_top.specs.Order;
+ghost use Rattle.ts_top.specs.declared.order.Mark.TheVariants.{Unseen};
+
+use std::alloc::{AllocError, Global};
+use ts_core::{List, PlainGrammar, Symbol};
+
+/// How far the search has come with a rule.
+#[derive(Clone, Copy, Debug, PartialEq, Eq)]
+enum Mark {
+    Unseen,
+    /// The search is among the rules that stand in it.
+    Open,
+    /// All that it leads to is done. Its rank is above theirs.
+    Done(usize),
+}
+
+/// The place of a step's rule, or none where the step is a token.
+fn rule_of(grammar: &PlainGrammar, step: Symbol) -> Option<usize>
+    ensures rule { IfSome result (λ to. step.0 ≡ start_of grammar.now + to) }
+    ensures token { IfNone result (step.0 < start_of grammar.now) }
+{
+    let number = usize::from(step.0);
+    let tokens = grammar.tokens.len();
+    if number > tokens {
+        Some(number - tokens - 1)
+    } else {
+        None
+    }
+}
+
+/// Comes from an open rule to one that stands in it. It gives the next rank, or none where the search came in a circle.
+#[cycle(search)]
+fn come_to(grammar: &PlainGrammar, marks: &mut [Mark], rule: usize, next: usize) -> Option<usize>
+    requires closed { IsClosed grammar.now }
+    requires rule { rule < length marks.old }
+    requires lead { Lead grammar.now marks.old rule }
+    requires falls { Falls grammar.now marks.old next }
+    requires room { next + unseen marks.old ≤ length marks.old }
+    ensures goes { IfSome result (λ after. Goes marks.old marks.new next after) }
+    ensures falls { IfSome result (λ after. Falls grammar.now marks.new after) }
+    ensures done { IfSome result (λ _. IsDone marks.new rule) }
+    ensures cyclic { IfNone result ((k : ℕ) × Leads grammar.now k k) }
+{
+    match marks[rule] {
+        Mark::Unseen => visit(grammar, marks, rule, next),
+        Mark::Open => None,
+        Mark::Done(_) => Some(next),
+    }
+}
+
+/// Goes through a rule that is unseen, and ranks it above all that it leads to.
+#[cycle(search)]
+fn visit(grammar: &PlainGrammar, marks: &mut [Mark], rule: usize, next: usize) -> Option<usize>
+    requires closed { IsClosed grammar.now }
+    requires unseen { slice_get marks.old rule ≡ Some Unseen }
+    requires lead { Lead grammar.now marks.old rule }
+    requires falls { Falls grammar.now marks.old next }
+    requires room { next + unseen marks.old ≤ length marks.old }
+    ensures goes { IfSome result (λ after. Goes marks.old marks.new next after) }
+    ensures falls { IfSome result (λ after. Falls grammar.now marks.new after) }
+    ensures done { IfSome result (λ _. IsDone marks.new rule) }
+    ensures cyclic { IfNone result ((k : ℕ) × Leads grammar.now k k) }
+{
+    let mut next = next;
+    marks[rule] = Mark::Open;
+    let from = grammar.rules.get(rule);
+    for step in from.steps.as_slice() {
+        if let Some(to) = rule_of(grammar, *step) {
+            next = come_to(grammar, marks, to, next)?;
+        }
+    }
+    marks[rule] = Mark::Done(next);
+    Some(next + 1)
+}
+
+/// Ranks all rules, or comes back to a rule in a circle and answers false.
+fn visit_all(grammar: &PlainGrammar, marks: &mut [Mark]) -> bool
+    requires closed { IsClosed grammar.now }
+    requires unseen { AllUnseen grammar.now marks.old }
+    ensures ranked { IsTrue result → AllDone grammar.now marks.new }
+    ensures cyclic { IsFalse result → (k : ℕ) × Leads grammar.now k k }
+{
+    let mut next = 0;
+    for rule in 0..marks.len() {
+        match come_to(grammar, marks, rule, next) {
+            Some(after) => next = after,
+            None => return false,
+        }
+    }
+    true
+}
+
+fn rank_of(mark: Mark) -> usize
+    ensures { result ≡ Order.rank_of mark }
+{
+    match mark {
+        Mark::Done(rank) => rank,
+        Mark::Unseen | Mark::Open => 0,
+    }
+}
+
+/// The ranks that the search gave.
+fn ranks_of(alloc: Global, marks: &[Mark]) -> Result<List<usize>, AllocError>
+    ensures { IfOk result (λ ranks. ranks ≡ map Order.rank_of marks.now) }
+{
+    let mut ranks = List::new(alloc);
+    for mark in marks {
+        ranks.push(rank_of(*mark))?;
+    }
+    Ok(ranks)
+}
+
+/// A rank for each rule, above those of all rules that stand in it, or none where a rule comes back to itself.
+pub(crate) fn ranks(
+    alloc: Global,
+    grammar: &PlainGrammar,
+) -> Result<Option<List<usize>>, AllocError>
+    requires { IsClosed grammar.now }
+    ensures ranked { IfOk result (λ o. IfSome o (λ ranks. IsRanked grammar.now ranks)) }
+    ensures cyclic { IfOk result (λ o. IfNone o ((k : ℕ) × Leads grammar.now k k)) }
+{
+    let mut search = vec![in alloc; Mark::Unseen; grammar.rules.len()]?;
+    let marks = search.as_mut_slice();
+    if !visit_all(grammar, marks) {
+        return Ok(None);
+    }
+    let ranks = ranks_of(alloc, marks)?;
+    Ok(Some(ranks))
+}
