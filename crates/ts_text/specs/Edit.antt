@@ -1,4 +1,4 @@
--- What an edit does to a text. These three definitions alone know what an edit consists of.
+-- What an edit does to a text. These definitions alone know what an edit consists of.
 use Rattle.std.specs.Prelude.{ℕ, ◌≡◌, ◌≤◌, ◌<◌, List, ◌++◌, length, take, drop}
 use Rattle.std.specs.Str.{IsCharBoundary}
 use Rattle.ts_text.specs.declared.edit.Edit.{Edit}

@@ -22,7 +22,7 @@ pub struct Edit {
 #[derive(Debug, PartialEq, Eq, Drop, Error)]
 pub enum EditFault {
     /// The start is above the end, the end is past the text, or one of them is inside a character.
-    #[error("the range of the edit is none of the text")]
+    #[error("the edit's range is not one of the text")]
     Range,
 
     /// The text would have too many bytes: so many.
