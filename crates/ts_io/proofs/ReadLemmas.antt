@@ -1,9 +1,6 @@
 -- Bytes that are read one piece after another, from a reader that may tell what it has left.
-use Rattle.std.proofs.Common.{◌≡◌, ◌∙◌, sym, ap, ℕ, ◌+◌, ◌<◌, List, [], ◌++◌, length, take, Option, Some, None, append_assoc, arith}
-use Rattle.std.proofs.lemmas.List.{append-nil, length-append, length-take}
-use Rattle.std.specs.Io.KnownBytes.{Consumes, IsAtEnd}
-use Rattle.ts_io.specs.Read.{ReadsAll}
-use Rattle.ts_io.specs.declared.folder.Found.TheVariants.{Bytes, Over}
+use Rattle.std.proofs.Common.{◌∙◌, sym, ap, ℕ, List, ◌++◌, Option, Some, None, append_assoc}
+use Rattle.std.specs.Io.KnownBytes.{Consumes}
 
 pub consumes_more : (a b c : Option (List ℕ)) (xs ys : List ℕ) → Consumes a b xs → Consumes b c ys → Consumes a c (xs ++ ys)
 consumes_more None b c xs ys p q = tt

@@ -1,8 +1,8 @@
 use crate::folder::{Folder, Found, ReadFault};
 use std::alloc::Global;
 
-/// Files in memory, each a path and its bytes. Of equal paths the first counts. Reads fail at the numbers that are
-/// listed. They are numbered from 0, and those past the last value of a `u64` all have that number.
+/// Files in memory, each a path and its bytes. Of equal paths the first counts. A read copies the bytes. It fails where
+/// its number is listed. Reads are numbered from 0, and those past the last value of a `u64` all have that number.
 #[derive(Debug, Drop)]
 pub struct MemFolder {
     files: Vec<(String, Vec<u8>)>,
@@ -33,7 +33,8 @@ impl MemFolder {
     /// The bytes of the first file with that path.
     fn bytes_at(&self, path: &str) -> Option<&[u8]>
         ensures none { IfNone result (file_at (files_of self.now) path.now ≡ None) }
-        ensures some { IfSome result (λ bytes. file_at (files_of self.now) path.now ≡ Some bytes.now) }
+        ensures some { IfSome result (λ bytes.
+            file_at (files_of self.now) path.now ≡ Some bytes.now) }
     {
         for (name, bytes) in &self.files {
             if name.as_str() == path {
@@ -60,11 +61,14 @@ impl Folder for MemFolder {
         ensures within { IfOk result (KeepsLimit limit) }
 
         ensures later { faults_of self.old ≤ faults_of self.new }
-        ensures failed { result ≡ Err ReadFault.Failed → Rose (faults_of self.old) (faults_of self.new) }
+        ensures failed { result ≡ Err ReadFault.Failed →
+            Rose (faults_of self.old) (faults_of self.new) }
 
-        // It fails exactly at the numbers that are listed, and counts its reads and its faults.
-        ensures fails { (result ≡ Err ReadFault.Failed) ↔ Contains (failing_of self.old) (reads_of self.old) }
-        ensures raised { result ≡ Err ReadFault.Failed → faults_of self.new ≡ next_of (faults_of self.old) }
+        // Exactly when it fails, and what it counts.
+        ensures fails { (result ≡ Err ReadFault.Failed) ↔
+            Contains (failing_of self.old) (reads_of self.old) }
+        ensures raised { result ≡ Err ReadFault.Failed →
+            faults_of self.new ≡ next_of (faults_of self.old) }
         ensures kept { result ≢ Err ReadFault.Failed → faults_of self.new ≡ faults_of self.old }
         ensures reads { reads_of self.new ≡ next_of (reads_of self.old) }
         ensures failing { failing_of self.new ≡ failing_of self.old }

@@ -8,8 +8,8 @@ use std::alloc::{AllocError, Global};
 pub const MEM_SINK_ROOM: usize = 16_777_216;
 
 /// A sink in memory, with room for `MEM_SINK_ROOM` bytes, that takes at most `most` bytes a write. It fails at the
-/// writes whose numbers are listed, and where the room is full. Writes are numbered from 0, and those past the last
-/// value of a `u64` all have that number.
+/// writes whose numbers are listed, and where bytes find the room full. Writes are numbered from 0, and those past the
+/// last value of a `u64` all have that number.
 #[derive(Debug, Drop)]
 pub struct MemSink {
     bytes: Vec<u8>,
@@ -51,6 +51,7 @@ impl MemSink {
         self.bytes.as_slice()
     }
 
+    /// Whether the next write fails.
     fn fails(&self, bytes: &[u8]) -> bool
         ensures { IsTrue result ↔ Fails self.now bytes.now }
     {
@@ -71,13 +72,14 @@ impl Sink for MemSink {
     fn write(&mut self, bytes: &[u8]) -> Result<usize, WriteFault>
         ensures bound { IfOk result (λ n. n ≤ length bytes.now) }
         ensures some { 0 < length bytes.now → IfOk result (λ n. 0 < n) }
-        ensures ok { IfOk result (λ n. Appends (Some (bytes_of self.old)) (Some (bytes_of self.new)) (take n bytes.now)) }
+        ensures ok { IfOk result (λ n.
+            Appends (Some (bytes_of self.old)) (Some (bytes_of self.new)) (take n bytes.now)) }
         ensures err { OnErr result (Some (bytes_of self.new) ≡ Some (bytes_of self.old)) }
 
         ensures later { faults_of self.old ≤ faults_of self.new }
         ensures failed { OnErr result (Rose (faults_of self.old) (faults_of self.new)) }
 
-        // It takes so many, fails exactly so, and counts its writes and its faults.
+        // How many it takes, exactly when it fails, and what it counts.
         ensures count { IfOk result (λ n. n ≡ count_of self.old (length bytes.now)) }
         ensures fails { IsErr result ↔ Fails self.old bytes.now }
         ensures raised { OnErr result (faults_of self.new ≡ next_of (faults_of self.old)) }
@@ -94,8 +96,8 @@ impl Sink for MemSink {
         }
         let room = MEM_SINK_ROOM - self.bytes.len();
         let count = self.most.min(bytes.len()).min(room);
-        let (front, _) = bytes.split_at(count);
-        match self.bytes.extend_from_slice(front) {
+        let (taken, _) = bytes.split_at(count);
+        match self.bytes.extend_from_slice(taken) {
             Ok(()) => Ok(count),
             Err(_) => unreachable!(),
         }

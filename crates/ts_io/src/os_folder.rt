@@ -43,7 +43,8 @@ impl<R: Files> Folder for OsFolder<R> {
     fn read(&mut self, alloc: Global, path: &str, limit: u64) -> Result<Found, ReadFault>
         ensures within { IfOk result (KeepsLimit limit) }
         ensures later { faults_of self.old ≤ faults_of self.new }
-        ensures raised { result ≡ Err ReadFault.Failed → faults_of self.new ≡ next_of (faults_of self.old) }
+        ensures raised { result ≡ Err ReadFault.Failed →
+            faults_of self.new ≡ next_of (faults_of self.old) }
         ensures kept { result ≢ Err ReadFault.Failed → faults_of self.new ≡ faults_of self.old }
     {
         let result = read_file(&self.rt, alloc, path, limit);

@@ -1,6 +1,6 @@
 use crate::sink::{Sink, WriteFault};
 
-/// The standard output. An error is a fault, and so is that no byte of a piece was taken. It tells no bytes.
+/// The standard output. An error is a fault, and so is a count of 0 for a piece that is not empty. It tells no bytes.
 ///
 /// A `main` with the runtime `rt` makes one by `OutSink::new(rt.clone()?)`, or over `&rt`.
 #[derive(Drop)]

@@ -18,11 +18,12 @@ pub trait Sink {
     /// How many writes failed. It may stand at the last value of a `u64`.
     ghost faults: { Self → ℕ };
 
-    /// Takes a front of the bytes, and answers how many.
+    /// Takes a prefix of the bytes, and answers how many they are: at least one, where there are any.
     fn write(&mut self, bytes: &[u8]) -> Result<usize, WriteFault>
         ensures bound { IfOk result (λ n. n ≤ length bytes.now) }
         ensures some { 0 < length bytes.now → IfOk result (λ n. 0 < n) }
-        ensures ok { IfOk result (λ n. Appends (taken self.old) (taken self.new) (take n bytes.now)) }
+        ensures ok { IfOk result (λ n.
+            Appends (taken self.old) (taken self.new) (take n bytes.now)) }
         ensures err { OnErr result (taken self.new ≡ taken self.old) }
 
         ensures later { faults self.old ≤ faults self.new }

@@ -1,7 +1,7 @@
 use crate::{Folder, Found, MemFolder, MemSink, OsFolder, OutSink, ReadFault, WriteFault, put};
 use std::alloc::{AllocError, Global};
+use std::fs;
 use std::test::Fail;
-use std::{fs, io};
 
 fn bytes(alloc: Global, text: &str) -> Result<Vec<u8>, AllocError> {
     Vec::from_slice(alloc, text.as_bytes())
