@@ -1,0 +1,185 @@
+ghost use Rattle.std.specs.Prelude.{◌≡◌, ℕ, ◌+◌, ◌<◌, ◌≤◌, ◌^◌, [], Some, length, IsOk, IfOk, IfErr, OnErr, ◌↔◌};
+ghost use Rattle.ts_shelf.specs.Passes.{KnowsOpening, FitsOpening};
+ghost use Rattle.ts_shelf.specs.Turns.{Looked, Answers, ShowsLatest, Stays, IsSplit, IsJoin, Closes};
+ghost use Rattle.ts_shelf.specs.Views.{first_view};
+
+use crate::journal::Journal;
+use crate::pass::Pass;
+use crate::turnstile::Turnstile;
+use std::alloc::{AllocError, Global};
+use std::marker::Model;
+use std::sync::Wait;
+use thiserror::Error;
+
+/// A journal that several threads add to in turns. Contracts see the name of its table.
+#[derive(Drop)]
+pub struct Shelf<J: Journal> {
+    turnstile: Turnstile<J>,
+}
+
+impl<J: Journal> Model for Shelf<J> {
+    ghost use Rattle.atomic_table.specs.Seated.{TableId, table_id_coded};
+
+    ghost Value = { TableId };
+
+    ghost coded = { table_id_coded };
+
+    ghost view = { λ s. s.turnstile.table.shared.table_id };
+}
+
+/// What a look shows: the journal with the entries of smaller turns.
+#[derive(Debug, PartialEq, Eq, Drop)]
+pub struct Seen<S> {
+    pub turn: u64,
+    pub number: u32,
+    pub latest: S,
+}
+
+/// What an offer is answered.
+#[derive(Debug, PartialEq, Eq, Drop)]
+pub enum Offered<S> {
+    /// The item was added, as the entry of this number.
+    Published { turn: u64, number: u32 },
+    /// The journal has more entries than the offer knew, and the item was dropped.
+    Newer { turn: u64, number: u32, latest: S },
+}
+
+/// Why a look or an offer took no turn.
+#[derive(Clone, Copy, Debug, PartialEq, Eq, Error)]
+pub enum Denied {
+    /// All 2^62 turns are over.
+    #[error("all turns are over")]
+    Spent,
+    /// The copy that is shown found no memory, and the turn was given up.
+    #[error("out of memory")]
+    Memory,
+}
+
+impl<J: Journal> Shelf<J> {
+    /// A shelf with a journal that has no entries, and its first pass, which may make as many offers as the journal has room for.
+    pub fn new(alloc: Global, journal: J) -> Result<(Shelf<J>, Pass<J>), AllocError>
+    where
+        J: Drop,
+        requires empty { J.entries journal ≡ [] }
+        ensures shelf { IfOk result (λ r. r.1.shelf ≡ r.0) }
+        ensures first { IfOk result (λ r. r.1.knows ≡ first_view (Some (J.opening journal)) (J.room journal)) }
+        ensures opens { IfOk result (λ r. KnowsOpening J.fits r.1.knows) }
+    {
+        let (turnstile, seat) = Turnstile::new(alloc, journal)?;
+        Ok((Shelf { turnstile }, Pass { seat }))
+    }
+
+    /// Takes a turn, and shows the journal of the entries with smaller turns. It may wait for the turn.
+    pub fn look<R: Wait>(&self, rt: &R, pass: &mut Pass<J>) -> Result<Seen<J::Shown>, Denied>
+        requires shelf { pass.old.shelf ≡ self.now }
+        ensures shelf { pass.new.shelf ≡ pass.old.shelf }
+        ensures opens { KnowsOpening J.fits pass.new.knows }
+        ensures looked { IfOk result (λ r. Looked pass.old.knows pass.new.knows r.turn r.number) }
+        ensures latest { IfOk result (λ r. ShowsLatest J.shown_of pass.new.knows r.latest) }
+        ensures stays { OnErr result (Stays pass.old.knows pass.new.knows) }
+        ensures spent { IfErr result (λ e. (e ≡ Denied.Spent) ↔ (pass.new.knows.reached ≡ 2 ^ 62)) }
+    {
+        let Some(turn) = self.turnstile.take(rt, &mut pass.seat) else {
+            return Err(Denied::Spent);
+        };
+        let number = self.turnstile.number(&mut pass.seat);
+        match self.turnstile.shown(&mut pass.seat) {
+            Ok(latest) => {
+                self.turnstile.give_back(&mut pass.seat, turn);
+                Ok(Seen {
+                    turn,
+                    number,
+                    latest,
+                })
+            }
+            Err(_) => {
+                self.turnstile.give_up(&mut pass.seat, turn);
+                Err(Denied::Memory)
+            }
+        }
+    }
+
+    /// Takes a turn, and adds the item where the journal has just `base` entries at that turn. It may wait for the turn.
+    /// Where the journal has more entries, or at an `Err`, the item is dropped.
+    pub fn offer<R: Wait>(
+        &self,
+        rt: &R,
+        pass: &mut Pass<J>,
+        base: u32,
+        item: J::Item,
+    ) -> Result<Offered<J::Shown>, Denied>
+    where
+        J::Item: Drop,
+        requires shelf { pass.old.shelf ≡ self.now }
+        requires offers { 0 < pass.old.knows.offers }
+        requires fits { FitsOpening J.fits pass.old.knows item }
+        requires base { base ≤ length pass.old.knows.seen }
+        ensures shelf { pass.new.shelf ≡ pass.old.shelf }
+        ensures opens { KnowsOpening J.fits pass.new.knows }
+        ensures answered { IfOk result (λ r. Answers J.shown_of pass.old.knows pass.new.knows base item r) }
+        ensures stays { OnErr result (Stays pass.old.knows pass.new.knows) }
+        ensures spent { IfErr result (λ e. (e ≡ Denied.Spent) ↔ (pass.new.knows.reached ≡ 2 ^ 62)) }
+    {
+        let Some(turn) = self.turnstile.take(rt, &mut pass.seat) else {
+            return Err(Denied::Spent);
+        };
+        let number = self.turnstile.number(&mut pass.seat);
+        if number == base {
+            self.turnstile.add(&mut pass.seat, turn, item);
+            let number = self.turnstile.number(&mut pass.seat);
+            self.turnstile.give_offer(&mut pass.seat, turn);
+            return Ok(Offered::Published { turn, number });
+        }
+        match self.turnstile.shown(&mut pass.seat) {
+            Ok(latest) => {
+                self.turnstile.give_offer(&mut pass.seat, turn);
+                Ok(Offered::Newer {
+                    turn,
+                    number,
+                    latest,
+                })
+            }
+            Err(_) => {
+                self.turnstile.give_up(&mut pass.seat, turn);
+                Err(Denied::Memory)
+            }
+        }
+    }
+
+    /// Another pass, which has seen what the first pass has, and to which so many of its offers move.
+    pub fn split(&self, pass: &mut Pass<J>, offers: u32) -> Result<Pass<J>, AllocError>
+        requires shelf { pass.old.shelf ≡ self.now }
+        requires first { pass.old.knows.first ≡ 1 }
+        requires offers { offers ≤ pass.old.knows.offers }
+        ensures shelf { (pass.new.shelf ≡ pass.old.shelf) × IfOk result (λ other. other.shelf ≡ pass.old.shelf) }
+        ensures opens { KnowsOpening J.fits pass.new.knows × IfOk result (λ other. KnowsOpening J.fits other.knows) }
+        ensures parts { IfOk result (λ other. IsSplit pass.old.knows pass.new.knows other.knows offers) }
+        ensures ok { IsOk result }
+    {
+        let seat = self.turnstile.split(&mut pass.seat, u64::from(offers));
+        Ok(Pass { seat })
+    }
+
+    /// Takes another pass of the shelf into the first one.
+    pub fn join(&self, pass: &mut Pass<J>, other: Pass<J>)
+        requires shelf { (pass.old.shelf ≡ self.now) × (other.shelf ≡ self.now) }
+        requires first { (pass.old.knows.first ≡ 1) × (other.knows.first ≡ 0) }
+        ensures shelf { pass.new.shelf ≡ pass.old.shelf }
+        ensures opens { KnowsOpening J.fits pass.new.knows }
+        ensures joins { IsJoin pass.old.knows other.knows pass.new.knows }
+    {
+        let Pass { seat } = other;
+        self.turnstile.join(&mut pass.seat, seat);
+    }
+
+    /// The journal, once no other pass is out.
+    pub fn close(self, pass: Pass<J>) -> J
+        requires shelf { pass.shelf ≡ self }
+        requires alone { (pass.knows.first ≡ 1) × (pass.knows.out ≡ 0) }
+        ensures { Closes J.entries J.opening J.fits pass.knows result }
+    {
+        let Pass { seat } = pass;
+        let Shelf { turnstile } = self;
+        turnstile.close(seat)
+    }
+}
