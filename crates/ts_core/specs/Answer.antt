@@ -1,7 +1,7 @@
 -- The answer of the program: which status and which bytes the words and the files come to.
 use Rattle.std.specs.Prelude.{◌≡◌, ℕ, ◌≤◌, ◌<◌, ◌⊎◌, List, [], ◌∷◌, length, map, Option, Some, None, String, string_bytes, codes}
 use Rattle.std.specs.declared.alloc.Global.{Global}
-use Rattle.ts_io.specs.Outside.{Files, file_at, Appends}
+use Rattle.ts_io.specs.Outside.{Files, file_at, Appends, AppendsPrefix}
 use Rattle.ts_text.specs.Text.{IsText, BreaksAt, most_bytes}
 use Rattle.ts_core.specs.Tree.{node_of}
 use Rattle.ts_core.specs.Plain.{Plain}
@@ -51,23 +51,52 @@ outcome_line g text Deep = deep_line
 
 -- ---- the answer
 
--- Words and files come to this status and these bytes. The words are judged first, then the files are read, then
--- the grammar is judged, and the text last.
+-- What a grammar file and a text come to, and what is printed of it: the status and the bytes. The grammar is judged
+-- first.
+pub data Judged (grammar text path : List ℕ) : ℕ → List ℕ → Type 0 where
+  unbuilt : ((g : PlainGrammar) → IsBuilt grammar g → ⊥) → Judged grammar text path 5 unbuilt_line
+  too_large : (g : PlainGrammar) → IsBuilt grammar g → most_bytes < length text → Judged grammar text path 9 (text_size_line path)
+  no_text : (g : PlainGrammar) (place : ℕ) → IsBuilt grammar g → BreaksAt text place → Judged grammar text path 9 (text_line path place)
+  parsed : (g : PlainGrammar) (out : Outcome) → IsBuilt grammar g → IsText text → Plain g text out → Judged grammar text path 0 (outcome_line g text out)
+
+-- Words and files come to this status and these bytes. The words are judged first, then the files are read, and then
+-- what they hold is judged.
 pub data Answers (files : Files) (words : List (List ℕ)) : ℕ → List ℕ → Type 0 where
   usage : IsUsage words → Answers files words 1 usage_line
   absent : (path : List ℕ) → IsAbsent files words path → Answers files words 8 (absent_line path)
-  unbuilt : (grammar text path : List ℕ) → Has files words grammar text path
-      → ((g : PlainGrammar) → IsBuilt grammar g → ⊥) → Answers files words 5 unbuilt_line
-  too_large : (grammar text path : List ℕ) (g : PlainGrammar) → Has files words grammar text path → IsBuilt grammar g
-      → most_bytes < length text → Answers files words 9 (text_size_line path)
-  no_text : (grammar text path : List ℕ) (g : PlainGrammar) (place : ℕ) → Has files words grammar text path → IsBuilt grammar g
-      → BreaksAt text place → Answers files words 9 (text_line path place)
-  parsed : (grammar text path : List ℕ) (g : PlainGrammar) (out : Outcome) → Has files words grammar text path → IsBuilt grammar g
-      → IsText text → Plain g text out → Answers files words 0 (outcome_line g text out)
+  judged : (grammar text path : List ℕ) (status : ℕ) (bytes : List ℕ) → Has files words grammar text path
+      → Judged grammar text path status bytes → Answers files words status bytes
+
+-- Both files are there, the grammar is built, and the text is one: nothing stands in the way of an outcome.
+pub record IsClean (files : Files) (words : List (List ℕ)) : Type 0 where
+  pub grammar : List ℕ
+  pub text : List ℕ
+  pub path : List ℕ
+  pub has : Has files words grammar text path
+  pub normal : PlainGrammar
+  pub built : IsBuilt grammar normal
+  pub is_text : IsText text
 
 -- ---- what the sink is given
 
--- Where the files are told, the sink's new bytes are its old ones and then the answer's, at this status.
-abbrev pub Writes : Option Files → List (List ℕ) → ℕ → Option (List ℕ) → Option (List ℕ) → Type 0
-Writes None words status old new = Unit {0}
-Writes (Some files) words status old new = (bytes : List ℕ) × Answers files words status bytes × Appends old new bytes
+-- The claim holds of the files, where they are told.
+abbrev pub Told : Option Files → (Files → Type 0) → Type 0
+Told None claim = Unit {0}
+Told (Some files) claim = claim files
+
+-- the new bytes are the old ones and then the answer's, at this status
+pub record Writes (files : Files) (words : List (List ℕ)) (status : ℕ) (old new : Option (List ℕ)) : Type 0 where
+  pub bytes : List ℕ
+  pub answers : Answers files words status bytes
+  pub appends : Appends old new bytes
+
+-- the new bytes are the old ones and then a prefix of the answer's, at some status
+pub record WritesPrefix (files : Files) (words : List (List ℕ)) (old new : Option (List ℕ)) : Type 0 where
+  pub status : ℕ
+  pub bytes : List ℕ
+  pub answers : Answers files words status bytes
+  pub appends : AppendsPrefix old new bytes
+
+-- the statuses of a failed read, a failed write and want of memory, which have no cause in the words and files
+abbrev pub IsFree : ℕ → Type 0
+IsFree status = (2 ≤ status) × (status ≤ 4)

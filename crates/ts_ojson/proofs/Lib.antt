@@ -1,1 +1,15 @@
 pub mod JsonLemmas
+pub mod Meaning
+pub mod ClassLemmas
+pub mod NumberLemmas
+pub mod StringLemmas
+pub mod ValueLemmas
+pub mod StepLemmas
+pub mod SoundLemmas
+pub mod EndLemmas
+pub mod ViableLemmas
+pub mod InverseLemmas
+pub mod FitLemmas
+pub mod FinalLemmas
+pub mod CodeLemmas
+pub mod OneLemmas

@@ -1,16 +1,16 @@
 -- The characters of a string (RFC 8259, section 7), with two narrowings: an escape of a high surrogate is followed by one of a low surrogate, and no low one stands
 -- alone. A raw byte here is any byte that is no control character, quote or backslash: that the whole text is UTF-8 is asked in `Reads`.
-use Rattle.std.specs.Prelude.{◌≡◌, ◌≢◌, ℕ, zero, suc, ◌+◌, ◌-◌, ◌*◌, ◌<◌, ◌≤◌, ◌⊎◌, List, [], ◌∷◌, ◌++◌}
+use Rattle.std.specs.Prelude.{◌≡◌, ◌≢◌, ℕ, zero, suc, ◌+◌, ◌-◌, ◌*◌, ◌<◌, ◌≤◌, ◌⊎◌, List, [], ◌∷◌, ◌++◌, cond, ◌==◌, Option, Some, None}
 use Rattle.std.specs.Char.{encode_utf8, digit_value}
 
 abbrev pub IsRaw : ℕ → Type 0
 IsRaw c = (32 ≤ c) × (c ≢ 34) × (c ≢ 92)
 
--- a backslash and x stand for the character c
-abbrev pub IsShort : ℕ → ℕ → Type 0
-IsShort x c =
-    ((x ≡ 34) × (c ≡ 34)) ⊎ (((x ≡ 92) × (c ≡ 92)) ⊎ (((x ≡ 47) × (c ≡ 47)) ⊎ (((x ≡ 98) × (c ≡ 8))
-    ⊎ (((x ≡ 102) × (c ≡ 12)) ⊎ (((x ≡ 110) × (c ≡ 10)) ⊎ (((x ≡ 114) × (c ≡ 13)) ⊎ ((x ≡ 116) × (c ≡ 9))))))))
+-- the character that a backslash and x stand for, where there is one
+abbrev pub short_of : ℕ → Option ℕ
+short_of x =
+    cond (x == 34) (Some 34) (cond (x == 92) (Some 92) (cond (x == 47) (Some 47) (cond (x == 98) (Some 8)
+    (cond (x == 102) (Some 12) (cond (x == 110) (Some 10) (cond (x == 114) (Some 13) (cond (x == 116) (Some 9) None)))))))
 
 -- w begins with this many hex digits, which after the number n spell the number u, and r follows
 abbrev pub Hex : ℕ → ℕ → ℕ → List ℕ → List ℕ → Type 0
@@ -44,7 +44,7 @@ pub data Mark : Type 0 where
 abbrev pub Characters : List Mark → List ℕ → List ℕ → List ℕ → Type 0
 Characters [] s w r = (s ≡ []) × (w ≡ 34 ∷ r)
 Characters (raw c ∷ ms) s w r = (t : List ℕ) × (v : List ℕ) × IsRaw c × (w ≡ c ∷ v) × (s ≡ c ∷ t) × Characters ms t v r
-Characters (short x c ∷ ms) s w r = (t : List ℕ) × (v : List ℕ) × IsShort x c × (w ≡ 92 ∷ x ∷ v) × (s ≡ c ∷ t) × Characters ms t v r
+Characters (short x c ∷ ms) s w r = (t : List ℕ) × (v : List ℕ) × (short_of x ≡ Some c) × (w ≡ 92 ∷ x ∷ v) × (s ≡ c ∷ t) × Characters ms t v r
 Characters (unit u ∷ ms) s w r = (t : List ℕ) × (v : List ℕ) × IsAlone u × Unit16 u w v × (s ≡ encode_utf8 u ++ t) × Characters ms t v r
 Characters (pair h l ∷ ms) s w r =
     (t : List ℕ) × (m : List ℕ) × (v : List ℕ) × IsHigh h × IsLow l × Unit16 h w m × Unit16 l m v × (s ≡ encode_utf8 (pair_of h l) ++ t) × Characters ms t v r

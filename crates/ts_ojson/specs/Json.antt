@@ -1,5 +1,5 @@
 -- A JSON value as plain data, and the value that an `OJson` stands for. Members keep their order.
-use Rattle.std.specs.Prelude.{ℕ, suc, max, ◌≢◌, Bool, List, [], ◌∷◌, AllPairs, ⊤}
+use Rattle.std.specs.Prelude.{ℕ, suc, max, ◌≢◌, Bool, List, [], ◌∷◌, ⊤}
 use Rattle.ts_ojson.specs.declared.value.OJson.{OJson}
 use Rattle.ts_ojson.specs.declared.value.OJson.TheOpen.{OJson-F}
 use Rattle.ts_ojson.specs.declared.value.OJson.TheFolds.{fold-OJson}
@@ -62,9 +62,14 @@ abbrev pub names : Members → List (List ℕ)
 names no_members = []
 names (member k j ms) = k ∷ names ms
 
--- no two are equal
+-- the name is none of these; no two are equal
+abbrev pub IsNone : List ℕ → List (List ℕ) → Type 0
+IsNone k [] = ⊤
+IsNone k (l ∷ ls) = (k ≢ l) × IsNone k ls
+
 abbrev pub AreDistinct : List (List ℕ) → Type 0
-AreDistinct ks = AllPairs (λ a b. a ≢ b) ks
+AreDistinct [] = ⊤
+AreDistinct (k ∷ ks) = IsNone k ks × AreDistinct ks
 
 -- no object, at any depth, has two members of one name
 abbrev mutual

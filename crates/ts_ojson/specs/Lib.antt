@@ -3,3 +3,6 @@ pub mod Number
 pub mod Characters
 pub mod Text
 pub mod Reads
+pub mod Gathered
+pub mod Strings
+pub mod Machine

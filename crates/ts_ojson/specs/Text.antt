@@ -27,7 +27,7 @@ abbrev mutual
   pub Value : Json → List ℕ → List ℕ → Type 0
   Value null w r = w ≡ null_word ++ r
   Value (boolean b) w r = w ≡ bool_word b ++ r
-  Value (number s) w r = (w ≡ s ++ r) × Number w r
+  Value (number s) w r = (w ≡ s ++ r) × Number s []
   Value (string s) w r = Quoted s w r
   Value (array js) w r = (v : List ℕ) × (w ≡ 91 ∷ v) × FirstItem js v r
   Value (object ms) w r = (v : List ℕ) × (w ≡ 123 ∷ v) × FirstMember ms v r

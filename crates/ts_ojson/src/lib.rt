@@ -2,8 +2,21 @@
 //! that answers each fault with its place.
 #![tactic(auto)]
 
+mod class;
+mod escape;
 mod fault;
+mod gathered;
+mod laws;
+mod part;
+mod reader;
+mod stack;
+mod state;
+mod steps;
+#[cfg(test)]
+mod tests;
 mod value;
 
 pub use fault::OFault;
+pub use laws::one_value;
+pub use reader::read;
 pub use value::{OItems, OJson, OMembers, OText};

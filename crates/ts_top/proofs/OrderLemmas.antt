@@ -1,9 +1,10 @@
 -- The search that ranks rules.
-use Rattle.std.proofs.Common.{◌≡◌, ◌∙◌, refl, sym, ap, subst, ℕ, zero, suc, ◌+◌, ◌<◌, ◌≤◌, ◌⊎◌, inl, inr, ⊎_elim, cond, true, false, List, [], ◌∷◌, length, map, set, get_or, replicate, slice_get, Option, Some, option_map, arith}
+use Rattle.std.proofs.Common.{◌≡◌, ◌∙◌, refl, sym, ap, subst, ℕ, zero, suc, ◌+◌, ◌<◌, ◌≤◌, ◌⊎◌, inl, inr, ⊎_elim, cond, true, false, List, length, map, set, get_or, replicate, slice_get, Option, Some, option_map, arith}
 use Rattle.std.proofs.lemmas.Bool.{cases_eq, cases_lt}
 use Rattle.std.proofs.lemmas.List.{length-map, length-replicate, length-set}
 use Rattle.std.proofs.lemmas.List.Sums.{sum_by-set, count_by-le-length}
 use Rattle.std.proofs.lemmas.Option.{slice_get_within, slice_get-get_or, slice_get-map, get_or_from_slice_get}
+use Rattle.ts_top.proofs.PlaceLemmas.{set_here, set_there}
 use Rattle.ts_core.specs.declared.symbol.Symbol.{Symbol}
 use Rattle.ts_core.specs.declared.plain.PlainRule.{PlainRule}
 use Rattle.ts_core.specs.declared.plain.PlainGrammar.{PlainGrammar}
@@ -14,18 +15,6 @@ use Rattle.ts_top.specs.Order.{AllDone, AllUnseen, Falls, Goes, IsDone, Lead, is
 use Rattle.ts_top.specs.PlainForm.{IsRanked}
 
 -- ---- lists
-
-pub set_here : {X : Type 0} (xs : List X) (i : ℕ) (v : X) → i < length xs → slice_get (set xs i v) i ≡ Some v
-set_here [] i v below = absurd (omega arith)
-set_here (x ∷ xs) zero v below = refl
-set_here (x ∷ xs) (suc i) v below = set_here xs i v (omega arith)
-
-pub set_there : {X : Type 0} (xs : List X) (i k : ℕ) (v : X) → (k ≡ i → ⊥) → slice_get (set xs i v) k ≡ slice_get xs k
-set_there [] i k v other = refl
-set_there (x ∷ xs) zero zero v other = absurd (other refl)
-set_there (x ∷ xs) zero (suc k) v other = refl
-set_there (x ∷ xs) (suc i) zero v other = refl
-set_there (x ∷ xs) (suc i) (suc k) v other = set_there xs i k v (λ e. other (ap (λ (n : ℕ). suc n) e))
 
 -- what stands at a place after a write: what was written, or what was there
 set_cases : (xs : List Mark) (i k : ℕ) (v m : Mark) → i < length xs → slice_get (set xs i v) k ≡ Some m → ((k ≡ i) × (v ≡ m)) ⊎ ((k ≡ i → ⊥) × (slice_get xs k ≡ Some m))

@@ -223,3 +223,14 @@ shallow g text (node own pad size ns) (e, inr w) has ends =
 
 pub whole_fits : (g : PlainGrammar) (text : List ℕ) (t : Tree) (to : Spot) → HasSteps g → Passes g text (start_of g) (node_of t) the_start to → length text ≤ to.place → to.depth ≤ most_depth → FitsText text (outcome.Tree t)
 whole_fits g text t to has p past fine = (omega (arith, p.moves, p.within), shallow g text (node_of t) p.expands has (whole_ends g text (node_of t) to p past fine))
+
+-- ---- what a tree that came of a parse is
+
+-- the tree of a parse is that of the start rule's expansion
+pub plain_expands : (g : PlainGrammar) (text : List ℕ) (t : Tree) → Plain g text (outcome.Tree t) → Expands g (start_of g) (node_of t)
+plain_expands g text t p = of (walk g text (events_of p.root) 0 0) p.root p.expands p.gives
+  where
+    of : (ending : Ending) (root : Node) → Expands g (start_of g) root → Gives ending root (outcome.Tree t) → Expands g (start_of g) (node_of t)
+    of accepted root e (tree, out, is) = let same : t ≡ tree = cc in subst (λ (n : Node). Expands g (start_of g) n) (sym is ∙ ap node_of (sym same)) e
+    of (stuck place) root e out = cc
+    of deep root e out = cc

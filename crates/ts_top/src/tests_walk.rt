@@ -3,10 +3,14 @@ ghost use Rattle.ts_core.specs.Plain.{start_of};
 ghost use Rattle.ts_top.specs.PlainForm.{IsForm};
 
 use crate::plain_form::PlainForm;
+use crate::visible::visible;
 use crate::walk::parse;
 use std::alloc::{AllocError, Global};
 use std::test::Fail;
-use ts_core::{Kind, List, LiteralToken, Outcome, PlainGrammar, PlainRule, Str, Symbol, Tree};
+use ts_core::{
+    Kind, List, LiteralToken, Outcome, PlainGrammar, PlainRule, Shown, Str, Symbol, Tree,
+};
+use ts_text::Text;
 
 fn token(alloc: Global, text: &str, name: &str, kind: Kind) -> Result<LiteralToken, AllocError> {
     Ok(LiteralToken {
@@ -82,5 +86,42 @@ fn stops_at_the_first_token_that_is_not_there(rt: HostRuntime) -> Result<(), Fai
     let form = small_form(alloc)?;
     assert_eq!(rt; parse(alloc, &form, "b")?, Outcome::Stuck(0));
     assert_eq!(rt; parse(alloc, &form, "abb")?, Outcome::Stuck(2));
+    Ok(())
+}
+
+fn shown(
+    alloc: Global,
+    depth: u32,
+    name: &str,
+    named: bool,
+    start: u32,
+    end: u32,
+) -> Result<Shown, AllocError> {
+    Ok(Shown {
+        depth,
+        name: Str::from_text(alloc, name)?,
+        named,
+        fields: List::new(alloc),
+        start,
+        end,
+        row: 0,
+        column: start,
+    })
+}
+
+#[test]
+#[tactic(auto, using(crate::proofs::WalkLemmas::plain_expands))]
+fn lists_the_nodes_of_a_parsed_text(rt: HostRuntime) -> Result<(), Fail> {
+    let alloc = rt.alloc();
+    let form = small_form(alloc)?;
+    let text = Text::from_bytes(alloc, b"ab".as_slice())?;
+    let Outcome::Tree(tree) = parse(alloc, &form, text.as_str())? else {
+        panic!(rt; "no tree");
+    };
+    let mut expected = List::new(alloc);
+    expected.push(shown(alloc, 0, "s", true, 0, 2)?)?;
+    expected.push(shown(alloc, 1, "x", true, 0, 1)?)?;
+    expected.push(shown(alloc, 1, "b", false, 1, 2)?)?;
+    assert_eq!(rt; visible(alloc, &form.grammar, &text, &tree)?, expected);
     Ok(())
 }

@@ -1,0 +1,76 @@
+-- How the reader goes on within a string, for private clauses.
+use Rattle.std.specs.Prelude.{◌≡◌, ℕ, ◌+◌, ◌-◌, ◌*◌, ◌<◌, ◌≤◌, ◌⊎◌, List, [], ◌∷◌, ◌++◌, Bool, cond, ◌&&◌, ◌==◌, nat_lt, nat_le, Option, Some, None, ⊤}
+use Rattle.std.specs.Char.{encode_utf8, digit_value}
+use Rattle.ts_ojson.specs.declared.escape.Escape.{Escape}
+use Rattle.ts_ojson.specs.declared.escape.Escape.TheVariants.{Plain, Backslash, First, Second, Third, Fourth, High, HighBackslash, LowFirst, LowSecond, LowThird, LowFourth}
+use Rattle.ts_ojson.specs.declared.escape.Piece.{Piece}
+use Rattle.ts_ojson.specs.declared.escape.Piece.TheVariants.{Inside, Closed}
+use Rattle.ts_ojson.specs.Characters.{IsHigh, pair_of, short_of}
+
+abbrev pub plain_piece : List ℕ → ℕ → Option Piece
+plain_piece s b = cond (b == 34) (Some (Closed s)) (cond (b == 92) (Some (Inside Backslash s)) (cond (nat_lt b 32) None (Some (Inside Plain (s ++ b ∷ [])))))
+
+abbrev pub shorted : List ℕ → Option ℕ → Option Piece
+shorted s None = None
+shorted s (Some c) = Some (Inside Plain (s ++ c ∷ []))
+
+abbrev pub backslash_piece : List ℕ → ℕ → Option Piece
+backslash_piece s b = cond (b == 117) (Some (Inside First s)) (shorted s (short_of b))
+
+abbrev pub unit_piece : List ℕ → ℕ → Option Piece
+unit_piece s u =
+    cond (nat_lt u 55296) (Some (Inside Plain (s ++ encode_utf8 u))) (cond (nat_lt u 56320) (Some (Inside (High u) s))
+    (cond (nat_lt u 57344) None (Some (Inside Plain (s ++ encode_utf8 u)))))
+
+abbrev pub pair_piece : List ℕ → ℕ → ℕ → Option Piece
+pair_piece s h l = Some (Inside Plain (s ++ encode_utf8 (pair_of h l)))
+
+abbrev pub third_piece : List ℕ → ℕ → Option Piece
+third_piece s n = cond (nat_lt n 220) (Some (Inside (Third n) s)) (cond (nat_lt n 224) None (Some (Inside (Third n) s)))
+
+abbrev pub digit_piece : Escape → List ℕ → ℕ → Option Piece
+digit_piece Plain s d = None
+digit_piece Backslash s d = None
+digit_piece First s d = Some (Inside (Second d) s)
+digit_piece (Second n) s d = third_piece s (n * 16 + d)
+digit_piece (Third n) s d = Some (Inside (Fourth (n * 16 + d)) s)
+digit_piece (Fourth n) s d = unit_piece s (n * 16 + d)
+digit_piece (High h) s d = None
+digit_piece (HighBackslash h) s d = None
+digit_piece (LowFirst h) s d = cond (d == 13) (Some (Inside (LowSecond h) s)) None
+digit_piece (LowSecond h) s d = cond (nat_lt d 12) None (Some (Inside (LowThird h (208 + d)) s))
+digit_piece (LowThird h n) s d = Some (Inside (LowFourth h (n * 16 + d)) s)
+digit_piece (LowFourth h n) s d = pair_piece s h (n * 16 + d)
+
+abbrev pub hex_piece : Escape → List ℕ → ℕ → Option Piece
+hex_piece e s b = cond (nat_lt (digit_value b) 16) (digit_piece e s (digit_value b)) None
+
+-- the string with one more byte, where it can go on with it
+abbrev pub next_piece : Escape → List ℕ → ℕ → Option Piece
+next_piece Plain s b = plain_piece s b
+next_piece Backslash s b = backslash_piece s b
+next_piece First s b = hex_piece First s b
+next_piece (Second n) s b = hex_piece (Second n) s b
+next_piece (Third n) s b = hex_piece (Third n) s b
+next_piece (Fourth n) s b = hex_piece (Fourth n) s b
+next_piece (High h) s b = cond (b == 92) (Some (Inside (HighBackslash h) s)) None
+next_piece (HighBackslash h) s b = cond (b == 117) (Some (Inside (LowFirst h) s)) None
+next_piece (LowFirst h) s b = hex_piece (LowFirst h) s b
+next_piece (LowSecond h) s b = hex_piece (LowSecond h) s b
+next_piece (LowThird h n) s b = hex_piece (LowThird h n) s b
+next_piece (LowFourth h n) s b = hex_piece (LowFourth h n) s b
+
+-- what the numbers in an escape can be
+abbrev pub IsWithin : Escape → Type 0
+IsWithin Plain = ⊤
+IsWithin Backslash = ⊤
+IsWithin First = ⊤
+IsWithin (Second n) = n < 16
+IsWithin (Third n) = (n < 220) ⊎ ((224 ≤ n) × (n < 256))
+IsWithin (Fourth n) = (n < 3520) ⊎ ((3584 ≤ n) × (n < 4096))
+IsWithin (High h) = IsHigh h
+IsWithin (HighBackslash h) = IsHigh h
+IsWithin (LowFirst h) = IsHigh h
+IsWithin (LowSecond h) = IsHigh h
+IsWithin (LowThird h n) = IsHigh h × (220 ≤ n) × (n < 224)
+IsWithin (LowFourth h n) = IsHigh h × (3520 ≤ n) × (n < 3584)

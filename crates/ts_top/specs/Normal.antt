@@ -1,0 +1,75 @@
+-- What the functions that make a normal form have come to.
+use Rattle.std.specs.Prelude.{◌≡◌, ℕ, ◌+◌, ◌<◌, ◌≤◌, suc, true, false, nat_eq, if◌then◌else◌, List, ◌++◌, length, map, sum, count_by, slice_get, All, Option, Some, None, option_map, option_and_then}
+use Rattle.std.specs.Option.{option_or}
+use Rattle.std.specs.List.{position_or_len}
+use Rattle.std.specs.Str.{bytes_eq}
+use Rattle.ts_core.specs.declared.rule.Rule.{Rule}
+use Rattle.ts_core.specs.declared.plain.PlainGrammar.{PlainGrammar}
+use Rattle.ts_core.specs.declared.plain.PlainRule.{PlainRule}
+use Rattle.ts_core.specs.declared.symbol.Symbol.{Symbol}
+use Rattle.ts_core.specs.Normal.{NamedRule, is_hidden, is_filled, parts_of, first_sights, where_once, whole_literal, positions_of, Part, steps_of, symbol_at, numbered, rules_by, kept}
+use Rattle.ts_top.specs.declared.normal.sights.Sights.{Sights}
+use Rattle.ts_top.specs.declared.normal.symbols.Numbering.{Numbering}
+
+-- the rule has a name that shows and a filled tree
+pub record IsShown (rule : NamedRule) : Type 0 where
+  pub shown : is_hidden rule.0 ≡ false
+  pub filled : is_filled rule.1 ≡ true
+
+-- the rule's tree has a part
+abbrev pub HasParts : NamedRule → Type 0
+HasParts rule = 0 < length (parts_of rule.1)
+
+-- the grammar is within the limits
+pub record IsWithin (g : PlainGrammar) : Type 0 where
+  pub few_symbols : suc (length g.tokens + length g.rules) ≤ 16384
+  pub few_steps : All (λ rule. length rule.steps ≤ 255) g.rules
+  pub few_positions : All (λ token. positions_of token ≤ 8192) g.tokens
+  pub few_positions_in_all : sum (map positions_of g.tokens) ≤ 65536
+
+-- ---- texts by first sight
+
+-- each text has its mark
+pub record IsPaired (sights : Sights) : Type 0 where
+  pub one_each : length sights.once.items ≡ length sights.texts.keys
+
+-- These are the texts of the walk by first sight, and each is marked where it stands once.
+pub record HasSights (all : List (List ℕ)) (sights : Sights) : Type 0 where
+  pub texts : sights.texts.keys ≡ first_sights all
+  pub paired : IsPaired sights
+  pub once : (k : ℕ) (text : List ℕ) → slice_get sights.texts.keys k ≡ Some text → slice_get sights.once.items k ≡ Some (nat_eq (count_by (bytes_eq text) all) 1)
+
+-- the walk goes on over these texts
+pub record Sees (texts : List (List ℕ)) (old new : Sights) : Type 0 where
+  pub paired : IsPaired new
+  pub sees : (all : List (List ℕ)) → HasSights all old → HasSights (all ++ texts) new
+
+-- the number of a text's token, from 0
+abbrev pub number_of : Sights → List ℕ → ℕ
+number_of sights text = position_or_len (bytes_eq text) sights.texts.keys
+
+-- the text of the token that a rule of this tree names
+abbrev pub token_of : List (List ℕ) → Rule → Option (List ℕ)
+token_of all tree = option_and_then (where_once all) (whole_literal tree)
+
+-- ---- symbols by name
+
+-- the symbol of a name, where some rules are numbered and these come next
+abbrev pub symbol_in : List (List ℕ) → List (List ℕ) → Numbering → List NamedRule → List ℕ → Option ℕ
+symbol_in all texts numbering rest name = option_or (symbol_at numbering.symbols.entries name) (symbol_at (numbered all texts numbering.next rest) name)
+
+-- the symbol of this one name
+abbrev pub symbol_for : List ℕ → ℕ → List ℕ → Option ℕ
+symbol_for name number other = if bytes_eq name other then Some number else None
+
+-- ---- steps
+
+-- the parts come to these steps at the end
+pub record Pushes (texts : List (List ℕ)) (symbols : List (List ℕ × ℕ)) (parts : List Part) (old new : List Symbol) : Type 0 where
+  pub added : List Symbol
+  pub is : steps_of texts symbols parts ≡ Some added
+  pub new_is : new ≡ old ++ added
+
+-- what the rules come to, where some are done and the rest follow
+abbrev pub rules_after : List (List ℕ) → List (List ℕ) → List (List ℕ × ℕ) → List PlainRule → List NamedRule → Option (List PlainRule)
+rules_after all texts symbols done rest = option_map (λ rules. done ++ rules) (rules_by texts symbols (kept all rest))

@@ -1,0 +1,54 @@
+//! From the bytes of a grammar file to its normal form.
+ghost use Rattle.std.specs.Prelude.{◌≡◌, ◌≤◌, ◌<◌, ◌^◌, length, IfOk};
+ghost use Rattle.ts_ojson.specs.Reads.{Reads};
+ghost use Rattle.ts_ojson.specs.declared.value.OJson.{OJson as AnyJson};
+ghost use Rattle.ts_core.specs.Form.{IsBuilt};
+ghost use Rattle.ts_core.specs.Plain.{start_of};
+ghost use Rattle.ts_core.specs.declared.plain.PlainGrammar.{PlainGrammar};
+ghost use Rattle.ts_top.specs.Faults.{refusal_of};
+ghost use Rattle.ts_top.specs.PlainForm.{IsForm};
+
+use crate::form;
+use crate::normal::{NotPlain, normal};
+use crate::plain_form::PlainForm;
+use std::alloc::Global;
+use ts_ojson::{OFault, OJson};
+
+/// The most bytes that a grammar file has: 4 MiB.
+pub(crate) const MOST_GRAMMAR_BYTES: u64 = 4_194_304;
+
+/// The normal form of a grammar file of the plain form.
+pub(crate) fn plain_form(alloc: Global, bytes: &[u8]) -> Result<PlainForm, NotPlain>
+    requires { length bytes.now ≤ 4194304 }
+    ensures plain { IfOk result (λ form. IsBuilt bytes.now form.grammar) }
+    ensures form { IfOk result (λ form. IsForm form) }
+    ensures numbered { IfOk result (λ form. start_of form.grammar < 2 ^ 16) }
+    ensures unbuilt { result ≡ Err NotPlain.Unbuilt → (g : PlainGrammar) → IsBuilt bytes.now g → ⊥ }
+{
+    let file = read(alloc, bytes)?;
+    match form::rules(alloc, &file)? {
+        Some(rules) => normal(alloc, &rules),
+        None => Err(NotPlain::Unbuilt),
+    }
+}
+
+/// The JSON value of the bytes. All the faults of JSON are one here.
+fn read(alloc: Global, bytes: &[u8]) -> Result<OJson, NotPlain>
+    requires { length bytes.now ≤ 4194304 }
+    ensures ok { IfOk result (λ file. Reads file bytes.now) }
+    ensures unbuilt { result ≡ Err NotPlain.Unbuilt → (file : AnyJson) → Reads file bytes.now → ⊥ }
+{
+    match ts_ojson::read(alloc, bytes) {
+        Ok(file) => Ok(file),
+        Err(fault) => Err(refusal(&fault)),
+    }
+}
+
+fn refusal(fault: &OFault) -> NotPlain
+    ensures { result ≡ refusal_of fault.now }
+{
+    match fault {
+        OFault::Memory => NotPlain::Memory,
+        _ => NotPlain::Unbuilt,
+    }
+}

@@ -1,0 +1,108 @@
+//! What a grammar file and a text come to, once both are read.
+ghost use Rattle.std.specs.Prelude.{◌≡◌, ◌<◌, ◌^◌, ℕ, List, IfOk, IfErr, string_bytes};
+ghost use Rattle.ts_io.specs.Read.{AnswersFor, KeepsLimit};
+ghost use Rattle.ts_text.specs.Text.{IsText};
+ghost use Rattle.ts_core.specs.Answer.{Judged, outcome_line};
+ghost use Rattle.ts_core.specs.Form.{IsBuilt};
+ghost use Rattle.ts_core.specs.Plain.{Plain, start_of};
+ghost use Rattle.ts_core.specs.declared.plain.PlainGrammar.{PlainGrammar};
+ghost use Rattle.ts_core.specs.declared.plain.Outcome.{Outcome as AnyOutcome};
+ghost use Rattle.ts_top.specs.Faults.{AreRead, StoppedAt, IsTextFault, IsLate};
+ghost use Rattle.ts_top.specs.PlainForm.{IsForm};
+
+use crate::fault::Fault;
+use crate::grammar::plain_form;
+use crate::normal::NotPlain;
+use crate::plain_form::PlainForm;
+use crate::stop::Stop;
+use crate::visible::visible;
+use crate::{print, walk};
+use std::alloc::{AllocError, Global};
+use ts_core::Outcome;
+use ts_io::Found;
+use ts_text::{Text, TextFault};
+
+/// The line of the outcome of a text, by the files that were read for the grammar and the text.
+pub(crate) fn judge<'a>(
+    alloc: Global,
+    grammar: &Found,
+    text: &Found,
+    path: &'a str,
+) -> Result<String, Stop<'a>>
+    requires { KeepsLimit 4194304 grammar.now }
+    ensures line { IfOk result (λ s. (g t : List ℕ) → AreRead grammar.now text.now g t → Judged g t path.now 0 (string_bytes s)) }
+    ensures stop { IfErr result (λ stop. (g t : List ℕ) → AreRead grammar.now text.now g t → StoppedAt g t path.now stop) }
+    ensures late { IfErr result IsLate }
+{
+    let form = match read_grammar(alloc, grammar) {
+        Ok(form) => form,
+        Err(refusal) => return Err(grammar_stop(refusal)),
+    };
+    match read_text(alloc, text) {
+        Ok(text) => Ok(line(alloc, &form, &text)?),
+        Err(fault) => Err(text_stop(&fault, path)),
+    }
+}
+
+fn grammar_stop<'a>(refusal: NotPlain) -> Stop<'a>
+    ensures late { IsLate result }
+    ensures stop { (g t path : List ℕ) → (refusal ≡ NotPlain.Unbuilt → (normal : PlainGrammar) → IsBuilt g normal → ⊥) → StoppedAt g t path result }
+{
+    match refusal {
+        NotPlain::Unbuilt => Stop::Fault(Fault::Unbuilt),
+        NotPlain::Memory => Stop::Memory,
+    }
+}
+
+fn text_stop<'a>(fault: &TextFault, path: &'a str) -> Stop<'a>
+    ensures late { IsLate result }
+    ensures stop { (g t : List ℕ) (normal : PlainGrammar) → IsBuilt g normal → IsTextFault t fault.now → StoppedAt g t path.now result }
+{
+    match fault {
+        TextFault::Size(_) => Stop::Fault(Fault::TextSize(path)),
+        TextFault::Utf8(place) => Stop::Fault(Fault::Text {
+            path,
+            place: *place,
+        }),
+        TextFault::Memory => Stop::Memory,
+    }
+}
+
+/// The normal form of the grammar file that was read. One with too many bytes isn't built.
+fn read_grammar(alloc: Global, file: &Found) -> Result<PlainForm, NotPlain>
+    requires { KeepsLimit 4194304 file.now }
+    ensures plain { IfOk result (λ form. (bytes : List ℕ) → AnswersFor (Some bytes) 4194304 file.now → IsBuilt bytes form.grammar) }
+    ensures form { IfOk result (λ form. IsForm form) }
+    ensures numbered { IfOk result (λ form. start_of form.grammar < 2 ^ 16) }
+    ensures unbuilt { result ≡ Err NotPlain.Unbuilt → (bytes : List ℕ) → AnswersFor (Some bytes) 4194304 file.now → (g : PlainGrammar) → IsBuilt bytes g → ⊥ }
+{
+    match file {
+        Found::Bytes(bytes) => plain_form(alloc, bytes.as_slice()),
+        Found::Absent | Found::Over => Err(NotPlain::Unbuilt),
+    }
+}
+
+/// The text of the file that was read.
+fn read_text(alloc: Global, file: &Found) -> Result<Text, TextFault>
+    ensures text { IfOk result (λ text. (bytes : List ℕ) → AnswersFor (Some bytes) 1048576 file.now → (text ≡ bytes) × IsText bytes) }
+    ensures fault { IfErr result (λ fault. (bytes : List ℕ) → AnswersFor (Some bytes) 1048576 file.now → IsTextFault bytes fault) }
+{
+    match file {
+        Found::Bytes(bytes) => Text::from_bytes(alloc, bytes.as_slice()),
+        Found::Absent | Found::Over => Err(TextFault::Size(u64::from(ts_text::MOST_BYTES) + 1)),
+    }
+}
+
+/// The line of the outcome of a text.
+fn line(alloc: Global, form: &PlainForm, text: &Text) -> Result<String, AllocError>
+    requires form { IsForm form.now }
+    requires numbered { start_of form.now.grammar < 2 ^ 16 }
+    ensures { IfOk result (λ s. (out : AnyOutcome) × Plain form.now.grammar text.now out × (string_bytes s ≡ outcome_line form.now.grammar text.now out)) }
+{
+    let outcome = walk::parse(alloc, form, text.as_str())?;
+    match &outcome {
+        Outcome::Tree(tree) => print::tree(alloc, &visible(alloc, &form.grammar, text, tree)?),
+        Outcome::Stuck(place) => print::stuck(alloc, *place),
+        Outcome::Deep => print::deep(alloc),
+    }
+}
