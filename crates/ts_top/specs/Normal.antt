@@ -1,13 +1,14 @@
 -- What the functions that make a normal form have come to.
-use Rattle.std.specs.Prelude.{◌≡◌, ℕ, ◌+◌, ◌<◌, ◌≤◌, suc, true, false, nat_eq, if◌then◌else◌, List, ◌++◌, length, map, sum, count_by, slice_get, All, Option, Some, None, option_map, option_and_then}
+use Rattle.std.specs.Prelude.{◌≡◌, ℕ, ◌+◌, ◌<◌, ◌≤◌, suc, true, false, nat_eq, if◌then◌else◌, List, ◌++◌, length, map, sum, count_by, slice_get, All, Option, Some, None, option_map, option_and_then, ◌∷◌}
 use Rattle.std.specs.Option.{option_or}
 use Rattle.std.specs.List.{position_or_len}
 use Rattle.std.specs.Str.{bytes_eq}
 use Rattle.ts_core.specs.declared.rule.Rule.{Rule}
 use Rattle.ts_core.specs.declared.plain.PlainGrammar.{PlainGrammar}
+use Rattle.ts_core.specs.declared.plain.LiteralToken.{LiteralToken}
 use Rattle.ts_core.specs.declared.plain.PlainRule.{PlainRule}
 use Rattle.ts_core.specs.declared.symbol.Symbol.{Symbol}
-use Rattle.ts_core.specs.Normal.{NamedRule, is_hidden, is_filled, parts_of, first_sights, where_once, whole_literal, positions_of, Part, steps_of, symbol_at, numbered, rules_by, kept}
+use Rattle.ts_core.specs.Normal.{NamedRule, Part, first_sights, is_filled, is_hidden, kept, normal_with, numbered, parts_of, positions_of, rules_by, steps_of, symbol_at, symbols_by, tokens_by, where_once, whole_literal}
 use Rattle.ts_top.specs.declared.normal.sights.Sights.{Sights}
 use Rattle.ts_top.specs.declared.normal.symbols.Numbering.{Numbering}
 
@@ -62,6 +63,30 @@ symbol_in all texts numbering rest name = option_or (symbol_at numbering.symbols
 abbrev pub symbol_for : List ℕ → ℕ → List ℕ → Option ℕ
 symbol_for name number other = if bytes_eq name other then Some number else None
 
+-- a name has this symbol too, where it had none
+abbrev pub AddsName : List ℕ → ℕ → List (List ℕ × ℕ) → List (List ℕ × ℕ) → Type 0
+AddsName name number old new = (other : List ℕ) → symbol_at new other ≡ option_or (symbol_at old other) (symbol_for name number other)
+
+-- one rule more is numbered, and no name's symbol is another
+abbrev pub Numbers : Sights → NamedRule → Numbering → Numbering → Type 0
+Numbers sights rule old new =
+    (all : List (List ℕ)) (rest : List NamedRule) (name : List ℕ) → HasSights all sights → symbol_in all sights.texts.keys new rest name ≡ symbol_in all sights.texts.keys old (rule ∷ rest) name
+
+-- each name has its symbol
+abbrev pub AreSymbols : Sights → NamedRule → List NamedRule → List (List ℕ × ℕ) → Type 0
+AreSymbols sights start others symbols =
+    (all : List (List ℕ)) (name : List ℕ) → HasSights all sights → symbol_at symbols name ≡ symbol_at (symbols_by all sights.texts.keys start others) name
+
+-- ---- tokens
+
+-- one rule more has named its token, where it names one
+abbrev pub NamesToken : Sights → NamedRule → List LiteralToken → List LiteralToken → Type 0
+NamesToken sights rule old new =
+    (all : List (List ℕ)) (rest : List NamedRule) → HasSights all sights → old ≡ tokens_by all rest sights.texts.keys → new ≡ tokens_by all (rule ∷ rest) sights.texts.keys
+
+abbrev pub AreTokens : Sights → List NamedRule → List LiteralToken → Type 0
+AreTokens sights others tokens = (all : List (List ℕ)) → HasSights all sights → tokens ≡ tokens_by all others sights.texts.keys
+
 -- ---- steps
 
 -- the parts come to these steps at the end
@@ -73,3 +98,21 @@ pub record Pushes (texts : List (List ℕ)) (symbols : List (List ℕ × ℕ)) (
 -- what the rules come to, where some are done and the rest follow
 abbrev pub rules_after : List (List ℕ) → List (List ℕ) → List (List ℕ × ℕ) → List PlainRule → List NamedRule → Option (List PlainRule)
 rules_after all texts symbols done rest = option_map (λ rules. done ++ rules) (rules_by texts symbols (kept all rest))
+
+-- one rule more is done, and the rules come to the same
+abbrev pub AddsRule : Sights → List (List ℕ × ℕ) → NamedRule → List PlainRule → List PlainRule → Type 0
+AddsRule sights symbols rule old new =
+    (all : List (List ℕ)) (rest : List NamedRule) → HasSights all sights → rules_after all sights.texts.keys symbols new rest ≡ rules_after all sights.texts.keys symbols old (rule ∷ rest)
+
+-- the rule has a name that no rule has
+abbrev pub LacksName : Sights → List (List ℕ × ℕ) → NamedRule → List PlainRule → Type 0
+LacksName sights symbols rule done =
+    (all : List (List ℕ)) (rest : List NamedRule) → HasSights all sights → rules_after all sights.texts.keys symbols done (rule ∷ rest) ≡ None
+
+-- the rules that name no token come to these
+abbrev pub RulesComeTo : Sights → List (List ℕ × ℕ) → NamedRule → List NamedRule → Option (List PlainRule) → Type 0
+RulesComeTo sights symbols start others plain = (all : List (List ℕ)) → HasSights all sights → rules_by sights.texts.keys symbols (start ∷ kept all others) ≡ plain
+
+-- the rules come to this grammar
+abbrev pub GrammarComesTo : Sights → NamedRule → List NamedRule → Option PlainGrammar → Type 0
+GrammarComesTo sights start others grammar = (all : List (List ℕ)) → HasSights all sights → normal_with all sights.texts.keys start others ≡ grammar

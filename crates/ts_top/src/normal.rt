@@ -1,7 +1,7 @@
-ghost use Rattle.std.specs.Prelude.{◌≡◌, ℕ, ◌<◌, ◌≤◌, List as Values, length, IfOk, Some, None, Err};
+ghost use Rattle.std.specs.Prelude.{◌≡◌, ◌<◌, ◌≤◌, length, IfOk, Some, None, Err};
 ghost use Rattle.ts_core.specs.declared.plain.PlainGrammar.{PlainGrammar};
-ghost use Rattle.ts_core.specs.Normal.{IsPlain, Normal, normal_with};
-ghost use Rattle.ts_top.specs.Normal.{HasSights, IsPaired};
+ghost use Rattle.ts_core.specs.Normal.{IsPlain, Normal};
+ghost use Rattle.ts_top.specs.Normal.{GrammarComesTo, IsPaired};
 ghost use Rattle.ts_top.specs.PlainForm.{IsForm};
 ghost use Rattle.ts_top.specs.declared.normal.NotPlain.TheVariants.{Memory, Unbuilt};
 
@@ -65,8 +65,8 @@ fn grammar_with(
     requires paired { IsPaired sights.now }
     requires few_texts { length sights.now.texts.keys < 16384 }
     requires few_rules { length others.now < 4096 }
-    ensures normal { IfOk result (λ grammar. (all : Values (Values ℕ)) → HasSights all sights.now → normal_with all sights.now.texts.keys start.now others.now ≡ Some grammar) }
-    ensures unbuilt { result ≡ Err Unbuilt → (all : Values (Values ℕ)) → HasSights all sights.now → normal_with all sights.now.texts.keys start.now others.now ≡ None }
+    ensures normal { IfOk result (λ grammar. GrammarComesTo sights.now start.now others.now (Some grammar)) }
+    ensures unbuilt { result ≡ Err Unbuilt → GrammarComesTo sights.now start.now others.now None }
 {
     let symbols = all_symbols(alloc, sights, start, others)?;
     let tokens = all_tokens(alloc, sights, others)?;

@@ -1,6 +1,6 @@
-ghost use Rattle.std.specs.Prelude.{◌≡◌, ℕ, ◌<◌, List as Values, ◌∷◌, length, map, IfOk, OnOk, Some, None, Err, option_map};
-ghost use Rattle.ts_core.specs.Normal.{NamedRule, joined, kept, parts_of, rule_by, rules_by, steps_of, symbol_at, symbol as symbol_of, token_symbol};
-ghost use Rattle.ts_top.specs.Normal.{HasSights, IsPaired, Pushes, rules_after};
+ghost use Rattle.std.specs.Prelude.{◌≡◌, ◌<◌, length, map, IfOk, OnOk, Some, None, Err, option_map};
+ghost use Rattle.ts_core.specs.Normal.{joined, parts_of, rule_by, steps_of, symbol_at, symbol as symbol_of, token_symbol};
+ghost use Rattle.ts_top.specs.Normal.{AddsRule, IsPaired, LacksName, Pushes, RulesComeTo};
 ghost use Rattle.ts_top.specs.declared.normal.NotPlain.TheVariants.{Unbuilt};
 
 use crate::normal::NotPlain;
@@ -100,8 +100,8 @@ fn push_rule(
 ) -> Result<(), NotPlain>
     requires paired { IsPaired sights.now }
     requires few { length sights.now.texts.keys < 16384 }
-    ensures ok { OnOk result ((all : Values (Values ℕ)) (rest : Values NamedRule) → HasSights all sights.now → rules_after all sights.now.texts.keys symbols.now.entries done.new rest ≡ rules_after all sights.now.texts.keys symbols.now.entries done.old (rule.now ∷ rest)) }
-    ensures unbuilt { result ≡ Err Unbuilt → (all : Values (Values ℕ)) (rest : Values NamedRule) → HasSights all sights.now → rules_after all sights.now.texts.keys symbols.now.entries done.old (rule.now ∷ rest) ≡ None }
+    ensures ok { OnOk result (AddsRule sights.now symbols.now.entries rule.now done.old done.new) }
+    ensures unbuilt { result ≡ Err Unbuilt → LacksName sights.now symbols.now.entries rule.now done.old }
 {
     if token_named(sights, &rule.1).is_some() {
         return Ok(());
@@ -121,8 +121,8 @@ pub(super) fn plain_rules(
 ) -> Result<List<PlainRule>, NotPlain>
     requires paired { IsPaired sights.now }
     requires few { length sights.now.texts.keys < 16384 }
-    ensures ok { IfOk result (λ rules. (all : Values (Values ℕ)) → HasSights all sights.now → rules_by sights.now.texts.keys symbols.now.entries (start.now ∷ kept all others.now) ≡ Some rules) }
-    ensures unbuilt { result ≡ Err Unbuilt → (all : Values (Values ℕ)) → HasSights all sights.now → rules_by sights.now.texts.keys symbols.now.entries (start.now ∷ kept all others.now) ≡ None }
+    ensures ok { IfOk result (λ rules. RulesComeTo sights.now symbols.now.entries start.now others.now (Some rules)) }
+    ensures unbuilt { result ≡ Err Unbuilt → RulesComeTo sights.now symbols.now.entries start.now others.now None }
 {
     let mut done = List::new(alloc);
     let first = plain_rule(alloc, sights, symbols, start)?;

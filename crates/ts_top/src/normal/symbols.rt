@@ -1,7 +1,5 @@
-ghost use Rattle.std.specs.Prelude.{◌≡◌, ℕ, ◌+◌, ◌<◌, ◌≤◌, suc, List, ◌∷◌, length, IfOk, OnOk};
-ghost use Rattle.std.specs.Option.{option_or};
-ghost use Rattle.ts_core.specs.Normal.{NamedRule, symbol_at, symbols_by};
-ghost use Rattle.ts_top.specs.Normal.{HasSights, IsPaired, symbol_for, symbol_in};
+ghost use Rattle.std.specs.Prelude.{◌+◌, ◌<◌, ◌≤◌, length, IfOk, OnOk};
+ghost use Rattle.ts_top.specs.Normal.{AddsName, AreSymbols, IsPaired, Numbers};
 
 use crate::normal::sights::{Sights, token_named};
 use indexmap::IndexMap;
@@ -22,7 +20,7 @@ fn add(
     name: &Str,
     symbol: u16,
 ) -> Result<(), AllocError>
-    ensures { OnOk result ((other : List ℕ) → symbol_at symbols.new.entries other ≡ option_or (symbol_at symbols.old.entries other) (symbol_for name.now symbol other)) }
+    ensures { OnOk result (AddsName name.now symbol symbols.old.entries symbols.new.entries) }
 {
     if symbols.contains_key(name) {
         return Ok(());
@@ -43,7 +41,7 @@ fn number(
     requires few_texts { length sights.now.texts.keys < 16384 }
     requires few_symbols { numbering.old.next < 65535 }
     ensures next { OnOk result (numbering.new.next ≤ numbering.old.next + 1) }
-    ensures symbols { OnOk result ((all : List (List ℕ)) (rest : List NamedRule) (name : List ℕ) → HasSights all sights.now → symbol_in all sights.now.texts.keys numbering.new rest name ≡ symbol_in all sights.now.texts.keys numbering.old (rule.now ∷ rest) name) }
+    ensures symbols { OnOk result (Numbers sights.now rule.now numbering.old numbering.new) }
 {
     match token_named(sights, &rule.1) {
         Some(token) => add(alloc, &mut numbering.symbols, &rule.0, token as u16 + 1),
@@ -65,7 +63,7 @@ pub(super) fn all_symbols(
     requires paired { IsPaired sights.now }
     requires few_texts { length sights.now.texts.keys < 16384 }
     requires few_rules { length others.now < 4096 }
-    ensures { IfOk result (λ symbols. (all : List (List ℕ)) (name : List ℕ) → HasSights all sights.now → symbol_at symbols.entries name ≡ symbol_at (symbols_by all sights.now.texts.keys start.now others.now) name) }
+    ensures { IfOk result (λ symbols. AreSymbols sights.now start.now others.now symbols.entries) }
 {
     let first = sights.texts.len() as u16 + 1;
     let mut symbols = IndexMap::new(alloc);

@@ -1,6 +1,6 @@
-ghost use Rattle.std.specs.Prelude.{◌≡◌, ℕ, List as Values, ◌∷◌, length, map, IfOk, OnOk, None};
-ghost use Rattle.ts_core.specs.Normal.{NamedRule, token_by, tokens_by};
-ghost use Rattle.ts_top.specs.Normal.{HasSights, IsPaired};
+ghost use Rattle.std.specs.Prelude.{◌≡◌, length, map, IfOk, OnOk, None};
+ghost use Rattle.ts_core.specs.Normal.{token_by};
+ghost use Rattle.ts_top.specs.Normal.{AreTokens, IsPaired, NamesToken};
 
 use crate::normal::sights::{Sights, token_named};
 use std::alloc::{AllocError, Global};
@@ -37,7 +37,7 @@ fn name_token(
     requires paired { IsPaired sights.now }
     requires one_each { length tokens.old.items ≡ length sights.now.texts.keys }
     ensures size { OnOk result (length tokens.new.items ≡ length tokens.old.items) }
-    ensures tokens { OnOk result ((all : Values (Values ℕ)) (rest : Values NamedRule) → HasSights all sights.now → tokens.old.items ≡ tokens_by all rest sights.now.texts.keys → tokens.new.items ≡ tokens_by all (rule.now ∷ rest) sights.now.texts.keys) }
+    ensures tokens { OnOk result (NamesToken sights.now rule.now tokens.old.items tokens.new.items) }
 {
     let Some(number) = token_named(sights, &rule.1) else {
         return Ok(());
@@ -56,7 +56,7 @@ pub(super) fn all_tokens(
     others: &[(Str, Rule)],
 ) -> Result<List<LiteralToken>, AllocError>
     requires { IsPaired sights.now }
-    ensures { IfOk result (λ tokens. (all : Values (Values ℕ)) → HasSights all sights.now → tokens ≡ tokens_by all others.now sights.now.texts.keys) }
+    ensures { IfOk result (λ tokens. AreTokens sights.now others.now tokens) }
 {
     let mut tokens = all_unnamed(alloc, sights.texts.as_slice())?;
     for number in (0..others.len()).rev() {
