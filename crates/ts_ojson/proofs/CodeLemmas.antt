@@ -1,19 +1,16 @@
 -- What the code asks for, from what the bytes so far lead to.
-use Rattle.std.proofs.Common.{◌≡◌, ℕ, suc, ◌+◌, ◌<◌, ◌≤◌, List, [], ◌∷◌, ◌++◌, length, get_or, drop, Bool, true, false, cond, ◌||◌, Option, Some, None, refl, sym, ap, subst, ◌∙◌, arith}
+use Rattle.std.proofs.Common.{◌≡◌, ℕ, ◌+◌, ◌≤◌, List, [], ◌∷◌, ◌++◌, length, drop, Bool, true, false, cond, ◌||◌, refl, sym, ap, subst, ◌∙◌, arith}
 use Rattle.std.proofs.lemmas.Bool.{le-ltb}
 use Rattle.std.proofs.lemmas.Slice.Eq.{bytes_eq-Decides}
-use Rattle.std.proofs.lemmas.List.{drop_more}
 use Rattle.std.specs.Str.{IsUtf8, bytes_eq}
 use Rattle.ts_ojson.specs.declared.class.Class.TheVariants as class
-use Rattle.ts_ojson.specs.declared.escape.Escape.TheVariants.{Plain}
 use Rattle.ts_ojson.specs.declared.state.State.{State}
 use Rattle.ts_ojson.specs.declared.state.State.TheVariants as state
 use Rattle.ts_ojson.specs.declared.fault.OFault.{OFault}
 use Rattle.ts_ojson.specs.declared.fault.OFault.TheVariants.{Syntax, Utf8, Deep, Duplicate, Memory}
 use Rattle.ts_ojson.specs.Gathered.{has_name}
 use Rattle.ts_ojson.specs.Reads.{IsFault}
-use Rattle.ts_ojson.specs.Strings.{IsWithin}
-use Rattle.ts_ojson.specs.Machine.{Frames, class_of, Verdict, fine, too_deep, repeated, Outcome, stuck, goes, opens, begin_class, begin, next, IsReady, CanEnd, Refuses}
+use Rattle.ts_ojson.specs.Machine.{Frames, class_of, fine, too_deep, goes, opens, begin_class, begin, next, IsReady, CanEnd, Refuses}
 use Rattle.ts_ojson.proofs.FitLemmas.{IsByte, front_utf8, rest_is}
 use Rattle.ts_ojson.proofs.FinalLemmas.{Leads, leads_on, syntax_fault, deep_fault, duplicate_fault}
 

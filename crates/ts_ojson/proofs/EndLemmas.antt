@@ -1,11 +1,10 @@
 -- What a text may end in.
-use Rattle.std.proofs.Common.{◌≡◌, ℕ, suc, zero, ◌+◌, ◌<◌, ◌≤◌, ◌⊎◌, inl, inr, List, [], ◌∷◌, ◌++◌, length, get_or, drop, Bool, true, false, cond, ◌==◌, nat_lt, Option, Some, None, refl, sym, ap, subst, ◌∙◌, ◌↔◌, arith}
+use Rattle.std.proofs.Common.{◌≡◌, ℕ, suc, ◌+◌, List, [], ◌∷◌, ◌++◌, length, get_or, drop, Bool, true, false, cond, nat_lt, Some, None, refl, sym, ap, subst, ◌∙◌, arith}
 use Rattle.std.proofs.lemmas.Bool.{ltb-true, ltb-false}
 use Rattle.std.proofs.lemmas.List.{append-nil, drop_more, drop_all}
 use Rattle.ts_ojson.specs.declared.part.Part.{Part}
 use Rattle.ts_ojson.specs.declared.escape.Escape.{Escape}
 use Rattle.ts_ojson.specs.declared.escape.Escape.TheVariants.{Plain, Backslash, First, Second, Third, Fourth, High, HighBackslash, LowFirst, LowSecond, LowThird, LowFourth}
-use Rattle.ts_ojson.specs.declared.state.Frame.{Frame}
 use Rattle.ts_ojson.specs.declared.state.Frame.TheVariants as frame
 use Rattle.ts_ojson.specs.declared.state.Word.{Word}
 use Rattle.ts_ojson.specs.declared.state.State.{State}
@@ -13,11 +12,10 @@ use Rattle.ts_ojson.specs.declared.state.State.TheVariants as state
 use Rattle.ts_ojson.specs.declared.value.OJson.{OJson}
 use Rattle.ts_ojson.specs.declared.value.OJson.TheVariants as json
 use Rattle.ts_ojson.specs.Json.{Json, null, boolean, number, string, array, object, Items, no_items, item, Members, no_members, member, json_of}
-use Rattle.ts_ojson.specs.Characters.{Hex, Unit16, Mark, raw, short, unit, pair, Characters, Quoted}
-use Rattle.ts_ojson.specs.Text.{Blanks, Value, FirstItem, MoreItems, FirstMember, MoreMembers}
-use Rattle.ts_ojson.specs.Machine.{Frames, Gathered, part_ends, word_bytes, word_value, ended_in, ended}
-use Rattle.ts_ojson.proofs.JsonLemmas.{json_of_num}
-use Rattle.ts_ojson.proofs.Meaning.{Tail, Plainly, Paired, UnitRest, LowRest, InText, Rest, Begun, Coloned, TextEnd, Completes}
+use Rattle.ts_ojson.specs.Characters.{Mark, raw, short, unit, pair, Characters, Quoted}
+use Rattle.ts_ojson.specs.Text.{Value, FirstItem, FirstMember}
+use Rattle.ts_ojson.specs.Machine.{Frames, part_ends, word_bytes, word_value, ended_in, ended}
+use Rattle.ts_ojson.proofs.Meaning.{UnitRest, LowRest, InText, Rest, Begun, TextEnd, Completes}
 use Rattle.ts_ojson.proofs.NumberLemmas.{tail_end, ends_tail, no_number}
 use Rattle.ts_ojson.proofs.StringLemmas.{head_is, tail_is}
 use Rattle.ts_ojson.proofs.ValueLemmas.{nil_is}

@@ -1,27 +1,25 @@
 -- What the bytes that were read so far lead to, and what follows for the whole.
 use Rattle.std.proofs.Common.{◌≡◌, ℕ, suc, zero, ◌+◌, ◌-◌, ◌*◌, ◌<◌, ◌≤◌, ◌⊎◌, inl, inr, List, [], ◌∷◌, ◌++◌, length, get_or, take, drop, Bool, true, false, cond, ◌==◌, nat_lt, Option, Some, None, refl, sym, ap, subst, ◌∙◌, ◌↔◌, arith}
-use Rattle.std.proofs.lemmas.List.{append_assoc, append-nil, length-append, take_more, drop_more, take_all, take-append-drop, take-take}
+use Rattle.std.proofs.lemmas.List.{append_assoc, append-nil, take_more, take_all, take-append-drop, take-take}
 use Rattle.std.proofs.lemmas.Slice.Eq.{bytes_eq-Decides}
 use Rattle.std.specs.Str.{IsUtf8, bytes_eq}
-use Rattle.ts_ojson.specs.declared.state.Frame.{Frame}
 use Rattle.ts_ojson.specs.declared.state.Frame.TheVariants as frame
-use Rattle.ts_ojson.specs.declared.state.Word.{Word}
 use Rattle.ts_ojson.specs.declared.state.State.{State}
 use Rattle.ts_ojson.specs.declared.state.State.TheVariants as state
 use Rattle.ts_ojson.specs.declared.value.OJson.{OJson}
 use Rattle.ts_ojson.specs.declared.value.OJson.TheVariants as json
-use Rattle.ts_ojson.specs.Json.{Json, number, string, array, object, Items, no_items, item, Members, no_members, member, json_of, depth, items_depth, members_depth, names, IsNone, AreDistinct, HasDistinctNames, ItemsHaveDistinctNames, MembersHaveDistinctNames}
+use Rattle.ts_ojson.specs.Json.{Json, null, number, array, object, Items, no_items, item, Members, no_members, member, json_of, depth, items_depth, members_depth, names, IsNone, AreDistinct, HasDistinctNames, ItemsHaveDistinctNames, MembersHaveDistinctNames}
 use Rattle.ts_ojson.specs.Text.{IsText}
 use Rattle.ts_ojson.specs.Gathered.{has_name}
-use Rattle.ts_ojson.specs.Reads.{Reads, Begins, IsAny, IsShallow, IsKept, IsSyntaxFault, IsDeepFault, IsDuplicateFault}
-use Rattle.ts_ojson.specs.Machine.{Frames, Gathered, class_of, part_ends, word_bytes, word_value, Verdict, fine, too_deep, repeated, Outcome, stuck, goes, next, ended_in, ended}
+use Rattle.ts_ojson.specs.Reads.{Reads, Begins, IsAny, IsKept, IsSyntaxFault, IsDeepFault, IsDuplicateFault}
+use Rattle.ts_ojson.specs.Machine.{Frames, Gathered, part_ends, word_bytes, word_value, fine, too_deep, repeated, Outcome, stuck, goes, next, ended}
 use Rattle.ts_ojson.proofs.JsonLemmas.{json_of_num}
-use Rattle.ts_ojson.proofs.Meaning.{onto_items, onto_members, Rest, Begun, Coloned, Completes, Means}
+use Rattle.ts_ojson.proofs.Meaning.{onto_items, onto_members, Rest, Coloned, Completes, Means}
 use Rattle.ts_ojson.proofs.StepLemmas.{HasEscape, step_is, start_is}
-use Rattle.ts_ojson.proofs.SoundLemmas.{IsGood, IsSound, StateSound, IsOpening, IsTwice, Judged, judged, word_good, simple_good}
+use Rattle.ts_ojson.proofs.SoundLemmas.{IsGood, AllGood, AllGoodMembers, IsSound, IsOpen, StateSound, IsOpening, IsTwice, Judged, judged, word_good, simple_good}
 use Rattle.ts_ojson.proofs.EndLemmas.{EndsAs, ended_is, end_completes}
 use Rattle.ts_ojson.proofs.ViableLemmas.{viable}
-use Rattle.ts_ojson.proofs.FitLemmas.{IsQuoted, Fits, OutFits, IsByte, NameStarts, fits}
+use Rattle.ts_ojson.proofs.FitLemmas.{OutFits, IsByte, NameStarts, fits}
 
 -- the first bytes of w lead to this outcome
 pub record Leads (w : List ℕ) (at : ℕ) (o : Outcome) : Type 0 where
@@ -32,7 +30,7 @@ pub record Leads (w : List ℕ) (at : ℕ) (o : Outcome) : Type 0 where
 pub leads_start : (w : List ℕ) → Leads w 0 (goes fine state.Value [])
 leads_start w = record { same = λ v z. start_is v z; sound = tt; fit = tt }
 
-has_escape : (s : State) (k : Frames) → StateSound s k → HasEscape s
+pub has_escape : (s : State) (k : Frames) → StateSound s k → HasEscape s
 has_escape state.Value k h = tt
 has_escape state.FirstItem k h = tt
 has_escape (state.After o) k h = tt
@@ -48,17 +46,17 @@ module _ (w : List ℕ) (at : ℕ) (s : State) (k : Frames) (l : Leads w at (goe
   pub kept : IsKept (take at w)
   kept = let c = viable s k l.sound in (c.1, c.0, (l.same c.0 c.1).1 c.2, ((let d = c.3.0 in omega arith), c.3.1))
 
-  blank_begins : ((v : Json) (z : List ℕ) → Completes s k v z → Completes s k v (32 ∷ z)) → Begins IsAny (take at w ++ 32 ∷ [])
+  blank_begins : ((v : Json) (z : List ℕ) → Completes s k v z → Completes s k v (10 ∷ z)) → Begins IsAny (take at w ++ 10 ∷ [])
   blank_begins f =
       let c = viable s k l.sound in
-      (c.1, c.0, subst (λ (y : List ℕ). IsText c.0 y) (sym (append_assoc (take at w) (32 ∷ []) c.1)) ((l.same c.0 (32 ∷ c.1)).1 (f c.0 c.1 c.2)), tt)
+      (c.1, c.0, subst (λ (y : List ℕ). IsText c.0 y) (sym (append_assoc (take at w) (10 ∷ []) c.1)) ((l.same c.0 (10 ∷ c.1)).1 (f c.0 c.1 c.2)), tt)
 
 name_starts : (w : List ℕ) (at b : ℕ) (h : IsByte w at b) (s : State) (k : Frames) → Leads w at (goes fine s k) → NameStarts w at b h s
 name_starts w at b h state.Value k l = tt
 name_starts w at b h state.FirstItem k l = tt
 name_starts w at b h (state.After o) k l = tt
-name_starts w at b h state.FirstName k l = blank_begins w at state.FirstName k l (λ v z c. (step_is 0 state.FirstName k v 32 z tt).1 c)
-name_starts w at b h (state.Name ms) k l = blank_begins w at (state.Name ms) k l (λ v z c. (step_is 0 (state.Name ms) k v 32 z tt).1 c)
+name_starts w at b h state.FirstName k l = blank_begins w at state.FirstName k l (λ v z c. (step_is 0 state.FirstName k v 10 z tt).1 c)
+name_starts w at b h (state.Name ms) k l = blank_begins w at (state.Name ms) k l (λ v z c. (step_is 0 (state.Name ms) k v 10 z tt).1 c)
 name_starts w at b h (state.Colon ms n) k l = tt
 name_starts w at b h (state.Word x i) k l = tt
 name_starts w at b h (state.Number p t) k l = tt
@@ -153,7 +151,7 @@ rest_deep [] j v r h = let e = ap depth h.0 in omega arith
 rest_deep (frame.Array xs ∷ k) j v r (a, m, t, bl, more, h) = let le = rest_deep k (array (onto_items xs (item j m))) v t h in let in_it = item_deep xs j m in omega arith
 rest_deep (frame.Object ms n ∷ k) j v r (a, m, t, bl, more, h) = let le = rest_deep k (object (onto_members ms (member n j m))) v t h in let in_it = member_deep ms n j m in omega arith
 
-opening_deep : (s : State) (k : Frames) (v : Json) (z : List ℕ) → IsOpening s k → Completes s k v z → 256 < depth v
+pub opening_deep : (s : State) (k : Frames) (v : Json) (z : List ℕ) → IsOpening s k → Completes s k v z → 256 < depth v
 opening_deep state.FirstItem k v z le (m, t, x, h) = let d = rest_deep k (array m) v t h in omega arith
 opening_deep state.FirstName k v z le (m, t, x, h) = let d = rest_deep k (object m) v t h in omega arith
 opening_deep state.Value k v z le h = absurd le
@@ -217,8 +215,8 @@ twice_names n (x ∷ xs) j m e d = by (bytes_eq n x.0) refl e (λ f. twice_names
     by true f g inner = none_again x.0 n xs j m d.0 (sym ((bytes_eq-Decides n x.0).0 f))
     by false f g inner = inner g
 
-twice_not : (s : State) (k : Frames) (v : Json) (z : List ℕ) → IsTwice s → Completes s k v z → HasDistinctNames v → ⊥
-twice_not (state.Colon ms n) k v z e (u, bl, (a, j, b, first, x, (d, m, t, last, more, h))) is = twice_names n ms j m e (rest_distinct k (object (onto_members ms (member n j m))) v t h is).0
+pub twice_not : (s : State) (k : Frames) (v : Json) (z : List ℕ) → IsTwice s k → Completes s k v z → HasDistinctNames v → ⊥
+twice_not (state.Colon ms n) k v z e (u, bl, (a, j, b, first, x, (d, m, t, last, more, h))) is = twice_names n ms j m e.1 (rest_distinct k (object (onto_members ms (member n j m))) v t h is).0
 twice_not state.Value k v z e h is = absurd e
 twice_not state.FirstItem k v z e h is = absurd e
 twice_not (state.After o) k v z e h is = absurd e
@@ -228,10 +226,33 @@ twice_not (state.Word x i) k v z e h is = absurd e
 twice_not (state.Number p s) k v z e h is = absurd e
 twice_not (state.Text i s r) k v z e h is = absurd e
 
-colon_any : (ms : Gathered) (n : List ℕ) (k : Frames) → (v : Json) × (z : List ℕ) × Coloned ms n k v z
-colon_any ms n k =
-    let c = rest_any (frame.Object ms n ∷ k) Rattle.ts_ojson.specs.Json.null in
-    (c.0, 58 ∷ 110 ∷ 117 ∷ 108 ∷ 108 ∷ c.1, (110 ∷ 117 ∷ 108 ∷ 108 ∷ c.1, inl refl, (110 ∷ 117 ∷ 108 ∷ 108 ∷ c.1, Rattle.ts_ojson.specs.Json.null, c.1, inl refl, refl, c.2)))
+-- depth alone, where names may stand twice
+items_flat : (d : ℕ) (xs : List OJson) (j : Json) → AllGood (suc d) xs → depth j + suc d ≤ 256 → suc d ≤ 256 → items_depth (onto_items xs (item j no_items)) + suc d ≤ 256
+items_flat d [] j all g le = omega arith
+items_flat d (x ∷ xs) j all g le = let rest = items_flat d xs j all.1 g le in let here = all.0.0 in omega arith
+
+members_flat : (d : ℕ) (ms : Gathered) (n : List ℕ) (j : Json) → AllGoodMembers (suc d) ms → depth j + suc d ≤ 256 → suc d ≤ 256 → members_depth (onto_members ms (member n j no_members)) + suc d ≤ 256
+members_flat d [] n j all g le = omega arith
+members_flat d (x ∷ xs) n j all g le = let rest = members_flat d xs n j all.1 g le in let here = all.0.0 in omega arith
+
+rest_flat : (k : Frames) (j : Json) → IsSound k → depth j + length k ≤ 256 → (v : Json) × (r : List ℕ) × Rest k j v r × (depth v ≤ 256)
+rest_flat [] j s le = (j, [], (refl, refl), omega arith)
+rest_flat (frame.Array xs ∷ k) j s le =
+    let flat = items_flat (length k) xs j s.0 le s.1 in
+    let c = rest_flat k (array (onto_items xs (item j no_items))) s.2 (omega arith) in
+    (c.0, 93 ∷ c.1, (93 ∷ c.1, no_items, c.1, inl refl, refl, c.2), c.3)
+rest_flat (frame.Object ms n ∷ k) j s le =
+    let flat = members_flat (length k) ms n j s.0 le s.3 in
+    let c = rest_flat k (object (onto_members ms (member n j no_members))) s.4 (omega arith) in
+    (c.0, 125 ∷ c.1, (125 ∷ c.1, no_members, c.1, inl refl, refl, c.2), c.3)
+
+colon_flat : (ms : Gathered) (n : List ℕ) (k : Frames) → IsOpen ms k → (v : Json) × (z : List ℕ) × Coloned ms n k v z × (depth v ≤ 256)
+colon_flat ms n k s =
+    let le = s.2 in
+    let flat = members_flat (length k) ms n null s.0 (omega arith) s.2 in
+    let c = rest_flat k (object (onto_members ms (member n null no_members))) s.3 (omega arith) in
+    let r = 125 ∷ c.1 in
+    (c.0, 58 ∷ 110 ∷ 117 ∷ 108 ∷ 108 ∷ r, (110 ∷ 117 ∷ 108 ∷ 108 ∷ r, inl refl, (110 ∷ 117 ∷ 108 ∷ 108 ∷ r, null, r, inl refl, refl, (r, no_members, c.1, inl refl, refl, c.2))), c.3)
 
 pub duplicate_fault : (w : List ℕ) (at b p : ℕ) (s q : State) (k i : Frames) → IsByte w at b → Leads w at (goes fine s k) → Leads w (at + 1) (goes (repeated p) q i) → IsDuplicateFault w p
 duplicate_fault w at b p s (state.Colon ms n) k i h l m = record {
@@ -242,7 +263,7 @@ duplicate_fault w at b p s (state.Colon ms n) k i h l m = record {
   string = m.fit.reads;
   starts = m.fit.starts;
   before = kept w at s k l;
-  begins = (let c = colon_any ms n i in (c.1, c.0, (m.same c.0 c.1).1 c.2, tt));
+  begins = (let c = colon_flat ms n i m.sound.0 in (c.1, c.0, (m.same c.0 c.1).1 c.2, c.3));
   twice = λ g. twice_not (state.Colon ms n) i g.1 g.0 m.sound ((m.same g.1 g.0).0 g.2) g.3;
 }
 duplicate_fault w at b p s state.Value k i h l m = let no_way : ⊥ = m.sound in absurd no_way
@@ -259,16 +280,3 @@ pub one_end : (s : State) (k : Frames) (v u : Json) → EndsAs s k v → EndsAs 
 one_end s k v u g h =
     let same : g.0 ≡ h.0 = cc (g.1, h.1) in
     g.2 ∙ ap json_of same ∙ sym h.2
-
-one_more_value : (o : Outcome) (w : List ℕ) (v u : Json) → Judged o → Means o v w → Means o u w → IsShallow v → HasDistinctNames v
-    → ((s : State) (k : Frames) → StateSound s k → Completes s k v w → Completes s k u w → v ≡ u) → v ≡ u
-one_more_value stuck w v u j g h d n f = absurd g
-one_more_value (goes fine s k) w v u j g h d n f = f s k j g h
-one_more_value (goes too_deep s k) w v u j g h d n f = let deep = opening_deep s k v w j g in absurd (omega arith)
-one_more_value (goes (repeated p) s k) w v u j g h d n f = absurd (twice_not s k v w j g n)
-
-pub one_json_value : (w : List ℕ) (s : State) (k : Frames) (v u : Json) → StateSound s k → IsShallow v → HasDistinctNames v → Completes s k v w → Completes s k u w → v ≡ u
-one_json_value [] s k v u is d n g h = one_end s k v u (ended_is s k v g) (ended_is s k u h)
-one_json_value (b ∷ w) s k v u is d n g h =
-    one_more_value (next 0 s k b) w v u (judged 0 s k b is) ((step_is 0 s k v b w (has_escape s k is)).0 g) ((step_is 0 s k u b w (has_escape s k is)).0 h) d n
-    (λ q i j x y. one_json_value w q i v u j d n x y)

@@ -1,6 +1,6 @@
 -- What is kept of a string or a number that is being read: that its bytes are UTF-8, and where a name began.
-use Rattle.std.proofs.Common.{◌≡◌, ℕ, suc, zero, ◌+◌, ◌-◌, ◌*◌, ◌<◌, ◌≤◌, ◌⊎◌, inl, inr, List, [], ◌∷◌, ◌++◌, length, get_or, take, drop, Bool, true, false, cond, ◌==◌, ◌&&◌, nat_lt, Option, Some, None, refl, sym, ap, subst, ◌∙◌, ◌↔◌, arith}
-use Rattle.std.proofs.lemmas.Bool.{eqb-true, eqb-false, ltb-true, ltb-false}
+use Rattle.std.proofs.Common.{◌≡◌, ℕ, suc, ◌+◌, ◌-◌, ◌*◌, ◌<◌, ◌≤◌, ◌⊎◌, inl, inr, List, [], ◌∷◌, ◌++◌, length, get_or, take, drop, Bool, true, false, cond, ◌==◌, nat_lt, Option, Some, None, refl, sym, ap, subst, ◌∙◌, arith}
+use Rattle.std.proofs.lemmas.Bool.{eqb-true, ltb-true, ltb-false}
 use Rattle.std.proofs.lemmas.Bool.Decides.{nat_tests}
 use Rattle.std.proofs.lemmas.List.{append_assoc, append-nil, length-append, take_more, drop_more}
 use Rattle.std.proofs.lemmas.Str.{IsUtf8-append, IsUtf8-take, IsUtf8-drop, IsUtf8-nil, IsUtf8-encode, IsCharBoundary-before_ascii, IsCharBoundary-after_ascii}
@@ -14,7 +14,6 @@ use Rattle.ts_ojson.specs.declared.escape.Escape.{Escape}
 use Rattle.ts_ojson.specs.declared.escape.Escape.TheVariants.{Plain, Backslash, First, Second, Third, Fourth, High, HighBackslash, LowFirst, LowSecond, LowThird, LowFourth}
 use Rattle.ts_ojson.specs.declared.escape.Piece.{Piece}
 use Rattle.ts_ojson.specs.declared.escape.Piece.TheVariants.{Inside, Closed}
-use Rattle.ts_ojson.specs.declared.state.Frame.{Frame}
 use Rattle.ts_ojson.specs.declared.state.Frame.TheVariants as frame
 use Rattle.ts_ojson.specs.declared.state.Word.{Word}
 use Rattle.ts_ojson.specs.declared.state.Role.{Role}
@@ -23,17 +22,14 @@ use Rattle.ts_ojson.specs.declared.state.State.{State}
 use Rattle.ts_ojson.specs.declared.state.State.TheVariants as state
 use Rattle.ts_ojson.specs.declared.value.OJson.{OJson}
 use Rattle.ts_ojson.specs.declared.value.OJson.TheVariants as json
-use Rattle.ts_ojson.specs.Json.{Json}
 use Rattle.ts_ojson.specs.Characters.{IsHigh, IsLow, pair_of, short_of, Quoted}
-use Rattle.ts_ojson.specs.Text.{IsText}
 use Rattle.ts_ojson.specs.Reads.{Begins, IsAny}
 use Rattle.ts_ojson.specs.Gathered.{has_name}
-use Rattle.ts_ojson.specs.Strings.{plain_piece, shorted, backslash_piece, unit_piece, third_piece, digit_piece, hex_piece, next_piece, IsWithin}
-use Rattle.ts_ojson.specs.Machine.{Frames, Gathered, class_of, part_next, part_ends, minus_next, more_whole, more_fraction, exponent_next, digit_next, whole_next, word_bytes, word_value, Verdict, fine, too_deep, repeated, Outcome, stuck, goes, stays, opens, begin_class, begin, value_class, after_item, after_member, after_within, after, item_first_class, item_first, name_first, name_next, colon_next, word_next, number_part, number_next, closed, text_piece, text_next, next}
+use Rattle.ts_ojson.specs.Strings.{plain_piece, shorted, unit_piece, digit_piece, hex_piece, next_piece, IsWithin}
+use Rattle.ts_ojson.specs.Machine.{Frames, Gathered, class_of, part_next, part_ends, word_bytes, word_value, fine, too_deep, repeated, Outcome, stuck, goes, stays, opens, begin_class, value_class, after, item_first_class, name_first, name_next, colon_next, word_next, number_part, text_piece, next}
 use Rattle.ts_ojson.proofs.Meaning.{InText, PieceMeans}
 use Rattle.ts_ojson.proofs.ClassLemmas.{of_class}
 use Rattle.ts_ojson.proofs.StringLemmas.{text_step}
-use Rattle.ts_ojson.proofs.ValueLemmas.{cons_is}
 
 -- ---- cutting UTF-8 at an ASCII byte
 take_front : (a r : List ℕ) → take (length a) (a ++ r) ≡ a
@@ -124,12 +120,12 @@ hex_ascii b lt = grind (arith, nat_tests)
 -- from p on a string began: its bytes so far are read to e and s
 pub record IsQuoting (w : List ℕ) (at : ℕ) (e : Escape) (s : List ℕ) (p : ℕ) : Type 0 where
   pub before : p < at
-  pub starts : Begins IsAny (take p w ++ 32 ∷ [])
+  pub starts : Begins IsAny (take p w ++ 10 ∷ [])
   pub reads : (n z : List ℕ) → InText e s (λ q r. (q ≡ n) × (r ≡ [])) z → Quoted n (take (at - p) (drop p w) ++ z) []
 
 pub record IsQuoted (w : List ℕ) (at : ℕ) (n : List ℕ) (p : ℕ) : Type 0 where
   pub before : p + 1 < at
-  pub starts : Begins IsAny (take p w ++ 32 ∷ [])
+  pub starts : Begins IsAny (take p w ++ 10 ∷ [])
   pub reads : Quoted n (take (at - p) (drop p w)) []
 
 abbrev pub RoleFits : List ℕ → ℕ → Escape → List ℕ → Role → Type 0
@@ -229,7 +225,7 @@ module _ (w : List ℕ) (at b : ℕ) (h : IsByte w at b) where
   after_fits o (frame.Object ms n ∷ k) c = tt
 
   -- a name begins here
-  begins_name : (ms : Gathered) → class_of b ≡ class.Quote → Begins IsAny (take at w ++ 32 ∷ []) → Fits w (at + 1) (state.Text Plain [] (role.Name at ms))
+  begins_name : (ms : Gathered) → class_of b ≡ class.Quote → Begins IsAny (take at w ++ 10 ∷ []) → Fits w (at + 1) (state.Text Plain [] (role.Name at ms))
   begins_name ms e starts = (
     rest_utf8 w at b h (class_ascii b class.Quote e tt),
     record {
@@ -244,13 +240,13 @@ module _ (w : List ℕ) (at b : ℕ) (h : IsByte w at b) where
     },
   )
 
-  first_fits : (k : Frames) (c : Class) → class_of b ≡ c → Begins IsAny (take at w ++ 32 ∷ []) → OutFits w (at + 1) (stays (name_first at c) k)
+  first_fits : (k : Frames) (c : Class) → class_of b ≡ c → Begins IsAny (take at w ++ 10 ∷ []) → OutFits w (at + 1) (stays (name_first at c) k)
   first_fits k class.Blank e starts = tt
   first_fits k class.CloseObject e starts = tt
   first_fits k class.Quote e starts = begins_name [] e starts
   first_fits k c e starts = tt
 
-  name_fits : (ms : Gathered) (k : Frames) (c : Class) → class_of b ≡ c → Begins IsAny (take at w ++ 32 ∷ []) → OutFits w (at + 1) (stays (name_next at ms c) k)
+  name_fits : (ms : Gathered) (k : Frames) (c : Class) → class_of b ≡ c → Begins IsAny (take at w ++ 10 ∷ []) → OutFits w (at + 1) (stays (name_next at ms c) k)
   name_fits ms k class.Blank e starts = tt
   name_fits ms k class.Quote e starts = begins_name ms e starts
   name_fits ms k c e starts = tt
@@ -388,8 +384,8 @@ module _ (w : List ℕ) (at b : ℕ) (h : IsByte w at b) where
   NameStarts state.Value = Unit {0}
   NameStarts state.FirstItem = Unit {0}
   NameStarts (state.After o) = Unit {0}
-  NameStarts state.FirstName = Begins IsAny (take at w ++ 32 ∷ [])
-  NameStarts (state.Name ms) = Begins IsAny (take at w ++ 32 ∷ [])
+  NameStarts state.FirstName = Begins IsAny (take at w ++ 10 ∷ [])
+  NameStarts (state.Name ms) = Begins IsAny (take at w ++ 10 ∷ [])
   NameStarts (state.Colon ms n) = Unit {0}
   NameStarts (state.Word x i) = Unit {0}
   NameStarts (state.Number p s) = Unit {0}

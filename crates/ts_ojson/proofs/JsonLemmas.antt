@@ -1,5 +1,5 @@
 -- `json_of`, one law for each variant.
-use Rattle.std.proofs.Common.{◌≡◌, ◌∙◌, ap, sym, refl, ℕ, Bool, List, [], ◌∷◌, map}
+use Rattle.std.proofs.Common.{◌≡◌, ◌∙◌, ap, sym, ℕ, Bool, List, map}
 use Rattle.ts_ojson.specs.declared.value.OJson.{OJson}
 use Rattle.ts_ojson.specs.declared.value.OJson.TheOpen.{OJson-F}
 use Rattle.ts_ojson.specs.declared.value.OJson.TheVariants.{Null, Bool as Boolean, Num, Text, Array, Object, rolls-Null, rolls-Bool, rolls-Num, rolls-Text, rolls-Array, rolls-Object}

@@ -12,4 +12,5 @@ pub mod InverseLemmas
 pub mod FitLemmas
 pub mod FinalLemmas
 pub mod CodeLemmas
-pub mod OneLemmas
+pub mod LawLemmas
+pub mod TextLemmas

@@ -1,5 +1,5 @@
 -- What the reader's states mean: which bytes complete them to a text of which value.
-use Rattle.std.proofs.Common.{◌≡◌, ℕ, ◌⊎◌, ◌<◌, List, [], ◌∷◌, ◌++◌, length, drop, Bool, Option, Some, None}
+use Rattle.std.proofs.Common.{◌≡◌, ℕ, ◌⊎◌, List, [], ◌∷◌, ◌++◌, drop, Option, Some, None}
 use Rattle.std.specs.Char.{encode_utf8}
 use Rattle.ts_ojson.specs.declared.part.Part.{Part}
 use Rattle.ts_ojson.specs.declared.part.Part.TheVariants as part
@@ -7,17 +7,16 @@ use Rattle.ts_ojson.specs.declared.escape.Escape.{Escape}
 use Rattle.ts_ojson.specs.declared.escape.Escape.TheVariants.{Plain, Backslash, First, Second, Third, Fourth, High, HighBackslash, LowFirst, LowSecond, LowThird, LowFourth}
 use Rattle.ts_ojson.specs.declared.escape.Piece.{Piece}
 use Rattle.ts_ojson.specs.declared.escape.Piece.TheVariants.{Inside, Closed}
-use Rattle.ts_ojson.specs.declared.state.Frame.{Frame}
 use Rattle.ts_ojson.specs.declared.state.Frame.TheVariants as frame
 use Rattle.ts_ojson.specs.declared.state.Role.{Role}
 use Rattle.ts_ojson.specs.declared.state.Role.TheVariants as role
 use Rattle.ts_ojson.specs.declared.state.State.{State}
 use Rattle.ts_ojson.specs.declared.state.State.TheVariants as state
 use Rattle.ts_ojson.specs.declared.value.OJson.{OJson}
-use Rattle.ts_ojson.specs.Json.{Json, null, boolean, number, string, array, object, Items, no_items, item, Members, no_members, member, json_of}
+use Rattle.ts_ojson.specs.Json.{Json, number, string, array, object, Items, item, Members, member, json_of}
 use Rattle.ts_ojson.specs.Number.{Digits, SomeDigits, Whole, Fraction, Sign, Exponent}
 use Rattle.ts_ojson.specs.Characters.{Hex, Unit16, IsHigh, IsLow, IsAlone, pair_of, Mark, Characters, Quoted}
-use Rattle.ts_ojson.specs.Text.{Blanks, Spaced, Value, FirstItem, MoreItems, FirstMember, MoreMembers}
+use Rattle.ts_ojson.specs.Text.{Blanks, Value, FirstItem, MoreItems, FirstMember, MoreMembers}
 use Rattle.ts_ojson.specs.Machine.{Frames, Gathered, word_bytes, word_value, Outcome, stuck, goes}
 
 -- ---- numbers: w goes on with the number after this part, and r follows it

@@ -1,10 +1,10 @@
 -- How a number goes on, byte for byte.
-use Rattle.std.proofs.Common.{◌≡◌, ℕ, ◌≤◌, ◌⊎◌, inl, inr, List, [], ◌∷◌, Bool, true, false, Option, Some, None, refl, sym, ap, subst, ◌∙◌, ◌↔◌, arith}
+use Rattle.std.proofs.Common.{◌≡◌, ℕ, ◌⊎◌, inl, inr, List, [], ◌∷◌, true, Option, Some, None, refl, sym, ap, subst, ◌∙◌, arith}
 use Rattle.ts_ojson.specs.declared.class.Class.{Class}
 use Rattle.ts_ojson.specs.declared.class.Class.TheVariants as class
 use Rattle.ts_ojson.specs.declared.part.Part.{Part}
 use Rattle.ts_ojson.specs.declared.part.Part.TheVariants as part
-use Rattle.ts_ojson.specs.Number.{IsDigit, Digits, SomeDigits, Minus, Whole, Fraction, Sign, Exponent, Number}
+use Rattle.ts_ojson.specs.Number.{IsDigit, Digits, SomeDigits, Whole, Fraction, Sign, Exponent, Number}
 use Rattle.ts_ojson.specs.Machine.{class_of, digit_next, whole_next, minus_next, more_whole, more_fraction, exponent_next, part_next, part_ends}
 use Rattle.ts_ojson.proofs.Meaning.{Tail}
 use Rattle.ts_ojson.proofs.ClassLemmas.{of_class, digit_class, nonzero_class, class_digit}

@@ -1,9 +1,9 @@
 -- What is read is not too deep and has no name twice.
-use Rattle.std.proofs.Common.{◌≡◌, ℕ, suc, zero, ◌+◌, ◌*◌, ◌<◌, ◌≤◌, ◌⊎◌, inl, inr, List, [], ◌∷◌, ◌++◌, length, get_or, Bool, true, false, cond, ◌==◌, ◌||◌, nat_lt, Option, Some, None, refl, sym, ap, subst, ◌∙◌, ◌↔◌, arith}
-use Rattle.std.proofs.lemmas.Bool.{eqb-true, eqb-false, ltb-true, ltb-false}
+use Rattle.std.proofs.Common.{◌≡◌, ℕ, suc, ◌+◌, ◌*◌, ◌<◌, ◌≤◌, inl, inr, List, [], ◌∷◌, ◌++◌, length, get_or, Bool, true, false, cond, ◌==◌, ◌||◌, nat_lt, Option, Some, None, refl, sym, ap, subst, arith}
+use Rattle.std.proofs.lemmas.Bool.{ltb-true, ltb-false}
 use Rattle.std.proofs.lemmas.Slice.Eq.{bytes_eq-Decides}
 use Rattle.std.specs.Str.{bytes_eq}
-use Rattle.std.specs.Char.{digit_value, encode_utf8}
+use Rattle.std.specs.Char.{digit_value}
 use Rattle.ts_ojson.specs.declared.class.Class.{Class}
 use Rattle.ts_ojson.specs.declared.class.Class.TheVariants as class
 use Rattle.ts_ojson.specs.declared.part.Part.{Part}
@@ -11,7 +11,6 @@ use Rattle.ts_ojson.specs.declared.escape.Escape.{Escape}
 use Rattle.ts_ojson.specs.declared.escape.Escape.TheVariants.{Plain, Backslash, First, Second, Third, Fourth, High, HighBackslash, LowFirst, LowSecond, LowThird, LowFourth}
 use Rattle.ts_ojson.specs.declared.escape.Piece.{Piece}
 use Rattle.ts_ojson.specs.declared.escape.Piece.TheVariants.{Inside, Closed}
-use Rattle.ts_ojson.specs.declared.state.Frame.{Frame}
 use Rattle.ts_ojson.specs.declared.state.Frame.TheVariants as frame
 use Rattle.ts_ojson.specs.declared.state.Word.{Word}
 use Rattle.ts_ojson.specs.declared.state.Word.TheVariants as word
@@ -21,11 +20,11 @@ use Rattle.ts_ojson.specs.declared.state.State.{State}
 use Rattle.ts_ojson.specs.declared.state.State.TheVariants as state
 use Rattle.ts_ojson.specs.declared.value.OJson.{OJson}
 use Rattle.ts_ojson.specs.declared.value.OJson.TheVariants as json
-use Rattle.ts_ojson.specs.Json.{Json, null, boolean, number, string, array, object, Items, no_items, item, Members, no_members, member, json_of, depth, items_depth, members_depth, names, IsNone, AreDistinct, HasDistinctNames, ItemsHaveDistinctNames, MembersHaveDistinctNames}
-use Rattle.ts_ojson.specs.Characters.{IsHigh, pair_of, short_of}
+use Rattle.ts_ojson.specs.Json.{Json, null, boolean, number, string, array, object, no_items, item, no_members, member, json_of, depth, items_depth, members_depth, names, IsNone, AreDistinct, HasDistinctNames, ItemsHaveDistinctNames, MembersHaveDistinctNames}
+use Rattle.ts_ojson.specs.Characters.{short_of}
 use Rattle.ts_ojson.specs.Gathered.{has_name}
-use Rattle.ts_ojson.specs.Strings.{plain_piece, shorted, backslash_piece, unit_piece, third_piece, digit_piece, hex_piece, next_piece, IsWithin}
-use Rattle.ts_ojson.specs.Machine.{Frames, Gathered, class_of, part_next, part_ends, word_bytes, word_value, Verdict, fine, too_deep, repeated, Outcome, stuck, goes, stays, opens, begin_class, begin, value_class, after_item, after_member, after_within, after, item_first_class, item_first, name_first, name_next, colon_next, word_next, number_part, number_next, closed, text_piece, text_next, next}
+use Rattle.ts_ojson.specs.Strings.{shorted, digit_piece, hex_piece, next_piece, IsWithin}
+use Rattle.ts_ojson.specs.Machine.{Frames, Gathered, class_of, part_next, part_ends, word_bytes, word_value, fine, too_deep, repeated, Outcome, stuck, goes, stays, opens, begin_class, value_class, after_item, after_member, after, item_first_class, name_first, name_next, colon_next, word_next, number_part, closed, text_piece, next}
 use Rattle.ts_ojson.proofs.JsonLemmas.{json_of_null, json_of_bool, json_of_num, json_of_text, json_of_array, json_of_object}
 use Rattle.ts_ojson.proofs.Meaning.{onto_items, onto_members}
 use Rattle.ts_ojson.proofs.ValueLemmas.{array_is, object_is}
@@ -82,22 +81,22 @@ IsOpening (state.Word x i) k = ⊥
 IsOpening (state.Number p s) k = ⊥
 IsOpening (state.Text e s r) k = ⊥
 
-abbrev pub IsTwice : State → Type 0
-IsTwice state.Value = ⊥
-IsTwice state.FirstItem = ⊥
-IsTwice (state.After o) = ⊥
-IsTwice state.FirstName = ⊥
-IsTwice (state.Name ms) = ⊥
-IsTwice (state.Colon ms n) = has_name n ms ≡ true
-IsTwice (state.Word x i) = ⊥
-IsTwice (state.Number p s) = ⊥
-IsTwice (state.Text e s r) = ⊥
+abbrev pub IsTwice : State → Frames → Type 0
+IsTwice state.Value k = ⊥
+IsTwice state.FirstItem k = ⊥
+IsTwice (state.After o) k = ⊥
+IsTwice state.FirstName k = ⊥
+IsTwice (state.Name ms) k = ⊥
+IsTwice (state.Colon ms n) k = IsOpen ms k × (has_name n ms ≡ true)
+IsTwice (state.Word x i) k = ⊥
+IsTwice (state.Number p s) k = ⊥
+IsTwice (state.Text e s r) k = ⊥
 
 abbrev pub Judged : Outcome → Type 0
 Judged stuck = Unit {0}
 Judged (goes fine s k) = StateSound s k
 Judged (goes too_deep s k) = IsOpening s k
-Judged (goes (repeated p) s k) = IsTwice s
+Judged (goes (repeated p) s k) = IsTwice s k
 
 -- ---- names
 eq_name : (n m : List ℕ) → bytes_eq n m ≡ true → n ≡ m
@@ -260,7 +259,7 @@ number_judged p s k b None h =
     (λ e. after_judged (json.Num s) k (class_of b) (simple_good (length k) (json_of (json.Num s)) (number s) (few_open k h) (json_of_num s) refl tt) h) (λ e. tt)
 
 -- ---- within strings
-abbrev PieceWithin : Option Piece → Type 0
+abbrev pub PieceWithin : Option Piece → Type 0
 PieceWithin None = Unit {0}
 PieceWithin (Some (Inside e s)) = IsWithin e
 PieceWithin (Some (Closed s)) = Unit {0}
@@ -294,7 +293,7 @@ digit_within (LowFourth h n) s d is lt = tt
 hex_within : (e : Escape) (s : List ℕ) (b : ℕ) → IsWithin e → PieceWithin (hex_piece e s b)
 hex_within e s b is = piece_cond (digit_piece e s (digit_value b)) None (nat_lt (digit_value b) 16) (λ t. digit_within e s (digit_value b) is (ltb-true (digit_value b) 16 t)) (λ t. tt)
 
-within : (e : Escape) (s : List ℕ) (b : ℕ) → IsWithin e → PieceWithin (next_piece e s b)
+pub within : (e : Escape) (s : List ℕ) (b : ℕ) → IsWithin e → PieceWithin (next_piece e s b)
 within Plain s b is = piece_cond _ _ (b == 34) (λ e. tt) (λ e. piece_cond _ _ (b == 92) (λ f. tt) (λ f. piece_cond None (Some (Inside Plain (s ++ b ∷ []))) (nat_lt b 32) (λ g. tt) (λ g. tt)))
 within Backslash s b is = piece_cond _ _ (b == 117) (λ e. tt) (λ e. short_within s (short_of b))
 within First s b is = hex_within First s b is
@@ -313,7 +312,7 @@ closed_judged s role.Value k h = (simple_good (length k) (json_of (json.Text s))
 closed_judged s (role.Name p ms) k h = by (has_name s ms) refl
   where
     by : (t : Bool) → has_name s ms ≡ t → Judged (goes (cond t (repeated p) fine) (state.Colon ms s) k)
-    by true e = e
+    by true e = (h, e)
     by false e = (h, e)
 
 text_judged : (r : Role) (k : Frames) (o : Option Piece) → PieceWithin o → RoleSound r k → Judged (text_piece r k o)

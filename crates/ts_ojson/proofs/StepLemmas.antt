@@ -1,5 +1,5 @@
 -- Each state goes on by one byte as it means.
-use Rattle.std.proofs.Common.{◌≡◌, ℕ, suc, zero, ◌+◌, ◌<◌, ◌≤◌, ◌⊎◌, inl, inr, List, [], ◌∷◌, ◌++◌, length, get_or, drop, Bool, true, false, cond, ◌==◌, nat_lt, Option, Some, None, refl, sym, ap, subst, ◌∙◌, ◌↔◌, arith}
+use Rattle.std.proofs.Common.{◌≡◌, ℕ, ◌+◌, ◌<◌, ◌≤◌, ◌⊎◌, inl, inr, List, [], ◌∷◌, ◌++◌, length, get_or, drop, Bool, true, false, cond, ◌==◌, nat_lt, Option, Some, None, refl, sym, ap, subst, ◌∙◌, ◌↔◌}
 use Rattle.std.proofs.lemmas.Bool.{eqb-true, eqb-false, ltb-true, ltb-false}
 use Rattle.std.proofs.lemmas.List.{append_assoc, append-nil, drop_more, drop_all}
 use Rattle.ts_ojson.specs.declared.class.Class.{Class}
@@ -8,7 +8,6 @@ use Rattle.ts_ojson.specs.declared.part.Part.{Part}
 use Rattle.ts_ojson.specs.declared.part.Part.TheVariants as part
 use Rattle.ts_ojson.specs.declared.escape.Piece.{Piece}
 use Rattle.ts_ojson.specs.declared.escape.Piece.TheVariants.{Inside, Closed}
-use Rattle.ts_ojson.specs.declared.state.Frame.{Frame}
 use Rattle.ts_ojson.specs.declared.state.Frame.TheVariants as frame
 use Rattle.ts_ojson.specs.declared.state.Word.{Word}
 use Rattle.ts_ojson.specs.declared.state.Role.{Role}
@@ -17,12 +16,12 @@ use Rattle.ts_ojson.specs.declared.state.State.{State}
 use Rattle.ts_ojson.specs.declared.state.State.TheVariants as state
 use Rattle.ts_ojson.specs.declared.value.OJson.{OJson}
 use Rattle.ts_ojson.specs.declared.value.OJson.TheVariants as json
-use Rattle.ts_ojson.specs.Json.{Json, number, string, json_of}
+use Rattle.ts_ojson.specs.Json.{Json, number, json_of}
 use Rattle.ts_ojson.specs.Text.{Blanks, IsText}
 use Rattle.ts_ojson.specs.Strings.{next_piece, IsWithin}
-use Rattle.ts_ojson.specs.Machine.{Frames, class_of, digit_next, whole_next, minus_next, more_whole, more_fraction, exponent_next, part_next, part_ends, word_bytes, word_value, Outcome, stuck, goes, fine, after, after_within, word_next, number_part, number_next, closed, text_piece, text_next, next, ended_in, ended}
+use Rattle.ts_ojson.specs.Machine.{Frames, class_of, digit_next, whole_next, minus_next, more_whole, more_fraction, exponent_next, part_next, part_ends, word_bytes, word_value, Outcome, stuck, goes, fine, after, word_next, number_part, number_next, closed, text_piece, next}
 use Rattle.ts_ojson.proofs.JsonLemmas.{json_of_num, json_of_text}
-use Rattle.ts_ojson.proofs.Meaning.{Tail, InText, PieceMeans, Rest, Begun, Coloned, TextEnd, Completes, Means}
+use Rattle.ts_ojson.proofs.Meaning.{Tail, PieceMeans, Rest, TextEnd, Completes, Means}
 use Rattle.ts_ojson.proofs.NumberLemmas.{TailNext, tail_forward, tail_back, tail_end, ends_tail}
 use Rattle.ts_ojson.proofs.StringLemmas.{head_is, tail_is, text_step}
 use Rattle.ts_ojson.proofs.ValueLemmas.{cons_is, nil_is, begun_forward, begun_back, rest_forward, rest_back, item_forward, item_back, name_forward, name_back, colon_forward, colon_back, first_forward, first_back}

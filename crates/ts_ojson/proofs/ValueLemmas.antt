@@ -1,27 +1,19 @@
 -- How values go on, byte for byte.
-use Rattle.std.proofs.Common.{◌≡◌, ℕ, suc, zero, ◌+◌, ◌<◌, ◌≤◌, ◌⊎◌, inl, inr, List, [], ◌∷◌, ◌++◌, map, length, get_or, drop, Bool, true, false, cond, ◌==◌, nat_lt, Option, Some, None, refl, sym, ap, subst, ◌∙◌, ◌↔◌, arith}
+use Rattle.std.proofs.Common.{◌≡◌, ℕ, inl, inr, List, [], ◌∷◌, ◌++◌, map, true, false, refl, sym, ap, subst, ◌∙◌}
 use Rattle.ts_ojson.specs.declared.class.Class.{Class}
 use Rattle.ts_ojson.specs.declared.class.Class.TheVariants as class
-use Rattle.ts_ojson.specs.declared.part.Part.{Part}
-use Rattle.ts_ojson.specs.declared.part.Part.TheVariants as part
-use Rattle.ts_ojson.specs.declared.escape.Escape.TheVariants.{Plain}
-use Rattle.ts_ojson.specs.declared.state.Frame.{Frame}
 use Rattle.ts_ojson.specs.declared.state.Frame.TheVariants as frame
-use Rattle.ts_ojson.specs.declared.state.Word.{Word}
 use Rattle.ts_ojson.specs.declared.state.Word.TheVariants as word
-use Rattle.ts_ojson.specs.declared.state.Role.{Role}
-use Rattle.ts_ojson.specs.declared.state.Role.TheVariants as role
-use Rattle.ts_ojson.specs.declared.state.State.{State}
 use Rattle.ts_ojson.specs.declared.state.State.TheVariants as state
 use Rattle.ts_ojson.specs.declared.value.OJson.{OJson}
 use Rattle.ts_ojson.specs.declared.value.OJson.TheVariants as json
 use Rattle.ts_ojson.specs.Json.{Json, null, boolean, number, string, array, object, Items, no_items, item, Members, no_members, member, json_of, items_of, members_of}
 use Rattle.ts_ojson.specs.Number.{Number}
 use Rattle.ts_ojson.specs.Characters.{Mark, Quoted}
-use Rattle.ts_ojson.specs.Text.{IsBlank, Blanks, Spaced, Value, FirstItem, MoreItems, FirstMember, MoreMembers}
-use Rattle.ts_ojson.specs.Machine.{Frames, Gathered, class_of, word_bytes, word_value, Outcome, stuck, goes, fine, stays, begin_class, begin, value_class, after_item, after_member, after_within, after, item_first_class, item_first, name_first, name_next, colon_next}
-use Rattle.ts_ojson.proofs.JsonLemmas.{json_of_null, json_of_bool, json_of_num, json_of_text, json_of_array, json_of_object}
-use Rattle.ts_ojson.proofs.Meaning.{Tail, Plainly, InText, onto_items, onto_members, Rest, Begun, Coloned, TextEnd, Completes, Means}
+use Rattle.ts_ojson.specs.Text.{IsBlank, Blanks, Value, FirstItem, MoreItems, FirstMember, MoreMembers}
+use Rattle.ts_ojson.specs.Machine.{Frames, Gathered, class_of, word_value, Outcome, stays, begin_class, begin, value_class, after, item_first_class, item_first, name_first, name_next, colon_next}
+use Rattle.ts_ojson.proofs.JsonLemmas.{json_of_null, json_of_bool, json_of_array, json_of_object}
+use Rattle.ts_ojson.proofs.Meaning.{onto_items, onto_members, Rest, Begun, Coloned, Completes, Means}
 use Rattle.ts_ojson.proofs.ClassLemmas.{of_class, blank_class}
 use Rattle.ts_ojson.proofs.NumberLemmas.{NumberNext, number_forward, number_back, no_number}
 use Rattle.ts_ojson.proofs.StringLemmas.{head_is, tail_is}

@@ -1,7 +1,7 @@
 -- Each state has some bytes that complete it, to a value that is not too deep and has no name twice.
-use Rattle.std.proofs.Common.{◌≡◌, ℕ, suc, zero, ◌+◌, ◌*◌, ◌<◌, ◌≤◌, ◌⊎◌, inl, inr, List, [], ◌∷◌, ◌++◌, length, get_or, drop, Bool, true, false, cond, ◌==◌, ◌||◌, nat_lt, Option, Some, None, refl, sym, ap, subst, ◌∙◌, ◌↔◌, arith}
+use Rattle.std.proofs.Common.{◌≡◌, ℕ, suc, zero, ◌+◌, ◌*◌, ◌<◌, ◌≤◌, ◌⊎◌, inl, inr, List, [], ◌∷◌, ◌++◌, length, drop, Bool, true, false, ◌||◌, nat_lt, refl, sym, ap, subst, ◌∙◌, arith}
 use Rattle.std.proofs.lemmas.Bool.{ltb-true, ltb-false}
-use Rattle.std.proofs.lemmas.List.{append-nil, append_assoc, length-append}
+use Rattle.std.proofs.lemmas.List.{append_assoc, length-append}
 use Rattle.std.proofs.lemmas.Slice.Eq.{bytes_eq-Decides}
 use Rattle.std.specs.Str.{bytes_eq}
 use Rattle.std.specs.Char.{encode_utf8}
@@ -9,25 +9,20 @@ use Rattle.ts_ojson.specs.declared.part.Part.{Part}
 use Rattle.ts_ojson.specs.declared.part.Part.TheVariants as part
 use Rattle.ts_ojson.specs.declared.escape.Escape.{Escape}
 use Rattle.ts_ojson.specs.declared.escape.Escape.TheVariants.{Plain, Backslash, First, Second, Third, Fourth, High, HighBackslash, LowFirst, LowSecond, LowThird, LowFourth}
-use Rattle.ts_ojson.specs.declared.state.Frame.{Frame}
 use Rattle.ts_ojson.specs.declared.state.Frame.TheVariants as frame
-use Rattle.ts_ojson.specs.declared.state.Role.{Role}
 use Rattle.ts_ojson.specs.declared.state.Role.TheVariants as role
 use Rattle.ts_ojson.specs.declared.state.State.{State}
 use Rattle.ts_ojson.specs.declared.state.State.TheVariants as state
-use Rattle.ts_ojson.specs.declared.value.OJson.{OJson}
-use Rattle.ts_ojson.specs.declared.value.OJson.TheVariants as json
-use Rattle.ts_ojson.specs.Json.{Json, number, string, array, object, Items, no_items, item, Members, no_members, member, json_of, depth, HasDistinctNames}
+use Rattle.ts_ojson.specs.Json.{Json, number, string, array, object, no_items, item, no_members, member, json_of}
 use Rattle.ts_ojson.specs.Number.{Number}
-use Rattle.ts_ojson.specs.Characters.{Hex, Unit16, IsHigh, IsLow, IsAlone, pair_of, Mark, raw, Characters, Quoted}
+use Rattle.ts_ojson.specs.Characters.{Hex, IsHigh, IsAlone, pair_of, Mark, raw, Characters}
 use Rattle.ts_ojson.specs.Gathered.{has_name}
-use Rattle.ts_ojson.specs.Strings.{IsWithin, next_piece}
+use Rattle.ts_ojson.specs.Strings.{IsWithin}
 use Rattle.ts_ojson.specs.Machine.{Frames, Gathered, word_bytes, word_value}
-use Rattle.ts_ojson.proofs.JsonLemmas.{json_of_num, json_of_text}
 use Rattle.ts_ojson.proofs.Meaning.{Tail, Plainly, Paired, UnitRest, LowRest, InText, onto_items, onto_members, Rest, Begun, Coloned, TextEnd, Completes}
 use Rattle.ts_ojson.proofs.NumberLemmas.{tail_end}
 use Rattle.ts_ojson.proofs.StringLemmas.{text_step}
-use Rattle.ts_ojson.proofs.SoundLemmas.{IsGood, AllGood, AllGoodMembers, named, IsSound, IsOpen, RoleSound, StateSound, few_open, array_closed, object_closed, word_good}
+use Rattle.ts_ojson.proofs.SoundLemmas.{IsGood, IsSound, IsOpen, StateSound, few_open, array_closed, object_closed, word_good}
 
 -- a value that is read, and bytes that complete to it
 abbrev pub Viable : (Json → List ℕ → Type 0) → Type 0

@@ -1,5 +1,5 @@
 -- What is read from which bytes, and what each refusal says.
-use Rattle.std.specs.Prelude.{◌≡◌, ℕ, ◌+◌, ◌-◌, ◌≤◌, ◌<◌, List, ◌∷◌, [], ◌++◌, length, take, drop, ⊤, IsUtf8}
+use Rattle.std.specs.Prelude.{ℕ, ◌+◌, ◌-◌, ◌≤◌, ◌<◌, List, ◌∷◌, [], ◌++◌, length, take, drop, ⊤, IsUtf8}
 use Rattle.std.specs.Str.{IsValidUpTo}
 use Rattle.ts_ojson.specs.declared.value.OJson.{OJson}
 use Rattle.ts_ojson.specs.declared.fault.OFault.{OFault}
@@ -19,7 +19,7 @@ pub record Reads (v : OJson) (w : List ℕ) : Type 0 where
   pub shallow : IsShallow (json_of v)
   pub distinct : HasDistinctNames (json_of v)
 
--- the bytes are a front of some text, of a value that is so
+-- The bytes are a front of some text, of a value that is so. That a text is UTF-8 is asked of the whole input, first of all.
 abbrev pub Begins : (Json → Type 0) → List ℕ → Type 0
 Begins P u = (rest : List ℕ) × (j : Json) × IsText j (u ++ rest) × P j
 
@@ -46,16 +46,16 @@ pub record IsDeepFault (w : List ℕ) (p : ℕ) : Type 0 where
   pub begins : Begins IsAny (take (p + 1) w)
   pub deep : Begins IsShallow (take (p + 1) w) → ⊥
 
--- a string stands from p to before q, blanks could stand before it, and with its last quote a name stands twice
+-- From p to the quote at `close` a string stands, and no string is open before it, since a line feed could stand there. With that quote a name stands twice.
 pub record IsDuplicateFault (w : List ℕ) (p : ℕ) : Type 0 where
   pub utf8 : IsUtf8 w
   pub close : ℕ
   pub within : (p < close) × (close < length w)
   pub name : List ℕ
   pub string : Quoted name (take (close + 1 - p) (drop p w)) []
-  pub starts : Begins IsAny (take p w ++ 32 ∷ [])
+  pub starts : Begins IsAny (take p w ++ 10 ∷ [])
   pub before : IsKept (take close w)
-  pub begins : Begins IsAny (take (close + 1) w)
+  pub begins : Begins IsShallow (take (close + 1) w)
   pub twice : Begins HasDistinctNames (take (close + 1) w) → ⊥
 
 -- the cause of each refusal; want of memory has none

@@ -17,6 +17,6 @@ mod tests;
 mod value;
 
 pub use fault::OFault;
-pub use laws::one_value;
+pub use laws::{one_fault, one_value, refused_is_not_read};
 pub use reader::read;
 pub use value::{OItems, OJson, OMembers, OText};

@@ -1,7 +1,7 @@
-use Rattle.std.proofs.Common.{◌≡◌, ℕ, ◌<◌, List, get_or, length, refl, sym, subst, arith}
+use Rattle.std.proofs.Common.{◌≡◌, ℕ, List, get_or, length, refl, sym, subst, arith}
 use Rattle.std.proofs.lemmas.Result.{err_from_is_err_and}
 use Rattle.ts_ojson.specs.Reads.{Reads, IsFault, IsSyntaxFault}
-use Rattle.ts_ojson.proofs.CodeLemmas.{ready, can_end, goes_on, fault_is}
+use Rattle.ts_ojson.proofs.CodeLemmas.{ready, goes_on, fault_is}
 use Rattle.ts_ojson.proofs.FinalLemmas.{reads_whole, end_fault}
 use Rattle.ts_ojson.proofs.reader.read_text.Goals as goal
 

@@ -1,4 +1,3 @@
-use Rattle.std.proofs.Common.{◌≡◌}
 use Rattle.std.specs.Str.{IsUtf8}
 use Rattle.ts_ojson.specs.Machine.{goes, fine}
 use Rattle.ts_ojson.proofs.FinalLemmas.{Leads}

@@ -1,4 +1,4 @@
-use Rattle.std.proofs.Common.{refl, sym, ap, ◌∙◌, cond}
+use Rattle.std.proofs.Common.{sym, ap, ◌∙◌, cond}
 use Rattle.ts_ojson.specs.declared.state.State.TheVariants.{Colon}
 use Rattle.ts_ojson.specs.Machine.{goes, fine, repeated}
 use Rattle.ts_ojson.proofs.steps.name_read.Goals as goal
