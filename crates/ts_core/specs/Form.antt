@@ -1,7 +1,7 @@
 -- Grammar files of the plain form: the rules that a JSON value holds, and which bytes are such a file.
 use Rattle.std.specs.Prelude.{◌≡◌, ℕ, ◌≤◌, Bool, true, false, ◌&&◌, if◌then◌else◌, List, [], ◌∷◌, length, Option, Some, None, option_map, option_and_then, unwrap_or, is_some, codes}
 use Rattle.std.specs.Str.{bytes_eq}
-use Rattle.ts_ojson.specs.Json.{Json, null, boolean, number, string, array, object, Items, no_items, item, Members, no_members, member, json_of}
+use Rattle.ts_ojson.specs.Json.{Json, null, string, array, object, Items, no_items, item, Members, no_members, member, json_of}
 use Rattle.ts_ojson.specs.Reads.{Reads}
 use Rattle.ts_ojson.specs.declared.value.OJson.{OJson}
 use Rattle.ts_core.specs.Normal.{NamedRule, IsPlain, in_front}

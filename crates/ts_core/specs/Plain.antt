@@ -1,5 +1,5 @@
 -- The plain outcome: what a parse of a text comes to, for a grammar that derives one list of tokens.
-use Rattle.std.specs.Prelude.{◌≡◌, ℕ, ◌+◌, ◌-◌, ◌<◌, suc, max, ◌⊎◌, Bool, false, if◌then◌else◌, nat_lt, nat_eq, List, [], ◌∷◌, ◌++◌, length, drop, slice_get, Option, Some, None}
+use Rattle.std.specs.Prelude.{◌≡◌, ℕ, ◌+◌, ◌-◌, ◌<◌, suc, max, ◌⊎◌, Bool, if◌then◌else◌, nat_lt, nat_eq, List, [], ◌∷◌, ◌++◌, length, drop, slice_get, Option, Some, None}
 use Rattle.std.specs.List.{starts_with}
 use Rattle.ts_core.specs.Tree.{Node, node, Nodes, no_nodes, add, first_pad, extent_of_all, depth_of, node_of}
 use Rattle.ts_core.specs.declared.symbol.Symbol.{Symbol}

@@ -1,5 +1,5 @@
 -- The visible tree of a plain grammar's parse tree: the list of its nodes in preorder. No node is hidden.
-use Rattle.std.specs.Prelude.{ℕ, ◌+◌, ◌-◌, suc, Bool, true, false, nat_le, nat_eq, if◌then◌else◌, List, [], ◌∷◌, ◌++◌, slice_get, length, Option, Some, None}
+use Rattle.std.specs.Prelude.{ℕ, ◌+◌, ◌-◌, Bool, true, false, nat_le, if◌then◌else◌, List, [], ◌∷◌, ◌++◌, slice_get, Option, Some, None}
 use Rattle.ts_text.specs.Point.{row_of, column_of}
 use Rattle.ts_core.specs.Tree.{Node, node, Nodes, no_nodes, add, extent_of}
 use Rattle.ts_core.specs.Plain.{start_of}

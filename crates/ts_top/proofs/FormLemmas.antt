@@ -1,5 +1,5 @@
 -- Lists that are read one element after another, and what is seen of a JSON value.
-use Rattle.std.proofs.Common.{◌≡◌, ◌∙◌, sym, ap, subst, refl, ℕ, ◌+◌, ◌<◌, suc, add-one, Bool, true, false, ◌↔◌, length, get_or, drop, drop-cons, List, [], ◌∷◌, ◌++◌, Option, Some, None, append_assoc, append-nil}
+use Rattle.std.proofs.Common.{◌≡◌, ◌∙◌, sym, ap, refl, ℕ, ◌+◌, ◌<◌, suc, add-one, Bool, true, false, ◌↔◌, length, get_or, drop, drop-cons, List, [], ◌∷◌, ◌++◌, Option, Some, None, append_assoc}
 use Rattle.std.specs.Bool.{IsTrue}
 use Rattle.std.specs.Option.{option_map}
 use Rattle.ts_ojson.specs.declared.value.OJson.{OJson}

@@ -1,5 +1,5 @@
 -- A grammar file holds one grammar.
-use Rattle.std.proofs.Common.{◌≡◌, ◌∙◌, sym, ap, subst, ℕ, List, Option, Some, None}
+use Rattle.std.proofs.Common.{◌≡◌, ◌∙◌, sym, ap, subst, ℕ, List, Some, None}
 use Rattle.ts_ojson.specs.declared.value.OJson.{OJson}
 use Rattle.ts_ojson.specs.Json.{json_of}
 use Rattle.ts_ojson.specs.Reads.{Reads}

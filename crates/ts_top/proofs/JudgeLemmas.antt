@@ -1,5 +1,5 @@
 -- What was read of the two files, and what it comes to.
-use Rattle.std.proofs.Common.{◌≡◌, ◌∙◌, sym, ap, subst, refl, ℕ, List, length, Option, Some, Result, Ok, Err, Vec, ◌↔◌, ◌<◌}
+use Rattle.std.proofs.Common.{◌≡◌, ◌∙◌, sym, ap, subst, refl, ℕ, List, length, Some, Result, Ok, Err, Vec, ◌↔◌, ◌<◌}
 use Rattle.std.specs.declared.alloc.Global.{Global}
 use Rattle.std.specs.Result.{IfErr, IsErrOf}
 use Rattle.ts_io.specs.Read.{AnswersFor}

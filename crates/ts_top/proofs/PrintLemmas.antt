@@ -1,8 +1,8 @@
 -- The lines hold no float, so that what is written for them is known byte for byte.
-use Rattle.std.proofs.Common.{◌≡◌, refl, ℕ, List, [], ◌∷◌, true, false, codes}
+use Rattle.std.proofs.Common.{◌≡◌, refl, ℕ, List, [], ◌∷◌, false, codes}
 use Rattle.serde_json.specs.Data.{Data, array, object, member, no_members, string}
 use Rattle.serde_json.specs.Written.{has_float, items_have_float}
-use Rattle.ts_core.specs.Lines.{text_items, node_items, node_data}
+use Rattle.ts_core.specs.Lines.{text_items, node_items}
 use Rattle.ts_core.specs.declared.shown.Shown.{Shown}
 
 texts_have_none : (texts : List (List ℕ)) → items_have_float (text_items texts) ≡ false

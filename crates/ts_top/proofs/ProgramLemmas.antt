@@ -1,10 +1,10 @@
 -- The words' paths, what the reads and the judgement come to, and what is known of an answer.
-use Rattle.std.proofs.Common.{◌≡◌, subst, refl, ℕ, ◌≤◌, inl, inr, List, [], ◌∷◌, length, get_or, Option, Some, None, Result, Ok, Err, String, string_bytes, codes, arith}
+use Rattle.std.proofs.Common.{◌≡◌, subst, refl, ℕ, ◌≤◌, inl, inr, List, [], ◌∷◌, length, get_or, Option, Some, None, Result, Ok, Err, String, string_bytes, arith}
 use Rattle.std.specs.declared.alloc.Global.{Global}
 use Rattle.std.specs.Result.{IfOk, IfErr}
 use Rattle.ts_io.specs.Outside.{Files, file_at, Rose, AppendsPrefix}
 use Rattle.ts_io.specs.declared.folder.Found.{Found}
-use Rattle.ts_core.specs.Answer.{texts, Parses, IsUsage, Has, IsAbsent, Judged, Answers, usage, absent, judged, Told, WritesPrefix, IsClean}
+use Rattle.ts_core.specs.Answer.{texts, Parses, Has, IsAbsent, Judged, Answers, usage, absent, judged, Told, WritesPrefix, IsClean}
 use Rattle.ts_core.specs.Lines.{unbuilt_line, absent_line, text_size_line, text_line}
 use Rattle.ts_core.proofs.AnswerLemmas.{answers_once, clean_is_done}
 use Rattle.ts_top.specs.Faults as faults

@@ -1,5 +1,5 @@
 -- What the reader of grammar files sees of JSON values: their members and items, as the definitions have them.
-use Rattle.std.specs.Prelude.{◌≡◌, ℕ, List, [], ◌∷◌, ◌++◌, map, Option, Some, None, option_map, codes}
+use Rattle.std.specs.Prelude.{ℕ, List, ◌++◌, map, Option, option_map, codes}
 use Rattle.ts_ojson.specs.declared.value.OJson.{OJson}
 use Rattle.ts_core.specs.declared.rule.Rule.{Rule}
 use Rattle.ts_core.specs.Form.{find, text_of, rule_by, members_rules}

@@ -11,6 +11,7 @@ use crate::grammar::MOST_GRAMMAR_BYTES;
 use crate::judge::judge;
 use crate::stop::Stop;
 use std::alloc::{AllocError, Global};
+use thiserror::Error;
 use ts_io::{Folder, Found, ReadFault, Sink, WriteFault, put};
 
 /// The most bytes that a text has: 1 MiB.
@@ -24,9 +25,11 @@ struct Answer {
 }
 
 /// Why there is no answer.
-#[derive(Clone, Copy, Debug, PartialEq, Eq)]
+#[derive(Clone, Copy, Debug, PartialEq, Eq, Error)]
 enum Unanswered {
+    #[error("a read failed")]
     Read,
+    #[error("out of memory")]
     Memory,
 }
 
