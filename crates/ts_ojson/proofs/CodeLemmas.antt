@@ -1,5 +1,5 @@
 -- What the code asks for, from what the bytes so far lead to.
-use Rattle.std.proofs.Common.{◌≡◌, ℕ, ◌+◌, ◌≤◌, List, [], ◌∷◌, ◌++◌, length, drop, Bool, true, false, cond, ◌||◌, refl, sym, ap, subst, ◌∙◌, arith}
+use Rattle.std.proofs.Common.{◌≡◌, ◌⊎◌, inl, inr, ℕ, ◌+◌, ◌≤◌, List, [], ◌∷◌, ◌++◌, length, drop, Bool, true, false, cond, ◌||◌, refl, sym, ap, subst, ◌∙◌, arith}
 use Rattle.std.proofs.lemmas.Bool.{le-ltb}
 use Rattle.std.proofs.lemmas.Slice.Eq.{bytes_eq-Decides}
 use Rattle.std.specs.Str.{IsUtf8, bytes_eq}
@@ -8,8 +8,13 @@ use Rattle.ts_ojson.specs.declared.state.State.{State}
 use Rattle.ts_ojson.specs.declared.state.State.TheVariants as state
 use Rattle.ts_ojson.specs.declared.fault.OFault.{OFault}
 use Rattle.ts_ojson.specs.declared.fault.OFault.TheVariants.{Syntax, Utf8, Deep, Duplicate, Memory}
+use Rattle.std.specs.Prelude.{IsErrAnd, IfOk, IfErr}
+use Rattle.std.specs.declared.result.Result.{Result}
+use Rattle.std.specs.declared.result.Result.TheVariants.{Ok, Err}
+use Rattle.ts_ojson.specs.declared.value.OJson.{OJson}
 use Rattle.ts_ojson.specs.Gathered.{has_name}
-use Rattle.ts_ojson.specs.Reads.{IsFault}
+use Rattle.ts_ojson.specs.Reads.{Reads, IsFault}
+use Rattle.ts_ojson.proofs.LawLemmas.{refused_not_read, one_fault}
 use Rattle.ts_ojson.specs.Machine.{Frames, class_of, fine, too_deep, goes, opens, begin_class, begin, next, IsReady, CanEnd, Refuses}
 use Rattle.ts_ojson.proofs.FitLemmas.{IsByte, front_utf8, rest_is}
 use Rattle.ts_ojson.proofs.FinalLemmas.{Leads, leads_on, syntax_fault, deep_fault, duplicate_fault}
@@ -82,3 +87,19 @@ fault_is (Utf8 p) w at b s k h l r = absurd r
 fault_is (Deep p) w at b s k h l r = subst (λ (n : ℕ). IsFault (Deep n) w) (sym r.2) (deep_fault w at b s r.0 k r.1 h l (subst (Leads w (at + 1)) r.3 (leads_on w at b s k h l)))
 fault_is (Duplicate p) w at b s k h l r = duplicate_fault w at b p s r.0 k r.1 h l (subst (Leads w (at + 1)) r.2 (leads_on w at b s k h l))
 fault_is Memory w at b s k h l r = tt
+
+-- ---- the answer
+pub complete_is : (r : Result OJson OFault) (w : List ℕ) → IfErr r (λ e. IsFault e w) → IfErr r (λ e. (e ≡ Memory → ⊥) → (v : OJson) → Reads v w → ⊥)
+complete_is (Ok v) w h = tt
+complete_is (Err e) w h = λ m v x. refused_not_read e v w m h x
+
+pub one_or_memory : (e f : OFault) (w : List ℕ) → IsFault e w → (f ≡ Memory → ⊥) → IsFault f w → (e ≡ f) ⊎ (e ≡ Memory)
+one_or_memory Memory f w h m g = inr refl
+one_or_memory (Syntax p) f w h m g = inl (one_fault (Syntax p) f w (λ x. cc) m h g)
+one_or_memory (Utf8 p) f w h m g = inl (one_fault (Utf8 p) f w (λ x. cc) m h g)
+one_or_memory (Deep p) f w h m g = inl (one_fault (Deep p) f w (λ x. cc) m h g)
+one_or_memory (Duplicate p) f w h m g = inl (one_fault (Duplicate p) f w (λ x. cc) m h g)
+
+pub exact_is : (r : Result OJson OFault) (w : List ℕ) → IfOk r (λ v. Reads v w) → IfErr r (λ e. IsFault e w) → (f : OFault) → (f ≡ Memory → ⊥) → IsFault f w → IsErrAnd r (λ e. (e ≡ f) ⊎ (e ≡ Memory))
+exact_is (Ok v) w ok h f m g = absurd (refused_not_read f v w m g ok)
+exact_is (Err e) w ok h f m g = one_or_memory e f w h m g

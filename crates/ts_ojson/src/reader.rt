@@ -1,4 +1,6 @@
-ghost use Rattle.std.specs.Prelude.{◌^◌, ◌<◌, length, IfOk, IfErr};
+ghost use Rattle.std.specs.Prelude.{◌≡◌, ◌≢◌, ◌⊎◌, ◌^◌, ◌<◌, length, IfOk, IfErr, IsErrAnd};
+ghost use Rattle.ts_ojson.specs.declared.value.OJson.{OJson as AnyOJson};
+ghost use Rattle.ts_ojson.specs.declared.fault.OFault.{OFault as AnyFault};
 ghost use Rattle.ts_ojson.specs.Reads.{Reads, IsFault};
 
 use crate::fault::OFault;
@@ -21,6 +23,10 @@ pub fn read(alloc: Global, bytes: &[u8]) -> Result<OJson, OFault>
     requires { length bytes.now < 2 ^ 32 }
     ensures ok { IfOk result (λ v. Reads v bytes.now) }
     ensures refused { IfErr result (λ e. IsFault e bytes.now) }
+    ensures complete { IfErr result
+        (λ e. e ≢ OFault.Memory → (v : AnyOJson) → Reads v bytes.now → ⊥) }
+    ensures exact { (f : AnyFault) → f ≢ OFault.Memory → IsFault f bytes.now → IsErrAnd result
+        (λ e. (e ≡ f) ⊎ (e ≡ OFault.Memory)) }
 {
     match from_utf8(bytes) {
         Ok(text) => read_text(alloc, text),
