@@ -1,7 +1,7 @@
 pub mod ExpandLemmas
 pub mod FormLemmas
+pub mod FrameLemmas
 pub mod GrammarLemmas
-pub mod GrowLemmas
 pub mod JudgeLemmas
 pub mod ListingLemmas
 pub mod NodeLemmas
@@ -12,6 +12,7 @@ pub mod PrintLemmas
 pub mod ProgramLemmas
 pub mod SightLemmas
 pub mod SmallForm
+pub mod StackLemmas
 pub mod StepLemmas
 pub mod SymbolLemmas
 pub mod TextLemmas

@@ -17,7 +17,7 @@ use Rattle.ts_core.specs.declared.tree.Tree.{Tree}
 use Rattle.ts_core.specs.declared.plain.Outcome.TheVariants as outcome
 use Rattle.ts_top.specs.declared.plain_form.PlainForm.{PlainForm}
 use Rattle.ts_top.specs.PlainForm.{IsForm, HasSteps}
-use Rattle.ts_top.specs.Walk.{Ends, FitsText, Passes, PassesAll, Halts, Says, walk_from, counted}
+use Rattle.ts_top.specs.Walk.{Ends, FitsText, Passes, PassesAll, Halts, Says, walk_from, counted, the_start}
 use Rattle.ts_top.proofs.NodeLemmas.{put, events_of_put, extent_of_put}
 use Rattle.ts_top.proofs.ExpandLemmas.{same_expansion, first_is_none, same_rule, not_both, expands_some}
 
@@ -151,9 +151,6 @@ rule_halts g text symbol rule before step rest ns from mid halt is parts p h (no
     subst (Says halt) (sym walked) (h r.0 r.2 (events_of_all r.1 ++ (end ++ more)))
 
 -- ---- the whole text
-
-abbrev pub the_start : Spot
-the_start = record { place = 0; depth = 0 }
 
 root_walk : (g : PlainGrammar) (text : List ℕ) (n : Node) (to : Spot) → Passes g text (start_of g) n the_start to → walk g text (events_of n) 0 0 ≡ walk g text [] to.place to.depth
 root_walk g text n to p = ap (λ (es : List Event). walk g text es 0 0) (sym (append-nil (events_of n))) ∙ p.goes []

@@ -4,4 +4,5 @@ pub mod Members
 pub mod Normal
 pub mod Order
 pub mod PlainForm
+pub mod Stack
 pub mod Walk

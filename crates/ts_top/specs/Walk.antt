@@ -49,6 +49,10 @@ Halts g text symbol from halt =
 abbrev pub nodes_in : List Tree → Nodes
 nodes_in trees = nodes_of (map node_of trees)
 
+-- where a walk begins
+abbrev pub the_start : Spot
+the_start = record { place = 0; depth = 0 }
+
 -- a bound on how far rules lead on from a symbol
 abbrev pub height : PlainForm → ℕ → ℕ
 height form symbol =

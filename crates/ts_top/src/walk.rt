@@ -1,11 +1,13 @@
-ghost use Rattle.std.specs.Prelude.{◌≡◌, ◌+◌, ◌-◌, ◌<◌, ◌≤◌, ◌^◌, ◌++◌, ◌∷◌, [], max, min, length, IfOk, IfErr, OnOk};
-ghost use Rattle.ts_core.specs.Tree.{node, node_of, depth_of, extent_of};
-ghost use Rattle.ts_core.specs.Plain.{Plain, start_of, most_depth};
+ghost use Rattle.std.specs.Prelude.{◌≡◌, ◌+◌, ◌<◌, ◌≤◌, ◌^◌, ◌++◌, ◌∷◌, [], length, IfOk, IfErr, IfSome, IfNone};
+ghost use Rattle.ts_core.specs.Tree.{node_of, depth_of};
+ghost use Rattle.ts_core.specs.Plain.{Plain, start_of};
 ghost use Rattle.ts_top.specs.PlainForm.{IsForm};
-ghost use Rattle.ts_top.specs.Walk.{Passes, Halts, Ends, FitsText, counted, nodes_in};
+ghost use Rattle.ts_top.specs.Stack.{Awaits, Closes, IsAdded, IsEnded, Leaves, Opens, Stands, Turns};
+ghost use Rattle.ts_top.specs.Walk.{Passes, Halts, Ends, FitsText, counted, the_start};
 
 use crate::plain_form::PlainForm;
 use std::alloc::{AllocError, Global};
+use thiserror::Error;
 use ts_core::{List, Outcome, PlainGrammar, Symbol, Tree};
 
 /// The most that a tree may be deep.
@@ -28,20 +30,42 @@ struct Grown {
     after: Spot,
 }
 
-/// The children that a rule's node has so far.
+/// A rule that the walk stands in. Its dot stands after as many steps as there are children.
 #[derive(Debug, Drop)]
-struct Row {
+struct Frame {
+    symbol: Symbol,
+    from: Spot,
     children: List<Tree>,
     /// The depth of the deepest of them, counted as a spot's.
     deepest: u32,
     after: Spot,
 }
 
-/// Why a walk ends before the text's end.
+/// All rules that the walk stands in.
 #[derive(Debug, Drop)]
+struct Stack {
+    /// The innermost.
+    top: Frame,
+    /// Those around it, the outermost first.
+    outer: List<Frame>,
+}
+
+/// What one turn of the walk comes to.
+#[derive(Debug, Drop)]
+enum Turn {
+    On(Stack),
+    /// The start rule is passed.
+    Done(Grown),
+}
+
+/// Why a walk ends before the text's end.
+#[derive(Debug, Drop, Error)]
 enum Halt {
+    #[error("no token at byte {0}")]
     Stuck(u32),
+    #[error("a node would be too deep")]
     Deep,
+    #[error(transparent)]
     Memory(AllocError),
 }
 
@@ -86,13 +110,11 @@ fn whole(alloc: Global, form: &PlainForm, text: &[u8]) -> Result<Tree, Halt>
     ensures fits { IfOk result (λ tree. FitsText text.now (Outcome.Tree tree)) }
     ensures halts { IfErr result (λ halt. Ends form.now.grammar text.now halt) }
 {
-    let start = Symbol((form.grammar.tokens.len() + 1) as u16);
-    let from = Spot { place: 0, depth: 0 };
     let Grown {
         tree,
         depth: _,
         after,
-    } = grow(alloc, form, text, start, from)?;
+    } = start_tree(alloc, form, text)?;
     if after.place < text.len() {
         return Err(Halt::Stuck(after.place as u32));
     }
@@ -102,40 +124,115 @@ fn whole(alloc: Global, form: &PlainForm, text: &[u8]) -> Result<Tree, Halt>
     Ok(tree)
 }
 
-/// The tree of what a symbol expands to, from a spot on.
-fn grow(
-    alloc: Global,
-    form: &PlainForm,
-    text: &[u8],
-    symbol: Symbol,
-    from: Spot,
-) -> Result<Grown, Halt>
+/// The tree of what the start rule expands to, from the text's start on. The walk keeps the rules that it
+/// stands in on a stack of its own, since rules can be nested deeper than the native stack allows for.
+fn start_tree(alloc: Global, form: &PlainForm, text: &[u8]) -> Result<Grown, Halt>
     requires form { IsForm form.now }
     requires numbered { start_of form.now.grammar < 2 ^ 16 }
-    requires above { 0 < symbol.0 }
-    requires below { symbol.0 < start_of form.now.grammar + length form.now.grammar.rules }
     requires size { length text.now < 2 ^ 31 }
-    requires within { from.place ≤ length text.now }
-    ensures passes { IfOk result (λ grown. Passes form.now.grammar text.now symbol.0 (node_of grown.tree) from grown.after) }
-    ensures depth { IfOk result (λ grown. grown.depth ≡ counted (depth_of (node_of grown.tree))) }
-    ensures halts { IfErr result (λ halt. Halts form.now.grammar text.now symbol.0 from halt) }
+    ensures passes { IfOk result (λ grown. Passes form.now.grammar text.now (start_of form.now.grammar) (node_of grown.tree) the_start grown.after) }
+    ensures halts { IfErr result (λ halt. Halts form.now.grammar text.now (start_of form.now.grammar) the_start halt) }
 {
-    let first_rule = form.grammar.tokens.len() + 1;
-    let number = usize::from(symbol.0);
-    if number < first_rule {
-        return leaf(alloc, &form.grammar, text, symbol, from);
+    let start = Symbol((form.grammar.tokens.len() + 1) as u16);
+    let mut stack = Stack {
+        top: open_frame(alloc, start, Spot { place: 0, depth: 0 }),
+        outer: List::new(alloc),
+    };
+    loop {
+        match take_turn(alloc, form, text, stack)? {
+            Turn::On(next) => stack = next,
+            Turn::Done(grown) => return Ok(grown),
+        }
     }
-    let rule = form.grammar.rules.get(number - first_rule);
-    let mut row = Row {
+}
+
+/// Goes past the next token of the innermost rule, into its next rule, or out of it at its end.
+fn take_turn(alloc: Global, form: &PlainForm, text: &[u8], stack: Stack) -> Result<Turn, Halt>
+    requires form { IsForm form.now }
+    requires size { length text.now < 2 ^ 31 }
+    requires stands { Stands form.now.grammar text.now stack }
+    ensures turns { IfOk result (λ turn. Turns form.now text.now stack turn) }
+    ensures halts { IfErr result (λ halt. Halts form.now.grammar text.now (start_of form.now.grammar) the_start halt) }
+{
+    let grammar = &form.grammar;
+    match next_step(grammar, &stack.top) {
+        None => Ok(leave(stack)?),
+        Some(step) => {
+            if usize::from(step.0) > grammar.tokens.len() {
+                return Ok(Turn::On(enter(alloc, stack, step)?));
+            }
+            let child = leaf(alloc, grammar, text, step, stack.top.after)?;
+            Ok(Turn::On(pass(stack, child)?))
+        }
+    }
+}
+
+/// A frame before the first step of its rule.
+fn open_frame(alloc: Global, symbol: Symbol, from: Spot) -> Frame
+    ensures opens { Opens symbol from result }
+{
+    Frame {
+        symbol,
+        from,
         children: List::new(alloc),
         deepest: 0,
         after: from,
-    };
-    for step in rule.steps.as_slice() {
-        let child = grow(alloc, form, text, *step, row.after)?;
-        add(&mut row, child)?;
     }
-    Ok(close(row, symbol, from))
+}
+
+/// The step after a frame's dot, or none at its rule's end.
+fn next_step(grammar: &PlainGrammar, frame: &Frame) -> Option<Symbol>
+    requires above { start_of grammar.now ≤ frame.now.symbol.0 }
+    requires below { frame.now.symbol.0 < start_of grammar.now + length grammar.now.rules }
+    ensures awaits { IfSome result (λ step. Awaits grammar.now frame.now step) }
+    ensures ended { IfNone result (IsEnded grammar.now frame.now) }
+{
+    let number = usize::from(frame.symbol.0) - grammar.tokens.len() - 1;
+    let rule = grammar.rules.get(number);
+    let dot = frame.children.len();
+    if dot < rule.steps.len() {
+        Some(*rule.steps.get(dot))
+    } else {
+        None
+    }
+}
+
+/// Goes into a rule.
+fn enter(alloc: Global, stack: Stack, step: Symbol) -> Result<Stack, AllocError>
+    ensures outer { IfOk result (λ next. next.outer ≡ stack.outer ++ stack.top ∷ []) }
+    ensures opens { IfOk result (λ next. Opens step stack.top.after next.top) }
+{
+    let Stack { top, mut outer } = stack;
+    let inner = open_frame(alloc, step, top.after);
+    outer.push(top)?;
+    Ok(Stack { top: inner, outer })
+}
+
+/// Goes past one step of the innermost rule, of which the child came.
+fn pass(stack: Stack, child: Grown) -> Result<Stack, AllocError>
+    ensures outer { IfOk result (λ next. next.outer ≡ stack.outer) }
+    ensures added { IfOk result (λ next. IsAdded stack.top child next.top) }
+{
+    let Stack { top, outer } = stack;
+    let top = add(top, child)?;
+    Ok(Stack { top, outer })
+}
+
+/// Goes out of the innermost rule, all of whose steps are passed.
+fn leave(stack: Stack) -> Result<Turn, AllocError>
+    requires place { stack.top.from.place ≤ stack.top.after.place }
+    requires size { stack.top.after.place < 2 ^ 31 }
+    ensures left { IfOk result (λ turn. Leaves stack turn) }
+{
+    let Stack { top, mut outer } = stack;
+    let child = close(top);
+    match outer.pop() {
+        None => Ok(Turn::Done(child)),
+        Some(around) => {
+            let top = add(around, child)?;
+            Ok(Turn::On(Stack { top, outer }))
+        }
+    }
 }
 
 /// The leaf of a token whose bytes stand at the spot.
@@ -178,41 +275,48 @@ fn leaf(
     })
 }
 
-/// Puts one more child at the row's end.
-fn add(row: &mut Row, child: Grown) -> Result<(), AllocError>
-    ensures children { OnOk result (row.new.children ≡ row.old.children ++ child.tree ∷ []) }
-    ensures deepest { OnOk result (row.new.deepest ≡ max row.old.deepest child.depth) }
-    ensures after { OnOk result (row.new.after ≡ child.after) }
+/// Puts one more child into a frame.
+fn add(frame: Frame, child: Grown) -> Result<Frame, AllocError>
+    ensures { IfOk result (λ next. IsAdded frame child next) }
 {
-    row.children.push(child.tree)?;
-    row.deepest = row.deepest.max(child.depth);
-    row.after = child.after;
-    Ok(())
+    let Frame {
+        symbol,
+        from,
+        mut children,
+        deepest,
+        after: _,
+    } = frame;
+    let Grown { tree, depth, after } = child;
+    children.push(tree)?;
+    Ok(Frame {
+        symbol,
+        from,
+        children,
+        deepest: deepest.max(depth),
+        after,
+    })
 }
 
-/// The node of a rule, all of whose children the row has. No byte stands between the tokens of a plain
+/// The node of a frame's rule, all of whose steps are passed. No byte stands between the tokens of a plain
 /// grammar, so its pad is 0.
 #[tactic(auto, using(crate::proofs::NodeLemmas::node_of_made))]
-fn close(row: Row, symbol: Symbol, from: Spot) -> Grown
-    requires place { from.place ≤ row.after.place }
-    requires size { row.after.place < 2 ^ 31 }
-    ensures tree { node_of result.tree ≡ node symbol.0 0 (row.after.place - from.place) (nodes_in row.children) }
-    ensures depth { result.depth ≡ min row.deepest most_depth + 1 }
-    ensures place { result.after.place ≡ row.after.place }
-    ensures ends { result.after.depth ≡ max row.after.depth result.depth }
+fn close(frame: Frame) -> Grown
+    requires place { frame.from.place ≤ frame.after.place }
+    requires size { frame.after.place < 2 ^ 31 }
+    ensures { Closes frame result }
 {
-    let depth = row.deepest.min(MOST_DEPTH) + 1;
+    let depth = frame.deepest.min(MOST_DEPTH) + 1;
     Grown {
         tree: Tree {
-            symbol,
+            symbol: frame.symbol,
             pad: 0,
-            size: (row.after.place - from.place) as u32,
-            children: row.children,
+            size: (frame.after.place - frame.from.place) as u32,
+            children: frame.children,
         },
         depth,
         after: Spot {
-            place: row.after.place,
-            depth: row.after.depth.max(depth),
+            place: frame.after.place,
+            depth: frame.after.depth.max(depth),
         },
     }
 }
