@@ -6,6 +6,7 @@
 
 mod action;
 mod flat;
+mod laws;
 mod limits;
 mod plain;
 mod re;
@@ -16,6 +17,7 @@ mod tree;
 
 pub use action::Action;
 pub use flat::{Alias, Assoc, Entry, FlatGrammar, FlatRule, Prec, Production, Step, TokenDef};
+pub use laws::{answers_once, clean_is_done, one_tree};
 pub use limits::{Limited, Unfit};
 pub use plain::{LiteralToken, Outcome, PlainGrammar, PlainRule};
 pub use re::Re;

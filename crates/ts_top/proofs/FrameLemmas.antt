@@ -19,7 +19,8 @@ use Rattle.ts_top.specs.PlainForm.{IsForm}
 use Rattle.ts_top.specs.Walk.{Passes, PassesAll, Halts, counted, nodes_in, height}
 use Rattle.ts_top.specs.Stack.{Awaits, Closes, dot_of, IsAdded, IsEnded, IsFrame, Opens, steps_in, steps_of}
 use Rattle.ts_top.proofs.NodeLemmas.{put, nodes_in_push, deepest_of_put}
-use Rattle.ts_top.proofs.ExpandLemmas.{below_or_not, same_rule}
+use Rattle.ts_core.proofs.ExpandLemmas.{same_rule}
+use Rattle.ts_top.proofs.ExpandLemmas.{below_or_not}
 use Rattle.ts_top.proofs.WalkLemmas.{passes_none, passes_more, rule_passes, rule_halts}
 
 -- ---- a list at one of its elements

@@ -19,7 +19,8 @@ use Rattle.ts_top.specs.declared.plain_form.PlainForm.{PlainForm}
 use Rattle.ts_top.specs.PlainForm.{IsForm, HasSteps}
 use Rattle.ts_top.specs.Walk.{Ends, FitsText, Passes, PassesAll, Halts, Says, walk_from, counted, the_start}
 use Rattle.ts_top.proofs.NodeLemmas.{put, events_of_put, extent_of_put}
-use Rattle.ts_top.proofs.ExpandLemmas.{same_expansion, first_is_none, same_rule, not_both, expands_some}
+use Rattle.ts_core.proofs.ExpandLemmas.{same_expansion, same_rule, not_both}
+use Rattle.ts_top.proofs.ExpandLemmas.{first_is_none, expands_some}
 
 -- ---- tokens
 
