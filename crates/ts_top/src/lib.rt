@@ -12,6 +12,8 @@ mod print;
 mod program;
 mod stop;
 #[cfg(test)]
+mod tests;
+#[cfg(test)]
 mod tests_walk;
 mod visible;
 mod walk;

@@ -1,0 +1,61 @@
+//! Grammar files by a short notation.
+use std::alloc::{AllocError, Global};
+
+/// The grammar file of these rules, with `;` between them. A rule is its name, `=` and words with blanks between
+/// them: `[` and `]` enclose a SEQ, `'..'` is a STRING and a name a SYMBOL. Names and texts are spelled as in JSON.
+pub(super) fn grammar_of(alloc: Global, rules: &str) -> Result<String, AllocError> {
+    let mut file = String::from_str(alloc, r#"{"name":"g","rules":{"#)?;
+    let mut comma = "";
+    for rule in rules.split(';') {
+        file.push_str(comma)?;
+        push_rule(&mut file, rule)?;
+        comma = ",";
+    }
+    file.push_str("}}")?;
+    Ok(file)
+}
+
+fn push_rule(file: &mut String, rule: &str) -> Result<(), AllocError> {
+    let Some((name, tree)) = rule.split_once('=') else {
+        return Ok(());
+    };
+    push_enclosed(file, "\"", name.trim(), "\":")?;
+    let mut comma = "";
+    for word in tree.split_whitespace() {
+        if word == "]" {
+            file.push_str("]}")?;
+            comma = ",";
+        } else {
+            file.push_str(comma)?;
+            push_word(file, word)?;
+            comma = if word == "[" { "" } else { "," };
+        }
+    }
+    Ok(())
+}
+
+fn push_word(file: &mut String, word: &str) -> Result<(), AllocError> {
+    if word == "[" {
+        return file.push_str(r#"{"type":"SEQ","members":["#);
+    }
+    match word.strip_prefix('\'') {
+        Some(text) => push_enclosed(
+            file,
+            r#"{"type":"STRING","value":""#,
+            text.trim_end_matches('\''),
+            "\"}",
+        ),
+        None => push_enclosed(file, r#"{"type":"SYMBOL","name":""#, word, "\"}"),
+    }
+}
+
+fn push_enclosed(
+    file: &mut String,
+    before: &str,
+    text: &str,
+    after: &str,
+) -> Result<(), AllocError> {
+    file.push_str(before)?;
+    file.push_str(text)?;
+    file.push_str(after)
+}
