@@ -5,11 +5,9 @@ use std::alloc::{AllocError, Global};
 /// them: `[` and `]` enclose a SEQ, `'..'` is a STRING and a name a SYMBOL. Names and texts are spelled as in JSON.
 pub(super) fn grammar_of(alloc: Global, rules: &str) -> Result<String, AllocError> {
     let mut file = String::from_str(alloc, r#"{"name":"g","rules":{"#)?;
-    let mut comma = "";
-    for rule in rules.split(';') {
-        file.push_str(comma)?;
+    for (number, rule) in rules.split(';').enumerate() {
+        push_comma_if(&mut file, number > 0)?;
         push_rule(&mut file, rule)?;
-        comma = ",";
     }
     file.push_str("}}")?;
     Ok(file)
@@ -20,18 +18,21 @@ fn push_rule(file: &mut String, rule: &str) -> Result<(), AllocError> {
         return Ok(());
     };
     push_enclosed(file, "\"", name.trim(), "\":")?;
-    let mut comma = "";
+    let mut later = false;
     for word in tree.split_whitespace() {
         if word == "]" {
             file.push_str("]}")?;
-            comma = ",";
         } else {
-            file.push_str(comma)?;
+            push_comma_if(file, later)?;
             push_word(file, word)?;
-            comma = if word == "[" { "" } else { "," };
         }
+        later = word != "[";
     }
     Ok(())
+}
+
+fn push_comma_if(file: &mut String, later: bool) -> Result<(), AllocError> {
+    if later { file.push_str(",") } else { Ok(()) }
 }
 
 fn push_word(file: &mut String, word: &str) -> Result<(), AllocError> {
