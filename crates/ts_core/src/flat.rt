@@ -36,14 +36,14 @@ pub enum Assoc {
 }
 
 /// The name under which a step's node shows.
-#[derive(Debug, PartialEq, Eq, Drop)]
+#[derive(Debug, PartialEq, Eq, PartialOrd, Ord, Hash, Drop)]
 pub struct Alias {
     pub name: Str,
     pub named: bool,
 }
 
 /// One symbol on the right side of a production, with its marks.
-#[derive(Debug, PartialEq, Eq, Drop)]
+#[derive(Debug, PartialEq, Eq, PartialOrd, Ord, Hash, Drop)]
 pub struct Step {
     pub symbol: Symbol,
     pub prec: Prec,
@@ -54,7 +54,7 @@ pub struct Step {
 }
 
 /// One right side of a rule.
-#[derive(Debug, PartialEq, Eq, Drop)]
+#[derive(Debug, PartialEq, Eq, PartialOrd, Ord, Hash, Drop)]
 pub struct Production {
     /// What the production adds to the dynamic precedence of a tree.
     pub dynamic: i32,
@@ -95,4 +95,6 @@ pub struct FlatGrammar {
     pub conflicts: List<List<Symbol>>,
     /// Orderings of precedences, the higher first.
     pub precedences: List<List<Entry>>,
+    /// The rules that are supertypes, rising and each once.
+    pub supertypes: List<Symbol>,
 }

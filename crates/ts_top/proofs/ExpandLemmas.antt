@@ -3,10 +3,10 @@ use Rattle.std.proofs.Common.{◌≡◌, ◌∙◌, sym, refl, subst, ℕ, ◌+�
 use Rattle.std.proofs.lemmas.Bool.Decides.{leb_tells}
 use Rattle.std.proofs.lemmas.Option.{slice_get_cases}
 use Rattle.ts_core.specs.declared.symbol.Symbol.{Symbol}
-use Rattle.ts_core.specs.declared.plain.PlainRule.{PlainRule}
-use Rattle.ts_core.specs.declared.plain.PlainGrammar.{PlainGrammar}
-use Rattle.ts_core.specs.Tree.{Node, node, Nodes, no_nodes, add, pad_of, first_pad, extent_of_all}
-use Rattle.ts_core.specs.Plain.{Expands, ExpandsAll, start_of}
+use Rattle.ts_top.specs.declared.plain.PlainRule.{PlainRule}
+use Rattle.ts_top.specs.declared.plain.PlainGrammar.{PlainGrammar}
+use Rattle.ts_top.specs.Tree.{Node, node, Nodes, no_nodes, add, pad_of, first_pad, extent_of_all}
+use Rattle.ts_top.specs.Plain.{Expands, ExpandsAll, start_of}
 use Rattle.ts_top.specs.declared.plain_form.PlainForm.{PlainForm}
 use Rattle.ts_top.specs.PlainForm.{IsForm}
 

@@ -7,8 +7,8 @@ use Rattle.ts_ojson.specs.declared.value.OJson.TheVariants.{Object, Array}
 use Rattle.ts_ojson.specs.Json.{json_of, Json, array, Items, no_items, item}
 use Rattle.ts_ojson.proofs.JsonLemmas.{json_of_object, json_of_array}
 use Rattle.ts_core.specs.declared.rule.Rule.{Rule}
-use Rattle.ts_core.specs.Normal.{in_front, NamedRule}
-use Rattle.ts_core.specs.Form.{rule_of, rule_at, named_rule, items_rules, rules_in, has_no_items, is_hollow}
+use Rattle.ts_top.specs.PlainNormal.{in_front, NamedRule}
+use Rattle.ts_top.specs.Form.{rule_of, rule_at, named_rule, items_rules, rules_in, has_no_items, is_hollow}
 use Rattle.ts_top.specs.Members.{members_json, items_json, prepend, rule_with}
 
 module _ {X : Type 0} where

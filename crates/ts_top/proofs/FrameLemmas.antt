@@ -5,11 +5,11 @@ use Rattle.std.proofs.Math.Seq.{drop-cons}
 use Rattle.std.proofs.lemmas.Option.{slice_get_within, slice_get_cases, get_or_from_slice_get}
 use Rattle.std.proofs.lemmas.Bool.Decides.{nat_tests}
 use Rattle.ts_core.specs.declared.symbol.Symbol.{Symbol}
-use Rattle.ts_core.specs.declared.tree.Tree.{Tree}
-use Rattle.ts_core.specs.declared.plain.PlainRule.{PlainRule}
-use Rattle.ts_core.specs.declared.plain.PlainGrammar.{PlainGrammar}
-use Rattle.ts_core.specs.Tree.{node, Node, Nodes, node_of, depth_of, deepest}
-use Rattle.ts_core.specs.Plain.{IsRule, most_depth, start_of}
+use Rattle.ts_top.specs.declared.tree.Tree.{Tree}
+use Rattle.ts_top.specs.declared.plain.PlainRule.{PlainRule}
+use Rattle.ts_top.specs.declared.plain.PlainGrammar.{PlainGrammar}
+use Rattle.ts_top.specs.Tree.{node, Node, Nodes, node_of, depth_of, deepest}
+use Rattle.ts_top.specs.Plain.{IsRule, most_depth, start_of}
 use Rattle.ts_top.specs.declared.plain_form.PlainForm.{PlainForm}
 use Rattle.ts_top.specs.declared.walk.Spot.{Spot}
 use Rattle.ts_top.specs.declared.walk.Halt.{Halt}
@@ -19,7 +19,7 @@ use Rattle.ts_top.specs.PlainForm.{IsForm}
 use Rattle.ts_top.specs.Walk.{Passes, PassesAll, Halts, counted, nodes_in, height}
 use Rattle.ts_top.specs.Stack.{Awaits, Closes, dot_of, IsAdded, IsEnded, IsFrame, Opens, steps_in, steps_of}
 use Rattle.ts_top.proofs.NodeLemmas.{put, nodes_in_push, deepest_of_put}
-use Rattle.ts_core.proofs.ExpandLemmas.{same_rule}
+use Rattle.ts_top.proofs.ExpansionLemmas.{same_rule}
 use Rattle.ts_top.proofs.ExpandLemmas.{below_or_not}
 use Rattle.ts_top.proofs.WalkLemmas.{passes_none, passes_more, rule_passes, rule_halts}
 

@@ -5,9 +5,9 @@ use Rattle.ts_ojson.specs.Json.{json_of}
 use Rattle.ts_ojson.specs.Reads.{Reads}
 use Rattle.ts_ojson.proofs.InverseLemmas.{one_json}
 use Rattle.ts_ojson.proofs.TextLemmas.{one_text}
-use Rattle.ts_core.specs.Form.{IsBuilt, grammar_rules}
-use Rattle.ts_core.specs.Normal.{NamedRule, IsPlain}
-use Rattle.ts_core.specs.declared.plain.PlainGrammar.{PlainGrammar}
+use Rattle.ts_top.specs.Form.{IsBuilt, grammar_rules}
+use Rattle.ts_top.specs.PlainNormal.{NamedRule, IsPlain}
+use Rattle.ts_top.specs.declared.plain.PlainGrammar.{PlainGrammar}
 
 -- of a grammar file whose value is known
 pub record IsBuiltBy (value : OJson) (g : PlainGrammar) : Type 0 where

@@ -8,11 +8,11 @@ use Rattle.ts_io.specs.declared.folder.Found.TheVariants.{Bytes}
 use Rattle.ts_text.specs.Text.{IsText, BreaksAt, most_bytes}
 use Rattle.ts_text.specs.declared.text.TextFault.{TextFault}
 use Rattle.ts_text.specs.declared.text.TextFault.TheVariants.{Size, Utf8, Memory}
-use Rattle.ts_core.specs.Answer.{Judged, parsed, outcome_line}
-use Rattle.ts_core.specs.Form.{IsBuilt}
-use Rattle.ts_core.specs.Plain.{Plain}
-use Rattle.ts_core.specs.declared.plain.PlainGrammar.{PlainGrammar}
-use Rattle.ts_core.specs.declared.plain.Outcome.{Outcome}
+use Rattle.ts_top.specs.Answer.{Judged, parsed, outcome_line}
+use Rattle.ts_top.specs.Form.{IsBuilt}
+use Rattle.ts_top.specs.Plain.{Plain}
+use Rattle.ts_top.specs.declared.plain.PlainGrammar.{PlainGrammar}
+use Rattle.ts_top.specs.declared.plain.Outcome.{Outcome}
 use Rattle.ts_top.specs.Faults.{IsTextFault}
 
 -- the bytes that were read are those of the file

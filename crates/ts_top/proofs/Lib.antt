@@ -1,4 +1,6 @@
+pub mod AnswerLemmas
 pub mod ExpandLemmas
+pub mod ExpansionLemmas
 pub mod FormLemmas
 pub mod FrameLemmas
 pub mod GrammarLemmas
@@ -7,7 +9,6 @@ pub mod ListingLemmas
 pub mod NodeLemmas
 pub mod NormalLemmas
 pub mod OrderLemmas
-pub mod PlaceLemmas
 pub mod PrintLemmas
 pub mod ProgramLemmas
 pub mod SightLemmas

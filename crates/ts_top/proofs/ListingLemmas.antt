@@ -3,17 +3,17 @@ use Rattle.std.proofs.Common.{◌≡◌, ◌∙◌, sym, ap, refl, subst, ℕ, �
 use Rattle.std.proofs.lemmas.List.{append-nil, drop_all}
 use Rattle.std.proofs.lemmas.Option.{slice_get_within}
 use denote.Param.Weighed.{most, at_most}
-use Rattle.ts_core.proofs.tree.Tree.TheLaws.{the_size}
+use Rattle.ts_top.proofs.tree.Tree.TheLaws.{the_size}
 use Rattle.std.proofs.Math.Seq.{drop-cons}
-use Rattle.ts_core.specs.declared.tree.Tree.{Tree}
-use Rattle.ts_core.specs.declared.tree.Tree.TheViews.{out-Tree}
-use Rattle.ts_core.specs.declared.tree.Tree.TheFolds.{fold_out-Tree}
+use Rattle.ts_top.specs.declared.tree.Tree.{Tree}
+use Rattle.ts_top.specs.declared.tree.Tree.TheViews.{out-Tree}
+use Rattle.ts_top.specs.declared.tree.Tree.TheFolds.{fold_out-Tree}
 use Rattle.ts_core.specs.declared.symbol.Symbol.{Symbol}
-use Rattle.ts_core.specs.declared.plain.PlainGrammar.{PlainGrammar}
+use Rattle.ts_top.specs.declared.plain.PlainGrammar.{PlainGrammar}
 use Rattle.ts_core.specs.declared.shown.Shown.{Shown}
-use Rattle.ts_core.specs.Plain.{Expands, ExpandsAll}
-use Rattle.ts_core.specs.Tree.{Node, node, Nodes, no_nodes, add, node_step, node_of, extent_of, extent_of_all, depth_of, deepest}
-use Rattle.ts_core.specs.Visible.{visible_of, visible_of_all}
+use Rattle.ts_top.specs.Plain.{Expands, ExpandsAll}
+use Rattle.ts_top.specs.Tree.{Node, node, Nodes, no_nodes, add, node_step, node_of, extent_of, extent_of_all, depth_of, deepest}
+use Rattle.ts_top.specs.Visible.{visible_of, visible_of_all}
 use Rattle.ts_top.specs.Listing.{IsNested, AreNested}
 use Rattle.ts_top.specs.Walk.{nodes_in}
 

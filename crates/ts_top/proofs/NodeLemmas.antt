@@ -1,12 +1,12 @@
 -- Lists of nodes, and the nodes that trees stand for.
 use Rattle.std.proofs.Common.{◌≡◌, ◌∙◌, sym, ap, refl, ◌+◌, max, List, [], ◌∷◌, ◌++◌, append_assoc, arith}
 use Rattle.std.proofs.lemmas.List.{append-nil}
-use Rattle.ts_core.specs.declared.tree.Tree.{Tree}
-use Rattle.ts_core.specs.declared.tree.Tree.TheOpen.{Tree-F}
-use Rattle.ts_core.specs.declared.tree.Tree.TheViews.{roll-Tree}
-use Rattle.ts_core.specs.declared.tree.Tree.TheFolds.{fold-roll-Tree}
-use Rattle.ts_core.specs.Tree.{Node, node, Nodes, no_nodes, add, node_of, node_step, extent_of, extent_of_all, depth_of, deepest}
-use Rattle.ts_core.specs.Plain.{Event, events_of, events_of_all}
+use Rattle.ts_top.specs.declared.tree.Tree.{Tree}
+use Rattle.ts_top.specs.declared.tree.Tree.TheOpen.{Tree-F}
+use Rattle.ts_top.specs.declared.tree.Tree.TheViews.{roll-Tree}
+use Rattle.ts_top.specs.declared.tree.Tree.TheFolds.{fold-roll-Tree}
+use Rattle.ts_top.specs.Tree.{Node, node, Nodes, no_nodes, add, node_of, node_step, extent_of, extent_of_all, depth_of, deepest}
+use Rattle.ts_top.specs.Plain.{Event, events_of, events_of_all}
 use Rattle.ts_top.specs.Walk.{nodes_in}
 
 -- the node of a tree, one level down

@@ -6,10 +6,10 @@ use Rattle.std.proofs.lemmas.List.Elements.{All-filter, All-from_get_or, All-get
 use Rattle.std.proofs.lemmas.List.Sums.{prefix_len-le-length}
 use Rattle.std.proofs.lemmas.Option.{slice_get_within, get_or_from_slice_get}
 use Rattle.ts_core.specs.declared.symbol.Symbol.{Symbol}
-use Rattle.ts_core.specs.declared.plain.PlainRule.{PlainRule}
-use Rattle.ts_core.specs.declared.plain.PlainGrammar.{PlainGrammar}
-use Rattle.ts_core.specs.Plain.{IsAcyclic, IsClosed}
-use Rattle.ts_core.specs.Normal.{NamedRule, is_hidden, is_filled, Part, literal, named, parts_of, all_literals, first_sights, token_named, token_by, name_for, tokens_by, token_symbol, number_by, next_by, numbered, symbols_by, symbol_at, symbol, in_front, step_of, steps_of, plain_rule, rule_by, rules_by, kept, plain_grammar, normal_with, Normal, IsPlain}
+use Rattle.ts_top.specs.declared.plain.PlainRule.{PlainRule}
+use Rattle.ts_top.specs.declared.plain.PlainGrammar.{PlainGrammar}
+use Rattle.ts_top.specs.Plain.{IsAcyclic, IsClosed}
+use Rattle.ts_top.specs.PlainNormal.{NamedRule, is_hidden, is_filled, Part, literal, named, parts_of, all_literals, first_sights, token_named, token_by, name_for, tokens_by, token_symbol, number_by, next_by, numbered, symbols_by, symbol_at, symbol, in_front, step_of, steps_of, plain_rule, rule_by, rules_by, kept, plain_grammar, normal_with, Normal, IsPlain}
 use Rattle.ts_top.specs.Normal.{HasParts, HasSights, IsShown, IsWithin}
 use Rattle.ts_top.specs.declared.normal.sights.Sights.{Sights}
 use Rattle.ts_top.specs.PlainForm.{HasSteps}

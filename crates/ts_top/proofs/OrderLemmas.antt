@@ -4,11 +4,11 @@ use Rattle.std.proofs.lemmas.Bool.{cases_eq, cases_lt}
 use Rattle.std.proofs.lemmas.List.{length-map, length-replicate, length-set}
 use Rattle.std.proofs.lemmas.List.Sums.{sum_by-set, count_by-le-length}
 use Rattle.std.proofs.lemmas.Option.{slice_get_within, slice_get-get_or, slice_get-map, get_or_from_slice_get}
-use Rattle.ts_top.proofs.PlaceLemmas.{set_here, set_there}
+use Rattle.ts_base.proofs.PlaceLemmas.{set_here, set_there}
 use Rattle.ts_core.specs.declared.symbol.Symbol.{Symbol}
-use Rattle.ts_core.specs.declared.plain.PlainRule.{PlainRule}
-use Rattle.ts_core.specs.declared.plain.PlainGrammar.{PlainGrammar}
-use Rattle.ts_core.specs.Plain.{start_of, IsAcyclic, IsClosed, StandsIn, Leads, stands_in, further}
+use Rattle.ts_top.specs.declared.plain.PlainRule.{PlainRule}
+use Rattle.ts_top.specs.declared.plain.PlainGrammar.{PlainGrammar}
+use Rattle.ts_top.specs.Plain.{start_of, IsAcyclic, IsClosed, StandsIn, Leads, stands_in, further}
 use Rattle.ts_top.specs.declared.order.Mark.{Mark}
 use Rattle.ts_top.specs.declared.order.Mark.TheVariants.{Unseen, Open, Done}
 use Rattle.ts_top.specs.Order.{AllDone, AllUnseen, Falls, Goes, IsDone, Lead, is_unseen, rank_of, unseen}

@@ -2,7 +2,7 @@
 use Rattle.std.proofs.Common.{◌≡◌, refl, ℕ, List, [], ◌∷◌, false, codes}
 use Rattle.serde_json.specs.Data.{Data, array, object, member, no_members, string}
 use Rattle.serde_json.specs.Written.{has_float, items_have_float}
-use Rattle.ts_core.specs.Lines.{text_items, node_items}
+use Rattle.ts_top.specs.Lines.{text_items, node_items}
 use Rattle.ts_core.specs.declared.shown.Shown.{Shown}
 
 texts_have_none : (texts : List (List ℕ)) → items_have_float (text_items texts) ≡ false

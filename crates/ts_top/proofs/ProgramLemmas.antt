@@ -4,9 +4,9 @@ use Rattle.std.specs.declared.alloc.Global.{Global}
 use Rattle.std.specs.Result.{IfOk, IfErr}
 use Rattle.ts_io.specs.Outside.{Files, file_at, Rose, AppendsPrefix}
 use Rattle.ts_io.specs.declared.folder.Found.{Found}
-use Rattle.ts_core.specs.Answer.{texts, Parses, Has, IsAbsent, Judged, Answers, usage, absent, judged, Told, WritesPrefix, IsClean}
-use Rattle.ts_core.specs.Lines.{unbuilt_line, absent_line, text_size_line, text_line}
-use Rattle.ts_core.proofs.AnswerLemmas.{answers_once, clean_is_done}
+use Rattle.ts_top.specs.Answer.{texts, Parses, Has, IsAbsent, Judged, Answers, usage, absent, judged, Told, WritesPrefix, IsClean}
+use Rattle.ts_top.specs.Lines.{unbuilt_line, absent_line, text_size_line, text_line}
+use Rattle.ts_top.proofs.AnswerLemmas.{answers_once, clean_is_done}
 use Rattle.ts_top.specs.Faults as faults
 use Rattle.ts_top.specs.Faults.{IsAnswer, Stopped, StoppedAt, AreRead, IsThere, ReadStopped, IsLate}
 use Rattle.ts_top.specs.declared.fault.Fault.TheVariants.{Usage, Unbuilt, Absent, TextSize, Text}

@@ -9,11 +9,13 @@ use Rattle.std.proofs.lemmas.List.Folds.{list_any_at}
 use Rattle.std.proofs.lemmas.Option.{slice_get_within, get_or_from_slice_get}
 use Rattle.indexmap.specs.IndexSet.{insert_key}
 use Rattle.ts_core.specs.declared.rule.Rule.{Rule}
-use Rattle.ts_core.specs.Normal.{NamedRule, Part, literal, named, parts_of, joined, literals_in, all_literals, first_sights, where_once}
+use Rattle.ts_top.specs.PlainNormal.{NamedRule, Part, literal, named, parts_of, joined, literals_in, all_literals, first_sights, where_once}
 use Rattle.ts_top.specs.declared.normal.sights.Sights.{Sights}
 use Rattle.ts_top.specs.Normal.{HasSights, IsPaired, Sees, number_of}
-use Rattle.ts_top.proofs.PlaceLemmas.{at_front, at_end, set_here, set_there, push_cases}
-use Rattle.ts_top.proofs.TextLemmas.{has, has_sights, count_none, count_some, count_push, one_if, Found, position_there, same_text, text_same, text_apart, apart_sights}
+use Rattle.ts_base.proofs.PlaceLemmas.{at_front, at_end, set_here, set_there, push_cases}
+use Rattle.ts_top.proofs.TextLemmas.{has, has_sights, apart_sights}
+use Rattle.ts_base.proofs.PositionLemmas.{count_none, count_some, count_push, one_if, Found, position_there}
+use Rattle.ts_base.proofs.ByteLemmas.{same_bytes, bytes_same, bytes_apart}
 
 -- ---- the texts of several parts
 
@@ -85,16 +87,16 @@ sees_again old new text n paired keys once some number = record {
         (λ e.
         let f : Some here.item ≡ Some other = sym here.at ∙ ap (λ (m : ℕ). slice_get old.texts.keys m) (sym e) ∙ at in
         let same : here.item ≡ other = cc in
-        let one : bytes_eq other text ≡ true = text_same other text (sym same ∙ sym (same_text text here.item here.passes)) in
+        let one : bytes_eq other text ≡ true = bytes_same other text (sym same ∙ sym (same_bytes text here.item here.passes)) in
         let some_before = count_some (bytes_eq text) all (sym (has_sights text all) ∙ ap (λ (l : List (List ℕ)). has text l) (sym before.texts) ∙ some) in
         let pushed = count_push (bytes_eq other) all text in
         let weight : one_if (bytes_eq other text) ≡ 1 = ap one_if one in
-        let turned : count_by (bytes_eq text) all ≡ count_by (bytes_eq other) all = ap (λ (t : List ℕ). count_by (bytes_eq t) all) (same_text text here.item here.passes ∙ same) in
+        let turned : count_by (bytes_eq text) all ≡ count_by (bytes_eq other) all = ap (λ (t : List ℕ). count_by (bytes_eq t) all) (same_bytes text here.item here.passes ∙ same) in
         let more : nat_eq (count_by (bytes_eq other) (all ++ text ∷ [])) 1 ≡ false = ne_eqb _ _ (λ g. absurd (omega arith)) in
         ap (λ (l : List Bool). slice_get l k) once ∙ ap (λ (m : ℕ). slice_get (set old.once.items n false) m) e
         ∙ set_here old.once.items n false (let w = slice_get_within old.texts.keys n here.item here.at in let p = paired.one_each in omega arith) ∙ ap Some (sym more))
         (λ apart.
-        let differ : bytes_eq other text ≡ false = text_apart other text (λ g. apart (
+        let differ : bytes_eq other text ≡ false = bytes_apart other text (λ g. apart (
         let at_k : number_of old other ≡ k = subst (λ (l : List (List ℕ)). position_or_len (bytes_eq other) l ≡ k) (sym before.texts)
         ((apart_sights all).number k other (ap (λ (l : List (List ℕ)). slice_get l k) (sym before.texts) ∙ at)) in
         sym at_k ∙ ap (λ (t : List ℕ). number_of old t) g ∙ number)) in
@@ -135,15 +137,15 @@ sees_new old new text paired inserted once none = record {
         → slice_get new.once.items k ≡ Some (nat_eq (count_by (bytes_eq other) (all ++ text ∷ [])) 1)
     step all before k other at = ⊎_elim
         (λ w.
-        let differ : bytes_eq other text ≡ false = text_apart other text (λ g. false≢true (sym none
-        ∙ list_any_at (bytes_eq text) old.texts.keys k other w.0 (text_same text _ (sym g ∙ sym (get_or_from_slice_get old.texts.keys k other other w.1))))) in
+        let differ : bytes_eq other text ≡ false = bytes_apart other text (λ g. false≢true (sym none
+        ∙ list_any_at (bytes_eq text) old.texts.keys k other w.0 (bytes_same text _ (sym g ∙ sym (get_or_from_slice_get old.texts.keys k other other w.1))))) in
         let pushed = count_push (bytes_eq other) all text in
         let weight : one_if (bytes_eq other text) ≡ 0 = ap one_if differ in
         let stays : count_by (bytes_eq other) all ≡ count_by (bytes_eq other) (all ++ text ∷ []) = omega arith in
         ap (λ (l : List Bool). slice_get l k) once ∙ at_front old.once.items (true ∷ []) k (let b = w.0 in let p = paired.one_each in omega arith)
         ∙ before.once k other w.1 ∙ ap (λ (m : ℕ). Some (nat_eq m 1)) stays)
         (λ w.
-        let one : bytes_eq other text ≡ true = text_same other text (sym w.1) in
+        let one : bytes_eq other text ≡ true = bytes_same other text (sym w.1) in
         let pushed = count_push (bytes_eq other) all text in
         let weight : one_if (bytes_eq other text) ≡ 1 = ap one_if one in
         let none_before = count_none (bytes_eq other) all (ap (λ (t : List ℕ). has t all) (sym w.1) ∙ sym (has_sights text all) ∙ ap (λ (l : List (List ℕ)). has text l) (sym before.texts) ∙ none) in
@@ -169,7 +171,7 @@ number_absent s text all sights none =
 mark_of : (s : Sights) (text : List ℕ) (all : List (List ℕ)) → HasSights all s → has text s.texts.keys ≡ true → slice_get s.once.items (number_of s text) ≡ Some (nat_eq (count_by (bytes_eq text) all) 1)
 mark_of s text all sights some =
     let w = position_there (bytes_eq text) s.texts.keys some in
-    sights.once (number_of s text) w.item w.at ∙ ap (λ (t : List ℕ). Some (nat_eq (count_by (bytes_eq t) all) 1)) (sym (same_text text w.item w.passes))
+    sights.once (number_of s text) w.item w.at ∙ ap (λ (t : List ℕ). Some (nat_eq (count_by (bytes_eq t) all) 1)) (sym (same_bytes text w.item w.passes))
 
 pub number_once : (s : Sights) (text : List ℕ) (n : ℕ) (all : List (List ℕ)) → HasSights all s → has text s.texts.keys ≡ true → number_of s text ≡ n → slice_get s.once.items n ≡ Some true
     → Some n ≡ option_map (number_of s) (where_once all text)

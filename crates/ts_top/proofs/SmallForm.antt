@@ -1,7 +1,7 @@
 -- A grammar of two tokens and one rule, whose steps are those tokens, is a form.
 use Rattle.std.proofs.Common.{◌≡◌, ◌∙◌, sym, ap, subst, ℕ, ◌<◌, zero, suc, List, [], ◌∷◌, length, slice_get, Some, arith}
 use Rattle.ts_core.specs.declared.symbol.Symbol.{Symbol}
-use Rattle.ts_core.specs.declared.plain.PlainRule.{PlainRule}
+use Rattle.ts_top.specs.declared.plain.PlainRule.{PlainRule}
 use Rattle.ts_top.specs.declared.plain_form.PlainForm.{PlainForm}
 use Rattle.ts_top.specs.PlainForm.{IsForm}
 

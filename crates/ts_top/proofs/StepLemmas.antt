@@ -2,8 +2,8 @@
 use Rattle.std.proofs.Common.{◌≡◌, ◌∙◌, refl, sym, ap, ℕ, zero, suc, ◌+◌, ◌<◌, List, [], ◌∷◌, ◌++◌, append_assoc, append-nil, length, map, get_or, take, drop, drop-cons, add-one, Option, Some, None, true, is_some, option_map, arith}
 use Rattle.ts_core.specs.declared.rule.Rule.{Rule}
 use Rattle.ts_core.specs.declared.symbol.Symbol.{Symbol}
-use Rattle.ts_core.specs.declared.plain.PlainRule.{PlainRule}
-use Rattle.ts_core.specs.Normal.{NamedRule, Part, parts_of, joined, in_front, step_of, steps_of, rule_by, rules_by, kept, token_named}
+use Rattle.ts_top.specs.declared.plain.PlainRule.{PlainRule}
+use Rattle.ts_top.specs.PlainNormal.{NamedRule, Part, parts_of, joined, in_front, step_of, steps_of, rule_by, rules_by, kept, token_named}
 use Rattle.ts_top.specs.declared.normal.sights.Sights.{Sights}
 use Rattle.ts_top.specs.Normal.{HasSights, Pushes, number_of, rules_after}
 

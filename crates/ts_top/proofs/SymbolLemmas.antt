@@ -5,11 +5,11 @@ use Rattle.std.specs.Map.{lookup}
 use Rattle.std.specs.Str.{bytes_eq}
 use Rattle.std.proofs.lemmas.Bool.Decides.{same_from_decides}
 use Rattle.std.proofs.lemmas.Slice.Eq.{bytes_eq-Decides}
-use Rattle.ts_core.specs.Normal.{NamedRule, token_named, number_by, next_by, numbered, symbols_by, symbol_at}
+use Rattle.ts_top.specs.PlainNormal.{NamedRule, token_named, number_by, next_by, numbered, symbols_by, symbol_at}
 use Rattle.ts_top.specs.declared.normal.sights.Sights.{Sights}
 use Rattle.ts_top.specs.declared.normal.symbols.Numbering.{Numbering}
 use Rattle.ts_top.specs.Normal.{HasSights, number_of, symbol_for, symbol_in}
-use Rattle.ts_top.proofs.TextLemmas.{same_text}
+use Rattle.ts_base.proofs.ByteLemmas.{same_bytes}
 
 bytes_flip : (a b : List ℕ) → bytes_eq a b ≡ bytes_eq b a
 bytes_flip a b =
@@ -60,7 +60,7 @@ present_symbol es name number there other = by (bytes_eq name other) refl
   where
     by : (b : Bool) → bytes_eq name other ≡ b → symbol_at es other ≡ option_or (symbol_at es other) (symbol_for name number other)
     by true e = or_there (symbol_at es other) (symbol_for name number other)
-        (ap (λ (o : Option ℕ). is_some o) (ap (λ (t : List ℕ). symbol_at es t) (sym (same_text name other e)) ∙ symbol_lookup es name) ∙ there)
+        (ap (λ (o : Option ℕ). is_some o) (ap (λ (t : List ℕ). symbol_at es t) (sym (same_bytes name other e)) ∙ symbol_lookup es name) ∙ there)
     by false e = sym (or_nothing (symbol_at es other)) ∙ ap (λ (b : Bool). option_or (symbol_at es other) (if b then Some number else None)) (sym e)
 
 -- ---- the next rule

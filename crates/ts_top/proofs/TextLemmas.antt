@@ -8,19 +8,10 @@ use Rattle.std.proofs.lemmas.List.Folds.{list_any-append, position_or_len_push}
 use Rattle.std.proofs.lemmas.List.Sums.{sum_by-cons, sum_by_push}
 use Rattle.std.proofs.lemmas.Slice.Eq.{bytes_eq-Decides}
 use Rattle.indexmap.specs.IndexSet.{insert_key}
-use Rattle.ts_core.specs.Normal.{first_sights}
-use Rattle.ts_top.proofs.PlaceLemmas.{push_cases}
-
--- ---- equal texts
-
-pub same_text : (a b : List ℕ) → bytes_eq a b ≡ true → a ≡ b
-same_text a b h = let d = bytes_eq-Decides a b in d.0 h
-
-pub text_same : (a b : List ℕ) → a ≡ b → bytes_eq a b ≡ true
-text_same a b h = let d = bytes_eq-Decides a b in d.1 h
-
-pub text_apart : (a b : List ℕ) → (a ≡ b → ⊥) → bytes_eq a b ≡ false
-text_apart a b other = false_from_ne_true (bytes_eq a b) (λ e. other (same_text a b e))
+use Rattle.ts_top.specs.PlainNormal.{first_sights}
+use Rattle.ts_base.proofs.ByteLemmas.{same_bytes, bytes_same}
+use Rattle.ts_base.proofs.PlaceLemmas.{push_cases}
+use Rattle.ts_base.proofs.PositionLemmas.{position_none}
 
 -- ---- tests
 
@@ -53,7 +44,7 @@ has_insert text ks x = by (has x ks) refl
   where
     by : (b : Bool) → has x ks ≡ b → has text (insert_key bytes_eq ks x) ≡ (has text ks || bytes_eq text x)
     by true e = ap (λ (l : List (List ℕ)). has text l) (insert_there ks x e)
-        ∙ or_absorb (has text ks) (bytes_eq text x) (λ h. ap (λ (t : List ℕ). has t ks) (same_text text x h) ∙ e)
+        ∙ or_absorb (has text ks) (bytes_eq text x) (λ h. ap (λ (t : List ℕ). has t ks) (same_bytes text x h) ∙ e)
     by false e = ap (λ (l : List (List ℕ)). has text l) (insert_new ks x e) ∙ list_any-append (bytes_eq text) ks (x ∷ []) ∙ ap (λ (b : Bool). has text ks || b) (or_none (bytes_eq text x))
 
 has_fold : (text : List ℕ) (ks xs : List (List ℕ)) → has text (fold (insert_key bytes_eq) ks xs) ≡ (has text ks || has text xs)
@@ -62,65 +53,6 @@ has_fold text ks (x ∷ xs) = has_fold text (insert_key bytes_eq ks x) xs ∙ ap
 
 pub has_sights : (text : List ℕ) (all : List (List ℕ)) → has text (first_sights all) ≡ has text all
 has_sights text all = has_fold text [] all
-
--- ---- how often
-
-abbrev pub one_if : Bool → ℕ
-one_if b = cond b 1 0
-
-pub count_none : {X : Type 0} (p : X → Bool) (xs : List X) → list_any p xs ≡ false → count_by p xs ≡ 0
-count_none p [] none = refl
-count_none p (x ∷ xs) none =
-    let parts = or_parts (p x) (list_any p xs) none in
-    let here : one_if (p x) ≡ 0 = ap one_if parts.0 in
-    let rest = count_none p xs parts.1 in
-    let all : count_by p (x ∷ xs) ≡ one_if (p x) + count_by p xs = sum_by-cons (λ y. one_if (p y)) x xs in
-    omega arith
-
-pub count_some : {X : Type 0} (p : X → Bool) (xs : List X) → list_any p xs ≡ true → 0 < count_by p xs
-count_some p [] some = cc
-count_some p (x ∷ xs) some = by (p x) refl (λ rest. count_some p xs rest)
-  where
-    all : count_by p (x ∷ xs) ≡ one_if (p x) + count_by p xs
-    all = sum_by-cons (λ y. one_if (p y)) x xs
-
-    by : (b : Bool) → p x ≡ b → (list_any p xs ≡ true → 0 < count_by p xs) → 0 < count_by p (x ∷ xs)
-    by true e more = let here : one_if (p x) ≡ 1 = ap one_if e in let w = all in omega arith
-    by false e more =
-        let rest = more (ap (λ (b : Bool). b || list_any p xs) (sym e) ∙ some) in
-        let w = all in
-        omega arith
-
-pub count_push : {X : Type 0} (p : X → Bool) (xs : List X) (y : X) → count_by p (xs ++ y ∷ []) ≡ count_by p xs + one_if (p y)
-count_push p xs y = sum_by_push (λ z. one_if (p z)) xs y
-
--- ---- where the first stands
-
-pub position_none : {X : Type 0} (p : X → Bool) (xs : List X) → list_any p xs ≡ false → position_or_len p xs ≡ length xs
-position_none p [] none = refl
-position_none p (x ∷ xs) none =
-    let parts = or_parts (p x) (list_any p xs) none in
-    ap (λ (b : Bool). cond (not b) (1 + position_or_len p xs) 0) parts.0 ∙ (let rest = position_none p xs parts.1 in omega arith)
-
--- an element that passes, at its place
-pub record Found {X : Type 0} (p : X → Bool) (xs : List X) (place : ℕ) : Type 0 where
-  pub item : X
-  pub at : slice_get xs place ≡ Some item
-  pub passes : p item ≡ true
-
-pub position_there : {X : Type 0} (p : X → Bool) (xs : List X) → list_any p xs ≡ true → Found p xs (position_or_len p xs)
-position_there p [] some = cc
-position_there p (x ∷ xs) some = by (p x) refl (λ rest. position_there p xs rest)
-  where
-    by : (b : Bool) → p x ≡ b → (list_any p xs ≡ true → Found p xs (position_or_len p xs)) → Found p (x ∷ xs) (position_or_len p (x ∷ xs))
-    by true e more = record { item = x; at = ap (λ (b : Bool). slice_get (x ∷ xs) (cond (not b) (1 + position_or_len p xs) 0)) e; passes = e }
-    by false e more =
-        let rest = more (ap (λ (b : Bool). b || list_any p xs) (sym e) ∙ some) in
-        let place : position_or_len p (x ∷ xs) ≡ suc (position_or_len p xs) = ap (λ (b : Bool). cond (not b) (1 + position_or_len p xs) 0) e ∙ (omega arith) in
-        record { item = rest.item; at = ap (λ (n : ℕ). slice_get (x ∷ xs) n) place ∙ rest.at; passes = rest.passes }
-
-pub number_found : {X : Type 0} (p : X → Bool) (xs : List X) (n : ℕ) → Some n ≡ position p xs → position_or_len p xs ≡ n
-number_found p xs n is = let w = cond_some (nat_lt (position_or_len p xs) (length xs)) (position_or_len p xs) n (sym is) in w.1
 
 -- each text stands once
 pub record Apart (texts : List (List ℕ)) : Type 0 where
@@ -143,7 +75,7 @@ apart_insert ks x before = by (has x ks) refl
     by false e = subst (λ (l : List (List ℕ)). Apart l) (sym (insert_new ks x e)) (record {
       number = λ k text at. ⊎_elim
           (λ w. position_push (bytes_eq text) ks x k (before.number k text w.1) w.0)
-          (λ w. position_end (bytes_eq text) ks x (ap (λ (t : List ℕ). has t ks) (sym w.1) ∙ e) (text_same text x (sym w.1)) ∙ sym w.0)
+          (λ w. position_end (bytes_eq text) ks x (ap (λ (t : List ℕ). has t ks) (sym w.1) ∙ e) (bytes_same text x (sym w.1)) ∙ sym w.0)
           (push_cases ks x k text at);
     })
 

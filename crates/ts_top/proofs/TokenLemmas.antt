@@ -3,12 +3,14 @@ use Rattle.std.proofs.Common.{◌≡◌, ◌∙◌, refl, sym, ap, subst, ℕ, z
 use Rattle.std.specs.List.{list_any, position_or_len}
 use Rattle.std.specs.Str.{bytes_eq}
 use Rattle.std.proofs.lemmas.Option.{slice_get-map, get_or_from_slice_get}
-use Rattle.ts_core.specs.declared.plain.LiteralToken.{LiteralToken}
+use Rattle.ts_top.specs.declared.plain.LiteralToken.{LiteralToken}
 use Rattle.ts_core.specs.declared.symbol.Kind.TheVariants.{Named}
-use Rattle.ts_core.specs.Normal.{NamedRule, token_named, names, name_for, token_by, tokens_by}
+use Rattle.ts_top.specs.PlainNormal.{NamedRule, token_named, names, name_for, token_by, tokens_by}
 use Rattle.ts_top.specs.declared.normal.sights.Sights.{Sights}
 use Rattle.ts_top.specs.Normal.{HasSights, number_of}
-use Rattle.ts_top.proofs.TextLemmas.{Found, position_there, position_none, same_text, text_same, text_apart, apart_sights}
+use Rattle.ts_base.proofs.PositionLemmas.{Found, position_there, position_none}
+use Rattle.ts_base.proofs.ByteLemmas.{same_bytes, bytes_same, bytes_apart}
+use Rattle.ts_top.proofs.TextLemmas.{apart_sights}
 
 map_equal : (f g : List ℕ → LiteralToken) (xs : List (List ℕ)) → ((k : ℕ) (x : List ℕ) → slice_get xs k ≡ Some x → f x ≡ g x) → map f xs ≡ map g xs
 map_equal f g [] same = refl
@@ -47,15 +49,15 @@ tokens_named s all rule rest n old token d sights below is old_is token_is =
     ap (λ (l : List LiteralToken). set l n token) old_is
     ∙ set_map (λ text. token_by text (name_for all text rest)) (λ text. token_by text (name_for all text (rule ∷ rest))) s.texts.keys n token
     (λ text at.
-    let same : text ≡ w.0 = let f : Some found.item ≡ Some text = sym found.at ∙ at in let g : found.item ≡ text = cc in sym g ∙ sym (same_text w.0 found.item found.passes) in
-    let named = name_step all text rule rest true (names_some all text w.0 rule w.1 ∙ text_same text w.0 same) in
+    let same : text ≡ w.0 = let f : Some found.item ≡ Some text = sym found.at ∙ at in let g : found.item ≡ text = cc in sym g ∙ sym (same_bytes w.0 found.item found.passes) in
+    let named = name_step all text rule rest true (names_some all text w.0 rule w.1 ∙ bytes_same text w.0 same) in
     let was : get_or old n d ≡ token_by text (name_for all text rest) =
     ap (λ (l : List LiteralToken). get_or l n d) old_is
     ∙ get_or_from_slice_get (tokens_by all rest s.texts.keys) n (token_by text (name_for all text rest)) d
     (slice_get-map (λ t. token_by t (name_for all t rest)) s.texts.keys n ∙ ap (λ (o : Option (List ℕ)). option_map (λ t. token_by t (name_for all t rest)) o) at) in
     token_is ∙ ap (λ (t : LiteralToken). let r : LiteralToken = record t { name = rule.0; kind = Named } in r) was ∙ ap (λ (o : Option (List ℕ)). token_by text o) (sym named))
     (λ k text other at.
-    let differ : bytes_eq text w.0 ≡ false = text_apart text w.0 (λ e. other (sym (number k text at) ∙ ap (λ (t : List ℕ). number_of s t) e ∙ w.2)) in
+    let differ : bytes_eq text w.0 ≡ false = bytes_apart text w.0 (λ e. other (sym (number k text at) ∙ ap (λ (t : List ℕ). number_of s t) e ∙ w.2)) in
     ap (λ (o : Option (List ℕ)). token_by text o) (sym (name_step all text rule rest false (names_some all text w.0 rule w.1 ∙ differ))))
   where
     w : (text : List ℕ) × (token_named all rule ≡ Some text) × (number_of s text ≡ n)

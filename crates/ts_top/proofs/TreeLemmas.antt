@@ -2,7 +2,7 @@
 use Rattle.std.proofs.Common.{◌≡◌, ◌∙◌, sym, ap, refl, ℕ, suc, ◌+◌, ◌<◌, ◌≤◌, Bool, true, ◌&&◌, not, nat_eq, List, [], ◌∷◌, map, length, length-append, get_or, drop, drop-cons, add-one, arith}
 use Rattle.std.specs.List.{list_all}
 use Rattle.std.proofs.lemmas.Bool.{ne_eqb}
-use Rattle.ts_core.specs.Normal.{Part, literal, named, parts_of, parts_step, joined, is_filled, filled_step}
+use Rattle.ts_top.specs.PlainNormal.{Part, literal, named, parts_of, parts_step, joined, is_filled, filled_step}
 use Rattle.ts_core.specs.declared.rule.Rule.{Rule}
 use Rattle.ts_core.specs.declared.rule.Rule.TheOpen.{Rule-F}
 use Rattle.ts_core.specs.declared.rule.Rule.TheVariants.{Literal, Symbol, Seq, rolls-Literal, rolls-Symbol, rolls-Seq}

@@ -5,21 +5,21 @@ use Rattle.std.proofs.lemmas.List.{append-nil}
 use Rattle.std.proofs.lemmas.Option.{slice_get_within}
 use Rattle.std.proofs.lemmas.Bool.Decides.{nat_tests}
 use Rattle.ts_core.specs.declared.symbol.Symbol.{Symbol}
-use Rattle.ts_core.specs.declared.plain.LiteralToken.{LiteralToken}
-use Rattle.ts_core.specs.declared.plain.PlainRule.{PlainRule}
-use Rattle.ts_core.specs.declared.plain.PlainGrammar.{PlainGrammar}
-use Rattle.ts_core.specs.Tree.{node_of, Node, node, Nodes, no_nodes, add, depth_of, deepest}
-use Rattle.ts_core.specs.Plain.{Plain, Gives, finds_end, Expands, ExpandsAll, IsRule, start_of, Event, token, complete, events_of, events_of_all, events_in, finds, token_text, walk, most_depth, Ending, accepted, stuck, deep}
+use Rattle.ts_top.specs.declared.plain.LiteralToken.{LiteralToken}
+use Rattle.ts_top.specs.declared.plain.PlainRule.{PlainRule}
+use Rattle.ts_top.specs.declared.plain.PlainGrammar.{PlainGrammar}
+use Rattle.ts_top.specs.Tree.{node_of, Node, node, Nodes, no_nodes, add, depth_of, deepest}
+use Rattle.ts_top.specs.Plain.{Plain, Gives, finds_end, Expands, ExpandsAll, IsRule, start_of, Event, token, complete, events_of, events_of_all, events_in, finds, token_text, walk, most_depth, Ending, accepted, stuck, deep}
 use Rattle.ts_top.specs.declared.walk.Spot.{Spot}
 use Rattle.ts_top.specs.declared.walk.Halt.{Halt}
 use Rattle.ts_top.specs.declared.walk.Halt.TheVariants.{Stuck, Deep, Memory}
-use Rattle.ts_core.specs.declared.tree.Tree.{Tree}
-use Rattle.ts_core.specs.declared.plain.Outcome.TheVariants as outcome
+use Rattle.ts_top.specs.declared.tree.Tree.{Tree}
+use Rattle.ts_top.specs.declared.plain.Outcome.TheVariants as outcome
 use Rattle.ts_top.specs.declared.plain_form.PlainForm.{PlainForm}
 use Rattle.ts_top.specs.PlainForm.{IsForm, HasSteps}
 use Rattle.ts_top.specs.Walk.{Ends, FitsText, Passes, PassesAll, Halts, Says, walk_from, counted, the_start}
 use Rattle.ts_top.proofs.NodeLemmas.{put, events_of_put, extent_of_put}
-use Rattle.ts_core.proofs.ExpandLemmas.{same_expansion, same_rule, not_both}
+use Rattle.ts_top.proofs.ExpansionLemmas.{same_expansion, same_rule, not_both}
 use Rattle.ts_top.proofs.ExpandLemmas.{first_is_none, expands_some}
 
 -- ---- tokens

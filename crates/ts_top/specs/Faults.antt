@@ -8,8 +8,8 @@ use Rattle.ts_ojson.specs.declared.fault.OFault.TheVariants as json
 use Rattle.ts_text.specs.Text.{most_bytes, BreaksAt}
 use Rattle.ts_text.specs.declared.text.TextFault.{TextFault}
 use Rattle.ts_text.specs.declared.text.TextFault.TheVariants as text
-use Rattle.ts_core.specs.Answer.{Answers, IsUsage, Judged, Told}
-use Rattle.ts_core.specs.Lines.{usage_line, unbuilt_line, absent_line, text_size_line, text_line}
+use Rattle.ts_top.specs.Answer.{Answers, IsUsage, Judged, Told}
+use Rattle.ts_top.specs.Lines.{usage_line, unbuilt_line, absent_line, text_size_line, text_line}
 use Rattle.ts_top.specs.declared.normal.NotPlain.{NotPlain}
 use Rattle.ts_top.specs.declared.normal.NotPlain.TheVariants as refusal
 use Rattle.ts_top.specs.declared.fault.Fault.{Fault}

@@ -1,8 +1,15 @@
+pub mod Answer
 pub mod Faults
+pub mod Form
+pub mod Lines
 pub mod Listing
 pub mod Members
 pub mod Normal
 pub mod Order
+pub mod Plain
 pub mod PlainForm
+pub mod PlainNormal
 pub mod Stack
+pub mod Tree
+pub mod Visible
 pub mod Walk

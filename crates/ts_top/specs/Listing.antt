@@ -1,9 +1,9 @@
 -- Trees whose nodes can be listed.
 use Rattle.std.specs.Prelude.{ℕ, List, ◌+◌, ◌<◌, ◌≤◌, length}
-use Rattle.ts_core.specs.Tree.{Node, node, Nodes, no_nodes, add, extent_of_all}
-use Rattle.ts_core.specs.Plain.{start_of}
-use Rattle.ts_core.specs.Visible.{shown_of}
-use Rattle.ts_core.specs.declared.plain.PlainGrammar.{PlainGrammar}
+use Rattle.ts_top.specs.Tree.{Node, node, Nodes, no_nodes, add, extent_of_all}
+use Rattle.ts_top.specs.Plain.{start_of}
+use Rattle.ts_top.specs.Visible.{shown_of}
+use Rattle.ts_top.specs.declared.plain.PlainGrammar.{PlainGrammar}
 use Rattle.ts_core.specs.declared.shown.Shown.{Shown}
 
 -- Each node is of one of the grammar's tokens or rules, and its children's bytes lie in its own.

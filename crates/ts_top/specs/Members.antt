@@ -2,7 +2,7 @@
 use Rattle.std.specs.Prelude.{ℕ, List, ◌++◌, map, Option, option_map, codes}
 use Rattle.ts_ojson.specs.declared.value.OJson.{OJson}
 use Rattle.ts_core.specs.declared.rule.Rule.{Rule}
-use Rattle.ts_core.specs.Form.{find, text_of, rule_by, members_rules}
+use Rattle.ts_top.specs.Form.{find, text_of, rule_by, members_rules}
 use Rattle.ts_ojson.specs.Json.{Json, json_of, Items, items_of, Members, members_of}
 
 abbrev pub members_json : List (List ℕ × OJson) → Members

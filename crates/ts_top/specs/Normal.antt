@@ -4,11 +4,11 @@ use Rattle.std.specs.Option.{option_or}
 use Rattle.std.specs.List.{position_or_len}
 use Rattle.std.specs.Str.{bytes_eq}
 use Rattle.ts_core.specs.declared.rule.Rule.{Rule}
-use Rattle.ts_core.specs.declared.plain.PlainGrammar.{PlainGrammar}
-use Rattle.ts_core.specs.declared.plain.LiteralToken.{LiteralToken}
-use Rattle.ts_core.specs.declared.plain.PlainRule.{PlainRule}
+use Rattle.ts_top.specs.declared.plain.PlainGrammar.{PlainGrammar}
+use Rattle.ts_top.specs.declared.plain.LiteralToken.{LiteralToken}
+use Rattle.ts_top.specs.declared.plain.PlainRule.{PlainRule}
 use Rattle.ts_core.specs.declared.symbol.Symbol.{Symbol}
-use Rattle.ts_core.specs.Normal.{NamedRule, Part, first_sights, is_filled, is_hidden, kept, normal_with, numbered, parts_of, positions_of, rules_by, steps_of, symbol_at, symbols_by, tokens_by, where_once, whole_literal}
+use Rattle.ts_top.specs.PlainNormal.{NamedRule, Part, first_sights, is_filled, is_hidden, kept, normal_with, numbered, parts_of, positions_of, rules_by, steps_of, symbol_at, symbols_by, tokens_by, where_once, whole_literal}
 use Rattle.ts_top.specs.declared.normal.sights.Sights.{Sights}
 use Rattle.ts_top.specs.declared.normal.symbols.Numbering.{Numbering}
 

@@ -1,7 +1,7 @@
 -- What the search that ranks rules has come to.
 use Rattle.std.specs.Prelude.{◌≡◌, ℕ, ◌+◌, ◌<◌, ◌≤◌, Bool, true, false, List, length, count_by, slice_get, Some}
-use Rattle.ts_core.specs.declared.plain.PlainGrammar.{PlainGrammar}
-use Rattle.ts_core.specs.Plain.{Leads, StandsIn}
+use Rattle.ts_top.specs.declared.plain.PlainGrammar.{PlainGrammar}
+use Rattle.ts_top.specs.Plain.{Leads, StandsIn}
 use Rattle.ts_top.specs.declared.order.Mark.{Mark}
 use Rattle.ts_top.specs.declared.order.Mark.TheVariants.{Unseen, Open, Done}
 

@@ -1,8 +1,8 @@
 -- What a plain grammar's normal form keeps for the walk over it.
 use Rattle.std.specs.Prelude.{◌≡◌, ℕ, ◌<◌, List, length, slice_get, slice_index, Some}
-use Rattle.ts_core.specs.declared.plain.PlainRule.{PlainRule}
-use Rattle.ts_core.specs.declared.plain.PlainGrammar.{PlainGrammar}
-use Rattle.ts_core.specs.Plain.{IsClosed, StandsIn}
+use Rattle.ts_top.specs.declared.plain.PlainRule.{PlainRule}
+use Rattle.ts_top.specs.declared.plain.PlainGrammar.{PlainGrammar}
+use Rattle.ts_top.specs.Plain.{IsClosed, StandsIn}
 use Rattle.ts_top.specs.declared.plain_form.PlainForm.{PlainForm}
 
 -- each rule's rank is above those of all rules that stand in it

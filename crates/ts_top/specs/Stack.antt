@@ -1,10 +1,10 @@
 -- The rules that a walk stands in, one in another.
 use Rattle.std.specs.Prelude.{◌≡◌, ℕ, ◌+◌, ◌-◌, ◌<◌, ◌≤◌, zero, suc, max, min, List, [], ◌∷◌, ◌++◌, length, take, drop, slice_get, Option, Some, None}
-use Rattle.ts_core.specs.Tree.{node, node_of, deepest}
-use Rattle.ts_core.specs.Plain.{IsRule, most_depth, start_of}
+use Rattle.ts_top.specs.Tree.{node, node_of, deepest}
+use Rattle.ts_top.specs.Plain.{IsRule, most_depth, start_of}
 use Rattle.ts_core.specs.declared.symbol.Symbol.{Symbol}
-use Rattle.ts_core.specs.declared.plain.PlainRule.{PlainRule}
-use Rattle.ts_core.specs.declared.plain.PlainGrammar.{PlainGrammar}
+use Rattle.ts_top.specs.declared.plain.PlainRule.{PlainRule}
+use Rattle.ts_top.specs.declared.plain.PlainGrammar.{PlainGrammar}
 use Rattle.ts_top.specs.declared.plain_form.PlainForm.{PlainForm}
 use Rattle.ts_top.specs.declared.walk.Spot.{Spot}
 use Rattle.ts_top.specs.declared.walk.Grown.{Grown}

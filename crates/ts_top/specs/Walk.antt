@@ -1,12 +1,12 @@
 -- How far a walk comes over what a symbol expands to.
 use Rattle.std.specs.Prelude.{◌≡◌, ℕ, ◌+◌, ◌-◌, ◌≤◌, suc, min, nat_lt, if◌then◌else◌, List, ◌++◌, map, length, slice_index}
-use Rattle.ts_core.specs.Tree.{Node, Nodes, nodes_of, node_of, extent_of, extent_of_all, depth_of}
-use Rattle.ts_core.specs.Plain.{Plain, Expands, ExpandsAll, Event, Ending, stuck, deep, events_of, events_of_all, walk, most_depth, start_of}
+use Rattle.ts_top.specs.Tree.{Node, Nodes, nodes_of, node_of, extent_of, extent_of_all, depth_of}
+use Rattle.ts_top.specs.Plain.{Plain, Expands, ExpandsAll, Event, Ending, stuck, deep, events_of, events_of_all, walk, most_depth, start_of}
 use Rattle.ts_core.specs.declared.symbol.Symbol.{Symbol}
-use Rattle.ts_core.specs.declared.tree.Tree.{Tree}
-use Rattle.ts_core.specs.declared.plain.PlainGrammar.{PlainGrammar}
-use Rattle.ts_core.specs.declared.plain.Outcome.{Outcome}
-use Rattle.ts_core.specs.declared.plain.Outcome.TheVariants as outcome
+use Rattle.ts_top.specs.declared.tree.Tree.{Tree}
+use Rattle.ts_top.specs.declared.plain.PlainGrammar.{PlainGrammar}
+use Rattle.ts_top.specs.declared.plain.Outcome.{Outcome}
+use Rattle.ts_top.specs.declared.plain.Outcome.TheVariants as outcome
 use Rattle.ts_top.specs.declared.plain_form.PlainForm.{PlainForm}
 use Rattle.ts_top.specs.declared.walk.Spot.{Spot}
 use Rattle.ts_top.specs.declared.walk.Halt.{Halt}

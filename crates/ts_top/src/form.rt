@@ -2,7 +2,7 @@
 ghost use Rattle.std.specs.Prelude.{◌≡◌, IfOk, option_map, Option, List as Values, ℕ};
 ghost use Rattle.std.specs.Option.{option_copied};
 ghost use Rattle.ts_ojson.specs.Json.{json_of};
-ghost use Rattle.ts_core.specs.Form.{find as member_at, members_in, file_rules as rules_of_file, text_of, is_bare as bare, has_no_lists as no_lists, absent_or, is_null as null_is, has_no_items as no_items_in, is_hollow as hollow, rule_of, array_rules, items_rules, members_rules, rule_at, rules_in, grammar_rules, is_word as word_is};
+ghost use Rattle.ts_top.specs.Form.{find as member_at, members_in, file_rules as rules_of_file, text_of, is_bare as bare, has_no_lists as no_lists, absent_or, is_null as null_is, has_no_items as no_items_in, is_hollow as hollow, rule_of, array_rules, items_rules, members_rules, rule_at, rules_in, grammar_rules, is_word as word_is};
 ghost use Rattle.ts_top.specs.Members.{members_json, items_json, seen, rule_with};
 
 use std::alloc::{AllocError, Global};

@@ -2,9 +2,9 @@
 ghost use Rattle.std.specs.Prelude.{◌≡◌, ◌≤◌, ◌<◌, ◌^◌, length, IfOk};
 ghost use Rattle.ts_ojson.specs.Reads.{Reads};
 ghost use Rattle.ts_ojson.specs.declared.value.OJson.{OJson as AnyJson};
-ghost use Rattle.ts_core.specs.Form.{IsBuilt};
-ghost use Rattle.ts_core.specs.Plain.{start_of};
-ghost use Rattle.ts_core.specs.declared.plain.PlainGrammar.{PlainGrammar};
+ghost use Rattle.ts_top.specs.Form.{IsBuilt};
+ghost use Rattle.ts_top.specs.Plain.{start_of};
+ghost use Rattle.ts_top.specs.declared.plain.PlainGrammar.{PlainGrammar};
 ghost use Rattle.ts_top.specs.Faults.{refusal_of};
 ghost use Rattle.ts_top.specs.PlainForm.{IsForm};
 

@@ -2,11 +2,11 @@
 ghost use Rattle.std.specs.Prelude.{◌≡◌, ◌<◌, ◌^◌, ℕ, List, IfOk, IfErr, string_bytes};
 ghost use Rattle.ts_io.specs.Read.{AnswersFor, KeepsLimit};
 ghost use Rattle.ts_text.specs.Text.{IsText};
-ghost use Rattle.ts_core.specs.Answer.{Judged, outcome_line};
-ghost use Rattle.ts_core.specs.Form.{IsBuilt};
-ghost use Rattle.ts_core.specs.Plain.{Plain, start_of};
-ghost use Rattle.ts_core.specs.declared.plain.PlainGrammar.{PlainGrammar};
-ghost use Rattle.ts_core.specs.declared.plain.Outcome.{Outcome as AnyOutcome};
+ghost use Rattle.ts_top.specs.Answer.{Judged, outcome_line};
+ghost use Rattle.ts_top.specs.Form.{IsBuilt};
+ghost use Rattle.ts_top.specs.Plain.{Plain, start_of};
+ghost use Rattle.ts_top.specs.declared.plain.PlainGrammar.{PlainGrammar};
+ghost use Rattle.ts_top.specs.declared.plain.Outcome.{Outcome as AnyOutcome};
 ghost use Rattle.ts_top.specs.Faults.{AreRead, StoppedAt, IsTextFault, IsLate};
 ghost use Rattle.ts_top.specs.PlainForm.{IsForm};
 
@@ -18,7 +18,7 @@ use crate::stop::Stop;
 use crate::visible::visible;
 use crate::{print, walk};
 use std::alloc::{AllocError, Global};
-use ts_core::Outcome;
+use crate::plain::Outcome;
 use ts_io::Found;
 use ts_text::{Text, TextFault};
 

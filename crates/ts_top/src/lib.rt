@@ -5,8 +5,10 @@ mod fault;
 mod form;
 mod grammar;
 mod judge;
+mod laws;
 mod normal;
 mod order;
+mod plain;
 mod plain_form;
 mod print;
 mod program;
@@ -15,7 +17,9 @@ mod stop;
 mod tests;
 #[cfg(test)]
 mod tests_walk;
+mod tree;
 mod visible;
 mod walk;
 
+pub use laws::{answers_once, clean_is_done, one_tree};
 pub use program::run;

@@ -1,6 +1,6 @@
 ghost use Rattle.std.specs.Prelude.{◌≡◌, ◌<◌, ◌≤◌, length, IfOk, Some, None, Err};
-ghost use Rattle.ts_core.specs.declared.plain.PlainGrammar.{PlainGrammar};
-ghost use Rattle.ts_core.specs.Normal.{IsPlain, Normal};
+ghost use Rattle.ts_top.specs.declared.plain.PlainGrammar.{PlainGrammar};
+ghost use Rattle.ts_top.specs.PlainNormal.{IsPlain, Normal};
 ghost use Rattle.ts_top.specs.Normal.{GrammarComesTo, IsPaired};
 ghost use Rattle.ts_top.specs.PlainForm.{IsForm};
 ghost use Rattle.ts_top.specs.declared.normal.NotPlain.TheVariants.{Memory, Unbuilt};
@@ -24,7 +24,8 @@ use crate::order::ranks;
 use crate::plain_form::PlainForm;
 use std::alloc::{AllocError, AllocFailed, Global};
 use thiserror::Error;
-use ts_core::{List, PlainGrammar, Rule, Str};
+use crate::plain::PlainGrammar;
+use ts_core::{List, Rule, Str};
 
 /// Why rules have no plain normal form.
 #[derive(Debug, Drop, Error)]

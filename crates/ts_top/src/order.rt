@@ -1,12 +1,13 @@
 ghost use Rattle.std.specs.Prelude.{◌≡◌, ℕ, ◌+◌, ◌<◌, ◌≤◌, length, map, IfOk, IfSome, IfNone, IsTrue, IsFalse, slice_get, Some};
-ghost use Rattle.ts_core.specs.Plain.{IsClosed, Leads, start_of};
+ghost use Rattle.ts_top.specs.Plain.{IsClosed, Leads, start_of};
 ghost use Rattle.ts_top.specs.PlainForm.{IsRanked};
 ghost use Rattle.ts_top.specs.Order.{AllDone, AllUnseen, Falls, Goes, IsDone, Lead, unseen};
 ghost use Rattle.ts_top.specs.Order;
 ghost use Rattle.ts_top.specs.declared.order.Mark.TheVariants.{Unseen};
 
 use std::alloc::{AllocError, Global};
-use ts_core::{List, PlainGrammar, Symbol};
+use crate::plain::PlainGrammar;
+use ts_core::{List, Symbol};
 
 /// How far the search has come with a rule.
 #[derive(Clone, Copy, Debug, PartialEq, Eq)]

@@ -3,7 +3,7 @@ ghost use Rattle.std.specs.Prelude.{◌≡◌, false, IfOk, codes, string_bytes,
 ghost use Rattle.serde_json.specs.Data.{array, object, member, no_members, string};
 ghost use Rattle.serde_json.specs.View.{view, items_view};
 ghost use Rattle.serde_json.specs.Written.{compact_text, has_float};
-ghost use Rattle.ts_core.specs.Lines.{node_data, node_items, tree_line, stuck_line, deep_line, text_items, fault_line, fault_line_at, text_line};
+ghost use Rattle.ts_top.specs.Lines.{node_data, node_items, tree_line, stuck_line, deep_line, text_items, fault_line, fault_line_at, text_line};
 
 use serde_json::{Value, json};
 use std::alloc::{AllocError, Global};

@@ -1,8 +1,8 @@
 //! The top call: words and files in, a status and a line out.
 ghost use Rattle.std.specs.Prelude.{◌≡◌, ◌≤◌, ◌⊎◌, ℕ, List, IfOk, IfErr, IfSome, IfNone, Some, string_bytes};
 ghost use Rattle.ts_io.specs.Outside.{Files, Rose, Appends, AppendsPrefix};
-ghost use Rattle.ts_core.specs.Answer.{texts, IsUsage, Parses, Answers, IsClean, Told, Writes, WritesPrefix, IsFree};
-ghost use Rattle.ts_core.specs.Lines.{usage_line};
+ghost use Rattle.ts_top.specs.Answer.{texts, IsUsage, Parses, Answers, IsClean, Told, Writes, WritesPrefix, IsFree};
+ghost use Rattle.ts_top.specs.Lines.{usage_line};
 ghost use Rattle.ts_io.specs.Read.{KeepsLimit};
 ghost use Rattle.ts_top.specs.Faults.{IsAnswer, Stopped, ReadStopped, IsThere, status_of, line_of};
 

@@ -1,5 +1,5 @@
 ghost use Rattle.std.specs.Prelude.{◌<◌, ◌^◌, IfOk};
-ghost use Rattle.ts_core.specs.Plain.{start_of};
+ghost use Rattle.ts_top.specs.Plain.{start_of};
 ghost use Rattle.ts_top.specs.PlainForm.{IsForm};
 
 use crate::plain_form::PlainForm;
@@ -7,9 +7,9 @@ use crate::visible::visible;
 use crate::walk::parse;
 use std::alloc::{AllocError, Global};
 use std::test::Fail;
-use ts_core::{
-    Kind, List, LiteralToken, Outcome, PlainGrammar, PlainRule, Shown, Str, Symbol, Tree,
-};
+use crate::plain::{LiteralToken, Outcome, PlainGrammar, PlainRule};
+use crate::tree::Tree;
+use ts_core::{Kind, List, Shown, Str, Symbol};
 use ts_text::Text;
 
 fn token(alloc: Global, text: &str, name: &str, kind: Kind) -> Result<LiteralToken, AllocError> {

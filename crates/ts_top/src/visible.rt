@@ -1,12 +1,14 @@
 ghost use Rattle.std.specs.Prelude.{◌≡◌, ◌+◌, ◌<◌, ◌≤◌, ◌^◌, ◌++◌, ◌∷◌, [], length, IfOk, OnOk};
-ghost use Rattle.ts_core.specs.Tree.{node_of, depth_of, deepest, extent_of, extent_of_all};
-ghost use Rattle.ts_core.specs.Plain.{Expands, start_of};
-ghost use Rattle.ts_core.specs.Visible.{Visible, visible_of, visible_of_all, name_of, named_of};
+ghost use Rattle.ts_top.specs.Tree.{node_of, depth_of, deepest, extent_of, extent_of_all};
+ghost use Rattle.ts_top.specs.Plain.{Expands, start_of};
+ghost use Rattle.ts_top.specs.Visible.{Visible, visible_of, visible_of_all, name_of, named_of};
 ghost use Rattle.ts_top.specs.Listing.{IsNested, AreNested, shown_at};
 ghost use Rattle.ts_top.specs.Walk.{FitsText, nodes_in};
 
 use std::alloc::{AllocError, Global};
-use ts_core::{Kind, List, Outcome, PlainGrammar, Shown, Str, Symbol, Tree};
+use crate::plain::{Outcome, PlainGrammar};
+use crate::tree::Tree;
+use ts_core::{Kind, List, Shown, Str, Symbol};
 use ts_text::{PointWalk, Text};
 
 /// The nodes of a tree that are listed so far.

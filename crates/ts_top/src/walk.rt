@@ -1,6 +1,6 @@
 ghost use Rattle.std.specs.Prelude.{◌≡◌, ◌+◌, ◌<◌, ◌≤◌, ◌^◌, ◌++◌, ◌∷◌, [], length, IfOk, IfErr, IfSome, IfNone};
-ghost use Rattle.ts_core.specs.Tree.{node_of, depth_of};
-ghost use Rattle.ts_core.specs.Plain.{Plain, start_of};
+ghost use Rattle.ts_top.specs.Tree.{node_of, depth_of};
+ghost use Rattle.ts_top.specs.Plain.{Plain, start_of};
 ghost use Rattle.ts_top.specs.PlainForm.{IsForm};
 ghost use Rattle.ts_top.specs.Stack.{Awaits, Closes, IsAdded, IsEnded, Leaves, Opens, Stands, Turns};
 ghost use Rattle.ts_top.specs.Walk.{Passes, Halts, Ends, FitsText, counted, the_start};
@@ -8,7 +8,9 @@ ghost use Rattle.ts_top.specs.Walk.{Passes, Halts, Ends, FitsText, counted, the_
 use crate::plain_form::PlainForm;
 use std::alloc::{AllocError, Global};
 use thiserror::Error;
-use ts_core::{List, Outcome, PlainGrammar, Symbol, Tree};
+use crate::plain::{Outcome, PlainGrammar};
+use crate::tree::Tree;
+use ts_core::{List, Symbol};
 
 /// The most that a tree may be deep.
 const MOST_DEPTH: u32 = 1000;

@@ -1,9 +1,10 @@
 ghost use Rattle.std.specs.Prelude.{◌≡◌, ◌↔◌, ℕ, ◌≤◌, All, IsTrue, length, map, sum};
-ghost use Rattle.ts_core.specs.Normal as normal;
-ghost use Rattle.ts_core.specs.Normal.{positions_of};
+ghost use Rattle.ts_top.specs.PlainNormal as normal;
+ghost use Rattle.ts_top.specs.PlainNormal.{positions_of};
 ghost use Rattle.ts_top.specs.Normal.{IsWithin};
 
-use ts_core::{LiteralToken, PlainGrammar, PlainRule, Str};
+use crate::plain::{LiteralToken, PlainGrammar, PlainRule};
+use ts_core::Str;
 
 /// How many symbols a grammar may have, the end among them.
 pub(super) const MOST_SYMBOLS: usize = 16_384;

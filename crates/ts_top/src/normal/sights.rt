@@ -1,6 +1,6 @@
 ghost use Rattle.std.specs.Prelude.{◌≡◌, ℕ, List, [], ◌∷◌, ◌<◌, IfOk, IfSome, OnOk, length, map, option_map};
-ghost use Rattle.ts_core.specs.Normal as normal;
-ghost use Rattle.ts_core.specs.Normal.{all_literals, joined, literals_in, parts_of, where_once};
+ghost use Rattle.ts_top.specs.PlainNormal as normal;
+ghost use Rattle.ts_top.specs.PlainNormal.{all_literals, joined, literals_in, parts_of, where_once};
 ghost use Rattle.ts_top.specs.Normal.{HasSights, IsPaired, Sees, number_of, token_of};
 
 use indexmap::IndexSet;

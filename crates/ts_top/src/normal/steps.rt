@@ -1,5 +1,5 @@
 ghost use Rattle.std.specs.Prelude.{◌≡◌, ◌<◌, length, map, IfOk, OnOk, Some, None, Err, option_map};
-ghost use Rattle.ts_core.specs.Normal.{joined, parts_of, rule_by, steps_of, symbol_at, symbol as symbol_of, token_symbol};
+ghost use Rattle.ts_top.specs.PlainNormal.{joined, parts_of, rule_by, steps_of, symbol_at, symbol as symbol_of, token_symbol};
 ghost use Rattle.ts_top.specs.Normal.{AddsRule, IsPaired, LacksName, Pushes, RulesComeTo};
 ghost use Rattle.ts_top.specs.declared.normal.NotPlain.TheVariants.{Unbuilt};
 
@@ -7,7 +7,8 @@ use crate::normal::NotPlain;
 use crate::normal::sights::{Sights, token_named};
 use indexmap::IndexMap;
 use std::alloc::Global;
-use ts_core::{List, PlainRule, Rule, Str, Symbol};
+use crate::plain::PlainRule;
+use ts_core::{List, Rule, Str, Symbol};
 
 /// The symbol of a text's token.
 fn symbol_of_text(sights: &Sights, text: &Str) -> Symbol

@@ -1,10 +1,11 @@
 ghost use Rattle.std.specs.Prelude.{◌≡◌, length, map, IfOk, OnOk, None};
-ghost use Rattle.ts_core.specs.Normal.{token_by};
+ghost use Rattle.ts_top.specs.PlainNormal.{token_by};
 ghost use Rattle.ts_top.specs.Normal.{AreTokens, IsPaired, NamesToken};
 
 use crate::normal::sights::{Sights, token_named};
 use std::alloc::{AllocError, Global};
-use ts_core::{Kind, List, LiteralToken, Rule, Str};
+use crate::plain::LiteralToken;
+use ts_core::{Kind, List, Rule, Str};
 
 /// A token that no rule names.
 fn unnamed(alloc: Global, text: &Str) -> Result<LiteralToken, AllocError>

@@ -1,7 +1,7 @@
 ghost use Rattle.std.specs.Prelude.{◌≡◌, ◌↔◌, ℕ, List, ◌<◌, ◌≤◌, All, IsTrue, length, map};
 ghost use Rattle.std.specs.List.{list_all};
-ghost use Rattle.ts_core.specs.Normal as normal;
-ghost use Rattle.ts_core.specs.Normal.{joined, parts_of};
+ghost use Rattle.ts_top.specs.PlainNormal as normal;
+ghost use Rattle.ts_top.specs.PlainNormal.{joined, parts_of};
 ghost use Rattle.ts_top.specs.Normal.{HasParts, IsShown};
 
 use ts_core::{Rule, Str};

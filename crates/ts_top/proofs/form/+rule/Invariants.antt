@@ -1,5 +1,5 @@
 use Rattle.std.proofs.Common.{◌≡◌, drop}
-use Rattle.ts_core.specs.Form.{members_rules, items_rules}
+use Rattle.ts_top.specs.Form.{members_rules, items_rules}
 use Rattle.ts_top.specs.Members.{members_json, items_json, prepend}
 use Rattle.ts_top.proofs.form.+rule.Given as goal
 

@@ -1,5 +1,5 @@
 use Rattle.std.proofs.Common.{◌≡◌, drop}
-use Rattle.ts_core.specs.Form.{find as member_at}
+use Rattle.ts_top.specs.Form.{find as member_at}
 use Rattle.ts_top.specs.Members.{members_json}
 use Rattle.ts_top.proofs.form.find.Given as goal
 

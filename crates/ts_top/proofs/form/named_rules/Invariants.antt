@@ -1,5 +1,5 @@
 use Rattle.std.proofs.Common.{◌≡◌, drop}
-use Rattle.ts_core.specs.Form.{rules_in}
+use Rattle.ts_top.specs.Form.{rules_in}
 use Rattle.ts_top.specs.Members.{members_json, prepend}
 use Rattle.ts_top.proofs.form.named_rules.Given as goal
 

@@ -1,4 +1,4 @@
-use Rattle.ts_core.specs.Answer.{unbuilt}
+use Rattle.ts_top.specs.Answer.{unbuilt}
 use Rattle.ts_top.proofs.judge.grammar_stop.Goals as goal
 
 pub returns-in-Unbuilt-clause-stop : goal.returns-in-Unbuilt-clause-stop

@@ -1,6 +1,6 @@
 use Rattle.std.proofs.Common.{subst}
 use Rattle.ts_text.specs.declared.text.TextFault.{TextFault}
-use Rattle.ts_core.specs.Answer.{too_large, no_text}
+use Rattle.ts_top.specs.Answer.{too_large, no_text}
 use Rattle.ts_top.specs.Faults.{IsTextFault}
 use Rattle.ts_top.proofs.judge.text_stop.Goals as goal
 

@@ -1,7 +1,7 @@
 use Rattle.std.proofs.Common.{◌≡◌, ◌∙◌, [], ◌∷◌, slice_index_or, sym, ap, length, Some, List}
 use Rattle.std.proofs.lemmas.Bool.{eqb-false}
 use Rattle.std.proofs.lemmas.Result.{IfOk-weaker}
-use Rattle.ts_core.specs.Normal.{NamedRule, Normal}
+use Rattle.ts_top.specs.PlainNormal.{NamedRule, Normal}
 use Rattle.ts_top.proofs.NormalLemmas.{first_and_rest, normal_from}
 use Rattle.ts_top.proofs.normal.grammar_of.Goals as goal
 

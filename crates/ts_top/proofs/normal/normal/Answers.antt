@@ -1,6 +1,6 @@
 use Rattle.std.proofs.Common.{◌∙◌, List, All, ap, refl, length, subst, sym, arith, ◌≤◌}
 use Rattle.std.proofs.lemmas.Bool.{false≢true}
-use Rattle.ts_core.specs.Normal.{NamedRule, IsPlain}
+use Rattle.ts_top.specs.PlainNormal.{NamedRule, IsPlain}
 use Rattle.ts_top.specs.Normal.{HasParts, IsShown, IsWithin}
 use Rattle.ts_top.specs.PlainForm.{IsRanked}
 use Rattle.ts_top.proofs.OrderLemmas.{ranked_acyclic}

@@ -1,6 +1,6 @@
 use Rattle.std.proofs.Common.{ℕ, subst, arith}
 use Rattle.ts_core.specs.declared.symbol.Symbol.{Symbol}
-use Rattle.ts_core.specs.Plain.{StandsIn}
+use Rattle.ts_top.specs.Plain.{StandsIn}
 use Rattle.ts_top.specs.Order.{IsDone}
 use Rattle.ts_top.proofs.OrderLemmas.{going_begins, going_more, goes_none, leads_step, room_step, rule_there, rule_within, step_stands, visited_goes, visited_falls, visited_done}
 use Rattle.ts_top.proofs.order.+search.Goals as goal

@@ -1,6 +1,6 @@
 use Rattle.std.proofs.Common.{◌≡◌, map, take}
 use Rattle.serde_json.specs.View.{view}
-use Rattle.ts_core.specs.Lines.{node_data}
+use Rattle.ts_top.specs.Lines.{node_data}
 use Rattle.ts_top.proofs.print.node_values.Given as goal
 
 abbrev pub invariant-loop-node : goal.invariant-loop-node

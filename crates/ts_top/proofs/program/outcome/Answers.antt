@@ -1,7 +1,7 @@
 use Rattle.std.proofs.Common.{Option, subst}
 use Rattle.std.proofs.lemmas.Result.{err_from_is_err_and}
 use Rattle.ts_io.specs.Outside.{Files, Rose}
-use Rattle.ts_core.specs.Answer.{Told}
+use Rattle.ts_top.specs.Answer.{Told}
 use Rattle.ts_top.specs.Faults.{usage, IsThere, ReadStopped}
 use Rattle.ts_top.proofs.ProgramLemmas.{grammar_stopped, text_stopped, line_answers, judge_stopped, rose_from}
 use Rattle.ts_top.proofs.program.outcome.Goals as goal

@@ -1,6 +1,6 @@
 use Rattle.ts_top.proofs.ListingLemmas.{expands_nested}
-use Rattle.ts_core.specs.Tree.{node_of}
-use Rattle.ts_core.specs.Plain.{start_of}
+use Rattle.ts_top.specs.Tree.{node_of}
+use Rattle.ts_top.specs.Plain.{start_of}
 use Rattle.ts_top.proofs.visible.visible.Goals as goal
 
 pub list-requires-clause-nested : goal.list-requires-clause-nested

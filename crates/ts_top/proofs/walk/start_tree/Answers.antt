@@ -1,5 +1,5 @@
 use Rattle.std.proofs.Common.{◌≡◌, ◌+◌, arith}
-use Rattle.ts_core.specs.Plain.{start_of}
+use Rattle.ts_top.specs.Plain.{start_of}
 use Rattle.ts_top.proofs.StackLemmas.{begun}
 use Rattle.ts_top.proofs.walk.start_tree.Goals as goal
 

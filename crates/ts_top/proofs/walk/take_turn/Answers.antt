@@ -1,6 +1,6 @@
 use Rattle.std.proofs.Common.{◌≤◌, arith}
 use Rattle.std.proofs.lemmas.Result.{err_from_is_err_and}
-use Rattle.ts_core.specs.Plain.{start_of}
+use Rattle.ts_top.specs.Plain.{start_of}
 use Rattle.ts_top.proofs.StackLemmas.{entered, passed, left, stack_halts}
 use Rattle.ts_top.proofs.walk.take_turn.Goals as goal
 

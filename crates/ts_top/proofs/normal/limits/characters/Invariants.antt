@@ -1,5 +1,5 @@
 use Rattle.std.proofs.Common.{◌≡◌, ◌≤◌, take, count_by}
-use Rattle.ts_core.specs.Normal.{is_first_byte}
+use Rattle.ts_top.specs.PlainNormal.{is_first_byte}
 use Rattle.ts_top.proofs.normal.limits.characters.Given as goal
 
 abbrev pub invariant-loop-byte : goal.invariant-loop-byte

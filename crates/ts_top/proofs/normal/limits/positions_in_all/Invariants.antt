@@ -1,5 +1,5 @@
 use Rattle.std.proofs.Common.{◌≡◌, ◌≤◌, ◌*◌, map, sum, take}
-use Rattle.ts_core.specs.Normal.{positions_of}
+use Rattle.ts_top.specs.PlainNormal.{positions_of}
 use Rattle.ts_top.proofs.normal.limits.positions_in_all.Given as goal
 
 abbrev pub invariant-loop-token : goal.invariant-loop-token

@@ -1,5 +1,5 @@
 use Rattle.std.proofs.Common.{map, take}
-use Rattle.ts_core.specs.Normal.{joined, literals_in, parts_of}
+use Rattle.ts_top.specs.PlainNormal.{joined, literals_in, parts_of}
 use Rattle.ts_top.specs.Normal.{Sees}
 use Rattle.ts_top.proofs.normal.sights.+see.Given as goal
 

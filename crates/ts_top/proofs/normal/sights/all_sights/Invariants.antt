@@ -1,5 +1,5 @@
 use Rattle.std.proofs.Common.{take}
-use Rattle.ts_core.specs.Normal.{all_literals}
+use Rattle.ts_top.specs.PlainNormal.{all_literals}
 use Rattle.ts_top.specs.Normal.{HasSights}
 use Rattle.ts_top.proofs.normal.sights.all_sights.Given as goal
 

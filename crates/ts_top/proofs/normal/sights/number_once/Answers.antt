@@ -1,7 +1,7 @@
 use Rattle.std.proofs.Common.{refl, sym, ap, ◌∙◌, Some, arith}
 use Rattle.std.specs.Str.{bytes_eq}
 use Rattle.std.proofs.lemmas.Option.{slice_get_read}
-use Rattle.ts_top.proofs.TextLemmas.{number_found}
+use Rattle.ts_base.proofs.PositionLemmas.{number_found}
 use Rattle.ts_top.proofs.SightLemmas.{number_absent, number_once, number_again}
 use Rattle.ts_top.proofs.normal.sights.number_once.Goals as goal
 

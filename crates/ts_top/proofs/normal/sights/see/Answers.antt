@@ -1,7 +1,7 @@
 use Rattle.std.proofs.Common.{refl, sym, ap, ◌∙◌, List, ℕ}
 use Rattle.std.specs.Str.{bytes_eq}
 use Rattle.indexmap.specs.IndexSet.{insert_key}
-use Rattle.ts_top.proofs.TextLemmas.{number_found}
+use Rattle.ts_base.proofs.PositionLemmas.{number_found}
 use Rattle.ts_top.proofs.SightLemmas.{sees_again, sees_new}
 use Rattle.ts_top.proofs.normal.sights.see.Goals as goal
 

@@ -1,5 +1,5 @@
 use Rattle.std.proofs.Common.{map, take}
-use Rattle.ts_core.specs.Normal.{joined, parts_of}
+use Rattle.ts_top.specs.PlainNormal.{joined, parts_of}
 use Rattle.ts_top.specs.Normal.{Pushes}
 use Rattle.ts_top.proofs.normal.steps.+steps.Given as goal
 

@@ -1,5 +1,5 @@
 use Rattle.std.proofs.Common.{◌∙◌, sym, ap, Option, ℕ, option_map}
-use Rattle.ts_core.specs.Normal.{symbol}
+use Rattle.ts_top.specs.PlainNormal.{symbol}
 use Rattle.ts_top.proofs.SymbolLemmas.{symbol_lookup}
 use Rattle.ts_top.proofs.normal.steps.symbol_of_name.Goals as goal
 

@@ -1,7 +1,7 @@
 use Rattle.std.proofs.Common.{◌≡◌, ◌+◌, sym, ap, arith}
 use Rattle.std.specs.Str.{bytes_eq}
-use Rattle.ts_core.specs.Normal.{symbol, token_symbol}
-use Rattle.ts_top.proofs.TextLemmas.{position_none}
+use Rattle.ts_top.specs.PlainNormal.{symbol, token_symbol}
+use Rattle.ts_base.proofs.PositionLemmas.{position_none}
 use Rattle.ts_top.proofs.normal.steps.symbol_of_text.Goals as goal
 
 pub returns-in-None : goal.returns-in-None

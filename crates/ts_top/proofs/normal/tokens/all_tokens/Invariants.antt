@@ -1,5 +1,5 @@
 use Rattle.std.proofs.Common.{◌≡◌, ℕ, List, length, drop}
-use Rattle.ts_core.specs.Normal.{tokens_by}
+use Rattle.ts_top.specs.PlainNormal.{tokens_by}
 use Rattle.ts_top.specs.Normal.{HasSights}
 use Rattle.ts_top.proofs.normal.tokens.all_tokens.Given as goal
 

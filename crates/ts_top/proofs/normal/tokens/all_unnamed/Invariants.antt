@@ -1,5 +1,5 @@
 use Rattle.std.proofs.Common.{◌≡◌, None, map, take}
-use Rattle.ts_core.specs.Normal.{token_by}
+use Rattle.ts_top.specs.PlainNormal.{token_by}
 use Rattle.ts_top.proofs.normal.tokens.all_unnamed.Given as goal
 
 abbrev pub invariant-loop-text : goal.invariant-loop-text

@@ -1,5 +1,5 @@
 use Rattle.std.proofs.Common.{◌∙◌, ap, List, ℕ, get_or}
-use Rattle.ts_core.specs.declared.plain.LiteralToken.{LiteralToken}
+use Rattle.ts_top.specs.declared.plain.LiteralToken.{LiteralToken}
 use Rattle.ts_core.specs.declared.symbol.Kind.TheVariants.{Named}
 use Rattle.ts_top.proofs.TokenLemmas.{tokens_named}
 use Rattle.ts_top.proofs.normal.tokens.name_token.Goals as goal

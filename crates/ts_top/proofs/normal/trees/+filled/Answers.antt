@@ -2,7 +2,7 @@ use Rattle.std.proofs.Common.{◌≡◌, ◌∙◌, [], subst, List, ap, ◌≤�
 use Rattle.std.proofs.lemmas.Bool.{false≢true}
 use Rattle.std.specs.List.{list_all}
 use Rattle.ts_core.specs.declared.rule.Rule.{Rule}
-use Rattle.ts_core.specs.Normal.{is_filled}
+use Rattle.ts_top.specs.PlainNormal.{is_filled}
 use Rattle.ts_top.proofs.TreeLemmas.{filled_seq_some, parts_seq_some, parts_in}
 use Rattle.ts_top.proofs.normal.trees.+filled.Goals as goal
 

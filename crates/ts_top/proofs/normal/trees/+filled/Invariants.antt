@@ -1,6 +1,6 @@
 use Rattle.std.proofs.Common.{◌≡◌, ◌+◌, ◌≤◌, drop}
 use Rattle.std.specs.List.{list_all}
-use Rattle.ts_core.specs.Normal.{is_filled}
+use Rattle.ts_top.specs.PlainNormal.{is_filled}
 use Rattle.ts_top.proofs.TreeLemmas.{parts_in}
 use Rattle.ts_top.proofs.normal.trees.+filled.Given as goal
 

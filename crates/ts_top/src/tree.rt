@@ -1,5 +1,4 @@
-use crate::symbol::Symbol;
-use ts_base::List;
+use ts_core::{List, Symbol};
 
 /// A node of a parse tree: a token, or a rule's node with its children. Its bytes are `pad` bytes that belong
 /// to no token and then `size` bytes; a node's pad is its first child's. A node's bytes are those of its

@@ -2,8 +2,8 @@
 use Rattle.std.proofs.Common.{◌≡◌, ◌∙◌, sym, ap, subst, refl, ℕ, inl, inr, List, [], ◌∷◌, length, Option, Some, None, codes, arith, IsUtf8}
 use Rattle.ts_io.specs.Outside.{Files, file_at}
 use Rattle.ts_text.proofs.TextLemmas.{whole_breaks_nowhere}
-use Rattle.ts_core.specs.Form.{IsBuilt}
-use Rattle.ts_core.specs.Answer.{Parses, Has, IsAbsent, Judged, unbuilt, too_large, no_text, parsed, Answers, usage, absent, judged, IsClean}
+use Rattle.ts_top.specs.Form.{IsBuilt}
+use Rattle.ts_top.specs.Answer.{Parses, Has, IsAbsent, Judged, unbuilt, too_large, no_text, parsed, Answers, usage, absent, judged, IsClean}
 
 parses_once : (words : List (List ℕ)) (grammar text other_grammar other_text : List ℕ) → Parses words grammar text → Parses words other_grammar other_text → (grammar ≡ other_grammar) × (text ≡ other_text)
 parses_once words grammar text other_grammar other_text p q =

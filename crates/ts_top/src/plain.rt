@@ -1,6 +1,5 @@
-use crate::symbol::{Kind, Symbol};
 use crate::tree::Tree;
-use ts_base::{List, Str};
+use ts_core::{Kind, List, Str, Symbol};
 
 /// A token that is a plain text.
 #[derive(Debug, PartialEq, Eq, Drop)]

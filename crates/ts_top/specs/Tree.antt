@@ -1,8 +1,8 @@
 -- A parse tree, as data of the definitions: its nodes with their symbols, pads and sizes.
 use Rattle.std.specs.Prelude.{ℕ, ◌+◌, suc, max, List, [], ◌∷◌}
-use Rattle.ts_core.specs.declared.tree.Tree.{Tree}
-use Rattle.ts_core.specs.declared.tree.Tree.TheOpen.{Tree-F}
-use Rattle.ts_core.specs.declared.tree.Tree.TheFolds.{fold-Tree}
+use Rattle.ts_top.specs.declared.tree.Tree.{Tree}
+use Rattle.ts_top.specs.declared.tree.Tree.TheOpen.{Tree-F}
+use Rattle.ts_top.specs.declared.tree.Tree.TheFolds.{fold-Tree}
 
 mutual
   -- symbol, pad, size and children

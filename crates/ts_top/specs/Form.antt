@@ -4,10 +4,10 @@ use Rattle.std.specs.Str.{bytes_eq}
 use Rattle.ts_ojson.specs.Json.{Json, null, string, array, object, Items, no_items, item, Members, no_members, member, json_of}
 use Rattle.ts_ojson.specs.Reads.{Reads}
 use Rattle.ts_ojson.specs.declared.value.OJson.{OJson}
-use Rattle.ts_core.specs.Normal.{NamedRule, IsPlain, in_front}
+use Rattle.ts_top.specs.PlainNormal.{NamedRule, IsPlain, in_front}
 use Rattle.ts_core.specs.declared.rule.Rule.{Rule}
 use Rattle.ts_core.specs.declared.rule.Rule.TheVariants.{Literal, Symbol, Seq}
-use Rattle.ts_core.specs.declared.plain.PlainGrammar.{PlainGrammar}
+use Rattle.ts_top.specs.declared.plain.PlainGrammar.{PlainGrammar}
 
 -- ---- members
 

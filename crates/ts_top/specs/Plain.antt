@@ -1,14 +1,14 @@
 -- The plain outcome: what a parse of a text comes to, for a grammar that derives one list of tokens.
 use Rattle.std.specs.Prelude.{◌≡◌, ℕ, ◌+◌, ◌-◌, ◌<◌, suc, max, ◌⊎◌, Bool, if◌then◌else◌, nat_lt, nat_eq, List, [], ◌∷◌, ◌++◌, length, drop, slice_get, Option, Some, None}
 use Rattle.std.specs.List.{starts_with}
-use Rattle.ts_core.specs.Tree.{Node, node, Nodes, no_nodes, add, first_pad, extent_of_all, depth_of, node_of}
+use Rattle.ts_top.specs.Tree.{Node, node, Nodes, no_nodes, add, first_pad, extent_of_all, depth_of, node_of}
 use Rattle.ts_core.specs.declared.symbol.Symbol.{Symbol}
-use Rattle.ts_core.specs.declared.tree.Tree.{Tree}
-use Rattle.ts_core.specs.declared.plain.LiteralToken.{LiteralToken}
-use Rattle.ts_core.specs.declared.plain.PlainRule.{PlainRule}
-use Rattle.ts_core.specs.declared.plain.PlainGrammar.{PlainGrammar}
-use Rattle.ts_core.specs.declared.plain.Outcome.{Outcome}
-use Rattle.ts_core.specs.declared.plain.Outcome.TheVariants as outcome
+use Rattle.ts_top.specs.declared.tree.Tree.{Tree}
+use Rattle.ts_top.specs.declared.plain.LiteralToken.{LiteralToken}
+use Rattle.ts_top.specs.declared.plain.PlainRule.{PlainRule}
+use Rattle.ts_top.specs.declared.plain.PlainGrammar.{PlainGrammar}
+use Rattle.ts_top.specs.declared.plain.Outcome.{Outcome}
+use Rattle.ts_top.specs.declared.plain.Outcome.TheVariants as outcome
 
 -- ---- symbols: 0 is the end, then come the tokens, then the rules
 

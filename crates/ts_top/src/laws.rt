@@ -1,9 +1,9 @@
 ghost use Rattle.std.specs.Prelude.{◌≡◌, List, ℕ};
 ghost use Rattle.ts_io.specs.Outside.{Files};
-ghost use Rattle.ts_core.specs.Answer.{Answers, IsClean};
-ghost use Rattle.ts_core.specs.Plain.{Expands};
-ghost use Rattle.ts_core.specs.Tree.{Node};
-ghost use Rattle.ts_core.specs.declared.plain.PlainGrammar.{PlainGrammar as AnyGrammar};
+ghost use Rattle.ts_top.specs.Answer.{Answers, IsClean};
+ghost use Rattle.ts_top.specs.Plain.{Expands};
+ghost use Rattle.ts_top.specs.Tree.{Node};
+ghost use Rattle.ts_top.specs.declared.plain.PlainGrammar.{PlainGrammar as AnyGrammar};
 
 /// The same words and files come to one status.
 pub fn answers_once()

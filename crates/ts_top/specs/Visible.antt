@@ -1,13 +1,13 @@
 -- The visible tree of a plain grammar's parse tree: the list of its nodes in preorder. No node is hidden.
 use Rattle.std.specs.Prelude.{ℕ, ◌+◌, ◌-◌, Bool, true, false, nat_le, if◌then◌else◌, List, [], ◌∷◌, ◌++◌, slice_get, Option, Some, None}
 use Rattle.ts_text.specs.Point.{row_of, column_of}
-use Rattle.ts_core.specs.Tree.{Node, node, Nodes, no_nodes, add, extent_of}
-use Rattle.ts_core.specs.Plain.{start_of}
+use Rattle.ts_top.specs.Tree.{Node, node, Nodes, no_nodes, add, extent_of}
+use Rattle.ts_top.specs.Plain.{start_of}
 use Rattle.ts_core.specs.declared.symbol.Kind.{Kind}
 use Rattle.ts_core.specs.declared.symbol.Kind.TheVariants.{Named, Anonymous, Hidden}
-use Rattle.ts_core.specs.declared.plain.LiteralToken.{LiteralToken}
-use Rattle.ts_core.specs.declared.plain.PlainRule.{PlainRule}
-use Rattle.ts_core.specs.declared.plain.PlainGrammar.{PlainGrammar}
+use Rattle.ts_top.specs.declared.plain.LiteralToken.{LiteralToken}
+use Rattle.ts_top.specs.declared.plain.PlainRule.{PlainRule}
+use Rattle.ts_top.specs.declared.plain.PlainGrammar.{PlainGrammar}
 use Rattle.ts_core.specs.declared.shown.Shown.{Shown}
 
 abbrev pub is_named : Kind → Bool

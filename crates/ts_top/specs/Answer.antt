@@ -3,14 +3,14 @@ use Rattle.std.specs.Prelude.{◌≡◌, ℕ, ◌≤◌, ◌<◌, ◌⊎◌, Lis
 use Rattle.std.specs.declared.alloc.Global.{Global}
 use Rattle.ts_io.specs.Outside.{Files, file_at, Appends, AppendsPrefix}
 use Rattle.ts_text.specs.Text.{IsText, BreaksAt, most_bytes}
-use Rattle.ts_core.specs.Tree.{node_of}
-use Rattle.ts_core.specs.Plain.{Plain}
-use Rattle.ts_core.specs.Visible.{Visible}
-use Rattle.ts_core.specs.Form.{IsBuilt}
-use Rattle.ts_core.specs.Lines.{tree_line, stuck_line, deep_line, usage_line, unbuilt_line, absent_line, text_size_line, text_line}
-use Rattle.ts_core.specs.declared.plain.PlainGrammar.{PlainGrammar}
-use Rattle.ts_core.specs.declared.plain.Outcome.{Outcome}
-use Rattle.ts_core.specs.declared.plain.Outcome.TheVariants.{Tree, Stuck, Deep}
+use Rattle.ts_top.specs.Tree.{node_of}
+use Rattle.ts_top.specs.Plain.{Plain}
+use Rattle.ts_top.specs.Visible.{Visible}
+use Rattle.ts_top.specs.Form.{IsBuilt}
+use Rattle.ts_top.specs.Lines.{tree_line, stuck_line, deep_line, usage_line, unbuilt_line, absent_line, text_size_line, text_line}
+use Rattle.ts_top.specs.declared.plain.PlainGrammar.{PlainGrammar}
+use Rattle.ts_top.specs.declared.plain.Outcome.{Outcome}
+use Rattle.ts_top.specs.declared.plain.Outcome.TheVariants.{Tree, Stuck, Deep}
 
 abbrev pub texts : List (String Global) → List (List ℕ)
 texts words = map string_bytes words

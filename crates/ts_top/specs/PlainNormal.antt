@@ -10,10 +10,10 @@ use Rattle.ts_core.specs.declared.rule.Rule.{Rule}
 use Rattle.ts_core.specs.declared.rule.Rule.TheOpen.{Rule-F}
 use Rattle.ts_core.specs.declared.rule.Rule.TheViews.{out-Rule}
 use Rattle.ts_core.specs.declared.rule.Rule.TheFolds.{fold-Rule}
-use Rattle.ts_core.specs.declared.plain.LiteralToken.{LiteralToken}
-use Rattle.ts_core.specs.declared.plain.PlainRule.{PlainRule}
-use Rattle.ts_core.specs.declared.plain.PlainGrammar.{PlainGrammar}
-use Rattle.ts_core.specs.Plain.{IsAcyclic}
+use Rattle.ts_top.specs.declared.plain.LiteralToken.{LiteralToken}
+use Rattle.ts_top.specs.declared.plain.PlainRule.{PlainRule}
+use Rattle.ts_top.specs.declared.plain.PlainGrammar.{PlainGrammar}
+use Rattle.ts_top.specs.Plain.{IsAcyclic}
 
 -- a rule with its name
 abbrev pub NamedRule : Type 0

@@ -1,0 +1,5 @@
+use Rattle.ts_top.proofs.AnswerLemmas.{clean_is_done}
+use Rattle.ts_top.proofs.laws.clean_is_done.Goals as goal
+
+pub returns : goal.returns
+returns c = clean_is_done
