@@ -4,3 +4,4 @@ pub mod OsFolder
 pub mod OutSink
 pub mod Outside
 pub mod Read
+pub mod Room

@@ -8,6 +8,7 @@ use Rattle.ts_io.specs.declared.mem_folder.MemFolder.{MemFolder}
 abbrev pub as_files : List (String Global × Vec ℕ Global) → Files
 as_files pairs = map (λ pair. (string_bytes pair.0, pair.1.items)) pairs
 
+-- the files that the folder holds
 abbrev pub files_of : MemFolder → Files
 files_of f = as_files f.files.items
 
@@ -19,5 +20,6 @@ failing_of f = f.failing.items
 abbrev pub reads_of : MemFolder → ℕ
 reads_of f = f.reads
 
+-- how many of the reads failed
 abbrev pub faults_of : MemFolder → ℕ
 faults_of f = f.faults

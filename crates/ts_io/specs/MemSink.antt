@@ -1,10 +1,11 @@
 -- What a sink in memory holds, and what its next write does.
 use Rattle.std.specs.Prelude.{◌≡◌, ◌≢◌, ◌⊎◌, ℕ, ◌-◌, min, List, [], length, Contains}
+use Rattle.ts_base.specs.Bytes.{Bytes}
 use Rattle.ts_io.specs.declared.mem_sink.MemSink.{MemSink}
-use Rattle.ts_io.specs.declared.mem_sink.TheConstants.{MEM_SINK_ROOM}
+use Rattle.ts_io.specs.Room.{sink_room}
 
 -- the bytes that were taken
-abbrev pub bytes_of : MemSink → List ℕ
+abbrev pub bytes_of : MemSink → Bytes
 bytes_of s = s.bytes.items
 
 -- the most bytes that a write takes
@@ -19,17 +20,18 @@ failing_of s = s.failing.items
 abbrev pub writes_of : MemSink → ℕ
 writes_of s = s.writes
 
+-- how many of the writes failed
 abbrev pub faults_of : MemSink → ℕ
 faults_of s = s.faults
 
 -- how many more bytes there is room for
 abbrev pub room_of : MemSink → ℕ
-room_of s = MEM_SINK_ROOM - length (bytes_of s)
+room_of s = sink_room - length (bytes_of s)
 
 -- how many of so many bytes the next write takes, unless it fails
 abbrev pub count_of : MemSink → ℕ → ℕ
 count_of s offered = min (min (most_of s) offered) (room_of s)
 
 -- The next write fails: its number is listed, or it brings bytes to a full room.
-abbrev pub Fails : MemSink → List ℕ → Type 0
+abbrev pub Fails : MemSink → Bytes → Type 0
 Fails s bytes = Contains (failing_of s) (writes_of s) ⊎ ((bytes ≢ []) × (room_of s ≡ 0))

@@ -1,3 +1,5 @@
+//! What gives files: the trait that says what a read answers and when it fails. A path and a limit
+//! come in, and what is found there comes out.
 ghost use Rattle.std.specs.Prelude.{◌≡◌, ℕ, ◌≤◌, Option, IfOk};
 ghost use Rattle.ts_io.specs.Outside.{Rose, Files};
 ghost use Rattle.ts_io.specs.Read.{KeepsLimit, ReadsFrom};
@@ -13,7 +15,7 @@ pub enum Found {
     Over,
 }
 
-/// Why a read has no answer: the outside failed, or memory for the bytes was wanting.
+/// Why a read has no answer: the outside failed, or there is no memory for the bytes.
 #[derive(Clone, Copy, Debug, PartialEq, Eq, Error)]
 pub enum ReadFault {
     #[error("the file cannot be read")]
@@ -30,7 +32,8 @@ pub trait Folder {
     /// How many reads failed. It may stand at the last value of a `u64`.
     ghost faults: { Self → ℕ };
 
-    /// Reads the whole file at `path`, of at most `limit` bytes. Want of memory is `ReadFault::Memory`.
+    /// Reads the whole file at `path`, of at most `limit` bytes. Where memory runs out, it is
+    /// `ReadFault::Memory`.
     fn read(&mut self, alloc: Global, path: &str, limit: u64) -> Result<Found, ReadFault>
         // No read changes the files, and what it found is what is there.
         ensures same { files self.new ≡ files self.old }

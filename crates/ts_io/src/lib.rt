@@ -1,5 +1,5 @@
-//! The outside as two traits, a folder of files to read and a sink that takes bytes, with the files and the sink in
-//! memory that tests use, and those of the system.
+//! The outside as two traits, a folder of files to read and a sink that takes bytes, with the files
+//! and the sink in memory that tests use, and those of the system.
 #![tactic(auto)]
 
 mod folder;

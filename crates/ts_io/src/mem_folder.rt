@@ -1,8 +1,10 @@
+//! Files in memory: paths and bytes come in, and reads that are listed fail.
 use crate::folder::{Folder, Found, ReadFault};
 use std::alloc::Global;
 
-/// Files in memory, each a path and its bytes. Of equal paths the first counts. A read copies the bytes. It fails where
-/// its number is listed. Reads are numbered from 0, and those past the last value of a `u64` all have that number.
+/// Files in memory, each a path and its bytes. Of equal paths the first counts. A read copies the
+/// bytes. It fails where its number is listed. Reads are numbered from 0, and those past the last
+/// value of a `u64` all have that number.
 #[derive(Debug, Drop)]
 pub struct MemFolder {
     files: Vec<(String, Vec<u8>)>,

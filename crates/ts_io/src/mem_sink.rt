@@ -1,15 +1,16 @@
+//! A sink in memory: bytes come in and can be looked at, and writes that are listed fail.
 ghost use Rattle.std.specs.Prelude.{◌≡◌, ◌<◌, ◌≤◌, length, vec_capacity, vec_len, []};
-ghost use Rattle.ts_io.specs.declared.mem_sink.TheConstants.{MEM_SINK_ROOM};
+ghost use Rattle.ts_io.specs.Room.{sink_room};
 
 use crate::sink::{Sink, WriteFault};
 use std::alloc::{AllocError, Global};
 
-/// How many bytes a `MemSink` has room for.
+/// How many bytes a `MemSink` has room for: 16 MiB.
 pub const MEM_SINK_ROOM: usize = 16_777_216;
 
-/// A sink in memory, with room for `MEM_SINK_ROOM` bytes, that takes at most `most` bytes a write. It fails at the
-/// writes whose numbers are listed, and where bytes find the room full. Writes are numbered from 0, and those past the
-/// last value of a `u64` all have that number.
+/// A sink in memory, with room for `MEM_SINK_ROOM` bytes, that takes at most `most` bytes a write.
+/// It fails at the writes whose numbers are listed, and where bytes find the room full. Writes are
+/// numbered from 0, and those past the last value of a `u64` all have that number.
 #[derive(Debug, Drop)]
 pub struct MemSink {
     bytes: Vec<u8>,
@@ -18,13 +19,14 @@ pub struct MemSink {
     writes: u64,
     faults: u64,
     ghost takes: { 0 < most },
-    ghost room: { MEM_SINK_ROOM ≤ vec_capacity bytes },
-    ghost within: { vec_len bytes ≤ MEM_SINK_ROOM },
+    ghost room: { sink_room ≤ vec_capacity bytes },
+    ghost within: { vec_len bytes ≤ sink_room },
 }
 
 impl MemSink {
     ghost use Rattle.std.specs.Prelude.{◌↔◌, IfOk, IsTrue};
-    ghost use Rattle.ts_io.specs.MemSink.{bytes_of, most_of, failing_of, writes_of, faults_of, Fails};
+    ghost use Rattle.ts_io.specs.MemSink.{bytes_of, most_of, failing_of, writes_of, faults_of};
+    ghost use Rattle.ts_io.specs.MemSink.{Fails};
 
     /// Takes all the room at once.
     pub fn new(alloc: Global, most: usize, failing: Vec<u64>) -> Result<MemSink, AllocError>
@@ -63,7 +65,8 @@ impl MemSink {
 impl Sink for MemSink {
     ghost use Rattle.std.specs.Prelude.{◌↔◌, Some, take, IfOk, OnOk, OnErr, IsErr};
     ghost use Rattle.ts_io.specs.Outside.{Rose, Appends, next_of};
-    ghost use Rattle.ts_io.specs.MemSink.{bytes_of, most_of, failing_of, writes_of, faults_of, count_of, Fails};
+    ghost use Rattle.ts_io.specs.MemSink.{bytes_of, most_of, failing_of, writes_of, faults_of};
+    ghost use Rattle.ts_io.specs.MemSink.{count_of, Fails};
 
     ghost taken = { λ s. Some (bytes_of s) };
 

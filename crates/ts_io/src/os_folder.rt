@@ -1,3 +1,4 @@
+//! The files of the system: a path comes in, and what the file at it holds comes out.
 ghost use Rattle.std.specs.Prelude.{IfOk};
 ghost use Rattle.ts_io.specs.Read.{KeepsLimit, ReadsAll};
 
@@ -10,8 +11,9 @@ use std::rt::Files;
 /// How many bytes are asked of a file at once.
 const CHUNK: usize = 8192;
 
-/// The system's files, by paths as the system reads them. A read whose file is not found answers `Absent`, and any
-/// other error, as at a folder or where reading is not allowed, is `Failed`. It tells no bytes.
+/// The system's files, by paths as the system reads them. A read whose file is not found answers
+/// `Absent`, and any other error, as at a folder or where reading is not allowed, is `Failed`. It
+/// tells no bytes.
 ///
 /// A `main` with the runtime `rt` makes one by `OsFolder::new(rt.clone()?)`, or over `&rt`.
 #[derive(Drop)]

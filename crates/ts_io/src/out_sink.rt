@@ -1,6 +1,8 @@
+//! The standard output as a sink: bytes come in, and go where the program prints.
 use crate::sink::{Sink, WriteFault};
 
-/// The standard output. An error is a fault, and so is a count of 0 for a piece that is not empty. It tells no bytes.
+/// The standard output. An error is a fault, and so is a count of 0 for a piece that is not empty.
+/// It tells no bytes.
 ///
 /// A `main` with the runtime `rt` makes one by `OutSink::new(rt.clone()?)`, or over `&rt`.
 #[derive(Drop)]

@@ -1,4 +1,7 @@
-ghost use Rattle.std.specs.Prelude.{◌≡◌, ℕ, ◌<◌, ◌≤◌, Option, List, length, take, IfOk, OnOk, OnErr};
+//! What takes bytes: the trait that says which of them a write takes and when it fails, and `put`,
+//! which writes all of them.
+ghost use Rattle.std.specs.Prelude.{◌≡◌, ℕ, ◌<◌, ◌≤◌, Option, length, take, IfOk, OnOk, OnErr};
+ghost use Rattle.ts_base.specs.Bytes.{Bytes};
 ghost use Rattle.ts_io.specs.Outside.{Rose, Appends, AppendsPrefix};
 
 use thiserror::Error;
@@ -13,12 +16,13 @@ pub enum WriteFault {
 /// What takes bytes.
 pub trait Sink {
     /// The bytes taken so far, where the sink tells them.
-    ghost taken: { Self → Option (List ℕ) };
+    ghost taken: { Self → Option Bytes };
 
     /// How many writes failed. It may stand at the last value of a `u64`.
     ghost faults: { Self → ℕ };
 
-    /// Takes a prefix of the bytes, and answers how many they are: at least one, where there are any.
+    /// Takes a prefix of the bytes, and answers how many they are: at least one, where there are
+    /// any.
     fn write(&mut self, bytes: &[u8]) -> Result<usize, WriteFault>
         ensures bound { IfOk result (λ n. n ≤ length bytes.now) }
         ensures some { 0 < length bytes.now → IfOk result (λ n. 0 < n) }
@@ -30,8 +34,8 @@ pub trait Sink {
         ensures failed { OnErr result (Rose (faults self.old) (faults self.new)) };
 }
 
-/// Writes all the bytes, by as many writes as the sink asks for. After a fault some prefix of them was taken. It takes
-/// no memory.
+/// Writes all the bytes, by as many writes as the sink asks for. After a fault some prefix of them
+/// was taken. It takes no memory.
 #[tactic(auto, using(crate::proofs::AppendLemmas::appends_more))]
 pub fn put<S: Sink>(sink: &mut S, bytes: &[u8]) -> Result<(), WriteFault>
     ensures ok { OnOk result (Appends (S.taken sink.old) (S.taken sink.new) bytes.now) }

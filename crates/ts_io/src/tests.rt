@@ -1,3 +1,5 @@
+//! Each folder and each sink on its happy path and at a fault, those of the system among them. That
+//! the standard output has the bytes that were put shows in the stored run of the program.
 use crate::{Folder, Found, MemFolder, MemSink, OsFolder, OutSink, ReadFault, WriteFault, put};
 use std::alloc::{AllocError, Global};
 use std::fs;

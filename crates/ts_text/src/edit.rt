@@ -1,5 +1,8 @@
-ghost use Rattle.std.specs.Prelude.{◌≡◌, ◌↔◌, ◌++◌, ◌+◌, ◌<◌, ◌^◌, ℕ, length, string_bytes, IsErrOf, IfOk, IsOkUnless, IsTrue};
+//! Edits of texts: a text and an edit come in, and the text after it or a refusal comes out.
+ghost use Rattle.std.specs.Prelude.{◌≡◌, ◌↔◌, ◌++◌, ◌+◌, ◌≤◌, ℕ, length, string_bytes};
+ghost use Rattle.std.specs.Prelude.{IsErrOf, IfOk, IsOkUnless, IsTrue};
 ghost use Rattle.ts_text.specs.Edit.{InRange, apply_of, Fits, IsOver};
+ghost use Rattle.ts_text.specs.Text.{most_bytes};
 
 use crate::text::{MOST_BYTES, Text};
 use std::alloc::{AllocError, Global};
@@ -40,14 +43,16 @@ pub enum EditFault {
 ///
 /// # Errors
 ///
-/// `Range` where the edit's places do not lie in the text, in their order and on characters; else `Size`
-/// where the new text would have more than `MOST_BYTES` bytes; else `Memory` where memory is wanting.
+/// `Range` where the edit's places do not lie in the text, in their order and on characters; else
+/// `Size` where the new text would have more than `MOST_BYTES` bytes; else `Memory`, where memory
+/// runs out.
 #[tactic(auto, using(crate::proofs::TextLemmas::start_is_boundary, crate::proofs::TextLemmas::end_is_boundary))]
 pub fn apply(alloc: Global, text: &Text, edit: &Edit) -> Result<Text, EditFault>
     ensures ok { IfOk result (λ after. after ≡ apply_of text.now edit.now) }
     ensures range { IsErrOf result EditFault.Range ↔ ¬ (InRange text.now edit.now) }
     ensures size { (n : ℕ) → IsErrOf result (EditFault.Size n) ↔ IsOver text.now edit.now n }
-    ensures accepts { IsOkUnless result EditFault.Memory ↔ InRange text.now edit.now × Fits text.now edit.now }
+    ensures accepts { IsOkUnless result EditFault.Memory ↔
+        InRange text.now edit.now × Fits text.now edit.now }
 {
     if !is_in_range(text, edit) {
         return Err(EditFault::Range);
@@ -72,9 +77,10 @@ fn is_in_range(text: &Text, edit: &Edit) -> bool
     edit.start <= edit.end && text.is_boundary(edit.start) && text.is_boundary(edit.end)
 }
 
-/// The three pieces, one after another. No push wants memory, since the string has room for all from the start.
+/// The three pieces, one after another. No push takes memory, since the string has room for all
+/// from the start.
 fn joined(alloc: Global, before: &str, new: &str, after: &str) -> Result<String, AllocError>
-    requires { length before.now + length new.now + length after.now < 2 ^ 32 }
+    requires { length before.now + length new.now + length after.now ≤ most_bytes }
     ensures { IfOk result (λ whole. string_bytes whole ≡ before.now ++ new.now ++ after.now) }
 {
     let mut whole = String::with_capacity(alloc, before.len() + new.len() + after.len())?;

@@ -4,11 +4,13 @@
 #![tactic(auto)]
 
 mod edit;
+mod laws;
 mod point;
 #[cfg(test)]
 mod tests;
 mod text;
 
 pub use edit::{Edit, EditFault, apply};
+pub use laws::{breaks_once, edited_is_text};
 pub use point::PointWalk;
 pub use text::{MOST_BYTES, Text, TextFault};

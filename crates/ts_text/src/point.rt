@@ -1,5 +1,6 @@
-ghost use Rattle.std.specs.Prelude.{◌≡◌, ◌≤◌, ◌<◌, ◌+◌, ◌^◌, length, cond};
-ghost use Rattle.ts_text.specs.Point.{point_of, is_newline};
+//! Rows and columns: places of a text come in, and the row and the column of each come out.
+ghost use Rattle.std.specs.Prelude.{◌≡◌, ◌≤◌, ◌<◌, ◌+◌, length, cond};
+ghost use Rattle.ts_text.specs.Point.{point_of, is_newline, last_place};
 
 use crate::text::Text;
 use std::marker::Model;
@@ -7,10 +8,11 @@ use std::marker::Model;
 /// The byte that ends a row.
 const NEWLINE: u8 = b'\n';
 
-/// A walk over the places of a text, which gives the row and the column of each. Contracts see it as the text.
+/// A walk over the places of a text, which gives the row and the column of each. Contracts see it
+/// as the text.
 ///
-/// It remembers the last place, and reads from there. So places that never fall take one reading of the text
-/// in all, and a place below the last one a reading from the start. A walk takes no memory.
+/// It remembers the last place, and reads from there. So places that never fall take one reading of
+/// the text in all, and a place below the last one a reading from the start. It takes no memory.
 #[derive(Debug, Drop)]
 pub struct PointWalk<'a> {
     bytes: &'a [u8],
@@ -20,10 +22,10 @@ pub struct PointWalk<'a> {
 }
 
 impl<'a> Model for PointWalk<'a> {
-    ghost use Rattle.std.specs.Prelude.{List, ℕ};
+    ghost use Rattle.ts_base.specs.Bytes.{Bytes};
     ghost use Rattle.ts_text.specs.Point.{IsWalk};
 
-    ghost Value = { List ℕ };
+    ghost Value = { Bytes };
 
     ghost view = { λ walk. walk.bytes.now };
 
@@ -78,8 +80,8 @@ fn advance(bytes: &[u8], from: u32, to: u32, point: (u32, u32)) -> (u32, u32)
 
 /// The point after a byte.
 fn next_point(point: (u32, u32), byte: u8) -> (u32, u32)
-    requires row { point.0 + 1 < 2 ^ 32 }
-    requires column { point.1 + 1 < 2 ^ 32 }
+    requires row { point.0 < last_place }
+    requires column { point.1 < last_place }
     ensures row { result.0 ≡ cond (is_newline byte) (point.0 + 1) point.0 }
     ensures column { result.1 ≡ cond (is_newline byte) 0 (point.1 + 1) }
 {

@@ -1,3 +1,4 @@
+//! Texts, edits and points by examples: those of RFC 3629, and some worked out by hand.
 use crate::{Edit, EditFault, MOST_BYTES, PointWalk, Text, TextFault, apply};
 use std::alloc::Global;
 use std::process::Abort;
@@ -10,7 +11,7 @@ fn takes_shared<T: Send + Sync>(_value: &T) {}
 fn breaks_at(alloc: Global, bytes: &[u8]) -> Option<u32> {
     match Text::from_bytes(alloc, bytes) {
         Err(TextFault::Utf8(place)) => Some(place),
-        _ => None,
+        Ok(_) | Err(TextFault::Size(_) | TextFault::Memory) => None,
     }
 }
 

@@ -1,4 +1,6 @@
-ghost use Rattle.std.specs.Prelude.{◌≡◌, ◌↔◌, ◌-◌, ◌<◌, ◌≤◌, ℕ, length, slice_index, string_bytes, IsErrOf, IsOkUnless, IfOk, IsTrue};
+//! Texts: bytes come in, and a text of them or the place where they are none comes out.
+ghost use Rattle.std.specs.Prelude.{◌≡◌, ◌↔◌, ◌-◌, ◌<◌, ◌≤◌, ℕ, length, slice_index, string_bytes};
+ghost use Rattle.std.specs.Prelude.{IsErrOf, IsOkUnless, IfOk, IsTrue};
 ghost use Rattle.std.specs.List.{slice_range};
 ghost use Rattle.std.specs.Str.{IsCharBoundary};
 ghost use Rattle.ts_text.specs.Text.{most_bytes, IsText, BreaksAt};
@@ -22,10 +24,11 @@ pub struct Text {
 }
 
 impl Model for Text {
-    ghost use Rattle.std.specs.Prelude.{List, ℕ, string_bytes};
+    ghost use Rattle.std.specs.Prelude.{string_bytes};
+    ghost use Rattle.ts_base.specs.Bytes.{Bytes};
     ghost use Rattle.ts_text.specs.Text.{IsText};
 
-    ghost Value = { List ℕ };
+    ghost Value = { Bytes };
 
     ghost view = { λ text. string_bytes text.content };
 
@@ -35,7 +38,7 @@ impl Model for Text {
 /// Why bytes are no text.
 #[derive(Debug, PartialEq, Eq, Drop, Error)]
 pub enum TextFault {
-    /// They are not UTF-8. The number is the length of their longest beginning that is.
+    /// They are not UTF-8. The number is the length of their longest prefix that is.
     #[error("the bytes are not UTF-8 from byte {0} on")]
     Utf8(u32),
 
@@ -53,12 +56,13 @@ impl Text {
     ///
     /// # Errors
     ///
-    /// `Size` above `MOST_BYTES` bytes, else `Utf8` where they are not UTF-8 as the Unicode standard has it,
-    /// else `Memory` where memory is wanting.
+    /// `Size` above `MOST_BYTES` bytes, else `Utf8` where they are not UTF-8 as the Unicode
+    /// standard has it, else `Memory`, where memory runs out.
     pub fn from_bytes(alloc: Global, bytes: &[u8]) -> Result<Text, TextFault>
         ensures ok { IfOk result (λ text. text ≡ bytes.now) }
         ensures accepts { IsOkUnless result TextFault.Memory ↔ IsText bytes.now }
-        ensures size { (n : ℕ) → IsErrOf result (TextFault.Size n) ↔ (n ≡ length bytes.now) × (most_bytes < length bytes.now) }
+        ensures size { (n : ℕ) → IsErrOf result (TextFault.Size n) ↔
+            (n ≡ length bytes.now) × (most_bytes < length bytes.now) }
         ensures utf8 { (n : ℕ) → IsErrOf result (TextFault.Utf8 n) ↔ BreaksAt bytes.now n }
     {
         if bytes.len() > MOST_BYTES as usize {
@@ -137,10 +141,11 @@ impl Text {
         Text { content }
     }
 
-    /// The row and the column of a place, both counted from 0 and the column in bytes: how many newlines
-    /// stand before the place, and how many bytes since the last of them.
+    /// The row and the column of a place, both counted from 0 and the column in bytes: how many
+    /// newlines stand before the place, and how many bytes since the last of them.
     ///
-    /// It reads the text up to the place. For many places that rise, a `PointWalk` reads it once in all.
+    /// It reads the text up to the place. For many places that rise, a `PointWalk` reads it once in
+    /// all.
     pub fn point(&self, place: u32) -> (u32, u32)
         requires { place ≤ length self.now }
         ensures { result ≡ point_of self.now place }

@@ -5,4 +5,6 @@ use Rattle.ts_io.proofs.mem_folder.MemFolder.bytes_at.Given as goal
 
 -- The path's file is the one among the files that are left.
 abbrev pub invariant-loop-name : goal.invariant-loop-name
-invariant-loop-name l = file_at (files_of l.self) l.path ≡ file_at (as_files (drop l.name-index l.self.files.items)) l.path
+invariant-loop-name l =
+    file_at (files_of l.self) l.path
+    ≡ file_at (as_files (drop l.name-index l.self.files.items)) l.path
