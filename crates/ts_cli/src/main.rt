@@ -1,23 +1,27 @@
-//! The program. Its `main` gives the words, the system's files and the standard output to `ts_top::run`, and ends
-//! with the status that this answers.
+//! The program. Its `main` gives the words, the system's files and the standard output to
+//! `ts_top::run`, and ends with the status that this answers. Where that says nothing whole on
+//! standard output, it tells the cause on standard error.
 #![tactic(auto)]
 
+mod noted;
 mod request;
 mod say;
+mod status;
 #[cfg(test)]
 mod tests;
+mod trouble;
 
+use noted::Noted;
 use request::{Request, request_of};
 use say::say;
+use status::OUT_OF_MEMORY;
 use std::alloc::AllocError;
 use std::env;
 use std::io::ErrorKind;
 use std::process::ExitCode;
 use std::rt::Env;
+use trouble::tell;
 use ts_io::{OsFolder, OutSink};
-
-/// The status where memory is wanting.
-const OUT_OF_MEMORY: u8 = 4;
 
 const HELP: &str = "\
 hemshale builds parsers from grammar files and parses texts with them.
@@ -26,28 +30,29 @@ hemshale builds parsers from grammar files and parses texts with them.
   hemshale --help                print this
   hemshale --version             print the version
 
-Status: 0 done, 1 usage, 2 read fault, 3 write fault, 4 out of memory, 5 grammar, 8 no such file, 9 text.
+Status: 0 done, 1 usage, 2 read fault, 3 write fault, 4 out of memory, 5 grammar,
+        8 no such file, 9 text. At 2, 3 and 4 a line on standard error says more.
 ";
 
 const VERSION: &str = "hemshale 0.1.0\n";
 
 fn main(rt: HostRuntime) -> ExitCode {
     let mut sink = OutSink::new(&rt);
+    let mut folder = Noted::new(OsFolder::new(&rt));
     let status = match words(&rt) {
         Ok(words) => match request_of(words.as_slice()) {
             Request::Help => say(&mut sink, HELP),
             Request::Version => say(&mut sink, VERSION),
-            Request::Command => {
-                let mut folder = OsFolder::new(&rt);
-                ts_top::run(&rt, words.as_slice(), &mut folder, &mut sink)
-            }
+            Request::Command => ts_top::run(&rt, words.as_slice(), &mut folder, &mut sink),
         },
         Err(AllocError) => OUT_OF_MEMORY,
     };
+    tell(&rt, status, folder.failed());
     ExitCode::from(status)
 }
 
-/// The words after the program's name. Where one of them is no text there are none, and so no command.
+/// The words after the program's name. Where one of them is no text there are none, and so no
+/// command.
 fn words<R: Env + AllocGlobal>(rt: &R) -> Result<Vec<String>, AllocError> {
     match env::args(rt) {
         Ok(args) => args.skip(1).collect(rt.alloc()),

@@ -1,3 +1,4 @@
+//! What the words ask for: they come in, and a request comes out.
 ghost use Rattle.std.specs.Prelude.{◌≡◌, ◌↔◌, ◌∷◌, [], map, codes, string_bytes, IsTrue};
 
 /// What the words ask of the program.
@@ -11,8 +12,10 @@ pub(crate) enum Request {
 
 /// `--help` and `--version` count as the only word alone.
 pub(crate) fn request_of(words: &[String]) -> Request
-    ensures help { result ≡ Request.Help ↔ (map string_bytes words.now ≡ codes "--help" ∷ []) }
-    ensures version { result ≡ Request.Version ↔ (map string_bytes words.now ≡ codes "--version" ∷ []) }
+    ensures help { result ≡ Request.Help ↔
+        (map string_bytes words.now ≡ codes "--help" ∷ []) }
+    ensures version { result ≡ Request.Version ↔
+        (map string_bytes words.now ≡ codes "--version" ∷ []) }
 {
     if is_only(words, "--help") {
         Request::Help

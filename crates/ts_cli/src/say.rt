@@ -1,22 +1,20 @@
+//! Texts of the program's own: a text comes in and goes to a sink, and a status comes out.
 ghost use Rattle.std.specs.Prelude.{◌≡◌, ◌⊎◌};
-ghost use Rattle.ts_io.specs.Outside.{Appends, Rose};
+ghost use Rattle.ts_cli.specs.Status.{done, write_fault};
+ghost use Rattle.ts_io.specs.Outside.{Appends, AppendsPrefix, Rose};
 
-use ts_io::{Sink, put};
-
-/// The status where all is written.
-const DONE: u8 = 0;
-
-/// The status where the output takes no more.
-const WRITE_FAULT: u8 = 3;
+use crate::status::{DONE, WRITE_FAULT};
+use ts_io::{Sink, WriteFault, put};
 
 /// Prints a text, and answers the status of that.
 pub(crate) fn say<S: Sink>(sink: &mut S, text: &str) -> u8
-    ensures statuses { (result ≡ 0) ⊎ (result ≡ 3) }
-    ensures done { result ≡ 0 → Appends (S.taken sink.old) (S.taken sink.new) text.now }
-    ensures write { result ≡ 3 → Rose (S.faults sink.old) (S.faults sink.new) }
+    ensures statuses { (result ≡ done) ⊎ (result ≡ write_fault) }
+    ensures done { result ≡ done → Appends (S.taken sink.old) (S.taken sink.new) text.now }
+    ensures prefix { AppendsPrefix (S.taken sink.old) (S.taken sink.new) text.now }
+    ensures write { result ≡ write_fault → Rose (S.faults sink.old) (S.faults sink.new) }
 {
     match put(sink, text.as_bytes()) {
         Ok(()) => DONE,
-        Err(_) => WRITE_FAULT,
+        Err(WriteFault::Failed) => WRITE_FAULT,
     }
 }
