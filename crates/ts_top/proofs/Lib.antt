@@ -12,7 +12,6 @@ pub mod OrderLemmas
 pub mod PrintLemmas
 pub mod ProgramLemmas
 pub mod SightLemmas
-pub mod SmallForm
 pub mod StackLemmas
 pub mod StepLemmas
 pub mod SymbolLemmas
