@@ -15,6 +15,12 @@ pub fn answers_once()
         → Answers files words s b → Answers files words t c → (s ≡ t) × (b ≡ c) }
 {}
 
+/// All words and files come to an answer: it cannot be that each status and list of bytes is none.
+pub fn answers_exist()
+    ensures { (files : Files) (words : List Bytes)
+        → ((status : AnyStatus) (bytes : Bytes) → Answers files words status bytes → ⊥) → ⊥ }
+{}
+
 /// Where nothing stands in the way of an outcome, the program is done.
 pub fn clean_is_done()
     ensures { (files : Files) (words : List Bytes) (status : AnyStatus) (bytes : Bytes)

@@ -18,6 +18,6 @@ mod tree;
 mod visible;
 mod walk;
 
-pub use laws::{answers_once, clean_is_done, one_tree};
+pub use laws::{answers_exist, answers_once, clean_is_done, one_tree};
 pub use program::run;
 pub use status::Status;
