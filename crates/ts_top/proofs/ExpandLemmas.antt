@@ -27,7 +27,7 @@ mutual
 
 -- ---- always one node
 
-abbrev SomeNode : PlainGrammar → ℕ → Type 0
+abbrev pub SomeNode : PlainGrammar → ℕ → Type 0
 SomeNode g symbol = (n : Node) × Expands g symbol n
 
 expands_token : (g : PlainGrammar) (number : ℕ) → number < length g.tokens → SomeNode g (suc number)
@@ -36,7 +36,7 @@ expands_token g number below = elim (slice_get_cases g.tokens number).1 [
   | inr w ↦ absurd (let past = w.0 in omega arith)
 ]
 
-expands_each : (g : PlainGrammar) (steps : List Symbol) → ((j : ℕ) (step : Symbol) → slice_get steps j ≡ Some step → SomeNode g step.0) → (ns : Nodes) × ExpandsAll g steps ns
+pub expands_each : (g : PlainGrammar) (steps : List Symbol) → ((j : ℕ) (step : Symbol) → slice_get steps j ≡ Some step → SomeNode g step.0) → (ns : Nodes) × ExpandsAll g steps ns
 expands_each g [] each = (no_nodes, tt)
 expands_each g (s ∷ steps) each =
     let first = each 0 s refl in
@@ -47,13 +47,13 @@ first_within : (ns : Nodes) → first_pad ns ≤ extent_of_all ns
 first_within no_nodes = omega arith
 first_within (add (node own pad size cs) ns) = omega arith
 
-expands_rule : (g : PlainGrammar) (k : ℕ) (rule : PlainRule) → slice_get g.rules k ≡ Some rule → (ns : Nodes) × ExpandsAll g rule.steps ns → SomeNode g (start_of g + k)
+pub expands_rule : (g : PlainGrammar) (k : ℕ) (rule : PlainRule) → slice_get g.rules k ≡ Some rule → (ns : Nodes) × ExpandsAll g rule.steps ns → SomeNode g (start_of g + k)
 expands_rule g k rule at (ns, all) = (
   node (start_of g + k) (first_pad ns) (extent_of_all ns - first_pad ns) ns,
   (refl, inr (rule, record { number = k; at = at; numbered = refl }, refl, omega (arith, first_within ns), all)),
 )
 
-expands_step : (g : PlainGrammar) (symbol : ℕ) → 0 < symbol → symbol < start_of g + length g.rules
+pub expands_step : (g : PlainGrammar) (symbol : ℕ) → 0 < symbol → symbol < start_of g + length g.rules
     → ((k : ℕ) → symbol ≡ start_of g + k → k < length g.rules → SomeNode g (start_of g + k)) → SomeNode g symbol
 expands_step g symbol above below of_rule = elim (below_or_not symbol (start_of g)) [
   | inl token ↦ (let number : suc (symbol - 1) ≡ symbol = omega arith in subst (SomeNode g) number (expands_token g (symbol - 1) (omega arith)))

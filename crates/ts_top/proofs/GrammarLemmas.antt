@@ -6,7 +6,7 @@ use Rattle.ts_ojson.specs.Reads.{Reads}
 use Rattle.ts_ojson.proofs.InverseLemmas.{one_json}
 use Rattle.ts_ojson.proofs.TextLemmas.{one_text}
 use Rattle.ts_top.specs.Form.{IsBuilt, grammar_rules}
-use Rattle.ts_top.specs.PlainNormal.{NamedRule, IsPlain}
+use Rattle.ts_top.specs.PlainNormal.{NamedRule, IsPlain, Normal}
 use Rattle.ts_top.specs.declared.plain.PlainGrammar.{PlainGrammar}
 
 -- of a grammar file whose value is known
@@ -37,3 +37,12 @@ not_plain bytes value rules g reads has never built =
     let e : Some by.rules ≡ Some rules = sym by.has ∙ has in
     let same : by.rules ≡ rules = cc in
     never (subst (λ (r : List NamedRule). IsPlain r g) same by.plain)
+
+pub built_once : (bytes : List ℕ) (g h : PlainGrammar) → IsBuilt bytes g → IsBuilt bytes h → g ≡ h
+built_once bytes g h one other =
+    let by = built_by bytes one.value h one.reads other in
+    let e : Some by.rules ≡ Some one.rules = sym by.has ∙ one.has in
+    let same : by.rules ≡ one.rules = cc in
+    let made : Some g ≡ Some h = sym one.plain.normal ∙ ap Normal (sym same) ∙ by.plain.normal in
+    let grammar : g ≡ h = cc in
+    grammar

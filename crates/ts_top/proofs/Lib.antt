@@ -1,4 +1,5 @@
 pub mod AnswerLemmas
+pub mod ExistLemmas
 pub mod ExpandLemmas
 pub mod ExpansionLemmas
 pub mod FormLemmas
@@ -9,10 +10,10 @@ pub mod ListingLemmas
 pub mod NodeLemmas
 pub mod NormalLemmas
 pub mod OrderLemmas
+pub mod PathLemmas
 pub mod PrintLemmas
 pub mod ProgramLemmas
 pub mod SightLemmas
-pub mod SmallForm
 pub mod StackLemmas
 pub mod StepLemmas
 pub mod SymbolLemmas

@@ -17,7 +17,7 @@ use Rattle.ts_top.specs.PlainForm.{IsRanked}
 -- ---- lists
 
 -- what stands at a place after a write: what was written, or what was there
-set_cases : (xs : List Mark) (i k : ℕ) (v m : Mark) → i < length xs → slice_get (set xs i v) k ≡ Some m → ((k ≡ i) × (v ≡ m)) ⊎ ((k ≡ i → ⊥) × (slice_get xs k ≡ Some m))
+pub set_cases : (xs : List Mark) (i k : ℕ) (v m : Mark) → i < length xs → slice_get (set xs i v) k ≡ Some m → ((k ≡ i) × (v ≡ m)) ⊎ ((k ≡ i → ⊥) × (slice_get xs k ≡ Some m))
 set_cases xs i k v m below is = ⊎_elim
     (λ e. inl (e, (let f : Some v ≡ Some m = sym (set_here xs i v below) ∙ ap (λ (j : ℕ). slice_get (set xs i v) j) (sym e) ∙ is in cc)))
     (λ other. inr (other, sym (set_there xs i k v other) ∙ is))
@@ -49,7 +49,7 @@ weight_at xs i m is = ap weight (get_or_from_slice_get xs i m m is)
 unseen_set : (xs : List Mark) (i : ℕ) (m v : Mark) → slice_get xs i ≡ Some m → unseen (set xs i v) + weight m ≡ unseen xs + weight v
 unseen_set xs i m v is = rw (← weight_at xs i m is) (sum_by-set weight xs i v m (slice_get_within xs i m is))
 
-unseen_opened : (xs : List Mark) (i : ℕ) → slice_get xs i ≡ Some Unseen → unseen (set xs i Open) + 1 ≡ unseen xs
+pub unseen_opened : (xs : List Mark) (i : ℕ) → slice_get xs i ≡ Some Unseen → unseen (set xs i Open) + 1 ≡ unseen xs
 unseen_opened xs i is = let e = unseen_set xs i Unseen Open is in omega arith
 
 unseen_done : (xs : List Mark) (i r : ℕ) → slice_get xs i ≡ Some Open → unseen (set xs i (Done r)) ≡ unseen xs

@@ -4,6 +4,7 @@ use Rattle.std.specs.Str.{bytes_eq}
 use Rattle.ts_ojson.specs.Json.{Json, null, string, array, object, Items, no_items, item, Members, no_members, member, json_of}
 use Rattle.ts_ojson.specs.Reads.{Reads}
 use Rattle.ts_ojson.specs.declared.value.OJson.{OJson}
+use Rattle.ts_top.specs.Limits.{most_grammar_bytes}
 use Rattle.ts_top.specs.PlainNormal.{NamedRule, IsPlain, in_front}
 use Rattle.ts_core.specs.declared.rule.Rule.{Rule}
 use Rattle.ts_core.specs.declared.rule.Rule.TheVariants.{Literal, Symbol, Seq}
@@ -116,7 +117,7 @@ grammar_rules file = option_and_then file_rules (members_in file)
 
 -- the bytes are a grammar file of the plain form, whose rules have this normal form
 pub record IsBuilt (bytes : List ℕ) (g : PlainGrammar) : Type 0 where
-  pub few_bytes : length bytes ≤ 4194304
+  pub few_bytes : length bytes ≤ most_grammar_bytes
   pub value : OJson
   pub reads : Reads value bytes
   pub rules : List NamedRule

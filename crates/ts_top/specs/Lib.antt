@@ -1,6 +1,7 @@
 pub mod Answer
 pub mod Faults
 pub mod Form
+pub mod Limits
 pub mod Lines
 pub mod Listing
 pub mod Members
@@ -10,6 +11,7 @@ pub mod Plain
 pub mod PlainForm
 pub mod PlainNormal
 pub mod Stack
+pub mod Status
 pub mod Tree
 pub mod Visible
 pub mod Walk

@@ -1,8 +1,9 @@
-//! The refusals that are printed as a line of their own.
+//! The refusals that are printed as a line of their own in; their statuses and lines out.
 ghost use Rattle.std.specs.Prelude.{◌≡◌, IfOk, string_bytes};
 ghost use Rattle.ts_top.specs.Faults.{status_of, line_of};
 
 use crate::print;
+use crate::status::Status;
 use std::alloc::{AllocError, Global};
 use thiserror::Error;
 
@@ -23,14 +24,14 @@ pub(crate) enum Fault<'a> {
 
 impl Fault<'_> {
     /// The status that the program ends with.
-    pub(crate) fn status(&self) -> u8
+    pub(crate) fn status(&self) -> Status
         ensures { result ≡ status_of self.now }
     {
         match self {
-            Fault::Usage => 1,
-            Fault::Unbuilt => 5,
-            Fault::Absent(_) => 8,
-            Fault::TextSize(_) | Fault::Text { .. } => 9,
+            Fault::Usage => Status::Usage,
+            Fault::Unbuilt => Status::Grammar,
+            Fault::Absent(_) => Status::Absent,
+            Fault::TextSize(_) | Fault::Text { .. } => Status::Text,
         }
     }
 
@@ -39,10 +40,10 @@ impl Fault<'_> {
         ensures { IfOk result (λ s. string_bytes s ≡ line_of self.now) }
     {
         match self {
-            Fault::Usage => print::fault(alloc, "usage", 1),
-            Fault::Unbuilt => print::fault(alloc, "unbuilt", 5),
-            Fault::Absent(path) => print::fault_at(alloc, path, "absent", 8),
-            Fault::TextSize(path) => print::fault_at(alloc, path, "text size", 9),
+            Fault::Usage => print::fault(alloc, "usage", Status::Usage),
+            Fault::Unbuilt => print::fault(alloc, "unbuilt", Status::Grammar),
+            Fault::Absent(path) => print::fault_at(alloc, path, "absent", Status::Absent),
+            Fault::TextSize(path) => print::fault_at(alloc, path, "text size", Status::Text),
             Fault::Text { path, place } => print::text_fault(alloc, path, *place),
         }
     }

@@ -1,8 +1,9 @@
-//! From the bytes of a grammar file to its normal form.
+//! The bytes of a grammar file in; its normal form out.
 ghost use Rattle.std.specs.Prelude.{◌≡◌, ◌≤◌, ◌<◌, ◌^◌, length, IfOk};
 ghost use Rattle.ts_ojson.specs.Reads.{Reads};
 ghost use Rattle.ts_ojson.specs.declared.value.OJson.{OJson as AnyJson};
 ghost use Rattle.ts_top.specs.Form.{IsBuilt};
+ghost use Rattle.ts_top.specs.Limits.{most_grammar_bytes};
 ghost use Rattle.ts_top.specs.Plain.{start_of};
 ghost use Rattle.ts_top.specs.declared.plain.PlainGrammar.{PlainGrammar};
 ghost use Rattle.ts_top.specs.Faults.{refusal_of};
@@ -19,7 +20,7 @@ pub(crate) const MOST_GRAMMAR_BYTES: u64 = 4_194_304;
 
 /// The normal form of a grammar file of the plain form.
 pub(crate) fn plain_form(alloc: Global, bytes: &[u8]) -> Result<PlainForm, NotPlain>
-    requires { length bytes.now ≤ 4194304 }
+    requires { length bytes.now ≤ most_grammar_bytes }
     ensures plain { IfOk result (λ form. IsBuilt bytes.now form.grammar) }
     ensures form { IfOk result (λ form. IsForm form) }
     ensures numbered { IfOk result (λ form. start_of form.grammar < 2 ^ 16) }
@@ -34,7 +35,7 @@ pub(crate) fn plain_form(alloc: Global, bytes: &[u8]) -> Result<PlainForm, NotPl
 
 /// The JSON value of the bytes. All the faults of JSON are one here.
 fn read(alloc: Global, bytes: &[u8]) -> Result<OJson, NotPlain>
-    requires { length bytes.now ≤ 4194304 }
+    requires { length bytes.now ≤ most_grammar_bytes }
     ensures ok { IfOk result (λ file. Reads file bytes.now) }
     ensures unbuilt { result ≡ Err NotPlain.Unbuilt → (file : AnyJson) → Reads file bytes.now → ⊥ }
 {

@@ -1,9 +1,12 @@
-//! What a grammar file and a text come to, once both are read.
-ghost use Rattle.std.specs.Prelude.{◌≡◌, ◌<◌, ◌^◌, ℕ, List, IfOk, IfErr, string_bytes};
+//! What was read of a grammar file and a text in; the line of the outcome, or why there is none, out.
+ghost use Rattle.std.specs.Prelude.{◌≡◌, ◌<◌, ◌^◌, IfOk, IfErr, string_bytes};
+ghost use Rattle.ts_base.specs.Bytes.{Bytes};
 ghost use Rattle.ts_io.specs.Read.{AnswersFor, KeepsLimit};
 ghost use Rattle.ts_text.specs.Text.{IsText};
 ghost use Rattle.ts_top.specs.Answer.{Judged, outcome_line};
 ghost use Rattle.ts_top.specs.Form.{IsBuilt};
+ghost use Rattle.ts_top.specs.Limits.{most_grammar_bytes, most_text_bytes};
+ghost use Rattle.ts_top.specs.declared.status.Status.TheVariants.{Done};
 ghost use Rattle.ts_top.specs.Plain.{Plain, start_of};
 ghost use Rattle.ts_top.specs.declared.plain.PlainGrammar.{PlainGrammar};
 ghost use Rattle.ts_top.specs.declared.plain.Outcome.{Outcome as AnyOutcome};
@@ -17,8 +20,8 @@ use crate::plain_form::PlainForm;
 use crate::stop::Stop;
 use crate::visible::visible;
 use crate::{print, walk};
-use std::alloc::{AllocError, Global};
 use crate::plain::Outcome;
+use std::alloc::{AllocError, Global};
 use ts_io::Found;
 use ts_text::{Text, TextFault};
 
@@ -29,9 +32,9 @@ pub(crate) fn judge<'a>(
     text: &Found,
     path: &'a str,
 ) -> Result<String, Stop<'a>>
-    requires { KeepsLimit 4194304 grammar.now }
-    ensures line { IfOk result (λ s. (g t : List ℕ) → AreRead grammar.now text.now g t → Judged g t path.now 0 (string_bytes s)) }
-    ensures stop { IfErr result (λ stop. (g t : List ℕ) → AreRead grammar.now text.now g t → StoppedAt g t path.now stop) }
+    requires { KeepsLimit most_grammar_bytes grammar.now }
+    ensures line { IfOk result (λ s. (g t : Bytes) → AreRead grammar.now text.now g t → Judged g t path.now Done (string_bytes s)) }
+    ensures stop { IfErr result (λ stop. (g t : Bytes) → AreRead grammar.now text.now g t → StoppedAt g t path.now stop) }
     ensures late { IfErr result IsLate }
 {
     let form = match read_grammar(alloc, grammar) {
@@ -46,7 +49,7 @@ pub(crate) fn judge<'a>(
 
 fn grammar_stop<'a>(refusal: NotPlain) -> Stop<'a>
     ensures late { IsLate result }
-    ensures stop { (g t path : List ℕ) → (refusal ≡ NotPlain.Unbuilt → (normal : PlainGrammar) → IsBuilt g normal → ⊥) → StoppedAt g t path result }
+    ensures stop { (g t path : Bytes) → (refusal ≡ NotPlain.Unbuilt → (normal : PlainGrammar) → IsBuilt g normal → ⊥) → StoppedAt g t path result }
 {
     match refusal {
         NotPlain::Unbuilt => Stop::Fault(Fault::Unbuilt),
@@ -56,7 +59,7 @@ fn grammar_stop<'a>(refusal: NotPlain) -> Stop<'a>
 
 fn text_stop<'a>(fault: &TextFault, path: &'a str) -> Stop<'a>
     ensures late { IsLate result }
-    ensures stop { (g t : List ℕ) (normal : PlainGrammar) → IsBuilt g normal → IsTextFault t fault.now → StoppedAt g t path.now result }
+    ensures stop { (g t : Bytes) (normal : PlainGrammar) → IsBuilt g normal → IsTextFault t fault.now → StoppedAt g t path.now result }
 {
     match fault {
         TextFault::Size(_) => Stop::Fault(Fault::TextSize(path)),
@@ -70,11 +73,11 @@ fn text_stop<'a>(fault: &TextFault, path: &'a str) -> Stop<'a>
 
 /// The normal form of the grammar file that was read. One with too many bytes isn't built.
 fn read_grammar(alloc: Global, file: &Found) -> Result<PlainForm, NotPlain>
-    requires { KeepsLimit 4194304 file.now }
-    ensures plain { IfOk result (λ form. (bytes : List ℕ) → AnswersFor (Some bytes) 4194304 file.now → IsBuilt bytes form.grammar) }
+    requires { KeepsLimit most_grammar_bytes file.now }
+    ensures plain { IfOk result (λ form. (bytes : Bytes) → AnswersFor (Some bytes) most_grammar_bytes file.now → IsBuilt bytes form.grammar) }
     ensures form { IfOk result (λ form. IsForm form) }
     ensures numbered { IfOk result (λ form. start_of form.grammar < 2 ^ 16) }
-    ensures unbuilt { result ≡ Err NotPlain.Unbuilt → (bytes : List ℕ) → AnswersFor (Some bytes) 4194304 file.now → (g : PlainGrammar) → IsBuilt bytes g → ⊥ }
+    ensures unbuilt { result ≡ Err NotPlain.Unbuilt → (bytes : Bytes) → AnswersFor (Some bytes) most_grammar_bytes file.now → (g : PlainGrammar) → IsBuilt bytes g → ⊥ }
 {
     match file {
         Found::Bytes(bytes) => plain_form(alloc, bytes.as_slice()),
@@ -84,8 +87,8 @@ fn read_grammar(alloc: Global, file: &Found) -> Result<PlainForm, NotPlain>
 
 /// The text of the file that was read.
 fn read_text(alloc: Global, file: &Found) -> Result<Text, TextFault>
-    ensures text { IfOk result (λ text. (bytes : List ℕ) → AnswersFor (Some bytes) 1048576 file.now → (text ≡ bytes) × IsText bytes) }
-    ensures fault { IfErr result (λ fault. (bytes : List ℕ) → AnswersFor (Some bytes) 1048576 file.now → IsTextFault bytes fault) }
+    ensures text { IfOk result (λ text. (bytes : Bytes) → AnswersFor (Some bytes) most_text_bytes file.now → (text ≡ bytes) × IsText bytes) }
+    ensures fault { IfErr result (λ fault. (bytes : Bytes) → AnswersFor (Some bytes) most_text_bytes file.now → IsTextFault bytes fault) }
 {
     match file {
         Found::Bytes(bytes) => Text::from_bytes(alloc, bytes.as_slice()),

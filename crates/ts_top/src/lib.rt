@@ -12,14 +12,12 @@ mod plain;
 mod plain_form;
 mod print;
 mod program;
+mod status;
 mod stop;
-#[cfg(test)]
-mod tests;
-#[cfg(test)]
-mod tests_walk;
 mod tree;
 mod visible;
 mod walk;
 
-pub use laws::{answers_once, clean_is_done, one_tree};
+pub use laws::{answers_exist, answers_once, clean_is_done, one_tree};
 pub use program::run;
+pub use status::Status;

@@ -9,8 +9,6 @@ mod limits;
 mod sights;
 mod steps;
 mod symbols;
-#[cfg(test)]
-mod tests;
 mod tokens;
 mod trees;
 

@@ -1,10 +1,11 @@
-//! The lines that the program prints, by `serde_json`: a compact object and a newline.
+//! Outcomes and faults in; the lines that the program prints of them out, each a compact object and a newline.
 ghost use Rattle.std.specs.Prelude.{◌≡◌, false, IfOk, codes, string_bytes, ◌++◌, ◌∷◌, []};
 ghost use Rattle.serde_json.specs.Data.{array, object, member, no_members, string};
 ghost use Rattle.serde_json.specs.View.{view, items_view};
 ghost use Rattle.serde_json.specs.Written.{compact_text, has_float};
-ghost use Rattle.ts_top.specs.Lines.{node_data, node_items, tree_line, stuck_line, deep_line, text_items, fault_line, fault_line_at, text_line};
+ghost use Rattle.ts_top.specs.Lines.{node_data, node_items, tree_line, stuck_line, deep_line, text_items, fault_line, fault_line_at, newline, text_line};
 
+use crate::status::Status;
 use serde_json::{Value, json};
 use std::alloc::{AllocError, Global};
 use ts_core::{List, Shown, Str};
@@ -35,10 +36,14 @@ pub(crate) fn deep(alloc: Global) -> Result<String, AllocError>
 }
 
 /// The line of a fault that says its word alone.
-pub(crate) fn fault(alloc: Global, word: &str, status: u8) -> Result<String, AllocError>
+pub(crate) fn fault(alloc: Global, word: &str, status: Status) -> Result<String, AllocError>
     ensures { IfOk result (λ s. string_bytes s ≡ fault_line word.now status) }
 {
-    line(alloc, json!(in alloc; {"fault": word, "status": status})?)
+    let number = status.number();
+    line(
+        alloc,
+        json!(in alloc; {"fault": word, "status": number})?,
+    )
 }
 
 /// The line of a fault at a path.
@@ -46,13 +51,14 @@ pub(crate) fn fault_at(
     alloc: Global,
     path: &str,
     word: &str,
-    status: u8,
+    status: Status,
 ) -> Result<String, AllocError>
     ensures { IfOk result (λ s. string_bytes s ≡ fault_line_at path.now word.now status) }
 {
+    let number = status.number();
     line(
         alloc,
-        json!(in alloc; {"at": path, "fault": word, "status": status})?,
+        json!(in alloc; {"at": path, "fault": word, "status": number})?,
     )
 }
 
@@ -60,16 +66,17 @@ pub(crate) fn fault_at(
 pub(crate) fn text_fault(alloc: Global, path: &str, place: u32) -> Result<String, AllocError>
     ensures { IfOk result (λ s. string_bytes s ≡ text_line path.now place) }
 {
+    let number = Status::Text.number();
     line(
         alloc,
-        json!(in alloc; {"at": path, "fault": "text", "place": place, "status": 9u8})?,
+        json!(in alloc; {"at": path, "fault": "text", "place": place, "status": number})?,
     )
 }
 
 /// One line: the value and a newline.
 fn line(alloc: Global, value: Value) -> Result<String, AllocError>
     requires { has_float (view value) ≡ false }
-    ensures { IfOk result (λ s. string_bytes s ≡ compact_text (view value) ++ 10 ∷ []) }
+    ensures { IfOk result (λ s. string_bytes s ≡ compact_text (view value) ++ newline ∷ []) }
 {
     let mut text = value.to_string(alloc)?;
     text.push_str("\n")?;
@@ -78,7 +85,8 @@ fn line(alloc: Global, value: Value) -> Result<String, AllocError>
 
 /// The object of a tree, by the array of its nodes.
 fn tree_value(alloc: Global, nodes: Value) -> Result<Value, AllocError>
-    ensures { IfOk result (λ v. view v ≡ object (member (codes "nodes") (view nodes) (member (codes "outcome") (string (codes "tree")) no_members))) }
+    ensures { IfOk result (λ v. view v ≡ object (member (codes "nodes") (view nodes)
+        (member (codes "outcome") (string (codes "tree")) no_members))) }
 {
     json!(in alloc; {"nodes": nodes, "outcome": "tree"})
 }

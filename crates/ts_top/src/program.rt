@@ -1,14 +1,19 @@
 //! The top call: words and files in, a status and a line out.
-ghost use Rattle.std.specs.Prelude.{◌≡◌, ◌≤◌, ◌⊎◌, ℕ, List, IfOk, IfErr, IfSome, IfNone, Some, string_bytes};
+ghost use Rattle.std.specs.Prelude.{◌≡◌, ◌≤◌, ◌⊎◌, ℕ, IfOk, IfErr, IfSome, IfNone, Some, string_bytes};
+ghost use Rattle.ts_base.specs.Bytes.{Bytes};
 ghost use Rattle.ts_io.specs.Outside.{Files, Rose, Appends, AppendsPrefix};
-ghost use Rattle.ts_top.specs.Answer.{texts, IsUsage, Parses, Answers, IsClean, Told, Writes, WritesPrefix, IsFree};
-ghost use Rattle.ts_top.specs.Lines.{usage_line};
 ghost use Rattle.ts_io.specs.Read.{KeepsLimit};
+ghost use Rattle.ts_top.specs.Answer.{texts, IsUsage, Parses, Answers, IsClean, Told, Writes, WritesPrefix};
 ghost use Rattle.ts_top.specs.Faults.{IsAnswer, Stopped, ReadStopped, IsThere, status_of, line_of};
+ghost use Rattle.ts_top.specs.Lines.{usage_line};
+ghost use Rattle.ts_top.specs.Status.{number_of, IsStatus, IsCutShort};
+ghost use Rattle.ts_top.specs.declared.status.Status.{Status as AnyStatus};
+ghost use Rattle.ts_top.specs.declared.status.Status.TheVariants as ends;
 
 use crate::fault::Fault;
 use crate::grammar::MOST_GRAMMAR_BYTES;
 use crate::judge::judge;
+use crate::status::Status;
 use crate::stop::Stop;
 use std::alloc::{AllocError, Global};
 use thiserror::Error;
@@ -20,7 +25,7 @@ const MOST_TEXT_BYTES: u64 = ts_text::MOST_BYTES as u64;
 /// What is printed, and the status that goes with it.
 #[derive(Debug, Drop)]
 struct Answer {
-    status: u8,
+    status: Status,
     line: String,
 }
 
@@ -45,45 +50,64 @@ impl From<AllocError> for Unanswered {
 
 /// Runs the program on its words: `parse GRAMMAR TEXT` writes the outcome of parsing the text as one line.
 ///
-/// The status is 0 where the outcome was written, and else 1 for words of no form, 2 for a failed read, 3 for a
-/// failed write, 4 for want of memory, 5 for a grammar that isn't built, 8 for an absent file, and 9 for a text
-/// that is too large or isn't UTF-8. At 1, 5, 8 and 9 a line that says so is written.
+/// It answers the number of a `Status`. The words are judged before any file is read, and GRAMMAR is read before TEXT.
+/// At `Usage`, `Grammar`, `Absent` and `Text` a line that says so is written. `ReadFault` and `WriteFault` come only
+/// where a read or a write failed in this call. `OutOfMemory` may come at any time.
 pub fn run<R: AllocGlobal, F: Folder, S: Sink>(
     rt: &R,
     words: &[String],
     folder: &mut F,
     sink: &mut S,
 ) -> u8
-    ensures statuses { IsFree result ⊎ ((result ≡ 0) ⊎ ((result ≡ 1) ⊎ ((result ≡ 5) ⊎ ((result ≡ 8) ⊎ (result ≡ 9))))) }
+    ensures statuses { IsStatus result }
 
     // What was written, at each status.
-    ensures done { result ≡ 0 → Told (F.files folder.old) (λ files. Writes files (texts words.now) 0 (S.taken sink.old) (S.taken sink.new)) }
-    ensures usage { result ≡ 1 → IsUsage (texts words.now) × Appends (S.taken sink.old) (S.taken sink.new) usage_line }
-    ensures grammar { result ≡ 5 → Told (F.files folder.old) (λ files. Writes files (texts words.now) 5 (S.taken sink.old) (S.taken sink.new)) }
-    ensures absent { result ≡ 8 → Told (F.files folder.old) (λ files. Writes files (texts words.now) 8 (S.taken sink.old) (S.taken sink.new)) }
-    ensures text { result ≡ 9 → Told (F.files folder.old) (λ files. Writes files (texts words.now) 9 (S.taken sink.old) (S.taken sink.new)) }
-    ensures nothing { (result ≡ 2) ⊎ (result ≡ 4) → S.taken sink.new ≡ S.taken sink.old }
-    ensures prefix { result ≡ 3 → IsUsage (texts words.now) → AppendsPrefix (S.taken sink.old) (S.taken sink.new) usage_line }
-    ensures told_prefix { result ≡ 3 → Told (F.files folder.old) (λ files. WritesPrefix files (texts words.now) (S.taken sink.old) (S.taken sink.new)) }
+    ensures done { result ≡ number_of ends.Done → Told (F.files folder.old) (λ files.
+        Writes files (texts words.now) ends.Done (S.taken sink.old) (S.taken sink.new)) }
+    ensures usage { result ≡ number_of ends.Usage → IsUsage (texts words.now)
+        × Appends (S.taken sink.old) (S.taken sink.new) usage_line }
+    ensures grammar { result ≡ number_of ends.Grammar → Told (F.files folder.old) (λ files.
+        Writes files (texts words.now) ends.Grammar (S.taken sink.old) (S.taken sink.new)) }
+    ensures absent { result ≡ number_of ends.Absent → Told (F.files folder.old) (λ files.
+        Writes files (texts words.now) ends.Absent (S.taken sink.old) (S.taken sink.new)) }
+    ensures text { result ≡ number_of ends.Text → Told (F.files folder.old) (λ files.
+        Writes files (texts words.now) ends.Text (S.taken sink.old) (S.taken sink.new)) }
+    ensures nothing { (result ≡ number_of ends.ReadFault) ⊎ (result ≡ number_of ends.OutOfMemory)
+        → S.taken sink.new ≡ S.taken sink.old }
+    ensures prefix { result ≡ number_of ends.WriteFault → IsUsage (texts words.now)
+        → AppendsPrefix (S.taken sink.old) (S.taken sink.new) usage_line }
+    ensures told_prefix { result ≡ number_of ends.WriteFault → Told (F.files folder.old) (λ files.
+        WritesPrefix files (texts words.now) (S.taken sink.old) (S.taken sink.new)) }
 
     // A fault of reading or writing has its cause outside.
-    ensures read { result ≡ 2 → Rose (F.faults folder.old) (F.faults folder.new) }
-    ensures write { result ≡ 3 → Rose (S.faults sink.old) (S.faults sink.new) }
+    ensures read { result ≡ number_of ends.ReadFault → Rose (F.faults folder.old) (F.faults folder.new) }
+    ensures write { result ≡ number_of ends.WriteFault → Rose (S.faults sink.old) (S.faults sink.new) }
 
     // Each other status comes exactly where it is the answer.
-    ensures exact { (files : Files) (status : ℕ) (bytes : List ℕ) → F.files folder.old ≡ Some files → Answers files (texts words.now) status bytes → (result ≡ status) ⊎ IsFree result }
-    ensures usage_only { IsUsage (texts words.now) → (result ≡ 1) ⊎ IsFree result }
+    ensures exact { (files : Files) (status : AnyStatus) (bytes : Bytes) → F.files folder.old ≡ Some files
+        → Answers files (texts words.now) status bytes → (result ≡ number_of status) ⊎ IsCutShort result }
     ensures complete { (files : Files) → F.files folder.old ≡ Some files → IsClean files (texts words.now)
-        → (Rose (F.faults folder.old) (F.faults folder.new) → ⊥) → (Rose (S.faults sink.old) (S.faults sink.new) → ⊥)
-        → (result ≡ 0) ⊎ (result ≡ 4) }
+        → (Rose (F.faults folder.old) (F.faults folder.new) → ⊥)
+        → (Rose (S.faults sink.old) (S.faults sink.new) → ⊥)
+        → (result ≡ number_of ends.Done) ⊎ (result ≡ number_of ends.OutOfMemory) }
+
+    // Words of no form are judged before any read.
+    ensures usage_only { IsUsage (texts words.now) → (result ≡ number_of ends.Usage)
+        ⊎ ((result ≡ number_of ends.WriteFault) ⊎ (result ≡ number_of ends.OutOfMemory)) }
+    ensures unread { IsUsage (texts words.now) → folder.new ≡ folder.old }
+
+    // The files stay, and no count falls.
+    ensures files { F.files folder.new ≡ F.files folder.old }
+    ensures read_faults { F.faults folder.old ≤ F.faults folder.new }
+    ensures write_faults { S.faults sink.old ≤ S.faults sink.new }
 {
     match answer_to(rt.alloc(), words, folder) {
         Ok(answer) => match put(sink, answer.line.as_bytes()) {
-            Ok(()) => answer.status,
-            Err(WriteFault::Failed) => 3,
+            Ok(()) => answer.status.number(),
+            Err(WriteFault::Failed) => Status::WriteFault.number(),
         },
-        Err(Unanswered::Read) => 2,
-        Err(Unanswered::Memory) => 4,
+        Err(Unanswered::Read) => Status::ReadFault.number(),
+        Err(Unanswered::Memory) => Status::OutOfMemory.number(),
     }
 }
 
@@ -93,17 +117,26 @@ fn answer_to<F: Folder>(
     words: &[String],
     folder: &mut F,
 ) -> Result<Answer, Unanswered>
-    ensures answers { IfOk result (λ answer. IsAnswer (F.files folder.old) (texts words.now) answer.status (string_bytes answer.line)) }
+    ensures answers { IfOk result (λ answer.
+        IsAnswer (F.files folder.old) (texts words.now) answer.status (string_bytes answer.line)) }
     ensures read { result ≡ Err Unanswered.Read → Rose (F.faults folder.old) (F.faults folder.new) }
+    ensures asked { result ≡ Err Unanswered.Read → IsUsage (texts words.now) → ⊥ }
+    ensures unread { IsUsage (texts words.now) → folder.new ≡ folder.old }
+    ensures files { F.files folder.new ≡ F.files folder.old }
+    ensures later { F.faults folder.old ≤ F.faults folder.new }
 {
     match outcome(alloc, words, folder) {
-        Ok(line) => Ok(Answer { status: 0, line }),
+        Ok(line) => Ok(Answer {
+            status: Status::Done,
+            line,
+        }),
         Err(Stop::Fault(fault)) => Ok(refused(alloc, &fault)?),
         Err(Stop::Read) => Err(Unanswered::Read),
         Err(Stop::Memory) => Err(Unanswered::Memory),
     }
 }
 
+/// The answer of a fault.
 fn refused(alloc: Global, fault: &Fault) -> Result<Answer, AllocError>
     ensures status { IfOk result (λ answer. answer.status ≡ status_of fault.now) }
     ensures line { IfOk result (λ answer. string_bytes answer.line ≡ line_of fault.now) }
@@ -121,8 +154,13 @@ fn outcome<'a, F: Folder>(
     words: &'a [String],
     folder: &mut F,
 ) -> Result<String, Stop<'a>>
-    ensures line { IfOk result (λ s. IsAnswer (F.files folder.old) (texts words.now) 0 (string_bytes s)) }
-    ensures stop { IfErr result (λ stop. Stopped (F.files folder.old) (texts words.now) (Rose (F.faults folder.old) (F.faults folder.new)) stop) }
+    ensures line { IfOk result (λ s.
+        IsAnswer (F.files folder.old) (texts words.now) ends.Done (string_bytes s)) }
+    ensures stop { IfErr result (λ stop. Stopped (F.files folder.old) (texts words.now)
+        (Rose (F.faults folder.old) (F.faults folder.new)) stop) }
+    ensures unread { IsUsage (texts words.now) → folder.new ≡ folder.old }
+    ensures files { F.files folder.new ≡ F.files folder.old }
+    ensures later { F.faults folder.old ≤ F.faults folder.new }
 {
     let Some(paths) = paths_in(words) else {
         return Err(Stop::Fault(Fault::Usage));
@@ -143,7 +181,8 @@ fn read<'a, F: Folder>(
     ensures later { F.faults folder.old ≤ F.faults folder.new }
     ensures within { IfOk result (λ found. KeepsLimit limit found) }
     ensures there { IfOk result (λ found. Told (F.files folder.old) (IsThere path.now limit found)) }
-    ensures stop { IfErr result (λ stop. ReadStopped (F.files folder.old) path.now (Rose (F.faults folder.old) (F.faults folder.new)) stop) }
+    ensures stop { IfErr result (λ stop. ReadStopped (F.files folder.old) path.now
+        (Rose (F.faults folder.old) (F.faults folder.new)) stop) }
 {
     match folder.read(alloc, path, limit) {
         Ok(Found::Absent) => Err(Stop::Fault(Fault::Absent(path))),

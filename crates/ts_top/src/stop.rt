@@ -1,3 +1,4 @@
+//! Why there is no line of an outcome: a fault that is answered, a failed read, or want of memory.
 use crate::fault::Fault;
 use std::alloc::AllocError;
 use thiserror::Error;

@@ -1,6 +1,7 @@
 use Rattle.std.proofs.Common.{Option, subst}
 use Rattle.std.proofs.lemmas.Result.{err_from_is_err_and}
 use Rattle.ts_io.specs.Outside.{Files, Rose}
+use Rattle.ts_top.specs.Limits.{most_grammar_bytes, most_text_bytes}
 use Rattle.ts_top.specs.Answer.{Told}
 use Rattle.ts_top.specs.Faults.{usage, IsThere, ReadStopped}
 use Rattle.ts_top.proofs.ProgramLemmas.{grammar_stopped, text_stopped, line_answers, judge_stopped, rose_from}
@@ -19,18 +20,18 @@ pub returns-in_err-text-clause-stop : goal.returns-in_err-text-clause-stop
 returns-in_err-text-clause-stop g c =
     let p = err_from_is_err_and c.from_residual-in_err-text.result c.from_residual-in_err-text.ensures.1 in
     rw (p.1, p.2)
-    (text_stopped _ _ c.in-Some.paths.grammar.now c.in-Some.paths.text.now 4194304 c.in_ok-grammar.grammar _ _ c.in_err-text.field-0.0 c.in-Some.ensures.some c.in_ok-grammar.ensures.there
+    (text_stopped _ _ c.in-Some.paths.grammar.now c.in-Some.paths.text.now most_grammar_bytes c.in_ok-grammar.grammar _ _ c.in_err-text.field-0.0 c.in-Some.ensures.some c.in_ok-grammar.ensures.there
     (rose_from (g.F.Folder.faults c.args.folder.now) (g.F.Folder.faults c.read.new.folder) (g.F.Folder.faults c.read-2.new.folder) c.in_ok-grammar.ensures.later)
     (subst (λ (files : Option Files). ReadStopped files c.in-Some.paths.text.now (Rose (g.F.Folder.faults c.read.new.folder) (g.F.Folder.faults c.read-2.new.folder)) c.in_err-text.field-0.0) c.in_ok-grammar.ensures.same c.in_err-text.ensures.stop))
 
 pub returns-clause-line : goal.returns-clause-line
 returns-clause-line g c =
     line_answers c.judge.result _ _ c.in_ok-grammar.grammar c.in_ok-text.text c.in-Some.paths.grammar.now c.in-Some.paths.text.now c.in-Some.ensures.some c.in_ok-grammar.ensures.there
-    (subst (λ (files : Option Files). Told files (IsThere c.in-Some.paths.text.now 1048576 c.in_ok-text.text)) c.in_ok-grammar.ensures.same c.in_ok-text.ensures.there)
+    (subst (λ (files : Option Files). Told files (IsThere c.in-Some.paths.text.now most_text_bytes c.in_ok-text.text)) c.in_ok-grammar.ensures.same c.in_ok-text.ensures.there)
     c.judge.ensures.line
 
 pub returns-clause-stop : goal.returns-clause-stop
 returns-clause-stop g c =
     judge_stopped c.judge.result _ _ c.in_ok-grammar.grammar c.in_ok-text.text c.in-Some.paths.grammar.now c.in-Some.paths.text.now _ c.in-Some.ensures.some c.in_ok-grammar.ensures.there
-    (subst (λ (files : Option Files). Told files (IsThere c.in-Some.paths.text.now 1048576 c.in_ok-text.text)) c.in_ok-grammar.ensures.same c.in_ok-text.ensures.there)
+    (subst (λ (files : Option Files). Told files (IsThere c.in-Some.paths.text.now most_text_bytes c.in_ok-text.text)) c.in_ok-grammar.ensures.same c.in_ok-text.ensures.there)
     c.judge.ensures.late c.judge.ensures.stop

@@ -1,15 +1,19 @@
-use Rattle.std.proofs.Common.{inl, subst, List, ℕ}
+use Rattle.std.proofs.Common.{◌∙◌, ap, inl, subst}
+use Rattle.ts_base.specs.Bytes.{Bytes}
 use Rattle.ts_io.specs.Outside.{AppendsPrefix}
+use Rattle.ts_top.specs.Status.{number_of}
 use Rattle.ts_top.proofs.ProgramLemmas.{answer_exact, answer_complete, answer_prefix}
 use Rattle.ts_top.proofs.program.run.Goals as goal
 
 pub returns-in-Ok-put-clause-exact : goal.returns-in-Ok-put-clause-exact
-returns-in-Ok-put-clause-exact g c = λ files status bytes is answers. inl (answer_exact _ files _ _ status _ bytes is c.in-Ok.ensures.answers answers)
+returns-in-Ok-put-clause-exact g c = λ files status bytes is answers.
+    inl (c.number.ensures ∙ ap number_of (answer_exact _ files _ _ status _ bytes is c.in-Ok.ensures.answers answers))
 
 pub returns-in-Ok-put-clause-complete : goal.returns-in-Ok-put-clause-complete
-returns-in-Ok-put-clause-complete g c = λ files is clean read write. inl (answer_complete _ files _ _ _ is clean c.in-Ok.ensures.answers)
+returns-in-Ok-put-clause-complete g c = λ files is clean read write.
+    inl (c.number.ensures ∙ ap number_of (answer_complete _ files _ _ _ is clean c.in-Ok.ensures.answers))
 
 pub returns-in-Ok-clause-told_prefix : goal.returns-in-Ok-clause-told_prefix
 returns-in-Ok-clause-told_prefix g c = λ is.
     answer_prefix _ _ _ _ _ _ c.in-Ok.ensures.answers
-    (subst (λ (bytes : List ℕ). AppendsPrefix (g.S.Sink.taken c.args.sink.now) (g.S.Sink.taken c.put.new.sink) bytes) c.as_bytes.ensures.value c.in-Err-Failed.ensures.prefix)
+    (subst (λ (bytes : Bytes). AppendsPrefix (g.S.Sink.taken c.args.sink.now) (g.S.Sink.taken c.put.new.sink) bytes) c.as_bytes.ensures.value c.in-Err-Failed.ensures.prefix)

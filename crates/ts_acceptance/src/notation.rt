@@ -1,10 +1,12 @@
-//! Grammar files by a short notation.
+//! Rules in a short notation in; a grammar file out.
 use std::alloc::{AllocError, Global};
 
 /// The grammar file of these rules, with `;` between them. A rule is its name, `=` and words with blanks between
 /// them: `[` and `]` enclose a SEQ, `'..'` is a STRING and a name a SYMBOL. Names and texts are spelled as in JSON.
-pub(super) fn grammar_of(alloc: Global, rules: &str) -> Result<String, AllocError> {
-    let mut file = String::from_str(alloc, r#"{"name":"g","rules":{"#)?;
+/// The file's object has `members` before its name.
+pub(crate) fn grammar_of(alloc: Global, members: &str, rules: &str) -> Result<String, AllocError> {
+    let mut file = String::from_str(alloc, "{")?;
+    push_enclosed(&mut file, "", members, r#""name":"g","rules":{"#)?;
     for (number, rule) in rules.split(';').enumerate() {
         push_comma_if(&mut file, number > 0)?;
         push_rule(&mut file, rule)?;

@@ -1,0 +1,69 @@
+//! One row in; the answer that it wants and the answer that its run gives out.
+use crate::fault::RowFault;
+use crate::row::Row;
+use serde_json::Value;
+use std::alloc::Global;
+use ts_io::{MemFolder, MemSink};
+
+/// How a run ends: its status and what it wrote.
+#[derive(Debug, PartialEq, Eq, Drop)]
+pub(crate) struct Answer {
+    pub status: u8,
+    pub bytes: Vec<u8>,
+}
+
+/// A row whose run was made.
+#[derive(Debug, Drop)]
+pub(crate) struct Trial {
+    pub name: String,
+    pub wanted: Answer,
+    pub given: Answer,
+}
+
+impl Trial {
+    /// Makes the run of a row, over files and a sink in memory.
+    pub(crate) fn of<R: AllocGlobal>(rt: &R, row: Value) -> Result<Trial, RowFault> {
+        let alloc = rt.alloc();
+        let row: Row = serde_json::from_value(alloc, row).map_err(RowFault::Json)?;
+        let given = answer_of(rt, &row)?;
+        let wanted = Answer {
+            status: row.status,
+            bytes: row.output.bytes(alloc)?,
+        };
+        Ok(Trial {
+            name: row.name.clone()?,
+            wanted,
+            given,
+        })
+    }
+
+    /// Whether the run gave the answer that is wanted.
+    pub(crate) fn agrees(&self) -> bool {
+        self.given == self.wanted
+    }
+}
+
+/// How the row's run ends.
+fn answer_of<R: AllocGlobal>(rt: &R, row: &Row) -> Result<Answer, RowFault> {
+    let alloc = rt.alloc();
+    let most = row.most();
+    if most == 0 {
+        return Err(RowFault::Most);
+    }
+    let mut folder = folder_of(alloc, row)?;
+    let failing = Vec::from_slice(alloc, row.failing_writes.as_slice())?;
+    let mut sink = MemSink::new(alloc, most, failing)?;
+    let status = ts_top::run(rt, row.words.as_slice(), &mut folder, &mut sink);
+    let bytes = Vec::from_slice(alloc, sink.bytes())?;
+    Ok(Answer { status, bytes })
+}
+
+/// The row's files, of which the reads fail that the row lists.
+fn folder_of(alloc: Global, row: &Row) -> Result<MemFolder, RowFault> {
+    let mut files = Vec::new(alloc);
+    for (path, held) in &row.files {
+        files.push((path.clone()?, held.bytes(alloc)?))?;
+    }
+    let failing = Vec::from_slice(alloc, row.failing_reads.as_slice())?;
+    Ok(MemFolder::new(files, failing))
+}
