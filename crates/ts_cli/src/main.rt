@@ -6,7 +6,6 @@
 mod noted;
 mod request;
 mod say;
-mod status;
 #[cfg(test)]
 mod tests;
 mod trouble;
@@ -14,7 +13,6 @@ mod trouble;
 use noted::Noted;
 use request::{Request, request_of};
 use say::say;
-use status::OUT_OF_MEMORY;
 use std::alloc::AllocError;
 use std::env;
 use std::io::ErrorKind;
@@ -22,6 +20,7 @@ use std::process::ExitCode;
 use std::rt::Env;
 use trouble::tell;
 use ts_io::{OsFolder, OutSink};
+use ts_top::Status;
 
 const HELP: &str = "\
 hemshale builds parsers from grammar files and parses texts with them.
@@ -41,11 +40,11 @@ fn main(rt: HostRuntime) -> ExitCode {
     let mut folder = Noted::new(OsFolder::new(&rt));
     let status = match words(&rt) {
         Ok(words) => match request_of(words.as_slice()) {
-            Request::Help => say(&mut sink, HELP),
-            Request::Version => say(&mut sink, VERSION),
+            Request::Help => say(&mut sink, HELP).number(),
+            Request::Version => say(&mut sink, VERSION).number(),
             Request::Command => ts_top::run(&rt, words.as_slice(), &mut folder, &mut sink),
         },
-        Err(AllocError) => OUT_OF_MEMORY,
+        Err(AllocError) => Status::OutOfMemory.number(),
     };
     tell(&rt, status, folder.failed());
     ExitCode::from(status)

@@ -1,20 +1,19 @@
 //! Texts of the program's own: a text comes in and goes to a sink, and a status comes out.
 ghost use Rattle.std.specs.Prelude.{◌≡◌, ◌⊎◌};
-ghost use Rattle.ts_cli.specs.Status.{done, write_fault};
 ghost use Rattle.ts_io.specs.Outside.{Appends, AppendsPrefix, Rose};
 
-use crate::status::{DONE, WRITE_FAULT};
 use ts_io::{Sink, WriteFault, put};
+use ts_top::Status;
 
 /// Prints a text, and answers the status of that.
-pub(crate) fn say<S: Sink>(sink: &mut S, text: &str) -> u8
-    ensures statuses { (result ≡ done) ⊎ (result ≡ write_fault) }
-    ensures done { result ≡ done → Appends (S.taken sink.old) (S.taken sink.new) text.now }
+pub(crate) fn say<S: Sink>(sink: &mut S, text: &str) -> Status
+    ensures statuses { (result ≡ Status.Done) ⊎ (result ≡ Status.WriteFault) }
+    ensures done { result ≡ Status.Done → Appends (S.taken sink.old) (S.taken sink.new) text.now }
     ensures prefix { AppendsPrefix (S.taken sink.old) (S.taken sink.new) text.now }
-    ensures write { result ≡ write_fault → Rose (S.faults sink.old) (S.faults sink.new) }
+    ensures write { result ≡ Status.WriteFault → Rose (S.faults sink.old) (S.faults sink.new) }
 {
     match put(sink, text.as_bytes()) {
-        Ok(()) => DONE,
-        Err(WriteFault::Failed) => WRITE_FAULT,
+        Ok(()) => Status::Done,
+        Err(WriteFault::Failed) => Status::WriteFault,
     }
 }

@@ -4,6 +4,7 @@ use crate::request::{Request, request_of};
 use crate::say::say;
 use std::alloc::AllocError;
 use ts_io::{Folder, Found, MemFolder, MemSink, ReadFault};
+use ts_top::Status;
 
 #[test]
 fn asks_by_one_word(rt: HostRuntime) -> Result<(), AllocError> {
@@ -26,10 +27,10 @@ fn asks_by_one_word(rt: HostRuntime) -> Result<(), AllocError> {
 #[test]
 fn says_a_text(rt: HostRuntime) -> Result<(), AllocError> {
     let mut sink = MemSink::new(rt.alloc(), 3, Vec::new(rt.alloc()))?;
-    assert_eq!(rt; say(&mut sink, "hemshale\n"), 0);
+    assert_eq!(rt; say(&mut sink, "hemshale\n"), Status::Done);
     assert_eq!(rt; sink.bytes(), b"hemshale\n".as_slice());
     let mut failing = MemSink::new(rt.alloc(), 3, vec![in rt.alloc(); 1]?)?;
-    assert_eq!(rt; say(&mut failing, "hemshale\n"), 3);
+    assert_eq!(rt; say(&mut failing, "hemshale\n"), Status::WriteFault);
     assert_eq!(rt; failing.bytes(), b"hem".as_slice());
     Ok(())
 }

@@ -1,9 +1,10 @@
 //! What a person is told on standard error: a status and the path of the last failed read come in,
 //! and where standard output says nothing whole at that status, one line goes out.
 ghost use Rattle.std.specs.Prelude.{◌≡◌, ◌↔◌, Some};
-ghost use Rattle.ts_cli.specs.Status.{read_fault, write_fault, out_of_memory};
+ghost use Rattle.ts_top.specs.Status.{number_of};
+ghost use Rattle.ts_top.specs.declared.status.Status.TheVariants as ends;
 
-use crate::status::{OUT_OF_MEMORY, READ_FAULT, WRITE_FAULT};
+use ts_top::Status;
 
 /// What cut a run short.
 #[derive(Clone, Copy, Debug, PartialEq, Eq)]
@@ -15,15 +16,18 @@ pub(crate) enum Trouble {
 
 /// What cut a run short that ended with this status.
 pub(crate) fn trouble_at(status: u8) -> Option<Trouble>
-    ensures read { (result ≡ Some Trouble.Read) ↔ (status ≡ read_fault) }
-    ensures write { (result ≡ Some Trouble.Write) ↔ (status ≡ write_fault) }
-    ensures memory { (result ≡ Some Trouble.Memory) ↔ (status ≡ out_of_memory) }
+    ensures read { (result ≡ Some Trouble.Read) ↔ (status ≡ number_of ends.ReadFault) }
+    ensures write { (result ≡ Some Trouble.Write) ↔ (status ≡ number_of ends.WriteFault) }
+    ensures memory { (result ≡ Some Trouble.Memory) ↔ (status ≡ number_of ends.OutOfMemory) }
 {
-    match status {
-        READ_FAULT => Some(Trouble::Read),
-        WRITE_FAULT => Some(Trouble::Write),
-        OUT_OF_MEMORY => Some(Trouble::Memory),
-        _ => None,
+    if status == Status::ReadFault.number() {
+        Some(Trouble::Read)
+    } else if status == Status::WriteFault.number() {
+        Some(Trouble::Write)
+    } else if status == Status::OutOfMemory.number() {
+        Some(Trouble::Memory)
+    } else {
+        None
     }
 }
 
