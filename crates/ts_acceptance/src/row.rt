@@ -51,8 +51,9 @@ pub(crate) fn rows_in<'a, F: Folder>(
     file: &'a str,
 ) -> Result<Vec<Value>, DataFault<'a>> {
     match folder.read(alloc, file, MOST_BYTES) {
-        Ok(Found::Bytes(bytes)) => serde_json::from_slice(alloc, bytes.as_slice())
-            .map_err(|error| DataFault::NoRows { file, error }),
+        Ok(Found::Bytes(bytes)) => serde_json::from_slice(alloc, bytes.as_slice()).map_err(
+            |error| DataFault::NoRows { file, error },
+        ),
         Ok(Found::Absent) => Err(DataFault::Absent(file)),
         Ok(Found::Over) => Err(DataFault::Large(file)),
         Err(ReadFault::Failed | ReadFault::Memory) => Err(DataFault::Unread(file)),

@@ -1,10 +1,10 @@
 -- Words and files come to one status and one list of bytes.
-use Rattle.std.proofs.Common.{◌≡◌, ◌∙◌, sym, ap, subst, refl, ℕ, inl, inr, List, [], ◌∷◌, length, Option, Some, None, codes, arith, IsUtf8}
+use Rattle.std.proofs.Common.{◌≡◌, ◌∙◌, sym, ap, subst, refl, inl, inr, List, [], ◌∷◌, length, Option, Some, None, codes, arith, IsUtf8}
 use Rattle.ts_base.specs.Bytes.{Bytes}
 use Rattle.ts_io.specs.Outside.{Files, file_at}
 use Rattle.ts_text.proofs.TextLemmas.{whole_breaks_nowhere, breaks_once}
 use Rattle.ts_top.specs.Form.{IsBuilt}
-use Rattle.ts_top.specs.Tree.{Node, node_of}
+use Rattle.ts_top.specs.Tree.{Node}
 use Rattle.ts_top.specs.Visible.{Visible}
 use Rattle.ts_top.specs.Plain.{Plain, Ending, accepted, stuck, deep, Gives, walk, events_of, start_of}
 use Rattle.ts_top.specs.Lines.{tree_line, text_line, absent_line}

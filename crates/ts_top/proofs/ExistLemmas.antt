@@ -1,10 +1,10 @@
 -- Words and files come to an answer: that there is none cannot be.
-use Rattle.std.proofs.Common.{◌≡◌, ◌∙◌, sym, ap, subst, refl, ℕ, zero, suc, ◌+◌, ◌<◌, ◌≤◌, ◌⊎◌, inl, inr, ⊎_elim, Bool, true, false, List, [], ◌∷◌, length, map, take, slice_get, Option, Some, None, IsUtf8, arith}
+use Rattle.std.proofs.Common.{◌≡◌, ◌∙◌, ap, subst, refl, ℕ, zero, suc, ◌+◌, ◌<◌, ◌≤◌, ◌⊎◌, inl, inr, ⊎_elim, Bool, true, false, List, [], ◌∷◌, length, map, take, Option, Some, None, IsUtf8, arith}
 use Rattle.std.proofs.lemmas.Bool.{cases_eq, cases_lt}
 use Rattle.std.proofs.lemmas.List.{take_all}
 use Rattle.std.proofs.lemmas.Option.{slice_get_cases}
 use Rattle.std.proofs.lemmas.Str.{IsUtf8-nil, IsUtf8-from_is_utf8, is_utf8-from_IsUtf8}
-use Rattle.std.specs.Str.{IsValidUpTo, is_utf8}
+use Rattle.std.specs.Str.{is_utf8}
 use Rattle.ts_base.specs.Bytes.{Bytes}
 use Rattle.ts_io.specs.Outside.{Files, file_at}
 use Rattle.ts_text.specs.Text.{IsText, BreaksAt}
@@ -20,7 +20,7 @@ use Rattle.ts_top.specs.Plain.{Plain, IsClosed, Ending, accepted, stuck, deep, G
 use Rattle.ts_top.specs.Form.{IsBuilt}
 use Rattle.ts_top.specs.Limits.{most_text_bytes}
 use Rattle.ts_top.specs.Lines.{usage_line, unbuilt_line, absent_line, text_size_line, text_line}
-use Rattle.ts_top.specs.Answer.{Parses, IsUsage, Has, Judged, unbuilt, too_large, no_text, parsed, Answers, usage, absent, judged, outcome_line}
+use Rattle.ts_top.specs.Answer.{Parses, Judged, unbuilt, too_large, no_text, parsed, Answers, usage, absent, judged, outcome_line}
 use Rattle.ts_top.proofs.ExpandLemmas.{SomeNode, expands_each, expands_rule, expands_step}
 use Rattle.ts_top.proofs.NodeLemmas.{node_of_made}
 use Rattle.ts_top.proofs.NormalLemmas.{closed_normal, start_normal}
@@ -31,9 +31,10 @@ use Rattle.ts_top.proofs.PathLemmas.{Bounded, bounded}
 mutual
   tree_for : (n : Node) → (tree : Tree) × (node_of tree ≡ n)
   tree_for (node symbol pad size children) =
-      let trees = trees_for children in
-      (roll-Tree (record { symbol = record { 0 = symbol }; pad = pad; size = size; children = trees.0 }),
-      node_of_made (record { symbol = record { 0 = symbol }; pad = pad; size = size; children = trees.0 }) ∙ ap (λ (c : Nodes). node symbol pad size c) trees.1)
+      let trees = trees_for children in (
+        roll-Tree (record { symbol = record { 0 = symbol }; pad = pad; size = size; children = trees.0 }),
+        node_of_made (record { symbol = record { 0 = symbol }; pad = pad; size = size; children = trees.0 }) ∙ ap (λ (c : Nodes). node symbol pad size c) trees.1,
+      )
 
   trees_for : (ns : Nodes) → (trees : List Tree) × (nodes_of (map node_of trees) ≡ ns)
   trees_for no_nodes = ([], refl)

@@ -1,12 +1,12 @@
 -- A symbol expands to one node.
-use Rattle.std.proofs.Common.{◌≡◌, ◌∙◌, sym, ap, refl, subst, ℕ, ◌+◌, inl, inr, List, [], ◌∷◌, length, slice_get, Some, arith}
+use Rattle.std.proofs.Common.{◌≡◌, ◌∙◌, sym, ap, refl, subst, ℕ, inl, inr, List, [], ◌∷◌, length, slice_get, Some, arith}
 use Rattle.std.proofs.lemmas.Option.{slice_get_within}
 use Rattle.ts_core.specs.declared.symbol.Symbol.{Symbol}
 use Rattle.ts_top.specs.declared.plain.LiteralToken.{LiteralToken}
 use Rattle.ts_top.specs.declared.plain.PlainRule.{PlainRule}
 use Rattle.ts_top.specs.declared.plain.PlainGrammar.{PlainGrammar}
 use Rattle.ts_top.specs.Tree.{Node, node, Nodes, no_nodes, add, first_pad, extent_of_all}
-use Rattle.ts_top.specs.Plain.{Expands, ExpandsAll, IsToken, IsRule, start_of}
+use Rattle.ts_top.specs.Plain.{Expands, ExpandsAll, IsToken, IsRule}
 
 same_token : (g : PlainGrammar) (symbol : ℕ) (t u : LiteralToken) → IsToken g symbol t → IsToken g symbol u → t ≡ u
 same_token g symbol t u a b =

@@ -21,4 +21,3 @@ IsStatus number = (status : Status) × (number ≡ number_of status)
 -- A failed read, a failed write or want of memory cut the run short, so that its answer was not given whole.
 abbrev pub IsCutShort : ℕ → Type 0
 IsCutShort number = (number ≡ number_of ReadFault) ⊎ ((number ≡ number_of WriteFault) ⊎ (number ≡ number_of OutOfMemory))
-

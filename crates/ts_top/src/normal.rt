@@ -19,10 +19,10 @@ use crate::normal::symbols::all_symbols;
 use crate::normal::tokens::all_tokens;
 use crate::normal::trees::are_shown;
 use crate::order::ranks;
+use crate::plain::PlainGrammar;
 use crate::plain_form::PlainForm;
 use std::alloc::{AllocError, AllocFailed, Global};
 use thiserror::Error;
-use crate::plain::PlainGrammar;
 use ts_core::{List, Rule, Str};
 
 /// Why rules have no plain normal form.

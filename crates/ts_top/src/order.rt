@@ -5,8 +5,8 @@ ghost use Rattle.ts_top.specs.Order.{AllDone, AllUnseen, Falls, Goes, IsDone, Le
 ghost use Rattle.ts_top.specs.Order;
 ghost use Rattle.ts_top.specs.declared.order.Mark.TheVariants.{Unseen};
 
-use std::alloc::{AllocError, Global};
 use crate::plain::PlainGrammar;
+use std::alloc::{AllocError, Global};
 use ts_core::{List, Symbol};
 
 /// How far the search has come with a rule.

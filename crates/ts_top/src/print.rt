@@ -40,10 +40,7 @@ pub(crate) fn fault(alloc: Global, word: &str, status: Status) -> Result<String,
     ensures { IfOk result (λ s. string_bytes s ≡ fault_line word.now status) }
 {
     let number = status.number();
-    line(
-        alloc,
-        json!(in alloc; {"fault": word, "status": number})?,
-    )
+    line(alloc, json!(in alloc; {"fault": word, "status": number})?)
 }
 
 /// The line of a fault at a path.

@@ -5,9 +5,9 @@ ghost use Rattle.ts_top.specs.Visible.{Visible, visible_of, visible_of_all, name
 ghost use Rattle.ts_top.specs.Listing.{IsNested, AreNested, shown_at};
 ghost use Rattle.ts_top.specs.Walk.{FitsText, nodes_in};
 
-use std::alloc::{AllocError, Global};
 use crate::plain::{Outcome, PlainGrammar};
 use crate::tree::Tree;
+use std::alloc::{AllocError, Global};
 use ts_core::{Kind, List, Shown, Str, Symbol};
 use ts_text::{PointWalk, Text};
 

@@ -5,11 +5,11 @@ ghost use Rattle.ts_top.specs.PlainForm.{IsForm};
 ghost use Rattle.ts_top.specs.Stack.{Awaits, Closes, IsAdded, IsEnded, Leaves, Opens, Stands, Turns};
 ghost use Rattle.ts_top.specs.Walk.{Passes, Halts, Ends, FitsText, counted, the_start};
 
+use crate::plain::{Outcome, PlainGrammar};
 use crate::plain_form::PlainForm;
+use crate::tree::Tree;
 use std::alloc::{AllocError, Global};
 use thiserror::Error;
-use crate::plain::{Outcome, PlainGrammar};
-use crate::tree::Tree;
 use ts_core::{List, Symbol};
 
 /// The most that a tree may be deep.

@@ -5,9 +5,9 @@ ghost use Rattle.ts_top.specs.declared.normal.NotPlain.TheVariants.{Unbuilt};
 
 use crate::normal::NotPlain;
 use crate::normal::sights::{Sights, token_named};
+use crate::plain::PlainRule;
 use indexmap::IndexMap;
 use std::alloc::Global;
-use crate::plain::PlainRule;
 use ts_core::{List, Rule, Str, Symbol};
 
 /// The symbol of a text's token.

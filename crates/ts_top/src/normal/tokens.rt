@@ -3,8 +3,8 @@ ghost use Rattle.ts_top.specs.PlainNormal.{token_by};
 ghost use Rattle.ts_top.specs.Normal.{AreTokens, IsPaired, NamesToken};
 
 use crate::normal::sights::{Sights, token_named};
-use std::alloc::{AllocError, Global};
 use crate::plain::LiteralToken;
+use std::alloc::{AllocError, Global};
 use ts_core::{Kind, List, Rule, Str};
 
 /// A token that no rule names.
