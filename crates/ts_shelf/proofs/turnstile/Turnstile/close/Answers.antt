@@ -1,4 +1,4 @@
-use Rattle.ts_shelf.proofs.Keeps.{closes_with}
+use Rattle.ts_shelf.proofs.PassesComeAndGo.{closes_with}
 use Rattle.ts_shelf.proofs.turnstile.Turnstile.close.Goals as goal
 
 pub returns : goal.returns

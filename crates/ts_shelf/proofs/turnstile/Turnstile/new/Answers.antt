@@ -1,5 +1,5 @@
 use Rattle.std.proofs.Common.{refl}
-use Rattle.ts_shelf.proofs.Keeps.{opens_with}
+use Rattle.ts_shelf.proofs.PassesComeAndGo.{opens_with}
 use Rattle.ts_shelf.proofs.turnstile.Turnstile.new.Goals as goal
 
 pub new-requires : goal.new-requires

@@ -1,5 +1,5 @@
 use Rattle.std.proofs.Common.{refl}
-use Rattle.ts_shelf.proofs.Waits.{waits_at_first, ends_after, takes_after}
+use Rattle.ts_shelf.proofs.TriesInARow.{waits_at_first, ends_after, takes_after}
 use Rattle.ts_shelf.proofs.turnstile.Turnstile.take.Goals as goal
 
 pub loop-init : goal.loop-init
