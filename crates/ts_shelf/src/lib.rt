@@ -10,6 +10,8 @@ mod journal;
 mod pass;
 mod plays;
 mod shelf;
+#[cfg(test)]
+mod tests;
 mod turnstile;
 mod view;
 
