@@ -11,7 +11,8 @@ module _ {I : Type 0} where
   rises_le low high [] h = h
   rises_le low high (e ∷ es) h = let a = h.0 in let b = h.1 in omega arith
 
-  pub rises_append : (low mid high : ℕ) (xs ys : List (Entry I)) → RisesWithin low mid xs → RisesWithin mid high ys
+  pub rises_append : (low mid high : ℕ) (xs ys : List (Entry I)) → RisesWithin low mid xs
+      → RisesWithin mid high ys
       → RisesWithin low high (xs ++ ys)
   rises_append low mid high [] ys h k = rises_lower low mid high ys h k
     where
@@ -46,24 +47,33 @@ module _ {I : Type 0} where
       le : (t : ℕ) → t ≤ t
       le t = omega arith
 
-  rises_prefix : (low a b t : ℕ) (ys ry : List (Entry I)) → RisesWithin a t (ys ++ ry) → RisesWithin low b ys → a ≤ b
+  rises_prefix : (low a b t : ℕ) (ys ry : List (Entry I)) → RisesWithin a t (ys ++ ry)
+      → RisesWithin low b ys → a ≤ b
       → RisesWithin a b ys
   rises_prefix low a b t [] ry h k le = le
   rises_prefix low a b t (y ∷ ys) ry h k le = (h.0, k.1, k.2)
 
-  -- of two that have seen all up to their turns, the later one has seen what the other has, and then later entries
-  pub seen_by_turn : (low a b t : ℕ) (xs rx ys ry : List (Entry I)) → xs ++ rx ≡ ys ++ ry → RisesWithin low a xs
+  -- of two that have seen all up to their turns, the later one has seen what the other has, and
+  -- then later entries
+  pub seen_by_turn : (low a b t : ℕ) (xs rx ys ry : List (Entry I)) → xs ++ rx ≡ ys ++ ry
+      → RisesWithin low a xs
       → RisesWithin a t rx → RisesWithin low b ys → RisesWithin b t ry → a ≤ b → Extends a b ys xs
   seen_by_turn low a b t [] rx ys ry same early after early' late le =
       (ys, refl, rises_prefix low a b t ys ry (subst (RisesWithin a t) same after) early' le)
   seen_by_turn low a b t (x ∷ xs) rx [] ry same early after early' late le =
-      absurd (let r = subst (RisesWithin b t) (sym same) late in let p = r.0 in let q = early.1 in omega arith)
+      absurd (let r = subst (RisesWithin b t) (sym same) late in let p = r.0 in
+      let q = early.1 in omega arith)
   seen_by_turn low a b t (x ∷ xs) rx (y ∷ ys) ry same early after early' late le =
       let head : x ≡ y = cc in
       let tail : xs ++ rx ≡ ys ++ ry = cc in
       let below = subst (λ (e : Entry I). RisesWithin (e.turn + 1) b ys) (sym head) early'.2 in
-      let s = seen_by_turn (x.turn + 1) a b t xs rx ys ry tail early.2 after below late le in
-      (s.0, ap (λ (l : List (Entry I)). y ∷ l) s.1 ∙ ap (λ (e : Entry I). e ∷ (xs ++ s.0)) (sym head), s.2)
+      let s = seen_by_turn (x.turn + 1) a b t xs rx ys ry tail early.2 after below late le in (
+        s.0,
+        ap (λ (l : List (Entry I)). y ∷ l) s.1
+            ∙ ap (λ (e : Entry I). e ∷ (xs ++ s.0)) (sym head),
+        s.2,
+      )
 
   pub all_prefix : (P : Entry I → Type 0) (xs ys : List (Entry I)) → All P (xs ++ ys) → All P xs
-  all_prefix P xs ys h = subst (All P) (take-append_seam xs ys) (All-take P (length xs) (xs ++ ys) h)
+  all_prefix P xs ys h =
+      subst (All P) (take-append_seam xs ys) (All-take P (length xs) (xs ++ ys) h)

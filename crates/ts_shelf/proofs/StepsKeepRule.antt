@@ -21,7 +21,8 @@ use Rattle.ts_shelf.proofs.RisingEntries.{all_prefix, extends_more, rises_le, ri
 use Rattle.ts_shelf.proofs.TurnLists.{once_most, occurrences_push, one_more}
 use Rattle.ts_shelf.proofs.ViewSums.{within, views_else, views_at, not_holding, total_set, same_total, member_total}
 
-module _ {J S I : Type 0} (entries : J → List (Entry I)) (room : J → ℕ) (opening : J → S) (fits : S → I → Type 0) where
+module _ {J S I : Type 0} (entries : J → List (Entry I)) (room : J → ℕ) (opening : J → S)
+    (fits : S → I → Type 0) where
   abbrev Rule : State J (View S I) → Type 0
   Rule = IsShelf entries room opening fits
 
@@ -32,10 +33,13 @@ module _ {J S I : Type 0} (entries : J → List (Entry I)) (room : J → ℕ) (o
   Out = IsOut entries room opening fits
 
   -- the word is about twice the number of turns that are over
-  word_is : (s : State J (View S I)) (h : Rule s) → (get_or s.words 0 0 ≤ 2 * h.turn + 1) × (2 * h.turn ≤ get_or s.words 0 0)
+  word_is : (s : State J (View S I)) (h : Rule s) → (get_or s.words 0 0 ≤ 2 * h.turn + 1)
+      × (2 * h.turn ≤ get_or s.words 0 0)
   word_is s h =
-      ⊎_elim (λ p. let e = ap (λ (ws : List ℕ). get_or ws 0 0) p.words in (omega arith, omega arith))
-      (λ p. let e = ap (λ (ws : List ℕ). get_or ws 0 0) p.words in (omega arith, omega arith)) h.place
+      ⊎_elim (λ p. let e =
+      ap (λ (ws : List ℕ). get_or ws 0 0) p.words in (omega arith, omega arith))
+      (λ p. let e =
+      ap (λ (ws : List ℕ). get_or ws 0 0) p.words in (omega arith, omega arith)) h.place
 
   -- a view that holds no turn, and what it becomes
   record Quiet (s : State J (View S I)) (id : ℕ) (v w : View S I) : Type 0 where
@@ -50,12 +54,14 @@ module _ {J S I : Type 0} (entries : J → List (Entry I)) (room : J → ℕ) (o
     opened : w.knows.opening ≡ v.knows.opening
 
   quiet : (s : State J (View S I)) (id : ℕ) (v w : View S I) → Rule s → Quiet s id v w
-      → ((t : ℕ) (history : List (Entry I)) → get_or s.words 0 0 ≤ 2 * t + 1 → Agrees t history v.knows → Agrees t history w.knows)
+      → ((t : ℕ) (history : List (Entry I)) → get_or s.words 0 0 ≤ 2 * t + 1
+      → Agrees t history v.knows → Agrees t history w.knows)
       → (Noted v → Noted w) → Rule (stepped s 0 (get_or s.words 0 0) id [] w keeps)
   quiet s id v w h q agrees notes = record {
     base = h.base;
     all_fit = h.all_fit;
-    each_opens = views_at s.views id w (λ _ u. IsLive u → u.knows.opening ≡ Some h.base) h.each_opens
+    each_opens =
+        views_at s.views id w (λ _ u. IsLive u → u.knows.opening ≡ Some h.base) h.each_opens
         (λ live. q.opened ∙ h.each_opens id v q.at (λ z o. live (q.first ∙ z) (q.other ∙ o)));
     turn = h.turn;
     history = h.history;
@@ -69,16 +75,20 @@ module _ {J S I : Type 0} (entries : J → List (Entry I)) (room : J → ℕ) (o
         let b = ap (occurrences x) q.taken in
         let c = h.once x in
         omega arith;
-    one_first = same_total (λ (u : View S I). u.knows.first) s.views id v w q.at q.first ∙ h.one_first;
-    others_out = same_total (λ (u : View S I). u.notes.other) s.views id v w q.at q.other ∙ h.others_out
+    one_first =
+        same_total (λ (u : View S I). u.knows.first) s.views id v w q.at q.first ∙ h.one_first;
+    others_out =
+        same_total (λ (u : View S I). u.notes.other) s.views id v w q.at q.other ∙ h.others_out
         ∙ sym (same_total (λ (u : View S I). u.knows.out) s.views id v w q.at q.out);
     place = ⊎_elim (λ p. inl (home p)) (λ p. inr (out p)) h.place;
   }
     where
-      offers_same : total (λ (u : View S I). u.knows.offers) (set s.views id w) ≡ total (λ (u : View S I). u.knows.offers) s.views
+      offers_same : total (λ (u : View S I). u.knows.offers) (set s.views id w)
+          ≡ total (λ (u : View S I). u.knows.offers) s.views
       offers_same = same_total (λ (u : View S I). u.knows.offers) s.views id v w q.at q.offers
 
-      home : Home h.base h.turn h.history s → Home h.base h.turn h.history (stepped s 0 (get_or s.words 0 0) id [] w keeps)
+      home : Home h.base h.turn h.history s
+          → Home h.base h.turn h.history (stepped s 0 (get_or s.words 0 0) id [] w keeps)
       home p = record {
         words = ap (λ (ws : List ℕ). set ws 0 (get_or ws 0 0)) p.words;
         journal = p.journal;
@@ -89,19 +99,23 @@ module _ {J S I : Type 0} (entries : J → List (Entry I)) (room : J → ℕ) (o
         free = views_at s.views id w (λ _ u. u.notes.holds ≡ false) p.free q.free_after;
       }
 
-      out : Out h.turn h.history s → Out h.turn h.history (stepped s 0 (get_or s.words 0 0) id [] w keeps)
+      out : Out h.turn h.history s
+          → Out h.turn h.history (stepped s 0 (get_or s.words 0 0) id [] w keeps)
       out p = record {
         words = ap (λ (ws : List ℕ). set ws 0 (get_or ws 0 0)) p.words;
         homes = p.homes;
         holder = p.holder;
         view = p.view;
-        there = set_else s.views id p.holder w (not_holding s.views id p.holder v p.view q.at q.free p.there p.holds.0) ∙ p.there;
+        there = set_else s.views id p.holder w
+            (not_holding s.views id p.holder v p.view q.at q.free p.there p.holds.0) ∙ p.there;
         holds = p.holds;
         offers = subst (λ (n : ℕ). n ≤ p.view.notes.held_room) (sym offers_same) p.offers;
-        others = views_at s.views id w (λ k u. k ≢ p.holder → u.notes.holds ≡ false) p.others (λ _. q.free_after);
+        others = views_at s.views id w (λ k u. k ≢ p.holder → u.notes.holds ≡ false) p.others
+            (λ _. q.free_after);
       }
 
-  quiet_self : (s : State J (View S I)) (id : ℕ) (v w : View S I) → get_elem? s.views id ≡ some v → v.notes.holds ≡ false
+  quiet_self : (s : State J (View S I)) (id : ℕ) (v w : View S I) → get_elem? s.views id ≡ some v
+      → v.notes.holds ≡ false
       → w.notes.holds ≡ false → w.knows ≡ v.knows → w.notes.other ≡ v.notes.other → Quiet s id v w
   quiet_self s id v w at free free_after same other = record {
     at = at;
@@ -120,21 +134,50 @@ module _ {J S I : Type 0} (entries : J → List (Entry I)) (room : J → ℕ) (o
   loads_view id v free s h slots at big =
       let n : ℕ = get_or s.words 0 0 in
       let w : View S I = told v (n / 2) in
-      let over : v.knows.reached ≤ n / 2 = (let a = (h.each id v at).reached in let b = (word_is s h).1 in omega arith) in (
+      let over : v.knows.reached ≤ n / 2 = (let a = (h.each id v at).reached in
+      let b = (word_is s h).1 in omega arith) in (
         w,
         keeps,
         tt,
         quiet s id v w h
-            (record { at = at; free = free; free_after = free; taken = refl; offers = refl; first = refl; other = refl; out = refl; opened = refl })
-            (λ t history small f. record { rest = f.rest; is = f.is; early = f.early; late = f.late; reached = omega arith; known = (let a = f.known in omega arith); taken = f.taken })
-            (λ f. record { rank = f.rank; single = f.single; spent = f.spent; own = f.own; others = f.others; fewer = f.fewer }),
+            (record {
+              at = at;
+              free = free;
+              free_after = free;
+              taken = refl;
+              offers = refl;
+              first = refl;
+              other = refl;
+              out = refl;
+              opened = refl;
+            })
+            (λ t history small f. record {
+              rest = f.rest;
+              is = f.is;
+              early = f.early;
+              late = f.late;
+              reached =
+                  omega arith;
+              known = (let a = f.known in omega arith);
+              taken = f.taken;
+            })
+            (λ f. record {
+              rank = f.rank;
+              single = f.single;
+              spent = f.spent;
+              own = f.own;
+              others = f.others;
+              fewer = f.fewer;
+            }),
         (refl, (let a = (word_is s h).0 in let b = h.few in omega arith), over),
       )
 
   -- one view takes the turn, and the journal with it
-  taken_at : (s : State J (View S I)) (id t : ℕ) (v : View S I) (h : Rule s) → get_elem? s.views id ≡ some v
+  taken_at : (s : State J (View S I)) (id t : ℕ) (v : View S I) (h : Rule s)
+      → get_elem? s.views id ≡ some v
       → v.notes.holds ≡ false → IsLive v → t ≡ h.turn → (p : Home h.base h.turn h.history s)
-      → Rule (stepped s 0 (2 * t + 1) id [] (holding v t (entries p.journal) (room p.journal)) (takes 0 p.journal))
+      → Rule (stepped s 0 (2 * t + 1) id [] (holding v t (entries p.journal) (room p.journal))
+      (takes 0 p.journal))
   taken_at s id t v h at free live is p =
       let w : View S I = holding v t (entries p.journal) (room p.journal) in
       let offers = same_total (λ (u : View S I). u.knows.offers) s.views id v w at refl in
@@ -142,42 +185,70 @@ module _ {J S I : Type 0} (entries : J → List (Entry I)) (room : J → ℕ) (o
       record {
         base = h.base;
         all_fit = h.all_fit;
-        each_opens = views_at s.views id w (λ _ u. IsLive u → u.knows.opening ≡ Some h.base) h.each_opens (h.each_opens id v at);
+        each_opens =
+            views_at s.views id w (λ _ u. IsLive u → u.knows.opening ≡ Some h.base) h.each_opens
+            (h.each_opens id v at);
         turn = h.turn;
         history = h.history;
         few = h.few;
         rises = h.rises;
-        each = views_at s.views id w (λ _ u. Agrees h.turn h.history u.knows) h.each (h.each id v at);
+        each = views_at s.views id w (λ _ u. Agrees h.turn h.history u.knows) h.each
+            (h.each id v at);
         noted = views_at s.views id w (λ _ u. Noted u) h.noted
-            (record { rank = f.rank; single = f.single; spent = λ z o. absurd (live z o); own = f.own; others = f.others; fewer = f.fewer });
-        once = λ x. same_total (λ (u : View S I). occurrences x u.knows.taken) s.views id v w at refl ∙ h.once x;
-        one_first = same_total (λ (u : View S I). u.knows.first) s.views id v w at refl ∙ h.one_first;
-        others_out = same_total (λ (u : View S I). u.notes.other) s.views id v w at refl ∙ h.others_out
+            (record {
+              rank = f.rank;
+              single = f.single;
+              spent =
+                  λ z o. absurd (live z o);
+              own = f.own;
+              others = f.others;
+              fewer = f.fewer;
+            });
+        once = λ x. same_total
+            (λ (u : View S I). occurrences x u.knows.taken) s.views id v w at refl ∙ h.once x;
+        one_first =
+            same_total (λ (u : View S I). u.knows.first) s.views id v w at refl ∙ h.one_first;
+        others_out =
+            same_total (λ (u : View S I). u.notes.other) s.views id v w at refl ∙ h.others_out
             ∙ sym (same_total (λ (u : View S I). u.knows.out) s.views id v w at refl);
         place = inr (record {
-          words = ap (λ (ws : List ℕ). set ws 0 (2 * t + 1)) p.words ∙ ap (λ (m : ℕ). (2 * m + 1) ∷ []) is;
+          words = ap (λ (ws : List ℕ). set ws 0 (2 * t + 1)) p.words
+              ∙ ap (λ (m : ℕ). (2 * m + 1) ∷ []) is;
           homes = ap (λ (hs : List (Option J)). set hs 0 none) p.homes;
           holder = id;
           view = w;
           there = set_here s.views id w (within s.views id v at);
           holds = (refl, is, p.entries_are);
           offers = subst (λ (n : ℕ). n ≤ room p.journal) (sym offers) p.offers;
-          others = views_at s.views id w (λ k u. k ≢ id → u.notes.holds ≡ false) (λ k u e ne. p.free k u e) (λ ne. absurd (ne refl));
+          others = views_at s.views id w (λ k u. k ≢ id → u.notes.holds ≡ false)
+              (λ k u e ne. p.free k u e) (λ ne. absurd (ne refl));
         });
       }
 
   -- what a try to take the turn t finds
-  tries_case : (s : State J (View S I)) (id t : ℕ) (v : View S I) (b : Bool) → (get_or s.words 0 0 == 2 * t) ≡ b → Rule s
+  tries_case : (s : State J (View S I)) (id t : ℕ) (v : View S I) (b : Bool)
+      → (get_or s.words 0 0 == 2 * t) ≡ b → Rule s
       → get_elem? s.views id ≡ some v → v.notes.holds ≡ false → IsLive v → t < most_turns
-      → (w : View S I) × (a : Act J) × Valid s.homes [] a × Rule (stepped s 0 (either b (2 * t + 1) (get_or s.words 0 0)) id [] w a)
-      × MatchBool b ((m : ℕ) × (2 * t ≡ 2 * m) × HasTurn entries room opening fits v m (w, carried_after [] a))
-        (◌≡◌ {A = Seated J S I} (w, carried_after [] a) (v, []))
-  tries_case s id t v false is h at free live few =
-      (v, keeps, tt, quiet s id v v h (quiet_self s id v v at free free refl refl) (λ t history small f. f) (λ f. f), refl)
+      → (w : View S I) × (a : Act J) × Valid s.homes [] a
+      × Rule (stepped s 0 (either b (2 * t + 1) (get_or s.words 0 0)) id [] w a)
+      × MatchBool b
+      ((m : ℕ) × (2 * t ≡ 2 * m)
+      × HasTurn entries room opening fits v m (w, carried_after [] a))
+      (◌≡◌ {A = Seated J S I} (w, carried_after [] a) (v, []))
+  tries_case s id t v false is h at free live few = (
+    v,
+    keeps,
+    tt,
+    quiet s id v v h (quiet_self s id v v at free free refl refl)
+        (λ t history small f. f) (λ f. f),
+    refl,
+  )
   tries_case s id t v true is h at free live few =
       ⊎_elim
       (λ p.
-      let e : t ≡ h.turn = (let a = ap (λ (ws : List ℕ). get_or ws 0 0) p.words in let b = n_is in omega arith) in (
+      let e : t
+      ≡ h.turn = (let a = ap (λ (ws : List ℕ). get_or ws 0 0) p.words in
+      let b = n_is in omega arith) in (
         holding v t (entries p.journal) (room p.journal),
         takes 0 p.journal,
         ap (λ (hs : List (Option J)). get_elem? hs 0) p.homes,
@@ -194,14 +265,17 @@ module _ {J S I : Type 0} (entries : J → List (Entry I)) (room : J → ℕ) (o
                 (subst (λ (m : ℕ). RisesWithin 0 m h.history) (sym e) h.rises);
             opens = h.each_opens id v at live ∙ ap Some (sym p.opens);
             all_fit = subst (λ (b : S). All (λ x. fits b x.item) (entries p.journal)) (sym p.opens)
-                (subst (λ (l : List (Entry I)). All (λ x. fits h.base x.item) l) (sym p.entries_are) h.all_fit);
+                (subst (λ (l : List (Entry I)). All (λ x. fits h.base x.item) l)
+                (sym p.entries_are) h.all_fit);
             agrees = subst (λ (l : List (Entry I)). Agrees t l v.knows) (sym p.entries_are)
                 (subst (λ (m : ℕ). Agrees m h.history v.knows) (sym e) (h.each id v at));
-            offers = (let a = member_total (λ (x : View S I). x.knows.offers) s.views id v at in let b = p.offers in omega arith);
+            offers = (let a = member_total (λ (x : View S I). x.knows.offers) s.views id v at in
+                let b = p.offers in omega arith);
           },
         ),
       ))
-      (λ p. absurd (let a = ap (λ (ws : List ℕ). get_or ws 0 0) p.words in let b = n_is in omega arith))
+      (λ p. absurd (let a = ap (λ (ws : List ℕ). get_or ws 0 0) p.words in
+      let b = n_is in omega arith))
       h.place
     where
       n_is : get_or s.words 0 0 ≡ 2 * t
@@ -212,17 +286,23 @@ module _ {J S I : Type 0} (entries : J → List (Entry I)) (room : J → ℕ) (o
   alone m e = λ k. (m.0, e k)
 
   -- a load
-  pub loads_keeps : (id : ℕ) (m : Seated J S I) → IsIdle m → Allows Rule 1 id m 0 (λ n. n) (Loads (step 1 0 0 0 none) m)
+  pub loads_keeps : (id : ℕ) (m : Seated J S I) → IsIdle m
+      → Allows Rule 1 id m 0 (λ n. n) (Loads (step 1 0 0 0 none) m)
   loads_keeps id m pass =
-      subst (λ (x : Seated J S I). Allows Rule 1 id x 0 (λ n. n) (Loads (step 1 0 0 0 none) x)) (sym (alone m pass.0))
+      subst (λ (x : Seated J S I). Allows Rule 1 id x 0 (λ n. n) (Loads (step 1 0 0 0 none) x))
+      (sym (alone m pass.0))
       (loads_view id m.0 pass.1)
 
   -- a try
   pub tries_keeps : (id t : ℕ) (m : Seated J S I) → IsIdle m → t < most_turns
-      → Allows Rule 1 id m 0 (λ n. either (n == 2 * t) (2 * t + 1) n) (Tries entries room opening fits (step 1 0 (2 * t) (2 * t + 1) none) m)
+      → Allows Rule 1 id m 0 (λ n. either (n == 2 * t) (2 * t + 1) n)
+      (Tries entries room opening fits (step 1 0 (2 * t) (2 * t + 1) none) m)
   tries_keeps id t m pass few =
-      subst (λ (x : Seated J S I). Allows Rule 1 id x 0 (λ n. either (n == 2 * t) (2 * t + 1) n) (Tries entries room opening fits (step 1 0 (2 * t) (2 * t + 1) none) x)) (sym (alone m pass.0))
-      (λ s h slots at big. tries_case s id t m.0 (get_or s.words 0 0 == 2 * t) refl h at pass.1 pass.2 few)
+      subst (λ (x : Seated J S I). Allows Rule 1 id x 0 (λ n. either (n == 2 * t) (2 * t + 1) n)
+      (Tries entries room opening fits (step 1 0 (2 * t) (2 * t + 1) none) x))
+      (sym (alone m pass.0))
+      (λ s h slots at big. tries_case s id t m.0
+      (get_or s.words 0 0 == 2 * t) refl h at pass.1 pass.2 few)
 
   -- a view that holds a turn is the one that the rule knows of
   record Holder (s : State J (View S I)) (v : View S I) (h : Rule s) : Type 0 where
@@ -231,9 +311,11 @@ module _ {J S I : Type 0} (entries : J → List (Entry I)) (room : J → ℕ) (o
     all : v.notes.held_entries ≡ h.history
     left : total (λ (u : View S I). u.knows.offers) s.views ≤ v.notes.held_room
 
-  holder_of : (s : State J (View S I)) (id : ℕ) (v : View S I) (h : Rule s) → get_elem? s.views id ≡ some v
+  holder_of : (s : State J (View S I)) (id : ℕ) (v : View S I) (h : Rule s)
+      → get_elem? s.views id ≡ some v
       → v.notes.holds ≡ true
-      → Holder s v h × ((k : ℕ) (u : View S I) → get_elem? s.views k ≡ some u → k ≢ id → u.notes.holds ≡ false)
+      → Holder s v h
+      × ((k : ℕ) (u : View S I) → get_elem? s.views k ≡ some u → k ≢ id → u.notes.holds ≡ false)
   holder_of s id v h at holds =
       ⊎_elim
       (λ p. absurd (false≢true (sym (p.free id v at) ∙ holds)))
@@ -245,7 +327,9 @@ module _ {J S I : Type 0} (entries : J → List (Entry I)) (room : J → ℕ) (o
           out = p;
           turn = ap (λ (u : View S I). u.notes.held_turn) (sym one) ∙ p.holds.1;
           all = ap (λ (u : View S I). u.notes.held_entries) (sym one) ∙ p.holds.2;
-          left = subst (λ (u : View S I). total (λ (x : View S I). x.knows.offers) s.views ≤ u.notes.held_room) one p.offers;
+          left = subst
+              (λ (u : View S I). total
+              (λ (x : View S I). x.knows.offers) s.views ≤ u.notes.held_room) one p.offers;
         },
         (λ k u e' ne. p.others k u e' (λ f. ne (f ∙ sym e))),
       ))
@@ -253,7 +337,8 @@ module _ {J S I : Type 0} (entries : J → List (Entry I)) (room : J → ℕ) (o
       h.place
 
   -- a holder is live, and knows the journal's opening
-  base_is : (s : State J (View S I)) (id : ℕ) (v : View S I) (j : J) (h : Rule s) → get_elem? s.views id ≡ some v
+  base_is : (s : State J (View S I)) (id : ℕ) (v : View S I) (j : J) (h : Rule s)
+      → get_elem? s.views id ≡ some v
       → v.notes.holds ≡ true → v.knows.opening ≡ Some (opening j) → h.base ≡ opening j
   base_is s id v j h at holds opens =
       let live : IsLive v = λ z o. false≢true (sym ((h.noted id v at).spent z o).1 ∙ holds) in
@@ -261,21 +346,29 @@ module _ {J S I : Type 0} (entries : J → List (Entry I)) (room : J → ℕ) (o
       cc
 
   -- the journal comes back, with at most one entry of the turn
-  back_at : (s : State J (View S I)) (id : ℕ) (v : View S I) (j : J) (more : List (Entry I)) (used : ℕ) → Rule s
+  back_at : (s : State J (View S I)) (id : ℕ) (v : View S I) (j : J) (more : List (Entry I))
+      (used : ℕ) → Rule s
       → get_elem? s.views id ≡ some v → v.notes.holds ≡ true → v.notes.held_turn < most_turns
-      → entries j ≡ v.notes.held_entries ++ more → RisesWithin v.notes.held_turn (v.notes.held_turn + 1) more
-      → used ≤ v.knows.offers → v.notes.held_room ≤ room j + used → v.knows.opening ≡ Some (opening j)
+      → entries j ≡ v.notes.held_entries ++ more
+      → RisesWithin v.notes.held_turn (v.notes.held_turn + 1) more
+      → used ≤ v.knows.offers → v.notes.held_room ≤ room j + used
+      → v.knows.opening ≡ Some (opening j)
       → All (λ e. fits (opening j) e.item) more
-      → Rule (stepped s 0 (2 * v.notes.held_turn + 2) id ((0, j) ∷ []) (after_turn v (entries j) used) gives)
+      → Rule (stepped s 0 (2 * v.notes.held_turn + 2) id ((0, j) ∷ [])
+      (after_turn v (entries j) used) gives)
   back_at s id v j more used h at holds few is late some_left left opens new_fit =
       let w : View S I = after_turn v (entries j) used in
       let q = holder_of s id v h at holds in
       let t : ℕ = v.notes.held_turn in
       let turn : t ≡ h.turn = q.0.turn in
       let history : List (Entry I) = entries j in
-      let history_is : history ≡ h.history ++ more = is ∙ ap (λ (l : List (Entry I)). l ++ more) q.0.all in
-      let rises : RisesWithin 0 t h.history = subst (λ (n : ℕ). RisesWithin 0 n h.history) (sym turn) h.rises in
-      let rises' : RisesWithin 0 (t + 1) history = subst (RisesWithin 0 (t + 1)) (sym history_is) (rises_append 0 t (t + 1) h.history more rises late) in
+      let history_is : history ≡ h.history ++ more =
+      is ∙ ap (λ (l : List (Entry I)). l ++ more) q.0.all in
+      let rises : RisesWithin 0 t h.history =
+      subst (λ (n : ℕ). RisesWithin 0 n h.history) (sym turn) h.rises in
+      let rises' : RisesWithin 0 (t + 1) history =
+      subst (RisesWithin 0 (t + 1)) (sym history_is)
+      (rises_append 0 t (t + 1) h.history more rises late) in
       let offers = total_set (λ (u : View S I). u.knows.offers) s.views id v w at in
       let own = h.each id v at in
       let notes = h.noted id v at in
@@ -285,7 +378,9 @@ module _ {J S I : Type 0} (entries : J → List (Entry I)) (room : J → ℕ) (o
         all_fit = subst (λ (l : List (Entry I)). All (λ e. fits h.base e.item) l) (sym history_is)
             (All-append (λ (e : Entry I). fits h.base e.item) h.history more h.all_fit
             (subst (λ (b : S). All (λ e. fits b e.item) more) (sym base) new_fit));
-        each_opens = views_at s.views id w (λ _ u. IsLive u → u.knows.opening ≡ Some h.base) h.each_opens (h.each_opens id v at);
+        each_opens =
+            views_at s.views id w (λ _ u. IsLive u → u.knows.opening ≡ Some h.base) h.each_opens
+            (h.each_opens id v at);
         turn = t + 1;
         history = history;
         few = omega arith;
@@ -296,7 +391,8 @@ module _ {J S I : Type 0} (entries : J → List (Entry I)) (room : J → ℕ) (o
             let reached = f.reached in
             record {
               rest = f.rest ++ more;
-              is = history_is ∙ ap (λ (l : List (Entry I)). l ++ more) f.is ∙ append_assoc u.knows.seen f.rest more;
+              is = history_is ∙ ap (λ (l : List (Entry I)). l ++ more) f.is
+                  ∙ append_assoc u.knows.seen f.rest more;
               early = f.early;
               late = rises_append u.knows.turn t (t + 1) f.rest more
                   (subst (λ (n : ℕ). RisesWithin u.knows.turn n f.rest) (sym turn) f.late) late;
@@ -313,7 +409,9 @@ module _ {J S I : Type 0} (entries : J → List (Entry I)) (room : J → ℕ) (o
               known = le_refl (t + 1);
               taken = All-push (λ x. x < t + 1) v.knows.taken t
                   (All-weaker (λ x. x < v.knows.turn) (λ x. x < t + 1)
-                  (λ x lt. let a = rises_le v.knows.turn h.turn own.rest own.late in omega arith) v.knows.taken own.taken)
+                  (λ x lt. let a =
+                  rises_le v.knows.turn h.turn own.rest own.late in omega arith) v.knows.taken
+                  own.taken)
                   (omega arith);
             });
         noted = views_at s.views id w (λ _ u. Noted u) h.noted
@@ -332,8 +430,10 @@ module _ {J S I : Type 0} (entries : J → List (Entry I)) (room : J → ℕ) (o
             let d = one_more x t in
             let e = ap (once_below x) turn in
             omega arith;
-        one_first = same_total (λ (u : View S I). u.knows.first) s.views id v w at refl ∙ h.one_first;
-        others_out = same_total (λ (u : View S I). u.notes.other) s.views id v w at refl ∙ h.others_out
+        one_first =
+            same_total (λ (u : View S I). u.knows.first) s.views id v w at refl ∙ h.one_first;
+        others_out =
+            same_total (λ (u : View S I). u.notes.other) s.views id v w at refl ∙ h.others_out
             ∙ sym (same_total (λ (u : View S I). u.knows.out) s.views id v w at refl);
         place = inl (record {
           words = ap (λ (ws : List ℕ). set ws 0 (2 * t + 2)) q.0.out.words
@@ -356,15 +456,18 @@ module _ {J S I : Type 0} (entries : J → List (Entry I)) (room : J → ℕ) (o
           let q = holder_of s id v h at holds in
           let f = h.each id v at in
           let all : entries j ≡ v.knows.seen ++ (f.rest ++ more) =
-          is ∙ ap (λ (l : List (Entry I)). l ++ more) (q.0.all ∙ f.is) ∙ append_assoc v.knows.seen f.rest more in
+          is ∙ ap (λ (l : List (Entry I)). l ++ more) (q.0.all ∙ f.is)
+          ∙ append_assoc v.knows.seen f.rest more in
           let tail : RisesWithin v.knows.turn (v.notes.held_turn + 1) (f.rest ++ more) =
           rises_append v.knows.turn v.notes.held_turn (v.notes.held_turn + 1) f.rest more
           (subst (λ (n : ℕ). RisesWithin v.knows.turn n f.rest) (sym q.0.turn) f.late) late in
           subst (λ (l : List (Entry I)). Extends low (v.notes.held_turn + 1) l xs) (sym all)
-          (extends_more low v.knows.turn (v.notes.held_turn + 1) v.knows.seen xs (f.rest ++ more) st tail)
+          (extends_more low v.knows.turn (v.notes.held_turn + 1) v.knows.seen xs
+          (f.rest ++ more) st tail)
 
   -- the journal comes back as it was, and the turn is not over
-  up_at : (s : State J (View S I)) (id : ℕ) (v : View S I) (j : J) → Rule s → get_elem? s.views id ≡ some v
+  up_at : (s : State J (View S I)) (id : ℕ) (v : View S I) (j : J) → Rule s
+      → get_elem? s.views id ≡ some v
       → v.notes.holds ≡ true → entries j ≡ v.notes.held_entries → v.notes.held_room ≤ room j
       → v.knows.opening ≡ Some (opening j)
       → Rule (stepped s 0 (2 * v.notes.held_turn) id ((0, j) ∷ []) (after_give_up v) gives)
@@ -377,20 +480,35 @@ module _ {J S I : Type 0} (entries : J → List (Entry I)) (room : J → ℕ) (o
       record {
         base = h.base;
         all_fit = h.all_fit;
-        each_opens = views_at s.views id w (λ _ u. IsLive u → u.knows.opening ≡ Some h.base) h.each_opens (h.each_opens id v at);
+        each_opens =
+            views_at s.views id w (λ _ u. IsLive u → u.knows.opening ≡ Some h.base) h.each_opens
+            (h.each_opens id v at);
         turn = h.turn;
         history = h.history;
         few = h.few;
         rises = h.rises;
-        each = views_at s.views id w (λ _ u. Agrees h.turn h.history u.knows) h.each (h.each id v at);
+        each = views_at s.views id w (λ _ u. Agrees h.turn h.history u.knows) h.each
+            (h.each id v at);
         noted = views_at s.views id w (λ _ u. Noted u) h.noted
-            (record { rank = f.rank; single = f.single; spent = λ z o. ((f.spent z o).0, refl); own = f.own; others = f.others; fewer = f.fewer });
-        once = λ x. same_total (λ (u : View S I). occurrences x u.knows.taken) s.views id v w at refl ∙ h.once x;
-        one_first = same_total (λ (u : View S I). u.knows.first) s.views id v w at refl ∙ h.one_first;
-        others_out = same_total (λ (u : View S I). u.notes.other) s.views id v w at refl ∙ h.others_out
+            (record {
+              rank = f.rank;
+              single = f.single;
+              spent =
+                  λ z o. ((f.spent z o).0, refl);
+              own = f.own;
+              others = f.others;
+              fewer = f.fewer;
+            });
+        once = λ x. same_total
+            (λ (u : View S I). occurrences x u.knows.taken) s.views id v w at refl ∙ h.once x;
+        one_first =
+            same_total (λ (u : View S I). u.knows.first) s.views id v w at refl ∙ h.one_first;
+        others_out =
+            same_total (λ (u : View S I). u.notes.other) s.views id v w at refl ∙ h.others_out
             ∙ sym (same_total (λ (u : View S I). u.knows.out) s.views id v w at refl);
         place = inl (record {
-          words = ap (λ (ws : List ℕ). set ws 0 (2 * v.notes.held_turn)) q.0.out.words ∙ ap (λ (m : ℕ). (2 * m) ∷ []) q.0.turn;
+          words = ap (λ (ws : List ℕ). set ws 0 (2 * v.notes.held_turn)) q.0.out.words
+              ∙ ap (λ (m : ℕ). (2 * m) ∷ []) q.0.turn;
           journal = j;
           homes = ap (λ (hs : List (Option J)). set hs 0 (some j)) q.0.out.homes;
           opens = sym base;
@@ -409,34 +527,43 @@ module _ {J S I : Type 0} (entries : J → List (Entry I)) (room : J → ℕ) (o
   one_journal : (j i : J) → ◌≡◌ {A = List (ℕ × J)} ((0, j) ∷ []) ((0, i) ∷ []) → j ≡ i
   one_journal j i e = ap (λ (l : List (ℕ × J)). (get_or l 0 (0, j)).1) e
 
-  back_pair : (id : ℕ) (v : View S I) (j : J) (more : List (Entry I)) (used : ℕ) → v.notes.holds ≡ true
+  back_pair : (id : ℕ) (v : View S I) (j : J) (more : List (Entry I)) (used : ℕ)
+      → v.notes.holds ≡ true
       → v.notes.held_turn < most_turns → entries j ≡ v.notes.held_entries ++ more
       → RisesWithin v.notes.held_turn (v.notes.held_turn + 1) more → used ≤ v.knows.offers
-      → v.notes.held_room ≤ room j + used → v.knows.opening ≡ Some (opening j) → All (λ e. fits (opening j) e.item) more
+      → v.notes.held_room ≤ room j + used → v.knows.opening ≡ Some (opening j)
+      → All (λ e. fits (opening j) e.item) more
       → Gives id (v, (0, j) ∷ []) (2 * v.notes.held_turn + 2) (GivesBack entries used)
   back_pair id v j more used holds few is late some_left left opens new_fit s h slots at big = (
     after_turn v (entries j) used,
     gives,
     tt,
     back_at s id v j more used h at holds few is late some_left left opens new_fit,
-    (λ i e. ap (λ (x : J). let after : Seated J S I = (after_turn v (entries x) used, []) in after) (one_journal j i e)),
+    (λ i e. ap (λ (x : J). let after : Seated J S I = (after_turn v (entries x) used, []) in after)
+        (one_journal j i e)),
   )
 
-  up_pair : (id : ℕ) (v : View S I) (j : J) → v.notes.holds ≡ true → entries j ≡ v.notes.held_entries
+  up_pair : (id : ℕ) (v : View S I) (j : J) → v.notes.holds ≡ true
+      → entries j ≡ v.notes.held_entries
       → v.notes.held_room ≤ room j → v.knows.opening ≡ Some (opening j)
       → Gives id (v, (0, j) ∷ []) (2 * v.notes.held_turn) GivesUp
-  up_pair id v j holds is left opens s h slots at big = (after_give_up v, gives, tt, up_at s id v j h at holds is left opens, refl)
+  up_pair id v j holds is left opens s h slots at big =
+      (after_give_up v, gives, tt, up_at s id v j h at holds is left opens, refl)
 
   -- the end of a look
   pub look_back_keeps : (id t : ℕ) (m : Seated J S I) → HasLooked entries room opening fits t m
       → Gives id m (2 * t + 2) (GivesBack entries 0)
   look_back_keeps id t m h =
-      let few : m.0.notes.held_turn < most_turns = (let a = h.holds.1 in let b = h.holds.2 in omega arith) in
+      let few : m.0.notes.held_turn < most_turns = (let a = h.holds.1 in
+      let b = h.holds.2 in omega arith) in
       let left : m.0.notes.held_room ≤ room h.journal + 0 = (let a = h.room_left in omega arith) in
-      let late : RisesWithin m.0.notes.held_turn (m.0.notes.held_turn + 1) (nothing) = omega arith in
+      let late : RisesWithin m.0.notes.held_turn (m.0.notes.held_turn + 1) (nothing) =
+      omega arith in
       subst (λ (n : ℕ). Gives id m (2 * n + 2) (GivesBack entries 0)) h.holds.1
-      (subst (λ (x : Seated J S I). Gives id x (2 * m.0.notes.held_turn + 2) (GivesBack entries 0)) (sym (carrying m h.journal h.carried))
-      (back_pair id m.0 h.journal [] 0 h.holds.0 few (h.same ∙ sym (append-nil m.0.notes.held_entries)) late (omega arith) left
+      (subst (λ (x : Seated J S I). Gives id x (2 * m.0.notes.held_turn + 2) (GivesBack entries 0))
+      (sym (carrying m h.journal h.carried))
+      (back_pair id m.0 h.journal [] 0 h.holds.0 few
+      (h.same ∙ sym (append-nil m.0.notes.held_entries)) late (omega arith) left
       h.opens (All-nil (λ (e : Entry I). fits (opening h.journal) e.item))))
     where
       nothing : List (Entry I)
@@ -446,18 +573,23 @@ module _ {J S I : Type 0} (entries : J → List (Entry I)) (room : J → ℕ) (o
   pub offer_back_keeps : (id t : ℕ) (m : Seated J S I) → HasOffered entries room opening fits t m
       → Gives id m (2 * t + 2) (GivesBack entries 1)
   offer_back_keeps id t m h =
-      let few : m.0.notes.held_turn < most_turns = (let a = h.holds.1 in let b = h.holds.2 in omega arith) in
+      let few : m.0.notes.held_turn < most_turns = (let a = h.holds.1 in
+      let b = h.holds.2 in omega arith) in
       let late : RisesWithin m.0.notes.held_turn (m.0.notes.held_turn + 1) h.more =
       subst (λ (n : ℕ). RisesWithin n (n + 1) h.more) (sym h.holds.1) h.late in
       subst (λ (n : ℕ). Gives id m (2 * n + 2) (GivesBack entries 1)) h.holds.1
-      (subst (λ (x : Seated J S I). Gives id x (2 * m.0.notes.held_turn + 2) (GivesBack entries 1)) (sym (carrying m h.journal h.carried))
-      (back_pair id m.0 h.journal h.more 1 h.holds.0 few h.is late h.offers h.room_left h.opens h.new_fit))
+      (subst (λ (x : Seated J S I). Gives id x (2 * m.0.notes.held_turn + 2) (GivesBack entries 1))
+      (sym (carrying m h.journal h.carried))
+      (back_pair id m.0 h.journal h.more 1 h.holds.0 few h.is late h.offers h.room_left h.opens
+      h.new_fit))
 
   -- a turn that is given up
-  pub give_up_keeps : (id t : ℕ) (m : Seated J S I) → HasLooked entries room opening fits t m → Gives id m (2 * t) GivesUp
+  pub give_up_keeps : (id t : ℕ) (m : Seated J S I) → HasLooked entries room opening fits t m
+      → Gives id m (2 * t) GivesUp
   give_up_keeps id t m h =
       subst (λ (n : ℕ). Gives id m (2 * n) GivesUp) h.holds.1
-      (subst (λ (x : Seated J S I). Gives id x (2 * m.0.notes.held_turn) GivesUp) (sym (carrying m h.journal h.carried))
+      (subst (λ (x : Seated J S I). Gives id x (2 * m.0.notes.held_turn) GivesUp)
+      (sym (carrying m h.journal h.carried))
       (up_pair id m.0 h.journal h.holds.0 h.same h.room_left h.opens))
 
   same_word : (n k : ℕ) → either (n == k) k n ≡ n
@@ -477,7 +609,14 @@ module _ {J S I : Type 0} (entries : J → List (Entry I)) (room : J → ℕ) (o
         tt,
         subst (λ (m : ℕ). Rule (stepped s 0 m id [] w keeps)) (sym (same_word n k))
             (quiet s id v w h (quiet_self s id v w at free free refl refl) (λ t history small f. f)
-            (λ f. record { rank = f.rank; single = f.single; spent = f.spent; own = f.own; others = f.others; fewer = f.fewer })),
+            (λ f. record {
+              rank = f.rank;
+              single = f.single;
+              spent = f.spent;
+              own = f.own;
+              others = f.others;
+              fewer = f.fewer;
+            })),
         refl,
       )
 
@@ -485,7 +624,8 @@ module _ {J S I : Type 0} (entries : J → List (Entry I)) (room : J → ℕ) (o
   pub asks_keeps : (id k : ℕ) (m : Seated J S I) → IsIdle m
       → Allows Rule 1 id m 0 (λ n. either (n == k) k n) (Asks (step 1 0 k k none) m)
   asks_keeps id k m pass =
-      subst (λ (x : Seated J S I). Allows Rule 1 id x 0 (λ n. either (n == k) k n) (Asks (step 1 0 k k none) x)) (sym (alone m pass.0))
+      subst (λ (x : Seated J S I). Allows Rule 1 id x 0 (λ n. either (n == k) k n)
+      (Asks (step 1 0 k k none) x)) (sym (alone m pass.0))
       (asks_view id k m.0 pass.1)
 
   learns_view : (id : ℕ) (v : View S I) → v.notes.holds ≡ false → IsLive v
@@ -496,7 +636,8 @@ module _ {J S I : Type 0} (entries : J → List (Entry I)) (room : J → ℕ) (o
         v,
         keeps,
         tt,
-        quiet s id v v h (quiet_self s id v v at free free refl refl) (λ t history small f. f) (λ f. f),
+        quiet s id v v h (quiet_self s id v v at free free refl refl) (λ t history small f. f)
+            (λ f. f),
         (
           refl,
           record {
@@ -504,7 +645,8 @@ module _ {J S I : Type 0} (entries : J → List (Entry I)) (room : J → ℕ) (o
             others = notes.others;
             fewer = notes.fewer;
             apart = λ x.
-                let a = member_total (λ (u : View S I). occurrences x u.knows.taken) s.views id v at in
+                let a = member_total
+                (λ (u : View S I). occurrences x u.knows.taken) s.views id v at in
                 let b = h.once x in
                 let c = once_most x h.turn in
                 omega arith;
@@ -526,5 +668,6 @@ module _ {J S I : Type 0} (entries : J → List (Entry I)) (room : J → ℕ) (o
   pub learns_keeps : (id : ℕ) (m : Seated J S I) → IsIdle m
       → Allows Rule 1 id m 0 (λ n. n) (Learns fits (step 1 0 0 0 none) m)
   learns_keeps id m pass =
-      subst (λ (x : Seated J S I). Allows Rule 1 id x 0 (λ n. n) (Learns fits (step 1 0 0 0 none) x)) (sym (alone m pass.0))
+      subst (λ (x : Seated J S I). Allows Rule 1 id x 0 (λ n. n)
+      (Learns fits (step 1 0 0 0 none) x)) (sym (alone m pass.0))
       (learns_view id m.0 pass.1 pass.2)

@@ -14,8 +14,10 @@ module _ {J S I : Type 0} where
       let after : Ended (told v w.0) n = subst (λ (x : Seated J S I). Ended x.0 n) w.2 end in
       ((let a = w.1 in let b = after.0 in omega arith), after.1)
 
-  pub takes_after : (entries : J → List (Entry I)) (room : J → ℕ) (opening : J → S) (fits : S → I → Type 0) (v : View S I) (t : ℕ)
-      (m n : Seated J S I) → Waited v m → TookTurn entries room opening fits m.0 t n → TookTurn entries room opening fits v t n
+  pub takes_after : (entries : J → List (Entry I)) (room : J → ℕ) (opening : J → S)
+      (fits : S → I → Type 0) (v : View S I) (t : ℕ)
+      (m n : Seated J S I) → Waited v m → TookTurn entries room opening fits m.0 t n
+      → TookTurn entries room opening fits v t n
   takes_after entries room opening fits v t m n w took =
       let after : TookTurn entries room opening fits (told v w.0) t n =
       subst (λ (x : Seated J S I). TookTurn entries room opening fits x.0 t n) w.2 took in

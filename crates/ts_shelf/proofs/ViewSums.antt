@@ -28,11 +28,13 @@ module _ {S I : Type 0} where
   views_at views id w P others own = views_else views id w P (λ k u e ne. others k u e) own
 
   -- one view holds a turn, another does not: they are two
-  pub not_holding : (views : List (View S I)) (id k : ℕ) (v u : View S I) → get_elem? views id ≡ some v
+  pub not_holding : (views : List (View S I)) (id k : ℕ) (v u : View S I)
+      → get_elem? views id ≡ some v
       → v.notes.holds ≡ false → get_elem? views k ≡ some u → u.notes.holds ≡ true → k ≢ id
   not_holding views id k v u at free e holds same =
       let both : some u ≡ some v = sym e ∙ ap (get_elem? views) same ∙ at in
-      false≢true (sym free ∙ ap (λ (x : View S I). x.notes.holds) (sym (some-injective u v both)) ∙ holds)
+      false≢true
+      (sym free ∙ ap (λ (x : View S I). x.notes.holds) (sym (some-injective u v both)) ∙ holds)
 
   pub total_append : (f : View S I → ℕ) (views : List (View S I)) (v : View S I)
       → total f (views ++ v ∷ []) ≡ total f views + f v
@@ -42,11 +44,13 @@ module _ {S I : Type 0} where
   pub member_total : (f : View S I → ℕ) (views : List (View S I)) (k : ℕ) (u : View S I)
       → get_elem? views k ≡ some u → f u ≤ total f views
   member_total f [] k u e = absurd (some-ne-none u (sym e))
-  member_total f (x ∷ xs) zero u e = let same : f x ≡ f u = ap f (some-injective x u e) in omega arith
+  member_total f (x ∷ xs) zero u e = let same : f x ≡ f u =
+      ap f (some-injective x u e) in omega arith
   member_total f (x ∷ xs) (suc k) u e = let r = member_total f xs k u e in omega arith
 
   none_first : (f : View S I → ℕ) (views : List (View S I)) → total (λ v. v.knows.first) views ≡ 0
-      → ((k : ℕ) (u : View S I) → get_elem? views k ≡ some u → u.knows.first ≡ 0 → f u ≡ 0) → total f views ≡ 0
+      → ((k : ℕ) (u : View S I) → get_elem? views k ≡ some u → u.knows.first ≡ 0 → f u ≡ 0)
+      → total f views ≡ 0
   none_first f [] z each = refl
   none_first f (x ∷ xs) z each =
       let a = each 0 x refl (omega arith) in
@@ -54,9 +58,11 @@ module _ {S I : Type 0} where
       omega arith
 
   -- a sum to which only the first pass contributes
-  pub sole : (f : View S I → ℕ) (views : List (View S I)) (k : ℕ) (v : View S I) → get_elem? views k ≡ some v
+  pub sole : (f : View S I → ℕ) (views : List (View S I)) (k : ℕ) (v : View S I)
+      → get_elem? views k ≡ some v
       → total (λ v. v.knows.first) views ≡ 1 → v.knows.first ≡ 1
-      → ((j : ℕ) (u : View S I) → get_elem? views j ≡ some u → u.knows.first ≡ 0 → f u ≡ 0) → total f views ≡ f v
+      → ((j : ℕ) (u : View S I) → get_elem? views j ≡ some u → u.knows.first ≡ 0 → f u ≡ 0)
+      → total f views ≡ f v
   sole f [] k v e one is each = absurd (some-ne-none v (sym e))
   sole f (x ∷ xs) zero v e one is each =
       let same : x ≡ v = some-injective x v e in
@@ -71,7 +77,8 @@ module _ {S I : Type 0} where
       omega arith
 
   -- the sum after a change of one view
-  pub total_set : (f : View S I → ℕ) (views : List (View S I)) (k : ℕ) (v w : View S I) → get_elem? views k ≡ some v
+  pub total_set : (f : View S I → ℕ) (views : List (View S I)) (k : ℕ) (v w : View S I)
+      → get_elem? views k ≡ some v
       → total f (set views k w) + f v ≡ total f views + f w
   total_set f [] k v w at = absurd (some-ne-none v (sym at))
   total_set f (x ∷ xs) zero v w at = let e : f x ≡ f v = ap f (some-injective x v at) in omega arith

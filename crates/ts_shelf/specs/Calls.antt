@@ -6,19 +6,22 @@ use Rattle.ts_shelf.specs.declared.shelf.Offered.{Offered}
 use Rattle.ts_shelf.specs.declared.shelf.Offered.TheVariants.{Published, Newer}
 use Rattle.ts_shelf.specs.Entries.{most_turns, occurrences, once_below, Extends}
 use Rattle.ts_shelf.specs.Latest.{latest_of}
-use Rattle.ts_shelf.specs.Machine.{Event, look, offer, used_by, Response, counted, published, newer, IsTurn}
+use Rattle.ts_shelf.specs.Machine.{Event, look, offer, used_by, Response, shown, added, overtaken, IsTurn}
 
 module _ {S I : Type 0} where
   -- the pass took this turn for an event
-  pub record TakesTurn (old new : Knowledge S I) (turn : ℕ) (event : Event I) (response : Response) : Type 0 where
-    -- the entries of all smaller turns: what the pass had seen, and then entries with turns from its old turn on
+  pub record TakesTurn (old new : Knowledge S I) (turn : ℕ) (event : Event I)
+      (response : Response) : Type 0 where
+    -- the entries of all smaller turns: what the pass had seen, and then entries with turns from
+    -- its old turn on
     pub before : List (Entry I)
     pub extends : Extends old.turn turn before old.seen
     -- the event is done on them, and the pass has then seen all entries that there are
     pub event_is : IsTurn turn before event response new.seen
     -- the turn is one of the shelf's
     pub few : turn < most_turns
-    -- it is above all turns of the pass, and not below the number of turns that the pass knew to be over
+    -- it is above all turns of the pass, and not below the number of turns that the pass knew to be
+    -- over
     pub above : All (λ x. x < turn) old.taken
     pub late : old.reached ≤ turn
     -- it is now the last turn of the pass, and the last that it knows to be over
@@ -31,7 +34,8 @@ module _ {S I : Type 0} where
     pub rank : (new.first ≡ old.first) × (new.out ≡ old.out)
     pub opening : new.opening ≡ old.opening
 
-  -- no turn was taken: nothing changed but the number of turns known to be over, which grew or stayed
+  -- no turn was taken: nothing changed but the number of turns known to be over, which grew or
+  -- stayed
   pub record Stays (old new : Knowledge S I) : Type 0 where
     pub seen : new.seen ≡ old.seen
     pub taken : new.taken ≡ old.taken
@@ -43,20 +47,22 @@ module _ {S I : Type 0} where
 
   -- a look at this turn shows how many entries the pass has now seen
   pub record Looked (old new : Knowledge S I) (turn number : ℕ) : Type 0 where
-    pub turned : TakesTurn old new turn look (counted number)
+    pub turned : TakesTurn old new turn look (shown number)
     pub number_is : number ≡ length new.seen
 
   -- an offer was published at this turn
-  pub record Publishes (old new : Knowledge S I) (base : ℕ) (item : I) (turn number : ℕ) : Type 0 where
-    pub turned : TakesTurn old new turn (offer base item) (published number)
+  pub record Publishes (old new : Knowledge S I) (base : ℕ) (item : I)
+      (turn number : ℕ) : Type 0 where
+    pub turned : TakesTurn old new turn (offer base item) (added number)
     -- the pass had seen just `base` entries
     pub known : base ≡ length old.seen
     -- no entry came between, and this one alone was added
     pub adds : new.seen ≡ old.seen ++ record { turn = turn; item = item } ∷ []
 
   -- an offer met more entries than its base at this turn, which the pass has now seen
-  pub record IsNewer (old new : Knowledge S I) (base : ℕ) (item : I) (turn number : ℕ) : Type 0 where
-    pub turned : TakesTurn old new turn (offer base item) (newer number)
+  pub record IsNewer (old new : Knowledge S I) (base : ℕ) (item : I)
+      (turn number : ℕ) : Type 0 where
+    pub turned : TakesTurn old new turn (offer base item) (overtaken number)
     pub number_is : number ≡ length new.seen
     pub more : base < number
 
@@ -67,7 +73,8 @@ module _ {S I : Type 0} where
 
   -- what an offer answers
   abbrev pub Answers : (I → S) → Knowledge S I → Knowledge S I → ℕ → I → Offered S → Type 0
-  Answers shown_of old new base item (Published turn number) = Publishes old new base item turn number
+  Answers shown_of old new base item
+      (Published turn number) = Publishes old new base item turn number
   Answers shown_of old new base item (Newer turn number latest) =
       IsNewer old new base item turn number × ShowsLatest shown_of new latest
 
@@ -85,7 +92,8 @@ module _ {S I : Type 0} where
   -- the first pass takes in another
   pub record IsJoin (old other new : Knowledge S I) : Type 0 where
     -- it has seen what the one of the greater turn had
-    pub one : ((new.seen ≡ old.seen) × (new.turn ≡ old.turn)) ⊎ ((new.seen ≡ other.seen) × (new.turn ≡ other.turn))
+    pub one : ((new.seen ≡ old.seen) × (new.turn ≡ old.turn))
+        ⊎ ((new.seen ≡ other.seen) × (new.turn ≡ other.turn))
     -- of which both lists are prefixes; what comes after each has turns from that pass's turn on
     pub own : Extends old.turn new.turn new.seen old.seen
     pub others : Extends other.turn new.turn new.seen other.seen

@@ -19,8 +19,11 @@ module _ {I : Type 0} where
   -- the turns of the entries rise, from the one number on and below the other
   abbrev pub RisesWithin : ℕ → ℕ → List (Entry I) → Type 0
   RisesWithin low high [] = low ≤ high
-  RisesWithin low high (e ∷ es) = (low ≤ e.turn) × (e.turn < high) × RisesWithin (e.turn + 1) high es
+  RisesWithin low high (e ∷ es) = (low ≤ e.turn) × (e.turn < high)
+      × RisesWithin (e.turn + 1) high es
 
-  -- what was seen is a prefix, and the turns of the rest rise from the one number on and below the other
+  -- what was seen is a prefix, and the turns of the rest rise from the one number on and below the
+  -- other
   abbrev pub Extends : ℕ → ℕ → List (Entry I) → List (Entry I) → Type 0
-  Extends low high all seen = (rest : List (Entry I)) × (all ≡ seen ++ rest) × RisesWithin low high rest
+  Extends low high all seen = (rest : List (Entry I)) × (all ≡ seen ++ rest)
+      × RisesWithin low high rest

@@ -1,4 +1,5 @@
--- One turn on a journal, whoever runs it: threads on a shelf, or one thread with the journal in hand.
+-- One turn on a journal, whoever runs it: threads on a shelf, or one thread with the journal in
+-- hand.
 use Rattle.std.specs.Prelude.{◌≡◌, ℕ, ◌+◌, ◌<◌, List, [], ◌∷◌, ◌++◌, length}
 use Rattle.ts_shelf.specs.declared.journal.Entry.{Entry}
 use Rattle.ts_shelf.specs.Entries.{RisesWithin}
@@ -10,9 +11,9 @@ pub data Event (I : Type 0) : Type 0 where
 
 -- what is answered, with a number of entries
 pub data Response : Type 0 where
-  counted : ℕ → Response
-  published : ℕ → Response
-  newer : ℕ → Response
+  shown : ℕ → Response
+  added : ℕ → Response
+  overtaken : ℕ → Response
 
 module _ {I : Type 0} where
   -- how many offers an event uses up
@@ -25,7 +26,8 @@ module _ {I : Type 0} where
     pub number_is : number ≡ length before
     pub same : after ≡ before
 
-  -- there are just `base` entries, and the item is added with this turn, as the entry of the next number
+  -- there are just `base` entries, and the item is added with this turn, as the entry of the next
+  -- number
   pub record Appends (turn : ℕ) (before : List (Entry I)) (base : ℕ) (item : I) (number : ℕ)
       (after : List (Entry I)) : Type 0 where
     pub had : length before ≡ base
@@ -33,19 +35,21 @@ module _ {I : Type 0} where
     pub adds : after ≡ before ++ record { turn = turn; item = item } ∷ []
 
   -- there are more than `base` entries: the answer is how many there are, and nothing changes
-  pub record Exceeds (before : List (Entry I)) (base number : ℕ) (after : List (Entry I)) : Type 0 where
+  pub record Exceeds (before : List (Entry I)) (base number : ℕ)
+      (after : List (Entry I)) : Type 0 where
     pub more : base < length before
     pub number_is : number ≡ length before
     pub same : after ≡ before
 
   -- what an event answers, and which entries it leaves; an offer with too great a base is no event
   abbrev pub Does : ℕ → List (Entry I) → Event I → Response → List (Entry I) → Type 0
-  Does turn before look (counted number) after = Counts before number after
-  Does turn before look (published number) after = ⊥
-  Does turn before look (newer number) after = ⊥
-  Does turn before (offer base item) (counted number) after = ⊥
-  Does turn before (offer base item) (published number) after = Appends turn before base item number after
-  Does turn before (offer base item) (newer number) after = Exceeds before base number after
+  Does turn before look (shown number) after = Counts before number after
+  Does turn before look (added number) after = ⊥
+  Does turn before look (overtaken number) after = ⊥
+  Does turn before (offer base item) (shown number) after = ⊥
+  Does turn before (offer base item)
+      (added number) after = Appends turn before base item number after
+  Does turn before (offer base item) (overtaken number) after = Exceeds before base number after
 
   -- one event at this turn on a journal, all of whose entries have smaller turns
   pub record IsTurn (turn : ℕ) (before : List (Entry I)) (event : Event I) (response : Response)

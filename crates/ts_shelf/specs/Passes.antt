@@ -33,5 +33,12 @@ module _ {S I : Type 0} where
   -- the first pass of a shelf with this opening, which may make so many offers
   abbrev pub first_pass : S → ℕ → Knowledge S I
   first_pass opening offers = record {
-    opening = Some opening; seen = []; taken = []; turn = 0; reached = 0; offers = offers; first = 1; out = 0;
+    opening = Some opening;
+    seen = [];
+    taken = [];
+    turn = 0;
+    reached = 0;
+    offers = offers;
+    first = 1;
+    out = 0;
   }

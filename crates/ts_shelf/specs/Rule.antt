@@ -10,7 +10,8 @@ use Rattle.ts_shelf.specs.Entries.{most_turns, occurrences, once_below, RisesWit
 use Rattle.ts_shelf.specs.Views.{total, IsLive}
 
 -- what a pass knows agrees with a history of t turns
-pub record Agrees {S I : Type 0} (t : ℕ) (history : List (Entry I)) (k : Knowledge S I) : Type 0 where
+pub record Agrees {S I : Type 0} (t : ℕ) (history : List (Entry I))
+    (k : Knowledge S I) : Type 0 where
   -- the entries that it has not seen
   pub rest : List (Entry I)
   -- it has seen a prefix of the history
@@ -39,9 +40,11 @@ pub record Noted {S I : Type 0} (v : View S I) : Type 0 where
   -- which left one pass fewer out
   pub fewer : v.notes.out_before ≡ v.notes.out_after + 1
 
-module _ {J S I : Type 0} (entries : J → List (Entry I)) (room : J → ℕ) (opening : J → S) (fits : S → I → Type 0) where
+module _ {J S I : Type 0} (entries : J → List (Entry I)) (room : J → ℕ) (opening : J → S)
+    (fits : S → I → Type 0) where
   -- the word is even: the journal is at home, and no view holds a turn
-  pub record IsHome (base : S) (t : ℕ) (history : List (Entry I)) (s : State J (View S I)) : Type 0 where
+  pub record IsHome (base : S) (t : ℕ) (history : List (Entry I))
+      (s : State J (View S I)) : Type 0 where
     -- the word says that t turns are over
     pub words : s.words ≡ (2 * t) ∷ []
     -- the slot has the journal
@@ -67,11 +70,13 @@ module _ {J S I : Type 0} (entries : J → List (Entry I)) (room : J → ℕ) (o
     pub view : View S I
     pub there : get_elem? s.views holder ≡ some view
     -- it knows that the journal came with the history
-    pub holds : (view.notes.holds ≡ true) × (view.notes.held_turn ≡ t) × (view.notes.held_entries ≡ history)
+    pub holds : (view.notes.holds ≡ true) × (view.notes.held_turn ≡ t)
+        × (view.notes.held_entries ≡ history)
     -- and with room for all offers that are left
     pub offers : total (λ v. v.knows.offers) s.views ≤ view.notes.held_room
     -- nobody else has a turn
-    pub others : (k : ℕ) (v : View S I) → get_elem? s.views k ≡ some v → k ≢ holder → v.notes.holds ≡ false
+    pub others : (k : ℕ) (v : View S I) → get_elem? s.views k ≡ some v → k ≢ holder
+        → v.notes.holds ≡ false
 
   -- one history, in which each view has its place
   pub record IsShelf (s : State J (View S I)) : Type 0 where
@@ -84,7 +89,8 @@ module _ {J S I : Type 0} (entries : J → List (Entry I)) (room : J → ℕ) (o
     -- each entry's item fits the opening
     pub all_fit : All (λ e. fits base e.item) history
     -- each pass that was not taken in knows the opening
-    pub each_opens : (k : ℕ) (v : View S I) → get_elem? s.views k ≡ some v → IsLive v → v.knows.opening ≡ Some base
+    pub each_opens : (k : ℕ) (v : View S I) → get_elem? s.views k ≡ some v → IsLive v
+        → v.knows.opening ≡ Some base
     -- there are no more turns than a shelf has
     pub few : turn ≤ most_turns
     -- the entries' turns rise, and are over

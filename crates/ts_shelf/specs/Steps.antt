@@ -23,11 +23,14 @@ pub record HasJoined {S I : Type 0} (fits : S → I → Type 0) (v : View S I) :
 module _ {J S I : Type 0} where
   -- a load: so many turns are over, which are no fewer than were known before
   abbrev pub Loads : Step J → Seated J S I → ℕ → Seated J S I → Type 0
-  Loads s m n w = (w ≡ (told m.0 (n / 2), [])) × (n ≤ 2 * most_turns + 1) × (m.0.knows.reached ≤ n / 2)
+  Loads s m n w = (w ≡ (told m.0 (n / 2), [])) × (n ≤ 2 * most_turns + 1)
+      × (m.0.knows.reached ≤ n / 2)
 
   -- after the journal that is given back, with so many offers used
-  abbrev pub GivesBack : (J → List (Entry I)) → ℕ → Step J → Seated J S I → ℕ → Seated J S I → Type 0
-  GivesBack entries used s m n w = (j : J) → m.1 ≡ (0, j) ∷ [] → w ≡ (after_turn m.0 (entries j) used, [])
+  abbrev pub GivesBack : (J → List (Entry I)) → ℕ → Step J → Seated J S I → ℕ → Seated J S I
+      → Type 0
+  GivesBack entries used s m n w = (j : J) → m.1 ≡ (0, j) ∷ []
+      → w ≡ (after_turn m.0 (entries j) used, [])
 
   -- the turn is given up
   abbrev pub GivesUp : Step J → Seated J S I → ℕ → Seated J S I → Type 0
@@ -41,7 +44,8 @@ module _ {J S I : Type 0} where
   abbrev pub Learns : (S → I → Type 0) → Step J → Seated J S I → ℕ → Seated J S I → Type 0
   Learns fits s m n w = (w ≡ (m.0, [])) × HasJoined fits m.0
 
-  module _ (entries : J → List (Entry I)) (room : J → ℕ) (opening : J → S) (fits : S → I → Type 0) where
+  module _ (entries : J → List (Entry I)) (room : J → ℕ) (opening : J → S)
+      (fits : S → I → Type 0) where
     -- the pass has the turn t, and the journal with it
     pub record HasTurn (v : View S I) (t : ℕ) (w : Seated J S I) : Type 0 where
       pub journal : J
@@ -67,7 +71,8 @@ module _ {J S I : Type 0} where
       pub opens : m.0.knows.opening ≡ Some (opening journal)
       pub room_left : m.0.notes.held_room ≤ room journal
 
-    -- the pass holds the turn t for an offer, and carries the journal with at most one entry more, of this turn
+    -- the pass holds the turn t for an offer, and carries the journal with at most one entry more,
+    -- of this turn
     pub record HasOffered (t : ℕ) (m : Seated J S I) : Type 0 where
       pub holds : (m.0.notes.holds ≡ true) × (m.0.notes.held_turn ≡ t) × (t < most_turns)
       pub journal : J

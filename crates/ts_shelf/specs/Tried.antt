@@ -17,10 +17,12 @@ module _ {J S I : Type 0} where
   abbrev pub Ended : View S I → Seated J S I → Type 0
   Ended v m = (v.knows.reached ≤ most_turns) × (m ≡ (told v most_turns, []))
 
-  module _ (entries : J → List (Entry I)) (room : J → ℕ) (opening : J → S) (fits : S → I → Type 0) where
+  module _ (entries : J → List (Entry I)) (room : J → ℕ) (opening : J → S)
+      (fits : S → I → Type 0) where
     -- the turn was taken, and more turns may be known to be over
     abbrev pub TookTurn : View S I → ℕ → Seated J S I → Type 0
-    TookTurn v t m = (r : ℕ) × (v.knows.reached ≤ r) × HasTurn entries room opening fits (told v r) t m
+    TookTurn v t m = (r : ℕ) × (v.knows.reached ≤ r)
+        × HasTurn entries room opening fits (told v r) t m
 
     -- what each answer of a try says
     abbrev pub Tried : View S I → Seated J S I → Attempt → Type 0

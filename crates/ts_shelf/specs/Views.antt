@@ -46,7 +46,17 @@ module _ {S I : Type 0} where
   -- a pass that was taken in by another
   abbrev pub spent_view : View S I
   spent_view = record {
-    knows = record { opening = None; seen = []; taken = []; turn = 0; reached = 0; offers = 0; first = 0; out = 0 };
+    knows = record {
+      opening = None;
+      seen = [];
+      taken = [];
+      turn = 0;
+      reached = 0;
+      offers = 0;
+      first = 0;
+      out =
+          0;
+    };
     notes = first_notes 0;
   }
 
@@ -57,12 +67,22 @@ module _ {S I : Type 0} where
   -- it holds a turn, and knows with which entries and room the journal came
   abbrev pub holding : View S I → ℕ → List (Entry I) → ℕ → View S I
   holding v t came room =
-      record v { notes = record v.notes { holds = true; held_turn = t; held_entries = came; held_room = room } }
+      record v {
+        notes =
+            record v.notes { holds = true; held_turn = t; held_entries = came; held_room = room };
+      }
 
   -- what it knows once the turn t is over: it has seen all entries, and used so many offers
   abbrev pub after_turn_known : Knowledge S I → ℕ → List (Entry I) → ℕ → Knowledge S I
   after_turn_known k t entries used =
-      record k { seen = entries; taken = k.taken ++ t ∷ []; turn = t + 1; reached = t + 1; offers = k.offers - used }
+      record k {
+        seen = entries;
+        taken = k.taken ++ t ∷ [];
+        turn = t + 1;
+        reached =
+            t + 1;
+        offers = k.offers - used;
+      }
 
   -- the turn that it holds is over
   abbrev pub after_turn : View S I → List (Entry I) → ℕ → View S I
@@ -81,7 +101,11 @@ module _ {S I : Type 0} where
 
   -- what the first pass keeps at a split
   abbrev pub kept_part : View S I → View S I
-  kept_part v = record v { knows = record v.knows { offers = v.knows.offers - v.notes.asked; out = v.knows.out + 1 } }
+  kept_part v =
+      record v {
+        knows =
+            record v.knows { offers = v.knows.offers - v.notes.asked; out = v.knows.out + 1 };
+      }
 
   -- what the other pass begins with at a split
   abbrev pub split_part : View S I → View S I
@@ -119,6 +143,7 @@ module _ {S I : Type 0} where
     };
   }
 
-  -- the pass is between two calls: it carries nothing, holds no turn, and was not taken in by another
+  -- the pass is between two calls: it carries nothing, holds no turn, and was not taken in by
+  -- another
   abbrev pub IsIdle : {J : Type 0} → Seated J S I → Type 0
   IsIdle m = (m.1 ≡ []) × (m.0.notes.holds ≡ false) × IsLive m.0

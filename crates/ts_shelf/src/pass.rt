@@ -1,11 +1,12 @@
-//! What a client holds of a shelf: a seat goes in, and contracts see its shelf and what the client knows.
+//! What a client holds of a shelf: a seat goes in, and contracts see its shelf and what the client
+//! knows.
 use crate::journal::Journal;
 use crate::view::View;
 use atomic_table::Seat;
 use std::marker::Model;
 
-/// What one client knows of a shelf. It has no bytes. Contracts see the shelf that it is of, as `shelf`, and a
-/// `Knowledge`, as `knows`. `IsPass` holds of each one in hand.
+/// What one client knows of a shelf. It has no bytes. Contracts see the shelf that it is of, as
+/// `shelf`, and a `Knowledge`, as `knows`. `IsPass` holds of each one in hand.
 #[derive(Drop)]
 pub struct Pass<J: Journal> {
     pub(crate) seat: Seat<J, View<J::Shown, J::Item>>,

@@ -1,5 +1,5 @@
-//! What each kind of step tells, and how views are cut in two and put together: in goes the kind, out comes what the
-//! seat knows after it. These types are for the proofs alone.
+//! What each kind of step tells, and how views are cut in two and put together: in goes the kind,
+//! out comes what the seat knows after it. These types are for the proofs alone.
 ghost use Rattle.ts_shelf.specs.Steps.{Loads, Tries, GivesBack, GivesUp, Asks, Learns};
 ghost use Rattle.ts_shelf.specs.Views.{kept_part, split_part, joined_view, spent_view};
 

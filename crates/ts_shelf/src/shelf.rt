@@ -1,5 +1,5 @@
-//! The calls of a shelf: in go looks and offers, each with the pass of the one who asks, and out come a turn and the
-//! journal as it was at that turn. At the end the journal comes out.
+//! The calls of a shelf: in go looks and offers, each with the pass of the one who asks, and out
+//! come a turn and the journal as it was at that turn. At the end the journal comes out.
 ghost use Rattle.std.specs.Prelude.{◌≡◌, ℕ, ◌+◌, ◌<◌, ◌≤◌, [], length, IsOk, IfOk, IfErr, OnErr, ◌↔◌};
 ghost use Rattle.ts_shelf.specs.Calls.{Looked, Answers, ShowsLatest, Stays, IsSplit, IsJoin, Closes};
 ghost use Rattle.ts_shelf.specs.Entries.{most_turns};
@@ -58,23 +58,26 @@ pub enum Denied {
 }
 
 impl<J: Journal> Shelf<J> {
-    /// A shelf with a journal that has no entries, and its first pass, which may make as many offers as the journal
-    /// has room for.
+    /// A shelf with a journal that has no entries, and its first pass, which may make as many
+    /// offers as the journal has room for.
     pub fn new(alloc: Global, journal: J) -> Result<(Shelf<J>, Pass<J>), AllocError>
     where
         J: Drop,
         requires empty { J.entries journal ≡ [] }
         ensures shelf { IfOk result (λ r. r.1.shelf ≡ r.0) }
-        ensures first { IfOk result (λ r. r.1.knows ≡ first_pass (J.opening journal) (J.room journal)) }
+        ensures first { IfOk result
+            (λ r. r.1.knows ≡ first_pass (J.opening journal) (J.room journal)) }
         ensures pass { IfOk result (λ r. IsPass J.fits r.1.knows) }
     {
         let (turnstile, seat) = Turnstile::new(alloc, journal)?;
         Ok((Shelf { turnstile }, Pass { seat }))
     }
 
-    /// Takes a turn, and shows the journal of the entries with smaller turns. It may wait for the turn.
+    /// Takes a turn, and shows the journal of the entries with smaller turns. It may wait for the
+    /// turn.
     ///
-    /// At an `Err` no turn was taken. The pass may then know that more turns are over than it knew before.
+    /// At an `Err` no turn was taken. The pass may then know that more turns are over than it knew
+    /// before.
     pub fn look<R: Wait>(&self, rt: &R, pass: &mut Pass<J>) -> Result<Seen<J::Shown>, Denied>
         requires shelf { pass.old.shelf ≡ self.now }
         ensures shelf { pass.new.shelf ≡ pass.old.shelf }
@@ -82,7 +85,8 @@ impl<J: Journal> Shelf<J> {
         ensures looked { IfOk result (λ r. Looked pass.old.knows pass.new.knows r.turn r.number) }
         ensures latest { IfOk result (λ r. ShowsLatest J.shown_of pass.new.knows r.latest) }
         ensures stays { OnErr result (Stays pass.old.knows pass.new.knows) }
-        ensures spent { IfErr result (λ e. (e ≡ Denied.Spent) ↔ (pass.new.knows.reached ≡ most_turns)) }
+        ensures spent { IfErr result
+            (λ e. (e ≡ Denied.Spent) ↔ (pass.new.knows.reached ≡ most_turns)) }
     {
         let Some(turn) = self.turnstile.take(rt, &mut pass.seat) else {
             return Err(Denied::Spent);
@@ -100,11 +104,12 @@ impl<J: Journal> Shelf<J> {
         })
     }
 
-    /// Takes a turn, and adds the item where the journal has just `base` entries at that turn. It may wait for the
-    /// turn. Where the journal has more entries, or at an `Err`, the item is dropped. A turn that publishes takes no
-    /// memory.
+    /// Takes a turn, and adds the item where the journal has just `base` entries at that turn. It
+    /// may wait for the turn. Where the journal has more entries, or at an `Err`, the item is
+    /// dropped. A turn that publishes takes no memory.
     ///
-    /// At an `Err` no turn was taken. The pass may then know that more turns are over than it knew before.
+    /// At an `Err` no turn was taken. The pass may then know that more turns are over than it knew
+    /// before.
     pub fn offer<R: Wait>(
         &self,
         rt: &R,
@@ -120,11 +125,11 @@ impl<J: Journal> Shelf<J> {
         requires base { base ≤ length pass.old.knows.seen }
         ensures shelf { pass.new.shelf ≡ pass.old.shelf }
         ensures pass { IsPass J.fits pass.new.knows }
-        ensures answered {
-            IfOk result (λ r. Answers J.shown_of pass.old.knows pass.new.knows base item r)
-        }
+        ensures answered { IfOk result
+            (λ r. Answers J.shown_of pass.old.knows pass.new.knows base item r) }
         ensures stays { OnErr result (Stays pass.old.knows pass.new.knows) }
-        ensures spent { IfErr result (λ e. (e ≡ Denied.Spent) ↔ (pass.new.knows.reached ≡ most_turns)) }
+        ensures spent { IfErr result
+            (λ e. (e ≡ Denied.Spent) ↔ (pass.new.knows.reached ≡ most_turns)) }
     {
         let Some(turn) = self.turnstile.take(rt, &mut pass.seat) else {
             return Err(Denied::Spent);
@@ -152,7 +157,8 @@ impl<J: Journal> Shelf<J> {
         }
     }
 
-    /// Another pass, which has seen what the first pass has, and to which so many of its offers move. No refusal comes.
+    /// Another pass, which has seen what the first pass has, and to which so many of its offers
+    /// move. No refusal comes.
     pub fn split(&self, pass: &mut Pass<J>, offers: u32) -> Result<Pass<J>, AllocError>
         requires shelf { pass.old.shelf ≡ self.now }
         requires first { pass.old.knows.first ≡ 1 }
@@ -162,7 +168,8 @@ impl<J: Journal> Shelf<J> {
         ensures pass { IsPass J.fits pass.new.knows }
         ensures other_shelf { IfOk result (λ other. other.shelf ≡ pass.old.shelf) }
         ensures other_pass { IfOk result (λ other. IsPass J.fits other.knows) }
-        ensures parts { IfOk result (λ other. IsSplit pass.old.knows pass.new.knows other.knows offers) }
+        ensures parts { IfOk result
+            (λ other. IsSplit pass.old.knows pass.new.knows other.knows offers) }
     {
         let seat = self.turnstile.split(&mut pass.seat, u64::from(offers));
         Ok(Pass { seat })
@@ -180,7 +187,8 @@ impl<J: Journal> Shelf<J> {
         self.turnstile.join(&mut pass.seat, seat);
     }
 
-    /// The journal, once no other pass is out. Its entries are those that the first pass has then seen.
+    /// The journal, once no other pass is out. Its entries are those that the first pass has then
+    /// seen.
     pub fn close(self, pass: Pass<J>) -> J
         requires shelf { pass.shelf ≡ self }
         requires alone { (pass.knows.first ≡ 1) × (pass.knows.out ≡ 0) }

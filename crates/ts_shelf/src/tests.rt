@@ -1,5 +1,5 @@
-//! What no clause says: that the calls come to an answer, with rows worked out by hand, and that clients run side by
-//! side.
+//! What no clause says: that the calls come to an answer, with rows worked out by hand, and that
+//! clients run side by side.
 ghost use Rattle.std.specs.Prelude.{◌≡◌, ℕ, ◌+◌, ◌*◌, ◌<◌, ◌≤◌, ◌^◌, [], Some, IfOk, length, vec_len, vec_capacity};
 ghost use Rattle.std.specs.Thread.{IsSync};
 ghost use Rattle.ts_shelf.specs.Latest.{latest_of};
@@ -14,18 +14,18 @@ use std::sync::{Arc, Wait};
 use std::test::Fail;
 use std::thread::{self, Threads};
 
-/// Heights above a ground, none of them below it, with room for some more, and a switch at which `shown` refuses
-/// memory.
+/// Heights, none of them below the lowest one allowed, with room for some more, and a switch at which
+/// `shown` refuses memory.
 #[derive(Drop)]
 struct Heights {
     entries: Vec<Entry<u32>>,
     spare: u32,
-    ground: u32,
+    lowest: u32,
     latest: u32,
     refuses: Arc<AtomicBool>,
     ghost room: { vec_len entries + spare ≤ vec_capacity entries },
     ghost few: { vec_len entries + spare < 2 ^ 32 },
-    ghost last: { latest ≡ latest_of (λ x. x) ground entries.items },
+    ghost last: { latest ≡ latest_of (λ x. x) lowest entries.items },
 }
 
 impl Journal for Heights {
@@ -37,7 +37,7 @@ impl Journal for Heights {
 
     ghost room = { λ h. h.spare };
 
-    ghost opening = { λ h. h.ground };
+    ghost opening = { λ h. h.lowest };
 
     ghost shown_of = { λ item. item };
 
@@ -71,43 +71,43 @@ impl Journal for Heights {
 impl Heights {
     fn new(
         alloc: Global,
-        ground: u32,
+        lowest: u32,
         spare: u32,
         refuses: Arc<AtomicBool>,
     ) -> Result<Heights, AllocError>
         ensures empty { IfOk result (λ h. h.entries.items ≡ []) }
-        ensures parts { IfOk result (λ h. (h.ground ≡ ground) × (h.spare ≡ spare)) }
+        ensures parts { IfOk result (λ h. (h.lowest ≡ lowest) × (h.spare ≡ spare)) }
     {
         let entries = Vec::with_capacity(alloc, spare as usize)?;
         Ok(Heights {
             entries,
             spare,
-            ground,
-            latest: ground,
+            lowest,
+            latest: lowest,
             refuses,
         })
     }
 }
 
-/// A shelf over heights above this ground, with so much room.
+/// A shelf over heights of which none is below this one, with so much room.
 fn opened(
     alloc: Global,
-    ground: u32,
+    lowest: u32,
     room: u32,
 ) -> Result<(Shelf<Heights>, Pass<Heights>), AllocError>
     ensures shelf { IfOk result (λ r. r.1.shelf ≡ r.0) }
-    ensures first { IfOk result (λ r. r.1.knows ≡ first_pass ground room) }
+    ensures first { IfOk result (λ r. r.1.knows ≡ first_pass lowest room) }
 {
     let refuses = Arc::new(alloc, AtomicBool::new(false))?;
-    let journal = Heights::new(alloc, ground, room, refuses)?;
+    let journal = Heights::new(alloc, lowest, room, refuses)?;
     Shelf::new(alloc, journal)
 }
 
 /// How many offers a worker makes.
 const OFFERS: u32 = 1000;
 
-/// What workers met: how many of their offers were published, how many turns they took, the sum of those turns, and
-/// the last one.
+/// What workers met: how many of their offers were published, how many turns they took, the sum of
+/// those turns, and the last one.
 #[derive(Clone, Copy, Default)]
 struct Tally {
     published: u64,
@@ -133,12 +133,15 @@ impl Tally {
     }
 }
 
+/// The next height, but for the greatest.
+fn above(height: u32) -> u32
+    ensures { height ≤ result }
+{
+    height.saturating_add(1)
+}
+
 /// Looks, and offers one more than the latest height, as often as it may; others come between.
-fn work<R: Wait>(
-    rt: &R,
-    shelf: &Shelf<Heights>,
-    mut pass: Pass<Heights>,
-) -> (Pass<Heights>, Tally)
+fn work<R: Wait>(rt: &R, shelf: &Shelf<Heights>, mut pass: Pass<Heights>) -> (Pass<Heights>, Tally)
     requires shelf { pass.shelf ≡ shelf.now }
     requires other { pass.knows.first ≡ 0 }
     requires pass { IsPass (λ opening item. opening ≤ item) pass.knows }
@@ -154,7 +157,7 @@ fn work<R: Wait>(
         };
         tally.note(seen.turn);
         thread::yield_now();
-        match shelf.offer(rt, &mut pass, seen.number, seen.latest.saturating_add(1)) {
+        match shelf.offer(rt, &mut pass, seen.number, above(seen.latest)) {
             Ok(Offered::Published { turn, .. }) => {
                 tally.note(turn);
                 tally.published = tally.published.saturating_add(1);
@@ -188,14 +191,10 @@ fn crowd<R: Threads + Wait + Sync>(
     let ((mut pass, rest), (other, tally)) = thread::join(
         rt,
         move || -> (Pass<Heights>, Tally)
-            requires {
-                IsSync R.row × (0 < workers) × (pass.shelf ≡ shelf.now) × (pass.knows.first ≡ 1)
-                    × (workers * 1000 ≤ pass.knows.offers + 1000)
-            }
-            ensures {
-                (result.0.shelf ≡ shelf.entry.now) × (result.0.knows.first ≡ 1)
-                    × (result.0.knows.out ≡ pass.knows.out)
-            }
+            requires { IsSync R.row × (0 < workers) × (pass.shelf ≡ shelf.now)
+                × (pass.knows.first ≡ 1) × (workers * 1000 ≤ pass.knows.offers + 1000) }
+            ensures { (result.0.shelf ≡ shelf.entry.now) × (result.0.knows.first ≡ 1)
+                × (result.0.knows.out ≡ pass.knows.out) }
         { crowd(rt, shelf, pass, workers - 1) },
         move || work(rt, shelf, other),
     );
@@ -208,7 +207,10 @@ fn workers_at_once(rt: HostRuntime) -> Result<(), Fail> {
     let (shelf, pass) = opened(rt.alloc(), 50, 16000)?;
     let (pass, tally) = crowd(&rt, &shelf, pass, 16);
     let journal = shelf.close(pass);
-    assert_eq!(rt; (tally.turns, tally.last, tally.sum), (32000, 31999, 31999 * 16000));
+    assert_eq!(rt;
+        (tally.turns, tally.last, tally.sum),
+        (32000, 31999, 31999 * 16000)
+    );
     assert!(rt; tally.published > 0);
     assert_eq!(rt; journal.entries.len() as u64, tally.published);
     assert_eq!(rt; journal.entries.len() + journal.room() as usize, 16000);
@@ -221,8 +223,11 @@ fn workers_at_once(rt: HostRuntime) -> Result<(), Fail> {
 /// How often a worker looks for what the other one publishes.
 const LOOKS: u32 = 10_000_000;
 
-/// Publishes an entry, and then looks until another one's is there too, up to `LOOKS` times. It answers whether that
-/// one came.
+/// How many offers a worker needs where one other entry may come between.
+const TRIES: u32 = 2;
+
+/// Publishes an entry, and then looks until another one's is there too, up to `LOOKS` times. It
+/// answers whether that one came.
 fn meet<R: Wait>(rt: &R, shelf: &Shelf<Heights>, mut pass: Pass<Heights>) -> (Pass<Heights>, bool)
     requires shelf { pass.shelf ≡ shelf.now }
     requires other { pass.knows.first ≡ 0 }
@@ -230,7 +235,7 @@ fn meet<R: Wait>(rt: &R, shelf: &Shelf<Heights>, mut pass: Pass<Heights>) -> (Pa
     ensures shelf { result.0.shelf ≡ shelf.now }
     ensures other { result.0.knows.first ≡ 0 }
 {
-    for _ in 0..2 {
+    for _ in 0..TRIES {
         let Ok(seen) = shelf.look(rt, &mut pass) else {
             return (pass, false);
         };

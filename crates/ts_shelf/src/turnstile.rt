@@ -1,5 +1,5 @@
-//! The word and the slot of a shelf, with one function for each kind of step on them: in goes a seat, and out come the
-//! turn, what the journal answers, and the seat as it is after the step.
+//! The word and the slot of a shelf, with one function for each kind of step on them: in goes a
+//! seat, and out come the turn, what the journal answers, and the seat as it is after the step.
 ghost use Rattle.std.specs.Prelude.{◌≡◌, ℕ, ◌+◌, ◌*◌, ◌<◌, ◌≤◌, ◌/◌, MatchBool, List, [], ◌∷◌, ◌++◌, length, IfSome, IfNone, IfOk};
 ghost use Rattle.ts_shelf.specs.Calls.{Closes};
 ghost use Rattle.ts_shelf.specs.Entries.{most_turns};
@@ -55,7 +55,8 @@ impl<J: Journal> Turnstile<J> {
         J: Drop,
         requires { J.entries journal ≡ [] }
         ensures same { IfOk result (λ r. r.1.table_id ≡ r.0.table.shared.table_id) }
-        ensures first { IfOk result (λ r. r.1.me ≡ (first_view (J.opening journal) (J.room journal), [])) }
+        ensures first { IfOk result
+            (λ r. r.1.me ≡ (first_view (J.opening journal) (J.room journal), [])) }
     {
         let start = Snapshot::of(&journal);
         let mut slots = Vec::new(alloc);
@@ -82,10 +83,9 @@ impl<J: Journal> Turnstile<J> {
         requires seat { (seat.old.table_id ≡ self.now.table.shared.table_id) × IsIdle seat.old.me }
         requires few { turn < most_turns }
         ensures same { seat.new.table_id ≡ seat.old.table_id }
-        ensures took {
-            MatchBool result (HasTurn J.entries J.room J.opening J.fits seat.old.me.0 turn seat.new.me)
-                (seat.new.me ≡ seat.old.me)
-        }
+        ensures took { MatchBool result
+            (HasTurn J.entries J.room J.opening J.fits seat.old.me.0 turn seat.new.me)
+            (seat.new.me ≡ seat.old.me) }
     {
         let found = self
             .table
@@ -118,9 +118,8 @@ impl<J: Journal> Turnstile<J> {
     pub(crate) fn take<R: Wait>(&self, rt: &R, seat: &mut Rider<J>) -> Option<u64>
         requires seat { (seat.old.table_id ≡ self.now.table.shared.table_id) × IsIdle seat.old.me }
         ensures same { seat.new.table_id ≡ seat.old.table_id }
-        ensures some {
-            IfSome result (λ t. TookTurn J.entries J.room J.opening J.fits seat.old.me.0 t seat.new.me)
-        }
+        ensures some { IfSome result
+            (λ t. TookTurn J.entries J.room J.opening J.fits seat.old.me.0 t seat.new.me) }
         ensures none { IfNone result (Ended seat.old.me.0 seat.new.me) }
     {
         let mut tries = 0;
@@ -139,7 +138,8 @@ impl<J: Journal> Turnstile<J> {
         requires table { seat.old.table_id ≡ self.now.table.shared.table_id }
         requires journal { HasLooked J.entries J.room J.opening J.fits turn seat.old.me }
         ensures same { seat.new.table_id ≡ seat.old.table_id }
-        ensures view { seat.new.me ≡ (after_turn seat.old.me.0 seat.old.me.0.notes.held_entries 0, []) }
+        ensures view { seat.new.me
+            ≡ (after_turn seat.old.me.0 seat.old.me.0.notes.held_entries 0, []) }
     {
         self.table.shared.store::<GiveBack>(seat, 0, 2 * turn + 2);
     }
@@ -149,10 +149,8 @@ impl<J: Journal> Turnstile<J> {
         requires table { seat.old.table_id ≡ self.now.table.shared.table_id }
         requires journal { HasOffered J.entries J.room J.opening J.fits turn seat.old.me }
         ensures same { seat.new.table_id ≡ seat.old.table_id }
-        ensures view {
-            (j : J) → seat.old.me.1 ≡ (0, j) ∷ []
-                → seat.new.me ≡ (after_turn seat.old.me.0 (J.entries j) 1, [])
-        }
+        ensures view { (j : J) → seat.old.me.1 ≡ (0, j) ∷ []
+            → seat.new.me ≡ (after_turn seat.old.me.0 (J.entries j) 1, []) }
     {
         self.table.shared.store::<GiveOffer>(seat, 0, 2 * turn + 2);
     }
@@ -183,10 +181,8 @@ impl<J: Journal> Turnstile<J> {
         requires table { seat.old.table_id ≡ self.now.table.shared.table_id }
         requires carried { (j : J) × (seat.old.me.1 ≡ (0, j) ∷ []) }
         ensures same { (seat.new.table_id ≡ seat.old.table_id) × (seat.new.me ≡ seat.old.me) }
-        ensures shown {
-            IfOk result (λ s. (j : J) → seat.old.me.1 ≡ (0, j) ∷ []
-                → s ≡ latest_of J.shown_of (J.opening j) (J.entries j))
-        }
+        ensures shown { IfOk result (λ s. (j : J) → seat.old.me.1 ≡ (0, j) ∷ []
+            → s ≡ latest_of J.shown_of (J.opening j) (J.entries j)) }
     {
         let journal = seat.slot_mut(&self.table.shared, 0);
         journal.shown()
@@ -195,15 +191,13 @@ impl<J: Journal> Turnstile<J> {
     /// Adds the item to the journal that came with the turn.
     pub(crate) fn add(&self, seat: &mut Rider<J>, turn: u64, item: J::Item)
         requires table { seat.old.table_id ≡ self.now.table.shared.table_id }
-        requires carried {
-            (j : J) × (seat.old.me.1 ≡ (0, j) ∷ []) × (0 < J.room j) × J.fits (J.opening j) item
-        }
+        requires carried { (j : J) × (seat.old.me.1 ≡ (0, j) ∷ []) × (0 < J.room j)
+            × J.fits (J.opening j) item }
         ensures same { seat.new.table_id ≡ seat.old.table_id }
-        ensures added {
-            (j : J) → seat.old.me.1 ≡ (0, j) ∷ [] → (k : J) × (seat.new.me ≡ (seat.old.me.0, (0, k) ∷ []))
-                × (J.entries k ≡ J.entries j ++ record { turn = turn; item = item } ∷ [])
-                × (J.room k + 1 ≡ J.room j) × (J.opening k ≡ J.opening j)
-        }
+        ensures added { (j : J) → seat.old.me.1 ≡ (0, j) ∷ []
+            → (k : J) × (seat.new.me ≡ (seat.old.me.0, (0, k) ∷ []))
+            × (J.entries k ≡ J.entries j ++ record { turn = turn; item = item } ∷ [])
+            × (J.room k + 1 ≡ J.room j) × (J.opening k ≡ J.opening j) }
     {
         let journal = seat.slot_mut(&self.table.shared, 0);
         journal.add(turn, item);
@@ -214,7 +208,8 @@ impl<J: Journal> Turnstile<J> {
         requires seat { (seat.old.table_id ≡ self.now.table.shared.table_id) × IsIdle seat.old.me }
         requires first { seat.old.me.0.knows.first ≡ 1 }
         requires offers { offers ≤ seat.old.me.0.knows.offers }
-        ensures same { (seat.new.table_id ≡ seat.old.table_id) × (result.table_id ≡ seat.old.table_id) }
+        ensures same { seat.new.table_id ≡ seat.old.table_id }
+        ensures parted_same { result.table_id ≡ seat.old.table_id }
         ensures kept { seat.new.me ≡ (kept_part (asking seat.old.me.0 offers), []) }
         ensures parted { result.me ≡ (split_part (asking seat.old.me.0 offers), []) }
     {

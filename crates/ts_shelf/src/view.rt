@@ -1,5 +1,5 @@
-//! What is known of each pass, and the rule that holds of all of them between any two steps. It exists in proofs alone:
-//! no value of these types is made.
+//! What is known of each pass, and the rule that holds of all of them between any two steps. It
+//! exists in proofs alone: no value of these types is made.
 use crate::journal::{Entry, Journal};
 use atomic_table::TableRule;
 use std::collections::LinkedList;
@@ -37,7 +37,8 @@ pub struct Notes<I> {
     pub other_seen: LinkedList<Entry<I>>,
     pub own_turn: u64,
     pub other_turn: u64,
-    /// How many other passes were out before and after the last join, or 1 and 0 where there was none.
+    /// How many other passes were out before and after the last join, or 1 and 0 where there was
+    /// none.
     pub out_before: u64,
     pub out_after: u64,
     /// Whether it holds a turn, which one, and with which entries and room the journal came.
