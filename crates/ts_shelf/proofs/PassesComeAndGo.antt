@@ -14,8 +14,8 @@ use Rattle.ts_shelf.specs.declared.view.Knowledge.{Knowledge}
 use Rattle.ts_shelf.specs.declared.view.View.{View}
 use Rattle.ts_shelf.specs.Calls.{Closes}
 use Rattle.ts_shelf.specs.Entries.{occurrences, once_below, RisesWithin, Extends}
-use Rattle.ts_shelf.specs.Rule.{Agrees, Noted, IsHome, IsOut, IsShelf}
-use Rattle.ts_shelf.specs.Views.{total, IsLive, first_view, asking, kept_part, split_part, joined_known, joined_view, spent_view, Seated, IsIdle}
+use Rattle.ts_shelf.specs.Rule.{FitsHistory, Noted, IsHome, IsOut, IsShelf}
+use Rattle.ts_shelf.specs.Views.{sum_over, IsLive, first_view, asking, kept_part, split_part, joined_known, joined_view, spent_view, Seated, IsIdle}
 use Rattle.ts_shelf.proofs.RisingEntries.{extends_self, rises_le, rises_none, seen_by_turn}
 use Rattle.ts_shelf.proofs.TurnLists.{occurrences_append, once_counts}
 use Rattle.ts_shelf.proofs.ViewSums.{views_else, views_at, not_holding, total_set, total_append, member_total, sole}
@@ -56,8 +56,8 @@ module _ {J S I : Type 0} (entries : J → List (Entry I)) (room : J → ℕ) (o
   -- much
   placed : (base : S) (t : ℕ) (history : List (Entry I)) (s : State J (View S I))
       (views : List (View S I))
-      → total (λ (u : View S I). u.knows.offers) views
-      ≡ total (λ (u : View S I). u.knows.offers) s.views
+      → sum_over (λ (u : View S I). u.knows.offers) views
+      ≡ sum_over (λ (u : View S I). u.knows.offers) s.views
       → ((k : ℕ) (u : View S I) → get_elem? views k ≡ some u → (u.notes.holds ≡ false)
       ⊎ (get_elem? s.views k ≡ some u))
       → ((k : ℕ) (u : View S I) → get_elem? s.views k ≡ some u → u.notes.holds ≡ true
@@ -94,7 +94,7 @@ module _ {J S I : Type 0} (entries : J → List (Entry I)) (room : J → ℕ) (o
       let live : IsLive v = (λ z o. let a = first in omega arith) in
       let f = h.each id v at in
       let notes = h.noted id v at in
-      let sums : (g : View S I → ℕ) → total g views + g v ≡ total g s.views + g l + g r =
+      let sums : (g : View S I → ℕ) → sum_over g views + g v ≡ sum_over g s.views + g l + g r =
       (λ g. let a = total_set g s.views id v l at in
       let b = total_append g (set s.views id l) r in omega arith) in
       record {
@@ -112,7 +112,7 @@ module _ {J S I : Type 0} (entries : J → List (Entry I)) (room : J → ℕ) (o
         few = h.few;
         rises = h.rises;
         each = λ k u e. ⊎_elim
-            (λ x. views_at s.views id l (λ _ u. Agrees h.turn h.history u.knows) h.each
+            (λ x. views_at s.views id l (λ _ u. FitsHistory h.turn h.history u.knows) h.each
             (record {
               rest = f.rest;
               is = f.is;
@@ -122,7 +122,7 @@ module _ {J S I : Type 0} (entries : J → List (Entry I)) (room : J → ℕ) (o
               known = f.known;
               taken = f.taken;
             }) k u x)
-            (λ x. subst (λ (y : View S I). Agrees h.turn h.history y.knows) x
+            (λ x. subst (λ (y : View S I). FitsHistory h.turn h.history y.knows) x
             (record {
               rest = f.rest;
               is = f.is;
@@ -185,18 +185,18 @@ module _ {J S I : Type 0} (entries : J → List (Entry I)) (room : J → ℕ) (o
       (splits_view id (asking m.0 k) pass.1 first some_left)
 
   -- of two passes the one of the lesser turn has seen a prefix
-  seen_before : (t : ℕ) (history : List (Entry I)) (a b : Knowledge S I) → Agrees t history a
-      → Agrees t history b → a.turn ≤ b.turn
+  seen_before : (t : ℕ) (history : List (Entry I)) (a b : Knowledge S I) → FitsHistory t history a
+      → FitsHistory t history b → a.turn ≤ b.turn
       → Extends a.turn b.turn b.seen a.seen
   seen_before t history a b x y le =
       seen_by_turn 0 a.turn b.turn t a.seen x.rest b.seen y.rest
       (sym x.is ∙ y.is) x.early x.late y.early y.late le
 
   -- what both know, put together, agrees with the history, and what both had seen is a prefix
-  joined_agrees : (t : ℕ) (history : List (Entry I)) (k l : Knowledge S I) → Agrees t history k
-      → Agrees t history l
+  joined_agrees : (t : ℕ) (history : List (Entry I)) (k l : Knowledge S I) → FitsHistory t history k
+      → FitsHistory t history l
       → let both : Knowledge S I = joined_known k l in
-      Agrees t history both × Extends k.turn both.turn both.seen k.seen
+      FitsHistory t history both × Extends k.turn both.turn both.seen k.seen
       × Extends l.turn both.turn both.seen l.seen
   joined_agrees t history k l f g = by (nat_lt k.turn l.turn) refl
     where
@@ -222,7 +222,7 @@ module _ {J S I : Type 0} (entries : J → List (Entry I)) (room : J → ℕ) (o
 
       by : (b : Bool) → nat_lt k.turn l.turn ≡ b
           → let m : Knowledge S I =
-          if b then l else k in Agrees t history (with_all m) × Extends k.turn m.turn m.seen k.seen
+          if b then l else k in FitsHistory t history (with_all m) × Extends k.turn m.turn m.seen k.seen
           × Extends l.turn m.turn m.seen l.seen
       by true e =
           let lt : k.turn < l.turn = grind (arith, nat_tests) in (
@@ -270,14 +270,14 @@ module _ {J S I : Type 0} (entries : J → List (Entry I)) (room : J → ℕ) (o
       let w_other : w.notes.other
       ≡ 1 = (let a = notes'.single in ⊎_elim (λ z. absurd (live not_first (omega arith)))
       (λ z. omega arith) (cases_lt w.notes.other 1)) in
-      let v_out : total (λ (u : View S I). u.knows.out) s.views ≡ v.knows.out =
+      let v_out : sum_over (λ (u : View S I). u.knows.out) s.views ≡ v.knows.out =
       sole (λ (u : View S I). u.knows.out) s.views id v at h.one_first first
       (λ j u x z. (h.noted j u x).rank z) in
       let w_most = member_total (λ (u : View S I). u.notes.other) s.views other w w_at in
       let some_out : 0 < v.knows.out = (let a = h.others_out in omega arith) in
       let joined =
       joined_agrees h.turn h.history v.knows w.knows (h.each id v at) (h.each other w w_at) in
-      let sums : (g : View S I → ℕ) → total g views + g w + g v ≡ total g s.views + g b + g e =
+      let sums : (g : View S I → ℕ) → sum_over g views + g w + g v ≡ sum_over g s.views + g b + g e =
       (λ g. let a = total_set g s.views id v b at in
       let c = total_set g one other w e at' in omega arith) in
       record {
@@ -291,8 +291,8 @@ module _ {J S I : Type 0} (entries : J → List (Entry I)) (room : J → ℕ) (o
         history = h.history;
         few = h.few;
         rises = h.rises;
-        each = views_at one other e (λ _ u. Agrees h.turn h.history u.knows)
-            (views_at s.views id b (λ _ u. Agrees h.turn h.history u.knows) h.each joined.0)
+        each = views_at one other e (λ _ u. FitsHistory h.turn h.history u.knows)
+            (views_at s.views id b (λ _ u. FitsHistory h.turn h.history u.knows) h.each joined.0)
             (record {
               rest = h.history;
               is = refl;
@@ -362,10 +362,10 @@ module _ {J S I : Type 0} (entries : J → List (Entry I)) (room : J → ℕ) (o
       let s = end.0 in
       let h = end.1.0 in
       let at = end.1.1 in
-      let v_out : total (λ (u : View S I). u.knows.out) s.views ≡ v.knows.out =
+      let v_out : sum_over (λ (u : View S I). u.knows.out) s.views ≡ v.knows.out =
       sole (λ (u : View S I). u.knows.out) s.views id v at h.one_first first
       (λ j u x z. (h.noted j u x).rank z) in
-      let no_other : total (λ (u : View S I). u.notes.other) s.views
+      let no_other : sum_over (λ (u : View S I). u.notes.other) s.views
       ≡ 0 = (let a = h.others_out in omega arith) in
       let spent : (j : ℕ) (u : View S I) → get_elem? s.views j ≡ some u → u.knows.first ≡ 0
       → (u.knows.taken ≡ []) × (u.notes.holds ≡ false) =
@@ -430,7 +430,7 @@ module _ {J S I : Type 0} (entries : J → List (Entry I)) (room : J → ℕ) (o
     history = [];
     few = omega arith;
     rises = omega arith;
-    each = λ k u e. subst (λ (x : View S I). Agrees 0 [] x.knows) (first_of k u e)
+    each = λ k u e. subst (λ (x : View S I). FitsHistory 0 [] x.knows) (first_of k u e)
         (record {
           rest = [];
           is = refl;

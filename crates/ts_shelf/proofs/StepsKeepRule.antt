@@ -14,9 +14,9 @@ use Rattle.atomic_table.proofs.Lists.{set_here, set_else}
 use Rattle.ts_shelf.specs.declared.journal.Entry.{Entry}
 use Rattle.ts_shelf.specs.declared.view.View.{View}
 use Rattle.ts_shelf.specs.Entries.{most_turns, occurrences, once_below, RisesWithin, Extends}
-use Rattle.ts_shelf.specs.Rule.{Agrees, Noted, IsHome, IsOut, IsShelf}
+use Rattle.ts_shelf.specs.Rule.{FitsHistory, Noted, IsHome, IsOut, IsShelf}
 use Rattle.ts_shelf.specs.Steps.{Asks, Learns, HasLooked, HasOffered, HasTurn, Tries, Loads, GivesBack, GivesUp}
-use Rattle.ts_shelf.specs.Views.{total, IsLive, told, holding, after_turn, after_give_up, asking, Seated, IsIdle}
+use Rattle.ts_shelf.specs.Views.{sum_over, IsLive, told, holding, after_turn, after_give_up, asking, Seated, IsIdle}
 use Rattle.ts_shelf.proofs.RisingEntries.{all_prefix, extends_more, rises_le, rises_append}
 use Rattle.ts_shelf.proofs.TurnLists.{once_most, occurrences_push, one_more}
 use Rattle.ts_shelf.proofs.ViewSums.{within, views_else, views_at, not_holding, total_set, same_total, member_total}
@@ -55,7 +55,7 @@ module _ {J S I : Type 0} (entries : J → List (Entry I)) (room : J → ℕ) (o
 
   quiet : (s : State J (View S I)) (id : ℕ) (v w : View S I) → Rule s → Quiet s id v w
       → ((t : ℕ) (history : List (Entry I)) → get_or s.words 0 0 ≤ 2 * t + 1
-      → Agrees t history v.knows → Agrees t history w.knows)
+      → FitsHistory t history v.knows → FitsHistory t history w.knows)
       → (Noted v → Noted w) → Rule (stepped s 0 (get_or s.words 0 0) id [] w keeps)
   quiet s id v w h q agrees notes = record {
     base = h.base;
@@ -67,7 +67,7 @@ module _ {J S I : Type 0} (entries : J → List (Entry I)) (room : J → ℕ) (o
     history = h.history;
     few = h.few;
     rises = h.rises;
-    each = views_at s.views id w (λ _ u. Agrees h.turn h.history u.knows) h.each
+    each = views_at s.views id w (λ _ u. FitsHistory h.turn h.history u.knows) h.each
         (agrees h.turn h.history (word_is s h).0 (h.each id v q.at));
     noted = views_at s.views id w (λ _ u. Noted u) h.noted (notes (h.noted id v q.at));
     once = λ x.
@@ -83,8 +83,8 @@ module _ {J S I : Type 0} (entries : J → List (Entry I)) (room : J → ℕ) (o
     place = ⊎_elim (λ p. inl (home p)) (λ p. inr (out p)) h.place;
   }
     where
-      offers_same : total (λ (u : View S I). u.knows.offers) (set s.views id w)
-          ≡ total (λ (u : View S I). u.knows.offers) s.views
+      offers_same : sum_over (λ (u : View S I). u.knows.offers) (set s.views id w)
+          ≡ sum_over (λ (u : View S I). u.knows.offers) s.views
       offers_same = same_total (λ (u : View S I). u.knows.offers) s.views id v w q.at q.offers
 
       home : Home h.base h.turn h.history s
@@ -192,7 +192,7 @@ module _ {J S I : Type 0} (entries : J → List (Entry I)) (room : J → ℕ) (o
         history = h.history;
         few = h.few;
         rises = h.rises;
-        each = views_at s.views id w (λ _ u. Agrees h.turn h.history u.knows) h.each
+        each = views_at s.views id w (λ _ u. FitsHistory h.turn h.history u.knows) h.each
             (h.each id v at);
         noted = views_at s.views id w (λ _ u. Noted u) h.noted
             (record {
@@ -267,8 +267,8 @@ module _ {J S I : Type 0} (entries : J → List (Entry I)) (room : J → ℕ) (o
             all_fit = subst (λ (b : S). All (λ x. fits b x.item) (entries p.journal)) (sym p.opens)
                 (subst (λ (l : List (Entry I)). All (λ x. fits h.base x.item) l)
                 (sym p.entries_are) h.all_fit);
-            agrees = subst (λ (l : List (Entry I)). Agrees t l v.knows) (sym p.entries_are)
-                (subst (λ (m : ℕ). Agrees m h.history v.knows) (sym e) (h.each id v at));
+            agrees = subst (λ (l : List (Entry I)). FitsHistory t l v.knows) (sym p.entries_are)
+                (subst (λ (m : ℕ). FitsHistory m h.history v.knows) (sym e) (h.each id v at));
             offers = (let a = member_total (λ (x : View S I). x.knows.offers) s.views id v at in
                 let b = p.offers in omega arith);
           },
@@ -309,7 +309,7 @@ module _ {J S I : Type 0} (entries : J → List (Entry I)) (room : J → ℕ) (o
     out : Out h.turn h.history s
     turn : v.notes.held_turn ≡ h.turn
     all : v.notes.held_entries ≡ h.history
-    left : total (λ (u : View S I). u.knows.offers) s.views ≤ v.notes.held_room
+    left : sum_over (λ (u : View S I). u.knows.offers) s.views ≤ v.notes.held_room
 
   holder_of : (s : State J (View S I)) (id : ℕ) (v : View S I) (h : Rule s)
       → get_elem? s.views id ≡ some v
@@ -328,7 +328,7 @@ module _ {J S I : Type 0} (entries : J → List (Entry I)) (room : J → ℕ) (o
           turn = ap (λ (u : View S I). u.notes.held_turn) (sym one) ∙ p.holds.1;
           all = ap (λ (u : View S I). u.notes.held_entries) (sym one) ∙ p.holds.2;
           left = subst
-              (λ (u : View S I). total
+              (λ (u : View S I). sum_over
               (λ (x : View S I). x.knows.offers) s.views ≤ u.notes.held_room) one p.offers;
         },
         (λ k u e' ne. p.others k u e' (λ f. ne (f ∙ sym e))),
@@ -385,7 +385,7 @@ module _ {J S I : Type 0} (entries : J → List (Entry I)) (room : J → ℕ) (o
         history = history;
         few = omega arith;
         rises = rises';
-        each = views_at s.views id w (λ _ u. Agrees (t + 1) history u.knows)
+        each = views_at s.views id w (λ _ u. FitsHistory (t + 1) history u.knows)
             (λ k u e.
             let f = h.each k u e in
             let reached = f.reached in
@@ -487,7 +487,7 @@ module _ {J S I : Type 0} (entries : J → List (Entry I)) (room : J → ℕ) (o
         history = h.history;
         few = h.few;
         rises = h.rises;
-        each = views_at s.views id w (λ _ u. Agrees h.turn h.history u.knows) h.each
+        each = views_at s.views id w (λ _ u. FitsHistory h.turn h.history u.knows) h.each
             (h.each id v at);
         noted = views_at s.views id w (λ _ u. Noted u) h.noted
             (record {

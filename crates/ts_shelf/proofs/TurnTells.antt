@@ -11,7 +11,7 @@ use Rattle.ts_shelf.specs.Entries.{most_turns, Extends, RisesWithin}
 use Rattle.ts_shelf.specs.Latest.{latest_of}
 use Rattle.ts_shelf.specs.Machine.{Event, look, offer, used_by, Response, shown, added, overtaken, IsTurn}
 use Rattle.ts_shelf.specs.Passes.{IsPass}
-use Rattle.ts_shelf.specs.Rule.{Agrees}
+use Rattle.ts_shelf.specs.Rule.{FitsHistory}
 use Rattle.ts_shelf.specs.Steps.{HasTurn, HasLooked, HasOffered}
 use Rattle.ts_shelf.specs.Views.{Seated, told, holding, after_turn, after_turn_known, IsLive, IsIdle}
 use Rattle.ts_shelf.proofs.RisingEntries.{rises_le, rises_one, rises_append}
@@ -31,7 +31,7 @@ module _ {S I : Type 0} where
   -- a pass that has seen all entries before the turn, and then those after it, took the turn
   turned : (k : Knowledge S I) (r t : ℕ) (event : Event I) (response : Response)
       (before after : List (Entry I)) → k.reached ≤ r
-      → Agrees t before (reaching k r) → t < most_turns → IsTurn t before event response after
+      → FitsHistory t before (reaching k r) → t < most_turns → IsTurn t before event response after
       → used_by event ≤ k.offers
       → TakesTurn k (after_turn_known (reaching k r) t after (used_by event)) t event response
   turned k r t event response before after more f few done some_left = record {

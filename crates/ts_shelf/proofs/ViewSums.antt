@@ -5,7 +5,7 @@ use mathlib.Core.Option.{some, some-injective, some-ne-none}
 use lib.ListN.{get_elem?}
 use Rattle.atomic_table.proofs.Lists.{at_set}
 use Rattle.ts_shelf.specs.declared.view.View.{View}
-use Rattle.ts_shelf.specs.Views.{total}
+use Rattle.ts_shelf.specs.Views.{sum_over}
 
 pub within : {A : Type 0} (l : List A) (i : ℕ) (a : A) → get_elem? l i ≡ some a → i < length l
 within [] i a e = absurd (some-ne-none a (sym e))
@@ -37,20 +37,20 @@ module _ {S I : Type 0} where
       (sym free ∙ ap (λ (x : View S I). x.notes.holds) (sym (some-injective u v both)) ∙ holds)
 
   pub total_append : (f : View S I → ℕ) (views : List (View S I)) (v : View S I)
-      → total f (views ++ v ∷ []) ≡ total f views + f v
+      → sum_over f (views ++ v ∷ []) ≡ sum_over f views + f v
   total_append f [] v = omega arith
   total_append f (x ∷ xs) v = let h = total_append f xs v in omega arith
 
   pub member_total : (f : View S I → ℕ) (views : List (View S I)) (k : ℕ) (u : View S I)
-      → get_elem? views k ≡ some u → f u ≤ total f views
+      → get_elem? views k ≡ some u → f u ≤ sum_over f views
   member_total f [] k u e = absurd (some-ne-none u (sym e))
   member_total f (x ∷ xs) zero u e = let same : f x ≡ f u =
       ap f (some-injective x u e) in omega arith
   member_total f (x ∷ xs) (suc k) u e = let r = member_total f xs k u e in omega arith
 
-  none_first : (f : View S I → ℕ) (views : List (View S I)) → total (λ v. v.knows.first) views ≡ 0
+  none_first : (f : View S I → ℕ) (views : List (View S I)) → sum_over (λ v. v.knows.first) views ≡ 0
       → ((k : ℕ) (u : View S I) → get_elem? views k ≡ some u → u.knows.first ≡ 0 → f u ≡ 0)
-      → total f views ≡ 0
+      → sum_over f views ≡ 0
   none_first f [] z each = refl
   none_first f (x ∷ xs) z each =
       let a = each 0 x refl (omega arith) in
@@ -60,9 +60,9 @@ module _ {S I : Type 0} where
   -- a sum to which only the first pass contributes
   pub sole : (f : View S I → ℕ) (views : List (View S I)) (k : ℕ) (v : View S I)
       → get_elem? views k ≡ some v
-      → total (λ v. v.knows.first) views ≡ 1 → v.knows.first ≡ 1
+      → sum_over (λ v. v.knows.first) views ≡ 1 → v.knows.first ≡ 1
       → ((j : ℕ) (u : View S I) → get_elem? views j ≡ some u → u.knows.first ≡ 0 → f u ≡ 0)
-      → total f views ≡ f v
+      → sum_over f views ≡ f v
   sole f [] k v e one is each = absurd (some-ne-none v (sym e))
   sole f (x ∷ xs) zero v e one is each =
       let same : x ≡ v = some-injective x v e in
@@ -79,11 +79,11 @@ module _ {S I : Type 0} where
   -- the sum after a change of one view
   pub total_set : (f : View S I → ℕ) (views : List (View S I)) (k : ℕ) (v w : View S I)
       → get_elem? views k ≡ some v
-      → total f (set views k w) + f v ≡ total f views + f w
+      → sum_over f (set views k w) + f v ≡ sum_over f views + f w
   total_set f [] k v w at = absurd (some-ne-none v (sym at))
   total_set f (x ∷ xs) zero v w at = let e : f x ≡ f v = ap f (some-injective x v at) in omega arith
   total_set f (x ∷ xs) (suc k) v w at = let h = total_set f xs k v w at in omega arith
 
   pub same_total : (f : View S I → ℕ) (views : List (View S I)) (k : ℕ) (v w : View S I)
-      → get_elem? views k ≡ some v → f w ≡ f v → total f (set views k w) ≡ total f views
+      → get_elem? views k ≡ some v → f w ≡ f v → sum_over f (set views k w) ≡ sum_over f views
   same_total f views k v w at e = let h = total_set f views k v w at in omega arith

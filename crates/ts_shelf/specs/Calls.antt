@@ -6,6 +6,7 @@ use Rattle.ts_shelf.specs.declared.shelf.Offered.{Offered}
 use Rattle.ts_shelf.specs.declared.shelf.Offered.TheVariants.{Published, Newer}
 use Rattle.ts_shelf.specs.Entries.{most_turns, occurrences, once_below, Extends}
 use Rattle.ts_shelf.specs.Latest.{latest_of}
+use Rattle.ts_shelf.specs.Passes.{IsFirst, IsOther}
 use Rattle.ts_shelf.specs.Machine.{Event, look, offer, used_by, Response, shown, added, overtaken, IsTurn}
 
 module _ {S I : Type 0} where
@@ -36,7 +37,7 @@ module _ {S I : Type 0} where
 
   -- no turn was taken: nothing changed but the number of turns known to be over, which grew or
   -- stayed
-  pub record Stays (old new : Knowledge S I) : Type 0 where
+  pub record TakesNoTurn (old new : Knowledge S I) : Type 0 where
     pub seen : new.seen ≡ old.seen
     pub taken : new.taken ≡ old.taken
     pub turn : new.turn ≡ old.turn
@@ -73,8 +74,8 @@ module _ {S I : Type 0} where
 
   -- what an offer answers
   abbrev pub Answers : (I → S) → Knowledge S I → Knowledge S I → ℕ → I → Offered S → Type 0
-  Answers shown_of old new base item
-      (Published turn number) = Publishes old new base item turn number
+  Answers shown_of old new base item (Published turn number) =
+      Publishes old new base item turn number
   Answers shown_of old new base item (Newer turn number latest) =
       IsNewer old new base item turn number × ShowsLatest shown_of new latest
 
@@ -85,7 +86,7 @@ module _ {S I : Type 0} where
     pub reached : (new.reached ≡ old.reached) × (other.reached ≡ old.reached)
     pub taken : (new.taken ≡ old.taken) × (other.taken ≡ [])
     pub moved : (new.offers + offers ≡ old.offers) × (other.offers ≡ offers)
-    pub rank : (new.first ≡ 1) × (other.first ≡ 0)
+    pub rank : IsFirst new × IsOther other
     pub out : (new.out ≡ old.out + 1) × (other.out ≡ 0)
     pub opening : (new.opening ≡ old.opening) × (other.opening ≡ old.opening)
 
@@ -106,7 +107,7 @@ module _ {S I : Type 0} where
     -- the sum of the offers, and one pass fewer out
     pub offers : new.offers ≡ old.offers + other.offers
     pub out : new.out + 1 ≡ old.out
-    pub rank : new.first ≡ 1
+    pub rank : IsFirst new
     pub opening : new.opening ≡ old.opening
 
   -- the journal of a shelf that is closed with its only pass

@@ -22,20 +22,20 @@ module _ {I : Type 0} where
   used_by (offer base item) = 1
 
   -- a look answers how many entries there are, and changes nothing
-  pub record Counts (before : List (Entry I)) (number : ℕ) (after : List (Entry I)) : Type 0 where
+  pub record LookShows (before : List (Entry I)) (number : ℕ) (after : List (Entry I)) : Type 0 where
     pub number_is : number ≡ length before
     pub same : after ≡ before
 
   -- there are just `base` entries, and the item is added with this turn, as the entry of the next
   -- number
-  pub record Appends (turn : ℕ) (before : List (Entry I)) (base : ℕ) (item : I) (number : ℕ)
+  pub record OfferAdds (turn : ℕ) (before : List (Entry I)) (base : ℕ) (item : I) (number : ℕ)
       (after : List (Entry I)) : Type 0 where
     pub had : length before ≡ base
     pub number_is : number ≡ base + 1
     pub adds : after ≡ before ++ record { turn = turn; item = item } ∷ []
 
   -- there are more than `base` entries: the answer is how many there are, and nothing changes
-  pub record Exceeds (before : List (Entry I)) (base number : ℕ)
+  pub record OfferOvertaken (before : List (Entry I)) (base number : ℕ)
       (after : List (Entry I)) : Type 0 where
     pub more : base < length before
     pub number_is : number ≡ length before
@@ -43,13 +43,14 @@ module _ {I : Type 0} where
 
   -- what an event answers, and which entries it leaves; an offer with too great a base is no event
   abbrev pub Does : ℕ → List (Entry I) → Event I → Response → List (Entry I) → Type 0
-  Does turn before look (shown number) after = Counts before number after
+  Does turn before look (shown number) after = LookShows before number after
   Does turn before look (added number) after = ⊥
   Does turn before look (overtaken number) after = ⊥
   Does turn before (offer base item) (shown number) after = ⊥
-  Does turn before (offer base item)
-      (added number) after = Appends turn before base item number after
-  Does turn before (offer base item) (overtaken number) after = Exceeds before base number after
+  Does turn before (offer base item) (added number) after =
+      OfferAdds turn before base item number after
+  Does turn before (offer base item) (overtaken number) after =
+      OfferOvertaken before base number after
 
   -- one event at this turn on a journal, all of whose entries have smaller turns
   pub record IsTurn (turn : ℕ) (before : List (Entry I)) (event : Event I) (response : Response)

@@ -23,6 +23,7 @@ module _ {S I : Type 0} (fits : S → I → Type 0) where
     pub taken : All (λ x. x < k.turn) k.taken
     -- its turn is at most the number of turns that it knows to be over
     pub known : k.turn ≤ k.reached
+    -- which are no more than a shelf has
     pub few : k.reached ≤ most_turns
 
   -- the item fits the opening that the pass knows
@@ -30,6 +31,14 @@ module _ {S I : Type 0} (fits : S → I → Type 0) where
   FitsOpening k item = (opening : S) → k.opening ≡ Some opening → fits opening item
 
 module _ {S I : Type 0} where
+  -- it is the first pass of its shelf
+  abbrev pub IsFirst : Knowledge S I → Type 0
+  IsFirst k = k.first ≡ 1
+
+  -- it is another pass, which came from a split
+  abbrev pub IsOther : Knowledge S I → Type 0
+  IsOther k = k.first ≡ 0
+
   -- the first pass of a shelf with this opening, which may make so many offers
   abbrev pub first_pass : S → ℕ → Knowledge S I
   first_pass opening offers = record {

@@ -7,10 +7,10 @@ use Rattle.ts_shelf.specs.declared.journal.Entry.{Entry}
 use Rattle.ts_shelf.specs.declared.view.Knowledge.{Knowledge}
 use Rattle.ts_shelf.specs.declared.view.View.{View}
 use Rattle.ts_shelf.specs.Entries.{most_turns, occurrences, once_below, RisesWithin, Extends}
-use Rattle.ts_shelf.specs.Views.{total, IsLive}
+use Rattle.ts_shelf.specs.Views.{sum_over, IsLive}
 
 -- what a pass knows agrees with a history of t turns
-pub record Agrees {S I : Type 0} (t : ℕ) (history : List (Entry I))
+pub record FitsHistory {S I : Type 0} (t : ℕ) (history : List (Entry I))
     (k : Knowledge S I) : Type 0 where
   -- the entries that it has not seen
   pub rest : List (Entry I)
@@ -55,7 +55,7 @@ module _ {J S I : Type 0} (entries : J → List (Entry I)) (room : J → ℕ) (o
     -- with the shelf's opening
     pub opens : opening journal ≡ base
     -- and room for all offers that are left
-    pub offers : total (λ v. v.knows.offers) s.views ≤ room journal
+    pub offers : sum_over (λ v. v.knows.offers) s.views ≤ room journal
     -- nobody has a turn
     pub free : (k : ℕ) (v : View S I) → get_elem? s.views k ≡ some v → v.notes.holds ≡ false
 
@@ -73,7 +73,7 @@ module _ {J S I : Type 0} (entries : J → List (Entry I)) (room : J → ℕ) (o
     pub holds : (view.notes.holds ≡ true) × (view.notes.held_turn ≡ t)
         × (view.notes.held_entries ≡ history)
     -- and with room for all offers that are left
-    pub offers : total (λ v. v.knows.offers) s.views ≤ view.notes.held_room
+    pub offers : sum_over (λ v. v.knows.offers) s.views ≤ view.notes.held_room
     -- nobody else has a turn
     pub others : (k : ℕ) (v : View S I) → get_elem? s.views k ≡ some v → k ≢ holder
         → v.notes.holds ≡ false
@@ -96,13 +96,13 @@ module _ {J S I : Type 0} (entries : J → List (Entry I)) (room : J → ℕ) (o
     -- the entries' turns rise, and are over
     pub rises : RisesWithin 0 turn history
     -- each view has seen the entries with turns below its own
-    pub each : (k : ℕ) (v : View S I) → get_elem? s.views k ≡ some v → Agrees turn history v.knows
+    pub each : (k : ℕ) (v : View S I) → get_elem? s.views k ≡ some v → FitsHistory turn history v.knows
     pub noted : (k : ℕ) (v : View S I) → get_elem? s.views k ≡ some v → Noted v
     -- each turn that is over stands in the list of one view, once, and no other turn stands there
-    pub once : (x : ℕ) → total (λ v. occurrences x v.knows.taken) s.views ≡ once_below x turn
+    pub once : (x : ℕ) → sum_over (λ v. occurrences x v.knows.taken) s.views ≡ once_below x turn
     -- one view is that of the first pass
-    pub one_first : total (λ v. v.knows.first) s.views ≡ 1
+    pub one_first : sum_over (λ v. v.knows.first) s.views ≡ 1
     -- the others are as many as the first pass has out
-    pub others_out : total (λ v. v.notes.other) s.views ≡ total (λ v. v.knows.out) s.views
+    pub others_out : sum_over (λ v. v.notes.other) s.views ≡ sum_over (λ v. v.knows.out) s.views
     -- the journal is at home, or out with one view
     pub place : IsHome base turn history s ⊎ IsOut turn history s

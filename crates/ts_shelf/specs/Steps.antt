@@ -6,7 +6,7 @@ use Rattle.ts_shelf.specs.declared.view.View.{View}
 use Rattle.ts_shelf.specs.Entries.{most_turns, occurrences, RisesWithin, Extends}
 use Rattle.ts_shelf.specs.Views.{Seated, told, holding, after_turn, after_give_up, asking}
 use Rattle.ts_shelf.specs.Passes.{IsPass}
-use Rattle.ts_shelf.specs.Rule.{Agrees}
+use Rattle.ts_shelf.specs.Rule.{FitsHistory}
 
 -- what the first pass has learned after a join
 pub record HasJoined {S I : Type 0} (fits : S → I → Type 0) (v : View S I) : Type 0 where
@@ -55,7 +55,7 @@ module _ {J S I : Type 0} where
       pub rises : RisesWithin 0 t (entries journal)
       pub opens : v.knows.opening ≡ Some (opening journal)
       pub all_fit : All (λ e. fits (opening journal) e.item) (entries journal)
-      pub agrees : Agrees t (entries journal) v.knows
+      pub agrees : FitsHistory t (entries journal) v.knows
       pub offers : v.knows.offers ≤ room journal
 
     -- an exchange of the word 2t by 2t + 1: where it was found, turn t is held

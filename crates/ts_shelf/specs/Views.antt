@@ -31,9 +31,9 @@ module _ {I : Type 0} where
 
 module _ {S I : Type 0} where
   -- the sum over all views
-  abbrev pub total : (View S I → ℕ) → List (View S I) → ℕ
-  total f [] = 0
-  total f (v ∷ vs) = f v + total f vs
+  abbrev pub sum_over : (View S I → ℕ) → List (View S I) → ℕ
+  sum_over f [] = 0
+  sum_over f (v ∷ vs) = f v + sum_over f vs
 
   -- it is a pass that was not taken in by another
   abbrev pub IsLive : View S I → Type 0

@@ -1,9 +1,9 @@
 //! The calls of a shelf: in go looks and offers, each with the pass of the one who asks, and out
 //! come a turn and the journal as it was at that turn. At the end the journal comes out.
 ghost use Rattle.std.specs.Prelude.{◌≡◌, ℕ, ◌+◌, ◌<◌, ◌≤◌, [], length, IsOk, IfOk, IfErr, OnErr, ◌↔◌};
-ghost use Rattle.ts_shelf.specs.Calls.{Looked, Answers, ShowsLatest, Stays, IsSplit, IsJoin, Closes};
+ghost use Rattle.ts_shelf.specs.Calls.{Looked, Answers, ShowsLatest, TakesNoTurn, IsSplit, IsJoin, Closes};
 ghost use Rattle.ts_shelf.specs.Entries.{most_turns};
-ghost use Rattle.ts_shelf.specs.Passes.{IsPass, FitsOpening, first_pass};
+ghost use Rattle.ts_shelf.specs.Passes.{IsPass, IsFirst, IsOther, FitsOpening, first_pass};
 
 use crate::journal::Journal;
 use crate::pass::Pass;
@@ -84,7 +84,7 @@ impl<J: Journal> Shelf<J> {
         ensures pass { IsPass J.fits pass.new.knows }
         ensures looked { IfOk result (λ r. Looked pass.old.knows pass.new.knows r.turn r.number) }
         ensures latest { IfOk result (λ r. ShowsLatest J.shown_of pass.new.knows r.latest) }
-        ensures stays { OnErr result (Stays pass.old.knows pass.new.knows) }
+        ensures no_turn { OnErr result (TakesNoTurn pass.old.knows pass.new.knows) }
         ensures spent { IfErr result
             (λ e. (e ≡ Denied.Spent) ↔ (pass.new.knows.reached ≡ most_turns)) }
     {
@@ -127,7 +127,7 @@ impl<J: Journal> Shelf<J> {
         ensures pass { IsPass J.fits pass.new.knows }
         ensures answered { IfOk result
             (λ r. Answers J.shown_of pass.old.knows pass.new.knows base item r) }
-        ensures stays { OnErr result (Stays pass.old.knows pass.new.knows) }
+        ensures no_turn { OnErr result (TakesNoTurn pass.old.knows pass.new.knows) }
         ensures spent { IfErr result
             (λ e. (e ≡ Denied.Spent) ↔ (pass.new.knows.reached ≡ most_turns)) }
     {
@@ -161,7 +161,7 @@ impl<J: Journal> Shelf<J> {
     /// move. No refusal comes.
     pub fn split(&self, pass: &mut Pass<J>, offers: u32) -> Result<Pass<J>, AllocError>
         requires shelf { pass.old.shelf ≡ self.now }
-        requires first { pass.old.knows.first ≡ 1 }
+        requires first { IsFirst pass.old.knows }
         requires offers { offers ≤ pass.old.knows.offers }
         ensures ok { IsOk result }
         ensures shelf { pass.new.shelf ≡ pass.old.shelf }
@@ -178,7 +178,8 @@ impl<J: Journal> Shelf<J> {
     /// Takes another pass of the shelf into the first one.
     pub fn join(&self, pass: &mut Pass<J>, other: Pass<J>)
         requires shelf { (pass.old.shelf ≡ self.now) × (other.shelf ≡ self.now) }
-        requires first { (pass.old.knows.first ≡ 1) × (other.knows.first ≡ 0) }
+        requires first { IsFirst pass.old.knows }
+        requires other { IsOther other.knows }
         ensures shelf { pass.new.shelf ≡ pass.old.shelf }
         ensures pass { IsPass J.fits pass.new.knows }
         ensures joins { IsJoin pass.old.knows other.knows pass.new.knows }
@@ -191,7 +192,8 @@ impl<J: Journal> Shelf<J> {
     /// seen.
     pub fn close(self, pass: Pass<J>) -> J
         requires shelf { pass.shelf ≡ self }
-        requires alone { (pass.knows.first ≡ 1) × (pass.knows.out ≡ 0) }
+        requires first { IsFirst pass.knows }
+        requires alone { pass.knows.out ≡ 0 }
         ensures closes { Closes J.entries J.room J.opening pass.knows result }
         ensures pass { IsPass J.fits pass.knows }
     {

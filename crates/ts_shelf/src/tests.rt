@@ -3,7 +3,7 @@
 ghost use Rattle.std.specs.Prelude.{◌≡◌, ℕ, ◌+◌, ◌*◌, ◌<◌, ◌≤◌, ◌^◌, [], Some, IfOk, length, vec_len, vec_capacity};
 ghost use Rattle.std.specs.Thread.{IsSync};
 ghost use Rattle.ts_shelf.specs.Latest.{latest_of};
-ghost use Rattle.ts_shelf.specs.Passes.{IsPass, first_pass};
+ghost use Rattle.ts_shelf.specs.Passes.{IsPass, IsFirst, IsOther, first_pass};
 
 use crate::journal::{Entry, Journal};
 use crate::pass::Pass;
@@ -143,11 +143,11 @@ fn above(height: u32) -> u32
 /// Looks, and offers one more than the latest height, as often as it may; others come between.
 fn work<R: Wait>(rt: &R, shelf: &Shelf<Heights>, mut pass: Pass<Heights>) -> (Pass<Heights>, Tally)
     requires shelf { pass.shelf ≡ shelf.now }
-    requires other { pass.knows.first ≡ 0 }
+    requires other { IsOther pass.knows }
     requires pass { IsPass (λ opening item. opening ≤ item) pass.knows }
     requires offers { 1000 ≤ pass.knows.offers }
     ensures shelf { result.0.shelf ≡ shelf.now }
-    ensures other { result.0.knows.first ≡ 0 }
+    ensures other { IsOther result.0.knows }
     ensures pass { IsPass (λ opening item. opening ≤ item) result.0.knows }
 {
     let mut tally = Tally::default();
@@ -177,10 +177,11 @@ fn crowd<R: Threads + Wait + Sync>(
     workers: u32,
 ) -> (Pass<Heights>, Tally)
     requires shelf { pass.shelf ≡ shelf.now }
-    requires first { pass.knows.first ≡ 1 }
+    requires first { IsFirst pass.knows }
     requires offers { workers * 1000 ≤ pass.knows.offers }
     ensures shelf { result.0.shelf ≡ shelf.now }
-    ensures first { (result.0.knows.first ≡ 1) × (result.0.knows.out ≡ pass.knows.out) }
+    ensures first { IsFirst result.0.knows }
+    ensures out { result.0.knows.out ≡ pass.knows.out }
 {
     if workers == 0 {
         return (pass, Tally::default());
@@ -192,8 +193,8 @@ fn crowd<R: Threads + Wait + Sync>(
         rt,
         move || -> (Pass<Heights>, Tally)
             requires { IsSync R.row × (0 < workers) × (pass.shelf ≡ shelf.now)
-                × (pass.knows.first ≡ 1) × (workers * 1000 ≤ pass.knows.offers + 1000) }
-            ensures { (result.0.shelf ≡ shelf.entry.now) × (result.0.knows.first ≡ 1)
+                × IsFirst pass.knows × (workers * 1000 ≤ pass.knows.offers + 1000) }
+            ensures { (result.0.shelf ≡ shelf.entry.now) × IsFirst result.0.knows
                 × (result.0.knows.out ≡ pass.knows.out) }
         { crowd(rt, shelf, pass, workers - 1) },
         move || work(rt, shelf, other),
@@ -230,10 +231,10 @@ const TRIES: u32 = 2;
 /// answers whether that one came.
 fn meet<R: Wait>(rt: &R, shelf: &Shelf<Heights>, mut pass: Pass<Heights>) -> (Pass<Heights>, bool)
     requires shelf { pass.shelf ≡ shelf.now }
-    requires other { pass.knows.first ≡ 0 }
+    requires other { IsOther pass.knows }
     requires offers { 2 ≤ pass.knows.offers }
     ensures shelf { result.0.shelf ≡ shelf.now }
-    ensures other { result.0.knows.first ≡ 0 }
+    ensures other { IsOther result.0.knows }
 {
     for _ in 0..TRIES {
         let Ok(seen) = shelf.look(rt, &mut pass) else {
