@@ -1,5 +1,5 @@
 -- What a journal shows, as entries are added.
-use Rattle.std.proofs.Common.{Some, ◌≡◌, ◌∙◌, sym, refl, ℕ, zero, suc, ◌<◌, ◌≤◌, List, [], ◌∷◌, ◌++◌, All, arith}
+use Rattle.std.proofs.Common.{Some, ◌≡◌, ◌∙◌, sym, refl, ℕ, suc, ◌≤◌, List, [], ◌∷◌, ◌++◌, All, arith}
 use Rattle.ts_shelf.specs.declared.journal.Entry.{Entry}
 use Rattle.ts_shelf.specs.declared.view.Knowledge.{Knowledge}
 use Rattle.ts_shelf.specs.Calls.{ShowsLatest}

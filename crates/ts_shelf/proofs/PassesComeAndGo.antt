@@ -1,10 +1,10 @@
 -- A shelf opens with the rule, a split and a join keep it, and at the end it gives the journal.
-use Rattle.std.proofs.Common.{Some, ◌≡◌, ◌≢◌, ◌∙◌, sym, ap, refl, subst, ℕ, zero, suc, ◌+◌, ◌-◌, ◌<◌, ◌≤◌, ◌⊎◌, inl, inr, ⊎_elim, Bool, true, false, ◌==◌, eqb-true, List, [], ◌∷◌, ◌++◌, set, All, max, nat_lt, if◌then◌else◌, arith}
+use Rattle.std.proofs.Common.{Some, ◌≡◌, ◌∙◌, sym, ap, refl, subst, ℕ, zero, suc, ◌+◌, ◌-◌, ◌<◌, ◌≤◌, ◌⊎◌, inl, inr, ⊎_elim, Bool, true, false, ◌==◌, eqb-true, List, [], ◌∷◌, ◌++◌, set, All, max, nat_lt, if◌then◌else◌, arith}
 use Rattle.std.proofs.lemmas.Bool.{false≢true, cases_lt}
 use Rattle.std.proofs.lemmas.List.{append-nil}
 use Rattle.std.proofs.lemmas.List.Elements.{All-nil, All-weaker, All-append}
 use Rattle.std.proofs.lemmas.Bool.Decides.{nat_tests}
-use mathlib.Core.Option.{Option, some, none, some-injective, some-ne-none}
+use mathlib.Core.Option.{Option, some, some-injective, some-ne-none}
 use lib.ListN.{get_elem?}
 use Rattle.atomic_table.specs.Table.{State, Splits, Joins, Final, Seen}
 use Rattle.atomic_table.specs.Table as table
@@ -16,7 +16,7 @@ use Rattle.ts_shelf.specs.Calls.{Closes}
 use Rattle.ts_shelf.specs.Entries.{occurrences, once_below, RisesWithin, Extends}
 use Rattle.ts_shelf.specs.Rule.{FitsHistory, Noted, IsHome, IsOut, IsShelf}
 use Rattle.ts_shelf.specs.Views.{sum_over, IsLive, first_view, asking, kept_part, split_part, joined_known, joined_view, spent_view, Seated, IsIdle}
-use Rattle.ts_shelf.proofs.RisingEntries.{extends_self, rises_le, rises_none, seen_by_turn}
+use Rattle.ts_shelf.proofs.RisingEntries.{extends_self, rises_none, seen_by_turn}
 use Rattle.ts_shelf.proofs.TurnLists.{occurrences_append, once_counts}
 use Rattle.ts_shelf.proofs.ViewSums.{views_else, views_at, not_holding, total_set, total_append, member_total, sole}
 

@@ -7,7 +7,7 @@ use Rattle.ts_shelf.specs.declared.journal.Entry.{Entry}
 use Rattle.ts_shelf.specs.declared.view.Knowledge.{Knowledge}
 use Rattle.ts_shelf.specs.declared.view.View.{View}
 use Rattle.ts_shelf.specs.Calls.{TakesTurn, Looked, Publishes, IsNewer, ShowsLatest}
-use Rattle.ts_shelf.specs.Entries.{most_turns, Extends, RisesWithin}
+use Rattle.ts_shelf.specs.Entries.{most_turns, RisesWithin}
 use Rattle.ts_shelf.specs.Latest.{latest_of}
 use Rattle.ts_shelf.specs.Machine.{Event, look, offer, used_by, Response, shown, added, overtaken, IsTurn}
 use Rattle.ts_shelf.specs.Passes.{IsPass}

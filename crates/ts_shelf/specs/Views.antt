@@ -1,5 +1,5 @@
 -- What is kept of a pass beside what it knows, and how both change. These serve proofs alone.
-use Rattle.std.specs.Prelude.{◌≡◌, ℕ, ◌+◌, ◌-◌, true, false, nat_lt, max, if◌then◌else◌, List, [], ◌∷◌, ◌++◌, Option, None, Some}
+use Rattle.std.specs.Prelude.{◌≡◌, ℕ, ◌+◌, ◌-◌, true, false, nat_lt, max, if◌then◌else◌, List, [], ◌∷◌, ◌++◌, None}
 use Rattle.atomic_table.specs.Table.{Me}
 use Rattle.ts_shelf.specs.declared.journal.Entry.{Entry}
 use Rattle.ts_shelf.specs.declared.view.Knowledge.{Knowledge}

@@ -1,4 +1,4 @@
-use Rattle.std.proofs.Common.{◌≤◌, arith}
+use Rattle.std.proofs.Common.{arith}
 use Rattle.ts_shelf.proofs.LatestLemmas.{above_latest_fits}
 use Rattle.ts_shelf.proofs.tests.meet.Goals as goal
 
