@@ -1,5 +1,8 @@
-pub mod Keeps
 pub mod LatestLemmas
-pub mod Lessons
-pub mod Lists
-pub mod Waits
+pub mod PassesComeAndGo
+pub mod RisingEntries
+pub mod StepsKeepRule
+pub mod TriesInARow
+pub mod TurnLists
+pub mod TurnTells
+pub mod ViewSums

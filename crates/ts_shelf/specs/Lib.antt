@@ -1,8 +1,9 @@
+pub mod Calls
 pub mod Entries
 pub mod Latest
+pub mod Machine
 pub mod Passes
 pub mod Rule
 pub mod Steps
 pub mod Tried
-pub mod Turns
 pub mod Views

@@ -1,3 +1,5 @@
+//! What a shelf asks of a journal: from a turn and an item comes one more entry, and from the
+//! entries what is shown.
 ghost use Rattle.std.specs.Prelude.{◌≡◌, ℕ, ◌+◌, ◌<◌, List, [], ◌∷◌, ◌++◌, length, IfOk};
 ghost use Rattle.ts_shelf.specs.Latest.{latest_of};
 ghost use Rattle.ts_shelf.specs.declared.journal.Entry.{Entry as Added};
@@ -47,7 +49,8 @@ pub trait Journal {
     fn add(&mut self, turn: u64, item: Self::Item)
         requires room { 0 < room self.old }
         requires fits { fits (opening self.old) item }
-        ensures entries { entries self.new ≡ entries self.old ++ record { turn = turn; item = item } ∷ [] }
+        ensures entries { entries self.new
+            ≡ entries self.old ++ record { turn = turn; item = item } ∷ [] }
         ensures room { room self.new + 1 ≡ room self.old }
         ensures opening { opening self.new ≡ opening self.old };
 }

@@ -1,5 +1,6 @@
-//! What each kind of step tells, and how views are cut in two and put together. These types are for the proofs alone.
-ghost use Rattle.ts_shelf.specs.Steps.{loaded, took, gave, gave_up, asked, learned};
+//! What each kind of step tells, and how views are cut in two and put together: in goes the kind,
+//! out comes what the seat knows after it. These types are for the proofs alone.
+ghost use Rattle.ts_shelf.specs.Steps.{Loads, Tries, GivesBack, GivesUp, Asks, Learns};
 ghost use Rattle.ts_shelf.specs.Views.{kept_part, split_part, joined_view, spent_view};
 
 use crate::journal::Journal;
@@ -10,42 +11,42 @@ use atomic_table::{Join, Play, Split};
 pub(crate) struct Load;
 
 impl<J: Journal> Play<J, View<J::Shown, J::Item>> for Load {
-    ghost then = { loaded };
+    ghost then = { Loads };
 }
 
 /// An exchange of an even word by the next, which takes the turn.
 pub(crate) struct Take;
 
 impl<J: Journal> Play<J, View<J::Shown, J::Item>> for Take {
-    ghost then = { took J.entries J.room J.opening J.fits };
+    ghost then = { Tries J.entries J.room J.opening J.fits };
 }
 
 /// The end of a look.
 pub(crate) struct GiveBack;
 
 impl<J: Journal> Play<J, View<J::Shown, J::Item>> for GiveBack {
-    ghost then = { gave J.entries 0 };
+    ghost then = { GivesBack J.entries 0 };
 }
 
 /// The end of an offer.
 pub(crate) struct GiveOffer;
 
 impl<J: Journal> Play<J, View<J::Shown, J::Item>> for GiveOffer {
-    ghost then = { gave J.entries 1 };
+    ghost then = { GivesBack J.entries 1 };
 }
 
 /// The end of a turn that found no memory.
 pub(crate) struct GiveUp;
 
 impl<J: Journal> Play<J, View<J::Shown, J::Item>> for GiveUp {
-    ghost then = { gave_up };
+    ghost then = { GivesUp };
 }
 
 /// Before a split, which has no place for the number of offers.
 pub(crate) struct Ask;
 
 impl<J: Journal> Play<J, View<J::Shown, J::Item>> for Ask {
-    ghost then = { asked };
+    ghost then = { Asks };
 }
 
 /// A split of the first pass.
@@ -70,5 +71,5 @@ impl<S, I> Join<View<S, I>> for Meet {
 pub(crate) struct Learn;
 
 impl<J: Journal> Play<J, View<J::Shown, J::Item>> for Learn {
-    ghost then = { learned J.fits };
+    ghost then = { Learns J.fits };
 }

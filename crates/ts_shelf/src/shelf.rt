@@ -1,7 +1,9 @@
-ghost use Rattle.std.specs.Prelude.{◌≡◌, ℕ, ◌+◌, ◌<◌, ◌≤◌, ◌^◌, [], Some, length, IsOk, IfOk, IfErr, OnErr, ◌↔◌};
-ghost use Rattle.ts_shelf.specs.Passes.{KnowsOpening, FitsOpening};
-ghost use Rattle.ts_shelf.specs.Turns.{Looked, Answers, ShowsLatest, Stays, IsSplit, IsJoin, Closes};
-ghost use Rattle.ts_shelf.specs.Views.{first_view};
+//! The calls of a shelf: in go looks and offers, each with the pass of the one who asks, and out
+//! come a turn and the journal as it was at that turn. At the end the journal comes out.
+ghost use Rattle.std.specs.Prelude.{◌≡◌, ℕ, ◌+◌, ◌<◌, ◌≤◌, [], length, IsOk, IfOk, IfErr, OnErr, ◌↔◌};
+ghost use Rattle.ts_shelf.specs.Calls.{Looked, Answers, ShowsLatest, TakesNoTurn, IsSplit, IsJoin, Closes};
+ghost use Rattle.ts_shelf.specs.Entries.{most_turns};
+ghost use Rattle.ts_shelf.specs.Passes.{IsPass, IsFirst, IsOther, FitsOpening, first_pass};
 
 use crate::journal::Journal;
 use crate::pass::Pass;
@@ -11,7 +13,7 @@ use std::marker::Model;
 use std::sync::Wait;
 use thiserror::Error;
 
-/// A journal that several threads add to in turns. Contracts see the name of its table.
+/// A journal that several threads add to in turns. Contracts see which shelf it is.
 #[derive(Drop)]
 pub struct Shelf<J: Journal> {
     turnstile: Turnstile<J>,
@@ -47,7 +49,7 @@ pub enum Offered<S> {
 /// Why a look or an offer took no turn.
 #[derive(Clone, Copy, Debug, PartialEq, Eq, Error)]
 pub enum Denied {
-    /// All 2^62 turns are over.
+    /// All turns are over (`MOST_TURNS`).
     #[error("all turns are over")]
     Spent,
     /// The copy that is shown found no memory, and the turn was given up.
@@ -56,51 +58,58 @@ pub enum Denied {
 }
 
 impl<J: Journal> Shelf<J> {
-    /// A shelf with a journal that has no entries, and its first pass, which may make as many offers as the journal has room for.
+    /// A shelf with a journal that has no entries, and its first pass, which may make as many
+    /// offers as the journal has room for.
     pub fn new(alloc: Global, journal: J) -> Result<(Shelf<J>, Pass<J>), AllocError>
     where
         J: Drop,
         requires empty { J.entries journal ≡ [] }
         ensures shelf { IfOk result (λ r. r.1.shelf ≡ r.0) }
-        ensures first { IfOk result (λ r. r.1.knows ≡ first_view (Some (J.opening journal)) (J.room journal)) }
-        ensures opens { IfOk result (λ r. KnowsOpening J.fits r.1.knows) }
+        ensures first { IfOk result
+            (λ r. r.1.knows ≡ first_pass (J.opening journal) (J.room journal)) }
+        ensures pass { IfOk result (λ r. IsPass J.fits r.1.knows) }
     {
         let (turnstile, seat) = Turnstile::new(alloc, journal)?;
         Ok((Shelf { turnstile }, Pass { seat }))
     }
 
-    /// Takes a turn, and shows the journal of the entries with smaller turns. It may wait for the turn.
+    /// Takes a turn, and shows the journal of the entries with smaller turns. It may wait for the
+    /// turn.
+    ///
+    /// At an `Err` no turn was taken. The pass may then know that more turns are over than it knew
+    /// before.
     pub fn look<R: Wait>(&self, rt: &R, pass: &mut Pass<J>) -> Result<Seen<J::Shown>, Denied>
         requires shelf { pass.old.shelf ≡ self.now }
         ensures shelf { pass.new.shelf ≡ pass.old.shelf }
-        ensures opens { KnowsOpening J.fits pass.new.knows }
+        ensures pass { IsPass J.fits pass.new.knows }
         ensures looked { IfOk result (λ r. Looked pass.old.knows pass.new.knows r.turn r.number) }
         ensures latest { IfOk result (λ r. ShowsLatest J.shown_of pass.new.knows r.latest) }
-        ensures stays { OnErr result (Stays pass.old.knows pass.new.knows) }
-        ensures spent { IfErr result (λ e. (e ≡ Denied.Spent) ↔ (pass.new.knows.reached ≡ 2 ^ 62)) }
+        ensures no_turn { OnErr result (TakesNoTurn pass.old.knows pass.new.knows) }
+        ensures spent { IfErr result
+            (λ e. (e ≡ Denied.Spent) ↔ (pass.new.knows.reached ≡ most_turns)) }
     {
         let Some(turn) = self.turnstile.take(rt, &mut pass.seat) else {
             return Err(Denied::Spent);
         };
         let number = self.turnstile.number(&mut pass.seat);
-        match self.turnstile.shown(&mut pass.seat) {
-            Ok(latest) => {
-                self.turnstile.give_back(&mut pass.seat, turn);
-                Ok(Seen {
-                    turn,
-                    number,
-                    latest,
-                })
-            }
-            Err(_) => {
-                self.turnstile.give_up(&mut pass.seat, turn);
-                Err(Denied::Memory)
-            }
-        }
+        let Ok(latest) = self.turnstile.shown(&mut pass.seat) else {
+            self.turnstile.give_up(&mut pass.seat, turn);
+            return Err(Denied::Memory);
+        };
+        self.turnstile.give_back(&mut pass.seat, turn);
+        Ok(Seen {
+            turn,
+            number,
+            latest,
+        })
     }
 
-    /// Takes a turn, and adds the item where the journal has just `base` entries at that turn. It may wait for the turn.
-    /// Where the journal has more entries, or at an `Err`, the item is dropped.
+    /// Takes a turn, and adds the item where the journal has just `base` entries at that turn. It
+    /// may wait for the turn. Where the journal has more entries, or at an `Err`, the item is
+    /// dropped. A turn that publishes takes no memory.
+    ///
+    /// At an `Err` no turn was taken. The pass may then know that more turns are over than it knew
+    /// before.
     pub fn offer<R: Wait>(
         &self,
         rt: &R,
@@ -115,10 +124,12 @@ impl<J: Journal> Shelf<J> {
         requires fits { FitsOpening J.fits pass.old.knows item }
         requires base { base ≤ length pass.old.knows.seen }
         ensures shelf { pass.new.shelf ≡ pass.old.shelf }
-        ensures opens { KnowsOpening J.fits pass.new.knows }
-        ensures answered { IfOk result (λ r. Answers J.shown_of pass.old.knows pass.new.knows base item r) }
-        ensures stays { OnErr result (Stays pass.old.knows pass.new.knows) }
-        ensures spent { IfErr result (λ e. (e ≡ Denied.Spent) ↔ (pass.new.knows.reached ≡ 2 ^ 62)) }
+        ensures pass { IsPass J.fits pass.new.knows }
+        ensures answered { IfOk result
+            (λ r. Answers J.shown_of pass.old.knows pass.new.knows base item r) }
+        ensures no_turn { OnErr result (TakesNoTurn pass.old.knows pass.new.knows) }
+        ensures spent { IfErr result
+            (λ e. (e ≡ Denied.Spent) ↔ (pass.new.knows.reached ≡ most_turns)) }
     {
         let Some(turn) = self.turnstile.take(rt, &mut pass.seat) else {
             return Err(Denied::Spent);
@@ -146,15 +157,19 @@ impl<J: Journal> Shelf<J> {
         }
     }
 
-    /// Another pass, which has seen what the first pass has, and to which so many of its offers move.
+    /// Another pass, which has seen what the first pass has, and to which so many of its offers
+    /// move. No refusal comes.
     pub fn split(&self, pass: &mut Pass<J>, offers: u32) -> Result<Pass<J>, AllocError>
         requires shelf { pass.old.shelf ≡ self.now }
-        requires first { pass.old.knows.first ≡ 1 }
+        requires first { IsFirst pass.old.knows }
         requires offers { offers ≤ pass.old.knows.offers }
-        ensures shelf { (pass.new.shelf ≡ pass.old.shelf) × IfOk result (λ other. other.shelf ≡ pass.old.shelf) }
-        ensures opens { KnowsOpening J.fits pass.new.knows × IfOk result (λ other. KnowsOpening J.fits other.knows) }
-        ensures parts { IfOk result (λ other. IsSplit pass.old.knows pass.new.knows other.knows offers) }
         ensures ok { IsOk result }
+        ensures shelf { pass.new.shelf ≡ pass.old.shelf }
+        ensures pass { IsPass J.fits pass.new.knows }
+        ensures other_shelf { IfOk result (λ other. other.shelf ≡ pass.old.shelf) }
+        ensures other_pass { IfOk result (λ other. IsPass J.fits other.knows) }
+        ensures parts { IfOk result
+            (λ other. IsSplit pass.old.knows pass.new.knows other.knows offers) }
     {
         let seat = self.turnstile.split(&mut pass.seat, u64::from(offers));
         Ok(Pass { seat })
@@ -163,20 +178,24 @@ impl<J: Journal> Shelf<J> {
     /// Takes another pass of the shelf into the first one.
     pub fn join(&self, pass: &mut Pass<J>, other: Pass<J>)
         requires shelf { (pass.old.shelf ≡ self.now) × (other.shelf ≡ self.now) }
-        requires first { (pass.old.knows.first ≡ 1) × (other.knows.first ≡ 0) }
+        requires first { IsFirst pass.old.knows }
+        requires other { IsOther other.knows }
         ensures shelf { pass.new.shelf ≡ pass.old.shelf }
-        ensures opens { KnowsOpening J.fits pass.new.knows }
+        ensures pass { IsPass J.fits pass.new.knows }
         ensures joins { IsJoin pass.old.knows other.knows pass.new.knows }
     {
         let Pass { seat } = other;
         self.turnstile.join(&mut pass.seat, seat);
     }
 
-    /// The journal, once no other pass is out.
+    /// The journal, once no other pass is out. Its entries are those that the first pass has then
+    /// seen.
     pub fn close(self, pass: Pass<J>) -> J
         requires shelf { pass.shelf ≡ self }
-        requires alone { (pass.knows.first ≡ 1) × (pass.knows.out ≡ 0) }
-        ensures { Closes J.entries J.opening J.fits pass.knows result }
+        requires first { IsFirst pass.knows }
+        requires alone { pass.knows.out ≡ 0 }
+        ensures closes { Closes J.entries J.room J.opening pass.knows result }
+        ensures pass { IsPass J.fits pass.knows }
     {
         let Pass { seat } = pass;
         let Shelf { turnstile } = self;

@@ -1,6 +1,9 @@
-ghost use Rattle.std.specs.Prelude.{◌≡◌, ℕ, ◌+◌, ◌*◌, ◌<◌, ◌≤◌, ◌^◌, [], Some, IfOk, IfSome, length, vec_len, vec_capacity};
+//! What no clause says: that the calls come to an answer, with rows worked out by hand, and that
+//! clients run side by side.
+ghost use Rattle.std.specs.Prelude.{◌≡◌, ℕ, ◌+◌, ◌*◌, ◌<◌, ◌≤◌, ◌^◌, [], Some, IfOk, length, vec_len, vec_capacity};
 ghost use Rattle.std.specs.Thread.{IsSync};
 ghost use Rattle.ts_shelf.specs.Latest.{latest_of};
+ghost use Rattle.ts_shelf.specs.Passes.{IsPass, IsFirst, IsOther, first_pass};
 
 use crate::journal::{Entry, Journal};
 use crate::pass::Pass;
@@ -11,32 +14,34 @@ use std::sync::{Arc, Wait};
 use std::test::Fail;
 use std::thread::{self, Threads};
 
-/// Numbers, with room for some more, and a switch at which `shown` refuses memory.
+/// Heights, none of them below the lowest one allowed, with room for some more, and a switch at which
+/// `shown` refuses memory.
 #[derive(Drop)]
-struct Numbers {
+struct Heights {
     entries: Vec<Entry<u32>>,
     spare: u32,
+    lowest: u32,
     latest: u32,
     refuses: Arc<AtomicBool>,
     ghost room: { vec_len entries + spare ≤ vec_capacity entries },
     ghost few: { vec_len entries + spare < 2 ^ 32 },
-    ghost last: { latest ≡ latest_of (λ x. x) 7 entries.items },
+    ghost last: { latest ≡ latest_of (λ x. x) lowest entries.items },
 }
 
-impl Journal for Numbers {
+impl Journal for Heights {
     type Item = u32;
 
     type Shown = u32;
 
-    ghost entries = { λ n. n.entries.items };
+    ghost entries = { λ h. h.entries.items };
 
-    ghost room = { λ n. n.spare };
+    ghost room = { λ h. h.spare };
 
-    ghost opening = { λ n. 7 };
+    ghost opening = { λ h. h.lowest };
 
     ghost shown_of = { λ item. item };
 
-    ghost fits = { λ opening item. Unit {0} };
+    ghost fits = { λ opening item. opening ≤ item };
 
     fn number(&self) -> u32 {
         self.entries.len() as u32
@@ -63,34 +68,46 @@ impl Journal for Numbers {
     }
 }
 
-impl Numbers {
-    fn new(alloc: Global, spare: u32, refuses: Arc<AtomicBool>) -> Result<Numbers, AllocError>
-        ensures { IfOk result (λ n. (n.entries.items ≡ []) × (n.spare ≡ spare)) }
+impl Heights {
+    fn new(
+        alloc: Global,
+        lowest: u32,
+        spare: u32,
+        refuses: Arc<AtomicBool>,
+    ) -> Result<Heights, AllocError>
+        ensures empty { IfOk result (λ h. h.entries.items ≡ []) }
+        ensures parts { IfOk result (λ h. (h.lowest ≡ lowest) × (h.spare ≡ spare)) }
     {
         let entries = Vec::with_capacity(alloc, spare as usize)?;
-        Ok(Numbers {
+        Ok(Heights {
             entries,
             spare,
-            latest: 7,
+            lowest,
+            latest: lowest,
             refuses,
         })
     }
 }
 
-/// A shelf over numbers with so much room.
-fn opened(alloc: Global, room: u32) -> Result<(Shelf<Numbers>, Pass<Numbers>), AllocError>
+/// A shelf over heights of which none is below this one, with so much room.
+fn opened(
+    alloc: Global,
+    lowest: u32,
+    room: u32,
+) -> Result<(Shelf<Heights>, Pass<Heights>), AllocError>
     ensures shelf { IfOk result (λ r. r.1.shelf ≡ r.0) }
-    ensures first { IfOk result (λ r. (r.1.knows.first ≡ 1) × (r.1.knows.out ≡ 0) × (r.1.knows.offers ≡ room) × (r.1.knows.seen ≡ [])) }
+    ensures first { IfOk result (λ r. r.1.knows ≡ first_pass lowest room) }
 {
     let refuses = Arc::new(alloc, AtomicBool::new(false))?;
-    let journal = Numbers::new(alloc, room, refuses)?;
+    let journal = Heights::new(alloc, lowest, room, refuses)?;
     Shelf::new(alloc, journal)
 }
 
 /// How many offers a worker makes.
 const OFFERS: u32 = 1000;
 
-/// What workers met: how many of their offers were published, how many turns they took, the sum of those turns, and the last one.
+/// What workers met: how many of their offers were published, how many turns they took, the sum of
+/// those turns, and the last one.
 #[derive(Clone, Copy, Default)]
 struct Tally {
     published: u64,
@@ -116,17 +133,22 @@ impl Tally {
     }
 }
 
-/// Looks and offers in turn, and lets others come between.
-fn work<R: Wait>(
-    rt: &R,
-    shelf: &Shelf<Numbers>,
-    mut pass: Pass<Numbers>,
-    item: u32,
-) -> (Pass<Numbers>, Tally)
+/// The next height, but for the greatest.
+fn above(height: u32) -> u32
+    ensures { height ≤ result }
+{
+    height.saturating_add(1)
+}
+
+/// Looks, and offers one more than the latest height, as often as it may; others come between.
+fn work<R: Wait>(rt: &R, shelf: &Shelf<Heights>, mut pass: Pass<Heights>) -> (Pass<Heights>, Tally)
     requires shelf { pass.shelf ≡ shelf.now }
-    requires other { pass.knows.first ≡ 0 }
+    requires other { IsOther pass.knows }
+    requires pass { IsPass (λ opening item. opening ≤ item) pass.knows }
     requires offers { 1000 ≤ pass.knows.offers }
-    ensures { (result.0.shelf ≡ shelf.now) × (result.0.knows.first ≡ 0) }
+    ensures shelf { result.0.shelf ≡ shelf.now }
+    ensures other { IsOther result.0.knows }
+    ensures pass { IsPass (λ opening item. opening ≤ item) result.0.knows }
 {
     let mut tally = Tally::default();
     for _ in 0..OFFERS {
@@ -135,7 +157,7 @@ fn work<R: Wait>(
         };
         tally.note(seen.turn);
         thread::yield_now();
-        match shelf.offer(rt, &mut pass, seen.number, item) {
+        match shelf.offer(rt, &mut pass, seen.number, above(seen.latest)) {
             Ok(Offered::Published { turn, .. }) => {
                 tally.note(turn);
                 tally.published = tally.published.saturating_add(1);
@@ -150,14 +172,16 @@ fn work<R: Wait>(
 /// So many workers at once, each on a thread of its own.
 fn crowd<R: Threads + Wait + Sync>(
     rt: &R,
-    shelf: &Shelf<Numbers>,
-    mut pass: Pass<Numbers>,
+    shelf: &Shelf<Heights>,
+    mut pass: Pass<Heights>,
     workers: u32,
-) -> (Pass<Numbers>, Tally)
+) -> (Pass<Heights>, Tally)
     requires shelf { pass.shelf ≡ shelf.now }
-    requires first { pass.knows.first ≡ 1 }
+    requires first { IsFirst pass.knows }
     requires offers { workers * 1000 ≤ pass.knows.offers }
-    ensures { (result.0.shelf ≡ shelf.now) × (result.0.knows.first ≡ 1) × (result.0.knows.out ≡ pass.knows.out) }
+    ensures shelf { result.0.shelf ≡ shelf.now }
+    ensures first { IsFirst result.0.knows }
+    ensures out { result.0.knows.out ≡ pass.knows.out }
 {
     if workers == 0 {
         return (pass, Tally::default());
@@ -167,33 +191,93 @@ fn crowd<R: Threads + Wait + Sync>(
     };
     let ((mut pass, rest), (other, tally)) = thread::join(
         rt,
-        move || -> (Pass<Numbers>, Tally)
-            requires { IsSync R.row × (0 < workers) × (pass.shelf ≡ shelf.now) × (pass.knows.first ≡ 1) × (workers * 1000 ≤ pass.knows.offers + 1000) }
-            ensures { (result.0.shelf ≡ shelf.entry.now) × (result.0.knows.first ≡ 1) × (result.0.knows.out ≡ pass.knows.out) }
+        move || -> (Pass<Heights>, Tally)
+            requires { IsSync R.row × (0 < workers) × (pass.shelf ≡ shelf.now)
+                × IsFirst pass.knows × (workers * 1000 ≤ pass.knows.offers + 1000) }
+            ensures { (result.0.shelf ≡ shelf.entry.now) × IsFirst result.0.knows
+                × (result.0.knows.out ≡ pass.knows.out) }
         { crowd(rt, shelf, pass, workers - 1) },
-        move || work(rt, shelf, other, workers),
+        move || work(rt, shelf, other),
     );
     shelf.join(&mut pass, other);
     (pass, rest.with(tally))
 }
 
 #[test]
-fn sixteen_workers(rt: HostRuntime) -> Result<(), Fail> {
-    let (shelf, pass) = opened(rt.alloc(), 16000)?;
+fn workers_at_once(rt: HostRuntime) -> Result<(), Fail> {
+    let (shelf, pass) = opened(rt.alloc(), 50, 16000)?;
     let (pass, tally) = crowd(&rt, &shelf, pass, 16);
     let journal = shelf.close(pass);
-    assert_eq!(rt; tally.turns, 32000);
-    assert_eq!(rt; tally.last, 31999);
-    assert_eq!(rt; tally.sum, 31999 * 16000);
+    assert_eq!(rt;
+        (tally.turns, tally.last, tally.sum),
+        (32000, 31999, 31999 * 16000)
+    );
     assert!(rt; tally.published > 0);
     assert_eq!(rt; journal.entries.len() as u64, tally.published);
     assert_eq!(rt; journal.entries.len() + journal.room() as usize, 16000);
+    for (place, entry) in journal.entries.iter().enumerate() {
+        assert_eq!(rt; entry.item as usize, 51 + place);
+    }
+    Ok(())
+}
+
+/// How often a worker looks for what the other one publishes.
+const LOOKS: u32 = 10_000_000;
+
+/// How many offers a worker needs where one other entry may come between.
+const TRIES: u32 = 2;
+
+/// Publishes an entry, and then looks until another one's is there too, up to `LOOKS` times. It
+/// answers whether that one came.
+fn meet<R: Wait>(rt: &R, shelf: &Shelf<Heights>, mut pass: Pass<Heights>) -> (Pass<Heights>, bool)
+    requires shelf { pass.shelf ≡ shelf.now }
+    requires other { IsOther pass.knows }
+    requires offers { 2 ≤ pass.knows.offers }
+    ensures shelf { result.0.shelf ≡ shelf.now }
+    ensures other { IsOther result.0.knows }
+{
+    for _ in 0..TRIES {
+        let Ok(seen) = shelf.look(rt, &mut pass) else {
+            return (pass, false);
+        };
+        match shelf.offer(rt, &mut pass, seen.number, seen.latest) {
+            Ok(Offered::Published { .. }) => break,
+            Ok(Offered::Newer { .. }) => {}
+            Err(_) => return (pass, false),
+        }
+    }
+    for _ in 0..LOOKS {
+        if let Ok(seen) = shelf.look(rt, &mut pass) {
+            if seen.number == 2 {
+                return (pass, true);
+            }
+        }
+        thread::yield_now();
+    }
+    (pass, false)
+}
+
+#[test]
+fn workers_meet(rt: HostRuntime) -> Result<(), Fail> {
+    let (shelf, mut pass) = opened(rt.alloc(), 0, 4)?;
+    let one = shelf.split(&mut pass, 2)?;
+    let two = shelf.split(&mut pass, 2)?;
+    let shared = &shelf;
+    let ((one, first_met), (two, second_met)) = thread::join(
+        &rt,
+        move || meet(&rt, shared, one),
+        move || meet(&rt, shared, two),
+    );
+    shelf.join(&mut pass, one);
+    shelf.join(&mut pass, two);
+    assert!(rt; first_met && second_met);
+    assert_eq!(rt; shelf.close(pass).entries.len(), 2);
     Ok(())
 }
 
 #[test]
 fn looks_and_offers(rt: HostRuntime) -> Result<(), Fail> {
-    let (shelf, mut pass) = opened(rt.alloc(), 1)?;
+    let (shelf, mut pass) = opened(rt.alloc(), 7, 1)?;
     let seen = shelf.look(&rt, &mut pass)?;
     assert_eq!(rt;
         seen,
@@ -222,7 +306,7 @@ fn looks_and_offers(rt: HostRuntime) -> Result<(), Fail> {
 
 #[test]
 fn offer_over_a_newer_version(rt: HostRuntime) -> Result<(), Fail> {
-    let (shelf, mut pass) = opened(rt.alloc(), 3)?;
+    let (shelf, mut pass) = opened(rt.alloc(), 8, 3)?;
     let mut other = shelf.split(&mut pass, 2)?;
     let answer = shelf.offer(&rt, &mut other, 0, 20)?;
     assert_eq!(rt; answer, Offered::Published { turn: 0, number: 1 });
@@ -258,7 +342,7 @@ fn offer_over_a_newer_version(rt: HostRuntime) -> Result<(), Fail> {
 fn gives_up_a_turn_without_memory(rt: HostRuntime) -> Result<(), Fail> {
     let alloc = rt.alloc();
     let refuses = Arc::new(alloc, AtomicBool::new(true))?;
-    let journal = Numbers::new(alloc, 2, refuses.clone()?)?;
+    let journal = Heights::new(alloc, 20, 2, refuses.clone()?)?;
     let (shelf, mut pass) = Shelf::new(alloc, journal)?;
     assert!(rt; matches!(shelf.look(&rt, &mut pass), Err(Denied::Memory)));
     let mut other = shelf.split(&mut pass, 1)?;

@@ -1,13 +1,16 @@
-ghost use Rattle.std.specs.Prelude.{◌≡◌, ℕ, ◌+◌, ◌*◌, ◌<◌, ◌≤◌, ◌^◌, ◌/◌, MatchBool, List, [], ◌∷◌, ◌++◌, length, Some, IfSome, IfNone, IfOk};
-ghost use Rattle.ts_shelf.specs.Tried.{Tried, TookTurn, Ended};
-ghost use Rattle.ts_shelf.specs.Steps.{Took, HasLooked, HasOffered, Learned};
-ghost use Rattle.ts_shelf.specs.Turns.{Closes};
-ghost use Rattle.ts_shelf.specs.Views.{IsIdle, first_view, after_turn, after_give_up, joined_view, asking, kept_part, split_part};
+//! The word and the slot of a shelf, with one function for each kind of step on them: in goes a
+//! seat, and out come the turn, what the journal answers, and the seat as it is after the step.
+ghost use Rattle.std.specs.Prelude.{◌≡◌, ℕ, ◌+◌, ◌*◌, ◌<◌, ◌≤◌, ◌/◌, MatchBool, List, [], ◌∷◌, ◌++◌, length, IfSome, IfNone, IfOk};
+ghost use Rattle.ts_shelf.specs.Calls.{Closes};
+ghost use Rattle.ts_shelf.specs.Entries.{most_turns};
 ghost use Rattle.ts_shelf.specs.Latest.{latest_of};
+ghost use Rattle.ts_shelf.specs.Steps.{HasTurn, HasLooked, HasOffered, HasJoined};
+ghost use Rattle.ts_shelf.specs.Tried.{Tried, TookTurn, Ended};
+ghost use Rattle.ts_shelf.specs.Views.{IsIdle, first_view, told, after_turn, after_give_up, joined_view, asking, kept_part, split_part};
 
 use crate::journal::Journal;
 use crate::plays::{Ask, GiveBack, GiveOffer, GiveUp, Learn, Load, Meet, Part, Take};
-use crate::view::{TurnRule, View};
+use crate::view::{ShelfRule, View};
 use atomic_table::{Seat, Table};
 use std::alloc::{AllocError, Global};
 use std::snapshot::Snapshot;
@@ -15,7 +18,7 @@ use std::sync::Wait;
 use std::{hint, thread};
 
 /// How many turns a shelf has.
-const MOST: u64 = 1 << 62;
+pub const MOST_TURNS: u64 = 1 << 62;
 
 /// How many tries in a row hint the processor before the thread yields.
 const SPINS: u32 = 16;
@@ -25,7 +28,7 @@ pub(crate) type Rider<J> = Seat<J, View<<J as Journal>::Shown, <J as Journal>::I
 /// The word and the slot of a shelf, with the steps on them.
 #[derive(Drop)]
 pub(crate) struct Turnstile<J: Journal> {
-    pub(crate) table: Table<J, View<J::Shown, J::Item>, Snapshot<J>, TurnRule<J>, Global>,
+    pub(crate) table: Table<J, View<J::Shown, J::Item>, Snapshot<J>, ShelfRule<J>, Global>,
     pub(crate) ghost one: { (table.shared.table_id.words ≡ 1) × (table.shared.table_id.slots ≡ 1) },
 }
 
@@ -51,7 +54,9 @@ impl<J: Journal> Turnstile<J> {
     where
         J: Drop,
         requires { J.entries journal ≡ [] }
-        ensures { IfOk result (λ r. (r.1.table_id ≡ r.0.table.shared.table_id) × (r.1.me ≡ (first_view (Some (J.opening journal)) (J.room journal), []))) }
+        ensures same { IfOk result (λ r. r.1.table_id ≡ r.0.table.shared.table_id) }
+        ensures first { IfOk result
+            (λ r. r.1.me ≡ (first_view (J.opening journal) (J.room journal), [])) }
     {
         let start = Snapshot::of(&journal);
         let mut slots = Vec::new(alloc);
@@ -66,9 +71,9 @@ impl<J: Journal> Turnstile<J> {
     fn word(&self, seat: &mut Rider<J>) -> u64
         requires seat { (seat.old.table_id ≡ self.now.table.shared.table_id) × IsIdle seat.old.me }
         ensures same { seat.new.table_id ≡ seat.old.table_id }
-        ensures view { seat.new.me ≡ (record seat.old.me.0 { reached = result / 2 }, []) }
-        ensures few { result ≤ 2 * 2 ^ 62 + 1 }
-        ensures more { seat.old.me.0.reached ≤ result / 2 }
+        ensures view { seat.new.me ≡ (told seat.old.me.0 (result / 2), []) }
+        ensures few { result ≤ 2 * most_turns + 1 }
+        ensures more { seat.old.me.0.knows.reached ≤ result / 2 }
     {
         self.table.shared.load::<Load>(seat, 0)
     }
@@ -76,9 +81,11 @@ impl<J: Journal> Turnstile<J> {
     /// Takes the turn, if it is the next one and the journal is there.
     fn try_take(&self, seat: &mut Rider<J>, turn: u64) -> bool
         requires seat { (seat.old.table_id ≡ self.now.table.shared.table_id) × IsIdle seat.old.me }
-        requires few { turn < 2 ^ 62 }
+        requires few { turn < most_turns }
         ensures same { seat.new.table_id ≡ seat.old.table_id }
-        ensures took { MatchBool result (Took J.entries J.room J.opening J.fits seat.old.me.0 turn seat.new.me) (seat.new.me ≡ seat.old.me) }
+        ensures took { MatchBool result
+            (HasTurn J.entries J.room J.opening J.fits seat.old.me.0 turn seat.new.me)
+            (seat.new.me ≡ seat.old.me) }
     {
         let found = self
             .table
@@ -94,7 +101,7 @@ impl<J: Journal> Turnstile<J> {
         ensures tried { Tried J.entries J.room J.opening J.fits seat.old.me.0 seat.new.me result }
     {
         let word = self.word(seat);
-        if word == 2 * MOST {
+        if word == 2 * MOST_TURNS {
             return Attempt::Spent;
         }
         if word % 2 == 1 {
@@ -111,7 +118,8 @@ impl<J: Journal> Turnstile<J> {
     pub(crate) fn take<R: Wait>(&self, rt: &R, seat: &mut Rider<J>) -> Option<u64>
         requires seat { (seat.old.table_id ≡ self.now.table.shared.table_id) × IsIdle seat.old.me }
         ensures same { seat.new.table_id ≡ seat.old.table_id }
-        ensures some { IfSome result (λ t. TookTurn J.entries J.room J.opening J.fits seat.old.me.0 t seat.new.me) }
+        ensures some { IfSome result
+            (λ t. TookTurn J.entries J.room J.opening J.fits seat.old.me.0 t seat.new.me) }
         ensures none { IfNone result (Ended seat.old.me.0 seat.new.me) }
     {
         let mut tries = 0;
@@ -130,7 +138,8 @@ impl<J: Journal> Turnstile<J> {
         requires table { seat.old.table_id ≡ self.now.table.shared.table_id }
         requires journal { HasLooked J.entries J.room J.opening J.fits turn seat.old.me }
         ensures same { seat.new.table_id ≡ seat.old.table_id }
-        ensures view { seat.new.me ≡ (after_turn seat.old.me.0 seat.old.me.0.held_entries 0, []) }
+        ensures view { seat.new.me
+            ≡ (after_turn seat.old.me.0 seat.old.me.0.notes.held_entries 0, []) }
     {
         self.table.shared.store::<GiveBack>(seat, 0, 2 * turn + 2);
     }
@@ -140,7 +149,8 @@ impl<J: Journal> Turnstile<J> {
         requires table { seat.old.table_id ≡ self.now.table.shared.table_id }
         requires journal { HasOffered J.entries J.room J.opening J.fits turn seat.old.me }
         ensures same { seat.new.table_id ≡ seat.old.table_id }
-        ensures view { (j : J) → seat.old.me.1 ≡ (0, j) ∷ [] → seat.new.me ≡ (after_turn seat.old.me.0 (J.entries j) 1, []) }
+        ensures view { (j : J) → seat.old.me.1 ≡ (0, j) ∷ []
+            → seat.new.me ≡ (after_turn seat.old.me.0 (J.entries j) 1, []) }
     {
         self.table.shared.store::<GiveOffer>(seat, 0, 2 * turn + 2);
     }
@@ -171,7 +181,8 @@ impl<J: Journal> Turnstile<J> {
         requires table { seat.old.table_id ≡ self.now.table.shared.table_id }
         requires carried { (j : J) × (seat.old.me.1 ≡ (0, j) ∷ []) }
         ensures same { (seat.new.table_id ≡ seat.old.table_id) × (seat.new.me ≡ seat.old.me) }
-        ensures shown { IfOk result (λ s. (j : J) → seat.old.me.1 ≡ (0, j) ∷ [] → s ≡ latest_of J.shown_of (J.opening j) (J.entries j)) }
+        ensures shown { IfOk result (λ s. (j : J) → seat.old.me.1 ≡ (0, j) ∷ []
+            → s ≡ latest_of J.shown_of (J.opening j) (J.entries j)) }
     {
         let journal = seat.slot_mut(&self.table.shared, 0);
         journal.shown()
@@ -180,9 +191,13 @@ impl<J: Journal> Turnstile<J> {
     /// Adds the item to the journal that came with the turn.
     pub(crate) fn add(&self, seat: &mut Rider<J>, turn: u64, item: J::Item)
         requires table { seat.old.table_id ≡ self.now.table.shared.table_id }
-        requires carried { (j : J) × (seat.old.me.1 ≡ (0, j) ∷ []) × (0 < J.room j) × J.fits (J.opening j) item }
+        requires carried { (j : J) × (seat.old.me.1 ≡ (0, j) ∷ []) × (0 < J.room j)
+            × J.fits (J.opening j) item }
         ensures same { seat.new.table_id ≡ seat.old.table_id }
-        ensures added { (j : J) → seat.old.me.1 ≡ (0, j) ∷ [] → (k : J) × (seat.new.me ≡ (seat.old.me.0, (0, k) ∷ [])) × (J.entries k ≡ J.entries j ++ record { turn = turn; item = item } ∷ []) × (J.room k + 1 ≡ J.room j) × (J.opening k ≡ J.opening j) }
+        ensures added { (j : J) → seat.old.me.1 ≡ (0, j) ∷ []
+            → (k : J) × (seat.new.me ≡ (seat.old.me.0, (0, k) ∷ []))
+            × (J.entries k ≡ J.entries j ++ record { turn = turn; item = item } ∷ [])
+            × (J.room k + 1 ≡ J.room j) × (J.opening k ≡ J.opening j) }
     {
         let journal = seat.slot_mut(&self.table.shared, 0);
         journal.add(turn, item);
@@ -191,9 +206,10 @@ impl<J: Journal> Turnstile<J> {
     /// Cuts the first seat in two, and gives so many offers to the other.
     pub(crate) fn split(&self, seat: &mut Rider<J>, offers: u64) -> Rider<J>
         requires seat { (seat.old.table_id ≡ self.now.table.shared.table_id) × IsIdle seat.old.me }
-        requires first { seat.old.me.0.first ≡ 1 }
-        requires offers { offers ≤ seat.old.me.0.offers }
-        ensures same { (seat.new.table_id ≡ seat.old.table_id) × (result.table_id ≡ seat.old.table_id) }
+        requires first { seat.old.me.0.knows.first ≡ 1 }
+        requires offers { offers ≤ seat.old.me.0.knows.offers }
+        ensures same { seat.new.table_id ≡ seat.old.table_id }
+        ensures parted_same { result.table_id ≡ seat.old.table_id }
         ensures kept { seat.new.me ≡ (kept_part (asking seat.old.me.0 offers), []) }
         ensures parted { result.me ≡ (split_part (asking seat.old.me.0 offers), []) }
     {
@@ -207,10 +223,10 @@ impl<J: Journal> Turnstile<J> {
     pub(crate) fn join(&self, seat: &mut Rider<J>, other: Rider<J>)
         requires seat { (seat.old.table_id ≡ self.now.table.shared.table_id) × IsIdle seat.old.me }
         requires other { (other.table_id ≡ self.now.table.shared.table_id) × IsIdle other.me }
-        requires first { (seat.old.me.0.first ≡ 1) × (other.me.0.first ≡ 0) }
+        requires first { (seat.old.me.0.knows.first ≡ 1) × (other.me.0.knows.first ≡ 0) }
         ensures same { seat.new.table_id ≡ seat.old.table_id }
         ensures view { seat.new.me ≡ (joined_view seat.old.me.0 other.me.0, []) }
-        ensures learned { Learned J.fits seat.new.me.0 }
+        ensures learned { HasJoined J.fits seat.new.me.0 }
     {
         self.table.shared.join_seat::<Meet>(seat, other);
         self.table.shared.load::<Learn>(seat, 0);
@@ -219,8 +235,8 @@ impl<J: Journal> Turnstile<J> {
     /// The journal, once no other seat is out.
     pub(crate) fn close(self, seat: Rider<J>) -> J
         requires seat { (seat.table_id ≡ self.table.shared.table_id) × IsIdle seat.me }
-        requires alone { (seat.me.0.first ≡ 1) × (seat.me.0.out ≡ 0) }
-        ensures { Closes J.entries J.opening J.fits seat.me.0 result }
+        requires alone { (seat.me.0.knows.first ≡ 1) × (seat.me.0.knows.out ≡ 0) }
+        ensures { Closes J.entries J.room J.opening seat.me.0.knows result }
     {
         let Turnstile { table } = self;
         let mut closed = table.close_with(seat);
