@@ -1,10 +1,7 @@
 -- What the code asks for, from what the bytes so far lead to.
-use Rattle.std.proofs.Common.{◌≡◌, ◌⊎◌, inl, inr, ℕ, ◌+◌, ◌≤◌, List, [], ◌∷◌, ◌++◌, length, drop, Bool, true, false, cond, ◌||◌, refl, sym, ap, subst, ◌∙◌, arith}
+use Rattle.std.proofs.Common.{◌≡◌, ◌⊎◌, inl, inr, ℕ, List, [], ◌∷◌, ◌++◌, Bool, true, false, cond, ◌||◌, refl, sym, ap, ◌∙◌}
 use Rattle.std.proofs.lemmas.Slice.Eq.{bytes_eq-Decides}
-use Rattle.std.specs.Str.{IsUtf8, bytes_eq}
-use Rattle.ts_ojson.specs.declared.class.Class.TheVariants as class
-use Rattle.ts_ojson.specs.States.{State}
-use Rattle.ts_ojson.specs.States as state
+use Rattle.std.specs.Str.{bytes_eq}
 use Rattle.ts_ojson.specs.declared.fault.OFault.{OFault}
 use Rattle.ts_ojson.specs.declared.fault.OFault.TheVariants.{Syntax, Utf8, Deep, Duplicate, Memory}
 use Rattle.std.specs.Prelude.{IsErrAnd, IfOk, IfErr}

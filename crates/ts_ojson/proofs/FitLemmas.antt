@@ -1,15 +1,12 @@
 -- Where a name that is being read began, kept from byte to byte.
-use Rattle.std.proofs.Common.{◌≡◌, ℕ, suc, ◌+◌, ◌-◌, ◌*◌, ◌<◌, ◌≤◌, ◌⊎◌, inl, inr, List, [], ◌∷◌, ◌++◌, length, get_or, take, drop, Bool, true, false, cond, ◌==◌, nat_lt, Option, Some, None, refl, sym, ap, subst, ◌∙◌, arith}
-use Rattle.std.proofs.lemmas.Bool.{eqb-true, ltb-true, ltb-false}
-use Rattle.std.proofs.lemmas.Bool.Decides.{nat_tests}
+use Rattle.std.proofs.Common.{◌≡◌, ℕ, ◌+◌, ◌-◌, ◌<◌, List, [], ◌∷◌, ◌++◌, length, get_or, take, drop, Bool, true, false, cond, ◌==◌, nat_lt, Option, Some, None, refl, sym, ap, subst, ◌∙◌, arith}
 use Rattle.std.proofs.lemmas.List.{append_assoc, append-nil, length-append, take_more, drop_more}
 use Rattle.std.specs.Str.{IsUtf8}
 use Rattle.ts_ojson.specs.declared.class.Class.{Class}
 use Rattle.ts_ojson.specs.declared.class.Class.TheVariants as class
 use Rattle.ts_ojson.specs.declared.part.Part.{Part}
-use Rattle.ts_ojson.specs.declared.part.Part.TheVariants as part
 use Rattle.ts_ojson.specs.declared.escape.Escape.{Escape}
-use Rattle.ts_ojson.specs.declared.escape.Escape.TheVariants.{Plain, Backslash, First, Second, Third, Fourth, High, HighBackslash, LowFirst, LowSecond, LowThird, LowFourth}
+use Rattle.ts_ojson.specs.declared.escape.Escape.TheVariants.{Plain}
 use Rattle.ts_ojson.specs.Pieces.{Piece}
 use Rattle.ts_ojson.specs.Pieces.{reading, finished}
 use Rattle.ts_ojson.specs.Frames as frame
@@ -23,7 +20,7 @@ use Rattle.ts_ojson.specs.declared.value.OJson.TheVariants as json
 use Rattle.ts_ojson.specs.Characters.{IsHigh, IsLow, pair_of, short_of, Quoted}
 use Rattle.ts_ojson.specs.Reads.{Begins, IsAny}
 use Rattle.ts_ojson.specs.Gathered.{has_name}
-use Rattle.ts_ojson.specs.Strings.{plain_piece, shorted, unit_piece, digit_piece, hex_piece, next_piece, IsWithin}
+use Rattle.ts_ojson.specs.Strings.{next_piece, IsWithin}
 use Rattle.ts_ojson.specs.Machine.{Frames, Gathered, class_of, part_next, part_ends, word_bytes, word_value, fine, too_deep, repeated, Outcome, stuck, goes, stays, opens, begin_class, value_class, after, item_first_class, name_first, name_next, colon_next, word_next, number_part, text_piece, next}
 use Rattle.ts_ojson.proofs.Meaning.{InText, PieceMeans}
 use Rattle.ts_ojson.proofs.ClassLemmas.{of_class}

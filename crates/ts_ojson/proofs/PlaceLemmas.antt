@@ -1,5 +1,5 @@
 -- From what the bytes before a place lead to, to what those before a later place do.
-use Rattle.std.proofs.Common.{◌≡◌, ℕ, zero, suc, ◌+◌, ◌-◌, ◌<◌, ◌≤◌, ◌⊎◌, inl, inr, List, [], ◌∷◌, ◌++◌, length, get_or, take, drop, Bool, true, false, cond, ◌==◌, nat_lt, Option, Some, None, refl, sym, ap, subst, ◌∙◌, arith}
+use Rattle.std.proofs.Common.{◌≡◌, ℕ, zero, suc, ◌+◌, ◌-◌, ◌<◌, ◌≤◌, List, [], ◌∷◌, ◌++◌, length, get_or, take, drop, Bool, true, false, cond, ◌==◌, nat_lt, Some, None, refl, sym, ap, subst, ◌∙◌, arith}
 use Rattle.std.proofs.lemmas.Bool.{ltb-true, ltb-false, lt-ltb, le-ltb, eqb-true, eqb-false}
 use Rattle.std.proofs.lemmas.List.{append_assoc, append-nil, take_more, length-drop, get_or-drop}
 use Rattle.std.specs.Str.{IsUtf8, IsCharBoundary}
@@ -15,7 +15,7 @@ use Rattle.ts_ojson.specs.declared.value.OJson.{OJson}
 use Rattle.ts_ojson.specs.declared.value.OJson.TheVariants as json
 use Rattle.ts_ojson.specs.Characters.{IsRaw}
 use Rattle.ts_ojson.specs.Gathered.{has_name}
-use Rattle.ts_ojson.specs.Pieces.{Piece, reading, finished}
+use Rattle.ts_ojson.specs.Pieces.{reading, finished}
 use Rattle.ts_ojson.specs.Strings.{plain_piece, next_piece}
 use Rattle.ts_ojson.specs.Roles.{Role}
 use Rattle.ts_ojson.specs.Roles as role
@@ -23,7 +23,7 @@ use Rattle.ts_ojson.specs.Frames.{Frame}
 use Rattle.ts_ojson.specs.Frames as frame
 use Rattle.ts_ojson.specs.States.{State}
 use Rattle.ts_ojson.specs.States as state
-use Rattle.ts_ojson.specs.Machine.{Frames, Gathered, class_of, part_next, part_ends, word_bytes, word_value, Outcome, stuck, goes, fine, too_deep, repeated, stays, opens, begin_class, value_class, after, item_first_class, name_first, name_next, colon_next, word_next, number_part, closed, text_piece, text_next, next, on_byte, outcome, ended_in, ended}
+use Rattle.ts_ojson.specs.Machine.{Frames, Gathered, class_of, part_next, part_ends, word_bytes, word_value, stuck, goes, fine, too_deep, repeated, stays, opens, begin_class, value_class, after, item_first_class, name_first, name_next, colon_next, number_part, closed, text_piece, text_next, next, on_byte, outcome, ended_in, ended}
 use Rattle.ts_ojson.specs.Places.{between, byte_there, class_there, part_there, AreBlank, NoBlank, ArePlain, NoPlain, Reaches, Ends, Starts, Named, IsStuck, IsDeep, IsTaken}
 use Rattle.ts_ojson.proofs.ClassLemmas.{IsKnown, of_class, class_ascii, part_known}
 

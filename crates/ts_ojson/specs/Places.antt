@@ -1,5 +1,5 @@
 -- What the bytes before a place lead to, for private clauses: the machine's states, where the code has none of them.
-use Rattle.std.specs.Prelude.{◌≡◌, ◌≢◌, ℕ, suc, ◌+◌, ◌-◌, ◌<◌, ◌≤◌, Bool, cond, nat_lt, List, [], length, get_or, take, drop, Option, Some, None, ⊤}
+use Rattle.std.specs.Prelude.{◌≡◌, ◌≢◌, ℕ, ◌-◌, ◌<◌, ◌≤◌, cond, nat_lt, length, get_or, take, drop, Option, Some, None, ⊤}
 use Rattle.ts_base.specs.Bytes.{Bytes}
 use Rattle.ts_ojson.specs.declared.class.Class.{Class}
 use Rattle.ts_ojson.specs.declared.class.Class.TheVariants as class
@@ -9,7 +9,7 @@ use Rattle.ts_ojson.specs.declared.stop.Stop.TheVariants.{Syntax, Deep, Duplicat
 use Rattle.ts_ojson.specs.declared.value.OJson.{OJson}
 use Rattle.ts_ojson.specs.Characters.{IsRaw}
 use Rattle.ts_ojson.specs.States.{State}
-use Rattle.ts_ojson.specs.Machine.{Frames, Gathered, class_of, part_next, Outcome, stuck, goes, fine, too_deep, repeated, stays, begin, name_next, after, next, outcome, ended_in, ended}
+use Rattle.ts_ojson.specs.Machine.{Frames, Gathered, class_of, part_next, stuck, goes, fine, too_deep, repeated, stays, begin, name_next, after, next, outcome, ended_in, ended}
 
 -- ---- bytes
 

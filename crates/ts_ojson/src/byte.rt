@@ -11,7 +11,11 @@ pub(crate) fn byte_in(text: &str, at: usize) -> Option<u8>
     ensures { result ≡ byte_there text.now at }
 {
     let bytes = text.as_bytes();
-    if at < bytes.len() { Some(bytes[at]) } else { None }
+    if at < bytes.len() {
+        Some(bytes[at])
+    } else {
+        None
+    }
 }
 
 /// What stands at a place outside of strings, or `None` at the end.
@@ -19,7 +23,11 @@ pub(crate) fn class_in(text: &str, at: usize) -> Option<Class>
     ensures { result ≡ class_there text.now at }
 {
     let bytes = text.as_bytes();
-    if at < bytes.len() { Some(class_at(bytes[at])) } else { None }
+    if at < bytes.len() {
+        Some(class_at(bytes[at]))
+    } else {
+        None
+    }
 }
 
 /// The first place from `from` on where no blank stands.

@@ -140,7 +140,11 @@ fn hex(escape: Escape, byte: u8) -> Option<Next>
     ensures ascii { IfSome result (λ _. byte < 128) }
 {
     let digit = digit(byte);
-    if digit < 16 { with_digit(escape, digit) } else { None }
+    if digit < 16 {
+        with_digit(escape, digit)
+    } else {
+        None
+    }
 }
 
 /// One more byte of an escape. `None` where the escape has no such byte there.
@@ -176,7 +180,11 @@ fn read_in(text: &str, at: usize, escape: Escape) -> Option<Next>
     ensures ascii { IfSome result (λ _. get_or text.now at 0 < 128) }
 {
     let bytes = text.as_bytes();
-    if at < bytes.len() { read_on(escape, bytes[at]) } else { None }
+    if at < bytes.len() {
+        read_on(escape, bytes[at])
+    } else {
+        None
+    }
 }
 
 /// The character of the escape whose backslash stands before `from`, and the place behind it.

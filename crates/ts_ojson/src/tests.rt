@@ -100,32 +100,41 @@ fn reads_values(rt: HostRuntime) -> Result<(), Fail> {
     Ok(())
 }
 
-/// The object of section 13 of RFC 8259, and the array of two after it, cut to what differs from it.
+/// An object of numbers.
+fn numbers(alloc: Global, rows: &[(&str, &str)]) -> Result<OJson, Fail> {
+    let mut members = List::new(alloc);
+    for (name, spelling) in rows {
+        members.push((Str::from_text(alloc, name)?, num(alloc, spelling)?))?;
+    }
+    Ok(OJson::Object(members))
+}
+
 #[test]
 fn keeps_members_in_order(rt: HostRuntime) -> Result<(), Fail> {
     let alloc = rt.alloc();
-    let mut ids = List::new(alloc);
-    for id in ["116", "943", "234", "38793"] {
-        ids.push(num(alloc, id)?)?;
-    }
-    let mut thumbnail = List::new(alloc);
-    let url = text(alloc, "http://www.example.com/image/481989943")?;
-    thumbnail.push((Str::from_text(alloc, "Url")?, url))?;
-    thumbnail.push((Str::from_text(alloc, "Height")?, num(alloc, "125")?))?;
-    thumbnail.push((Str::from_text(alloc, "Width")?, num(alloc, "100")?))?;
-    let mut image = List::new(alloc);
-    image.push((Str::from_text(alloc, "Width")?, num(alloc, "800")?))?;
-    image.push((Str::from_text(alloc, "Height")?, num(alloc, "600")?))?;
-    image.push((Str::from_text(alloc, "Title")?, text(alloc, "View from 15th Floor")?))?;
-    image.push((Str::from_text(alloc, "Thumbnail")?, OJson::Object(thumbnail)))?;
-    image.push((Str::from_text(alloc, "Animated")?, OJson::Bool(false)))?;
-    image.push((Str::from_text(alloc, "IDs")?, OJson::Array(ids)))?;
-    let mut object = List::new(alloc);
-    object.push((Str::from_text(alloc, "Image")?, OJson::Object(image)))?;
-    let read = read(
-        alloc,
-        b"{\n  \"Image\": {\n    \"Width\":  800,\n    \"Height\": 600,\n    \"Title\":  \"View from 15th Floor\",\n    \"Thumbnail\": {\n      \"Url\":    \"http://www.example.com/image/481989943\",\n      \"Height\": 125,\n      \"Width\":  100\n    },\n    \"Animated\" : false,\n    \"IDs\": [116, 943, 234, 38793]\n  }\n}",
+    let thumbnail = numbers(alloc, &[("Height", "125"), ("Width", "100")])?;
+    assert_eq!(rt;
+        read(alloc, b"{\n \"Height\": 125,\n \"Width\":  100\n}"),
+        Ok(thumbnail)
     );
-    assert_eq!(rt; read, Ok(OJson::Object(object)));
+    let object = numbers(alloc, &[("b", "1"), ("", "2"), ("a", "3")])?;
+    assert_eq!(rt;
+        read(alloc, b"{\"b\":1, \"\":2 ,\"\\u0061\" : 3}"),
+        Ok(object)
+    );
+    Ok(())
+}
+
+/// The texts of RFC 8259, section 13, but for those that other tests have.
+#[test]
+fn reads_examples(rt: HostRuntime) -> Result<(), Fail> {
+    let alloc = rt.alloc();
+    let table = [
+        "{\"Image\": {\"Width\":  800, \"Height\": 600, \"Title\":  \"View from 15th Floor\", \"Thumbnail\": {\"Url\":    \"http://www.example.com/image/481989943\", \"Height\": 125, \"Width\":  100}, \"Animated\" : false, \"IDs\": [116, 943, 234, 38793]}}",
+        "[{\"precision\": \"zip\", \"Latitude\":  37.7668, \"Longitude\": -122.3959, \"Address\":   \"\", \"City\":      \"SAN FRANCISCO\", \"State\":     \"CA\", \"Zip\":       \"94107\", \"Country\":   \"US\"}, {\"precision\": \"zip\", \"Latitude\":  37.371991, \"Longitude\": -122.026020, \"Address\":   \"\", \"City\":      \"SUNNYVALE\", \"State\":     \"CA\", \"Zip\":       \"94085\", \"Country\":   \"US\"}]",
+    ];
+    for input in table {
+        assert!(rt; answer(alloc, input.as_bytes()).is_ok());
+    }
     Ok(())
 }

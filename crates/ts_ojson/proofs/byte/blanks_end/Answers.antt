@@ -1,4 +1,4 @@
-use Rattle.std.proofs.Common.{◌≡◌, ◌≤◌, ◌+◌, Some, arith, rules}
+use Rattle.std.proofs.Common.{◌≡◌, Some, arith, rules}
 use Rattle.ts_ojson.specs.declared.class.Class.TheVariants.{Blank}
 use Rattle.ts_ojson.specs.Places.{class_there}
 use Rattle.ts_ojson.proofs.PlaceLemmas.{class_here, blanks_more}

@@ -1,5 +1,4 @@
-use Rattle.std.proofs.Common.{◌≡◌, ◌+◌, get_or, [], ◌∷◌, Some, None, true, false, sym, subst, arith, rules}
-use Rattle.ts_ojson.specs.declared.part.Part.{Part}
+use Rattle.std.proofs.Common.{◌≡◌, ◌+◌, Some, None, true, false, sym, subst, arith}
 use Rattle.ts_ojson.specs.Machine.{part_ends}
 use Rattle.ts_ojson.specs.States.{number}
 use Rattle.ts_ojson.specs.Places.{part_there, between, Reaches}

@@ -1,6 +1,5 @@
-use Rattle.std.proofs.Common.{◌≡◌, subst, arith}
+use Rattle.std.proofs.Common.{subst, arith}
 use Rattle.ts_ojson.specs.Places.{Refused}
-use Rattle.ts_ojson.specs.declared.stop.Stop.TheVariants.{Syntax, Deep, Duplicate}
 use Rattle.ts_ojson.proofs.FinalLemmas.{stuck_is, deep_is, taken_is}
 use Rattle.ts_ojson.proofs.stop.fault_of.Goals as goal
 

@@ -1,15 +1,13 @@
-use Rattle.std.proofs.Common.{◌≡◌, suc, ◌+◌, ◌≤◌, ◌<◌, ◌++◌, get_or, length, [], ◌∷◌, Some, refl, sym, subst, arith}
+use Rattle.std.proofs.Common.{◌≡◌, ◌+◌, ◌<◌, ◌++◌, get_or, [], ◌∷◌, Some, refl, arith}
 use Rattle.std.proofs.lemmas.Result.{IfOk-weaker, IfErr-weaker}
 use Rattle.ts_ojson.specs.declared.class.Class.TheVariants as class
 use Rattle.ts_ojson.specs.declared.escape.Escape.TheVariants.{Plain}
 use Rattle.ts_ojson.specs.declared.part.Part.TheVariants as part
 use Rattle.ts_ojson.specs.declared.word.Word.TheVariants as word
-use Rattle.ts_ojson.specs.Json.{most_deep}
 use Rattle.ts_ojson.specs.Frames as frame
 use Rattle.ts_ojson.specs.Roles as role
 use Rattle.ts_ojson.specs.States as state
-use Rattle.ts_ojson.specs.Machine.{Frames}
-use Rattle.ts_ojson.specs.Places.{class_there, Reaches, Starts, Named, Ends, Refused}
+use Rattle.ts_ojson.specs.Places.{class_there}
 use Rattle.ts_ojson.proofs.PlaceLemmas.{pass_value, pass_item, pass_first, pass_name, pass_end, starts_value, starts_item, named_first, named_next, start_on, start_deep, few, array_none, array_more, array_close, array_stuck, object_none, object_more, object_close, object_stuck}
 use Rattle.ts_ojson.proofs.tree.+value.Goals as goal
 

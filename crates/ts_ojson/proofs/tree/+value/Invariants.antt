@@ -1,4 +1,4 @@
-use Rattle.std.proofs.Common.{◌≡◌, suc, ◌+◌, ◌*◌, ◌<◌, ◌≤◌, ◌-◌, length, ◌∷◌}
+use Rattle.std.proofs.Common.{◌≡◌, suc, ◌+◌, ◌*◌, ◌≤◌, ◌-◌, length, ◌∷◌}
 use Rattle.ts_ojson.specs.Machine.{Frames}
 use Rattle.ts_ojson.specs.Frames as frame
 use Rattle.ts_ojson.specs.States as state

@@ -1,14 +1,11 @@
-use Rattle.std.proofs.Common.{◌≡◌, ◌+◌, ◌≤◌, ◌<◌, length, ◌∷◌, Some, true, false, arith}
+use Rattle.std.proofs.Common.{◌≡◌, ◌+◌, ◌∷◌, Some, true, false, arith}
 use Rattle.std.proofs.lemmas.Result.{err_from_is_err_and}
-use Rattle.ts_ojson.specs.declared.class.Class.TheVariants.{Quote, Colon, Other}
-use Rattle.ts_ojson.specs.declared.escape.Escape.TheVariants.{Plain}
+use Rattle.ts_ojson.specs.declared.class.Class.TheVariants.{Quote, Colon}
 use Rattle.ts_ojson.specs.Frames as frame
 use Rattle.ts_ojson.specs.Roles as role
-use Rattle.ts_ojson.specs.States as state
-use Rattle.ts_ojson.specs.Machine.{Frames}
 use Rattle.ts_ojson.specs.Gathered.{has_name}
-use Rattle.ts_ojson.specs.Places.{class_there, Reaches, Named}
-use Rattle.ts_ojson.proofs.PlaceLemmas.{after_class, named_quote, named_stuck, name_taken, name_new, pass_colon, colon_on, colon_stuck, pass_value, starts_value}
+use Rattle.ts_ojson.specs.Places.{class_there}
+use Rattle.ts_ojson.proofs.PlaceLemmas.{after_class, named_quote, name_taken, name_new, pass_colon, colon_on, colon_stuck, pass_value, starts_value}
 use Rattle.ts_ojson.proofs.tree.name.Goals as goal
 
 pub string-requires-clause-boundary : goal.string-requires-clause-boundary

@@ -1,4 +1,4 @@
-use Rattle.std.proofs.Common.{◌≡◌, ◌+◌, Some, arith}
+use Rattle.std.proofs.Common.{arith}
 use Rattle.ts_ojson.specs.Roles as role
 use Rattle.ts_ojson.proofs.PlaceLemmas.{after_byte, text_ends}
 use Rattle.ts_ojson.proofs.tree.text_value.Goals as goal

@@ -1,4 +1,4 @@
-use Rattle.std.proofs.Common.{◌≡◌, ◌≤◌, ◌<◌, ◌+◌, length, get_or, Some, subst, sym, arith, rules}
+use Rattle.std.proofs.Common.{◌≡◌, ◌≤◌, ◌<◌, ◌+◌, length, get_or, Some, subst, arith}
 use Rattle.ts_ojson.specs.Machine.{word_bytes}
 use Rattle.ts_ojson.specs.States.{word}
 use Rattle.ts_ojson.specs.Places.{byte_there, Reaches}

@@ -6,7 +6,7 @@ use Rattle.ts_ojson.proofs.word.Word.read.Given as goal
 
 abbrev pub invariant-loop-read : goal.invariant-loop-read
 invariant-loop-read l = record {
-  within : (1 ≤ l.read) × (l.from + l.read ≤ length l.text) × (l.read ≤ length l.letters) ;
+  within : (1 ≤ l.read) × (l.from + l.read ≤ length l.text) × (l.read ≤ length l.letters);
   reaches : (k : Frames) → Reaches l.text (l.from + 1) (word l.self 1) k → Reaches l.text (l.from + l.read) (word l.self l.read) k;
 }
 
