@@ -1,12 +1,15 @@
--- What the class of a byte tells.
-use Rattle.std.proofs.Common.{◌≡◌, ℕ, ◌≤◌, ◌⊎◌, inl, inr, Bool, true, false, cond, ◌&&◌, ◌==◌, nat_le, refl, ap, subst, ◌∙◌, arith}
+-- What the class of a byte, or the value of a digit, tells of it.
+use Rattle.std.proofs.Common.{◌≡◌, ℕ, ◌<◌, ◌≤◌, ◌⊎◌, inl, inr, Bool, true, false, cond, ◌&&◌, ◌==◌, nat_le, Some, refl, ap, subst, ◌∙◌, arith}
 use Rattle.std.proofs.lemmas.Bool.{eqb-true, eqb-false, leb-true, and_parts}
 use Rattle.std.proofs.lemmas.Bool.Decides.{nat_tests}
 use Rattle.ts_ojson.specs.declared.class.Class.{Class}
 use Rattle.ts_ojson.specs.declared.class.Class.TheVariants as class
 use Rattle.ts_ojson.specs.Number.{IsDigit}
 use Rattle.ts_ojson.specs.Text.{IsBlank}
-use Rattle.ts_ojson.specs.Machine.{class_of}
+use Rattle.ts_ojson.specs.declared.part.Part.{Part}
+use Rattle.ts_ojson.specs.declared.part.Part.TheVariants as part
+use Rattle.std.specs.Char.{digit_value}
+use Rattle.ts_ojson.specs.Machine.{class_of, part_next}
 
 abbrev pub IsOf : Class → ℕ → Type 0
 IsOf class.Blank b = IsBlank b
@@ -81,3 +84,52 @@ digit_class b d = by_first (b == 48) refl
 pub class_digit : (b : ℕ) (c : Class) → class_of b ≡ c → (c ≡ class.Zero) ⊎ (c ≡ class.Digit) → IsDigit b
 class_digit b c e (inl z) = let h : b ≡ 48 = of_class b class.Zero (e ∙ z) in (omega arith, omega arith)
 class_digit b c e (inr z) = let h = of_class b class.Digit (e ∙ z) in (omega arith, omega arith)
+
+-- ---- classes of ASCII
+abbrev pub IsKnown : Class → Type 0
+IsKnown class.Other = ⊥
+IsKnown c = Unit {0}
+
+pub class_ascii : (b : ℕ) (c : Class) → class_of b ≡ c → IsKnown c → b < 128
+class_ascii b class.Blank e k = blank (of_class b class.Blank e)
+  where
+    blank : (b ≡ 32) ⊎ ((b ≡ 9) ⊎ ((b ≡ 10) ⊎ (b ≡ 13))) → b < 128
+    blank (inl h) = omega arith
+    blank (inr (inl h)) = omega arith
+    blank (inr (inr (inl h))) = omega arith
+    blank (inr (inr (inr h))) = omega arith
+class_ascii b class.Quote e k = let h = of_class b class.Quote e in omega arith
+class_ascii b class.Comma e k = let h = of_class b class.Comma e in omega arith
+class_ascii b class.Colon e k = let h = of_class b class.Colon e in omega arith
+class_ascii b class.OpenArray e k = let h = of_class b class.OpenArray e in omega arith
+class_ascii b class.CloseArray e k = let h = of_class b class.CloseArray e in omega arith
+class_ascii b class.OpenObject e k = let h = of_class b class.OpenObject e in omega arith
+class_ascii b class.CloseObject e k = let h = of_class b class.CloseObject e in omega arith
+class_ascii b class.Minus e k = let h = of_class b class.Minus e in omega arith
+class_ascii b class.Plus e k = let h = of_class b class.Plus e in omega arith
+class_ascii b class.Point e k = let h = of_class b class.Point e in omega arith
+class_ascii b class.Zero e k = let h = of_class b class.Zero e in omega arith
+class_ascii b class.Digit e k = let h = of_class b class.Digit e in omega (arith, h.1)
+class_ascii b class.Exponent e k = mark (of_class b class.Exponent e)
+  where
+    mark : (b ≡ 101) ⊎ (b ≡ 69) → b < 128
+    mark (inl h) = omega arith
+    mark (inr h) = omega arith
+class_ascii b class.LetterT e k = let h = of_class b class.LetterT e in omega arith
+class_ascii b class.LetterF e k = let h = of_class b class.LetterF e in omega arith
+class_ascii b class.LetterN e k = let h = of_class b class.LetterN e in omega arith
+class_ascii b class.Other e k = absurd k
+
+pub part_known : (p : Part) (c : Class) (q : Part) → part_next p c ≡ Some q → IsKnown c
+part_known part.Minus class.Other q e = cc
+part_known part.Zero class.Other q e = cc
+part_known part.Whole class.Other q e = cc
+part_known part.Point class.Other q e = cc
+part_known part.Fraction class.Other q e = cc
+part_known part.Exponent class.Other q e = cc
+part_known part.Sign class.Other q e = cc
+part_known part.Power class.Other q e = cc
+part_known p c q e = tt
+
+pub hex_ascii : (b : ℕ) → digit_value b < 16 → b < 128
+hex_ascii b lt = grind (arith, nat_tests)

@@ -5,10 +5,10 @@ use Rattle.std.proofs.lemmas.List.{append-nil, drop_more, drop_all}
 use Rattle.ts_ojson.specs.declared.part.Part.{Part}
 use Rattle.ts_ojson.specs.declared.escape.Escape.{Escape}
 use Rattle.ts_ojson.specs.declared.escape.Escape.TheVariants.{Plain, Backslash, First, Second, Third, Fourth, High, HighBackslash, LowFirst, LowSecond, LowThird, LowFourth}
-use Rattle.ts_ojson.specs.declared.state.Frame.TheVariants as frame
-use Rattle.ts_ojson.specs.declared.state.Word.{Word}
-use Rattle.ts_ojson.specs.declared.state.State.{State}
-use Rattle.ts_ojson.specs.declared.state.State.TheVariants as state
+use Rattle.ts_ojson.specs.Frames as frame
+use Rattle.ts_ojson.specs.declared.word.Word.{Word}
+use Rattle.ts_ojson.specs.States.{State}
+use Rattle.ts_ojson.specs.States as state
 use Rattle.ts_ojson.specs.declared.value.OJson.{OJson}
 use Rattle.ts_ojson.specs.declared.value.OJson.TheVariants as json
 use Rattle.ts_ojson.specs.Json.{Json, null, boolean, number, string, array, object, Items, no_items, item, Members, no_members, member, json_of}
@@ -87,10 +87,10 @@ module _ (K : List ℕ → List ℕ → Type 0) where
 -- ---- the end
 rest_end : (k : Frames) (j v : Json) → Rest k j v [] → (k ≡ []) × (v ≡ j)
 rest_end [] j v h = (refl, h.0)
-rest_end (frame.Array xs ∷ k) j v (a, no_items, t, e, more, h) = absurd (nil_is 93 t (sym e ∙ more))
-rest_end (frame.Array xs ∷ k) j v (a, item i m, t, e, (u, q, more, x, others), h) = absurd (nil_is 44 u (sym e ∙ more))
-rest_end (frame.Object ms n ∷ k) j v (a, no_members, t, e, more, h) = absurd (nil_is 125 t (sym e ∙ more))
-rest_end (frame.Object ms n ∷ k) j v (a, member l i m, t, e, (u, q, z, more, x, y, others), h) = absurd (nil_is 44 u (sym e ∙ more))
+rest_end (frame.array xs ∷ k) j v (a, no_items, t, e, more, h) = absurd (nil_is 93 t (sym e ∙ more))
+rest_end (frame.array xs ∷ k) j v (a, item i m, t, e, (u, q, more, x, others), h) = absurd (nil_is 44 u (sym e ∙ more))
+rest_end (frame.object ms n ∷ k) j v (a, no_members, t, e, more, h) = absurd (nil_is 125 t (sym e ∙ more))
+rest_end (frame.object ms n ∷ k) j v (a, member l i m, t, e, (u, q, z, more, x, y, others), h) = absurd (nil_is 44 u (sym e ∙ more))
 
 abbrev pub EndsAs : State → Frames → Json → Type 0
 EndsAs s k v = (o : OJson) × (ended s k ≡ Some o) × (v ≡ json_of o)
@@ -98,46 +98,46 @@ EndsAs s k v = (o : OJson) × (ended s k ≡ Some o) × (v ≡ json_of o)
 ends_empty : (s : State) (k : Frames) (v j : Json) (o : OJson) → ended_in s ≡ Some o → j ≡ json_of o → Rest k j v [] → EndsAs s k v
 ends_empty s k v j o e f h = let end = rest_end k j v h in (o, subst (λ (x : Frames). ended s x ≡ Some o) (sym end.0) e, end.1 ∙ f)
 
-word_ends : (x : Word) (i : ℕ) (k : Frames) (v : Json) (t : Bool) → nat_lt i (length (word_bytes x)) ≡ t → Completes (state.Word x i) k v [] → EndsAs (state.Word x i) k v
+word_ends : (x : Word) (i : ℕ) (k : Frames) (v : Json) (t : Bool) → nat_lt i (length (word_bytes x)) ≡ t → Completes (state.word x i) k v [] → EndsAs (state.word x i) k v
 word_ends x i k v true e (r, h, more) =
     absurd (nil_is (get_or (word_bytes x) i 0) (drop (i + 1) (word_bytes x) ++ r) (h ∙ ap (λ z. z ++ r) (drop_more (word_bytes x) i 0 (ltb-true i (length (word_bytes x)) e))))
 word_ends x i k v false e (r, h, more) =
-    ends_empty (state.Word x i) k v (json_of (word_value x)) (word_value x) (ap (λ t. cond t None (Some (word_value x))) e) refl
+    ends_empty (state.word x i) k v (json_of (word_value x)) (word_value x) (ap (λ t. cond t None (Some (word_value x))) e) refl
     (subst (λ (z : List ℕ). Rest k (json_of (word_value x)) v z) (sym (h ∙ ap (λ z. z ++ r) (drop_all i (word_bytes x) (ltb-false i (length (word_bytes x)) e)))) more)
 
 pub ended_is : (s : State) (k : Frames) (v : Json) → Completes s k v [] → EndsAs s k v
-ended_is state.Value k v h = absurd (no_begun k v h)
-ended_is state.FirstItem k v h = absurd (no_first h.0 h.1 h.2)
-ended_is (state.After o) k v h = ends_empty (state.After o) k v (json_of o) o refl refl h
-ended_is state.FirstName k v h = absurd (no_member h.0 h.1 h.2)
-ended_is (state.Name ms) k v h = absurd (no_quoted h.1 h.0 h.2 h.3 h.4)
-ended_is (state.Colon ms n) k v h = absurd (nil_is 58 h.0 (sym h.1))
-ended_is (state.Word x i) k v h = word_ends x i k v (nat_lt i (length (word_bytes x))) refl h
-ended_is (state.Number p s) k v ([], r, e, n, h) =
-    ends_empty (state.Number p s) k v (json_of (json.Num s)) (json.Num s) (ap (λ t. cond t (Some (json.Num s)) None) (ends_tail p n)) refl
+ended_is state.value k v h = absurd (no_begun k v h)
+ended_is state.first_item k v h = absurd (no_first h.0 h.1 h.2)
+ended_is (state.after o) k v h = ends_empty (state.after o) k v (json_of o) o refl refl h
+ended_is state.first_name k v h = absurd (no_member h.0 h.1 h.2)
+ended_is (state.name ms) k v h = absurd (no_quoted h.1 h.0 h.2 h.3 h.4)
+ended_is (state.colon ms n) k v h = absurd (nil_is 58 h.0 (sym h.1))
+ended_is (state.word x i) k v h = word_ends x i k v (nat_lt i (length (word_bytes x))) refl h
+ended_is (state.number p s) k v ([], r, e, n, h) =
+    ends_empty (state.number p s) k v (json_of (json.Num s)) (json.Num s) (ap (λ t. cond t (Some (json.Num s)) None) (ends_tail p n)) refl
     ((number_rest s k v []).0 (subst (λ (z : List ℕ). Rest k (number (s ++ [])) v z) (sym e) h))
-ended_is (state.Number p s) k v (c ∷ t, r, e, n, h) = absurd (nil_is c (t ++ r) e)
-ended_is (state.Text e s r) k v h = absurd (no_text (TextEnd r k v) e s h)
+ended_is (state.number p s) k v (c ∷ t, r, e, n, h) = absurd (nil_is c (t ++ r) e)
+ended_is (state.text e s r) k v h = absurd (no_text (TextEnd r k v) e s h)
 
 some_is : {A : Type 0} (x y : A) → Some x ≡ Some y → x ≡ y
 some_is x y e = cc
 
-word_back : (x : Word) (i : ℕ) (o : OJson) (t : Bool) → nat_lt i (length (word_bytes x)) ≡ t → cond t None (Some (word_value x)) ≡ Some o → Completes (state.Word x i) [] (json_of o) []
+word_back : (x : Word) (i : ℕ) (o : OJson) (t : Bool) → nat_lt i (length (word_bytes x)) ≡ t → cond t None (Some (word_value x)) ≡ Some o → Completes (state.word x i) [] (json_of o) []
 word_back x i o true e h = let differ : None ≡ Some o = h in cc
 word_back x i o false e h = ([], sym (append-nil (drop i (word_bytes x)) ∙ drop_all i (word_bytes x) (ltb-false i (length (word_bytes x)) e)), (ap json_of (sym (some_is (word_value x) o h)), refl))
 
-number_back : (p : Part) (s : List ℕ) (o : OJson) (t : Bool) → part_ends p ≡ t → cond t (Some (json.Num s)) None ≡ Some o → Completes (state.Number p s) [] (json_of o) []
+number_back : (p : Part) (s : List ℕ) (o : OJson) (t : Bool) → part_ends p ≡ t → cond t (Some (json.Num s)) None ≡ Some o → Completes (state.number p s) [] (json_of o) []
 number_back p s o false e h = let differ : None ≡ Some o = h in cc
 number_back p s o true e h = ([], [], refl, tail_end p e, (number_rest s [] (json_of o) []).1 (ap json_of (sym (some_is (json.Num s) o h)), refl))
 
 pub end_completes : (s : State) (k : Frames) (o : OJson) → ended s k ≡ Some o → Completes s k (json_of o) []
 end_completes s (f ∷ k) o e = cc
-end_completes state.Value [] o e = cc
-end_completes state.FirstItem [] o e = cc
-end_completes (state.After j) [] o e = (ap json_of (sym (some_is j o e)), refl)
-end_completes state.FirstName [] o e = cc
-end_completes (state.Name ms) [] o e = cc
-end_completes (state.Colon ms n) [] o e = cc
-end_completes (state.Word x i) [] o e = word_back x i o (nat_lt i (length (word_bytes x))) refl e
-end_completes (state.Number p s) [] o e = number_back p s o (part_ends p) refl e
-end_completes (state.Text i s r) [] o e = cc
+end_completes state.value [] o e = cc
+end_completes state.first_item [] o e = cc
+end_completes (state.after j) [] o e = (ap json_of (sym (some_is j o e)), refl)
+end_completes state.first_name [] o e = cc
+end_completes (state.name ms) [] o e = cc
+end_completes (state.colon ms n) [] o e = cc
+end_completes (state.word x i) [] o e = word_back x i o (nat_lt i (length (word_bytes x))) refl e
+end_completes (state.number p s) [] o e = number_back p s o (part_ends p) refl e
+end_completes (state.text i s r) [] o e = cc

@@ -4,10 +4,10 @@ use Rattle.std.proofs.lemmas.Bool.{ltb-true, ltb-false, eqb-true}
 use Rattle.std.proofs.lemmas.List.{append_assoc, append-nil, take-append-drop, take-take, take_all, length-take-le, drop-drop}
 use Rattle.std.specs.Str.{IsUtf8, IsValidUpTo}
 use Rattle.ts_ojson.specs.declared.escape.Escape.{Escape}
-use Rattle.ts_ojson.specs.declared.escape.Piece.{Piece}
-use Rattle.ts_ojson.specs.declared.escape.Piece.TheVariants.{Inside, Closed}
-use Rattle.ts_ojson.specs.declared.state.State.{State}
-use Rattle.ts_ojson.specs.declared.state.State.TheVariants as state
+use Rattle.ts_ojson.specs.Pieces.{Piece}
+use Rattle.ts_ojson.specs.Pieces.{reading, finished}
+use Rattle.ts_ojson.specs.States.{State}
+use Rattle.ts_ojson.specs.States as state
 use Rattle.ts_ojson.specs.declared.value.OJson.{OJson}
 use Rattle.ts_ojson.specs.declared.fault.OFault.{OFault}
 use Rattle.ts_ojson.specs.declared.fault.OFault.TheVariants.{Syntax, Utf8, Deep, Duplicate, Memory}
@@ -15,11 +15,11 @@ use Rattle.ts_ojson.specs.declared.class.Class.TheVariants as class
 use Rattle.ts_ojson.specs.declared.part.Part.{Part}
 use Rattle.ts_ojson.specs.declared.part.Part.TheVariants as part
 use Rattle.ts_ojson.specs.declared.escape.Escape.TheVariants.{Plain, Backslash, First, Second, Third, Fourth, High, HighBackslash, LowFirst, LowSecond, LowThird, LowFourth}
-use Rattle.ts_ojson.specs.declared.state.Frame.TheVariants as frame
-use Rattle.ts_ojson.specs.declared.state.Role.{Role}
-use Rattle.ts_ojson.specs.declared.state.Role.TheVariants as role
-use Rattle.ts_ojson.specs.declared.state.Word.{Word}
-use Rattle.ts_ojson.specs.declared.state.Word.TheVariants as word
+use Rattle.ts_ojson.specs.Frames as frame
+use Rattle.ts_ojson.specs.Roles.{Role}
+use Rattle.ts_ojson.specs.Roles as role
+use Rattle.ts_ojson.specs.declared.word.Word.{Word}
+use Rattle.ts_ojson.specs.declared.word.Word.TheVariants as word
 use Rattle.ts_ojson.specs.declared.value.OJson.TheVariants as json
 use Rattle.ts_ojson.specs.Json.{Json, json_of, HasDistinctNames}
 use Rattle.ts_ojson.specs.Characters.{Mark, Characters}
@@ -31,7 +31,7 @@ use Rattle.ts_ojson.proofs.ValueLemmas.{nil_is}
 use Rattle.ts_ojson.proofs.StepLemmas.{step_is}
 use Rattle.ts_ojson.proofs.SoundLemmas.{StateSound, PieceWithin, within}
 use Rattle.ts_ojson.proofs.FinalLemmas.{Leads, leads_start, leads_on, opening_deep, twice_not}
-use Rattle.ts_ojson.specs.Text.{IsText}
+use Rattle.ts_ojson.specs.Text.{IsJsonText}
 use Rattle.ts_ojson.specs.Reads.{Reads, Begins, IsAny, IsShallow, IsKept, IsSyntaxFault, IsDeepFault, IsDuplicateFault, IsFault}
 
 -- ---- fronts of fronts
@@ -39,10 +39,10 @@ front_of_front : (P : Json → Type 0) (w : List ℕ) (p q : ℕ) → p ≤ q �
 front_of_front P w p q le (r, j, x, h) =
     let e : take p w ++ (drop p (take q w) ++ r) ≡ take q w ++ r
     = sym (append_assoc (take p w) (drop p (take q w)) r) ∙ ap (λ y. (y ++ drop p (take q w)) ++ r) (sym (take-take p q w le)) ∙ ap (λ y. y ++ r) (take-append-drop p (take q w)) in
-    (drop p (take q w) ++ r, j, subst (λ (y : List ℕ). IsText j y) (sym e) x, h)
+    (drop p (take q w) ++ r, j, subst (λ (y : List ℕ). IsJsonText j y) (sym e) x, h)
 
-front_of_text : (P : Json → Type 0) (w : List ℕ) (p : ℕ) (j : Json) → IsText j w → P j → Begins P (take p w)
-front_of_text P w p j x h = (drop p w, j, subst (λ (y : List ℕ). IsText j y) (sym (take-append-drop p w)) x, h)
+front_of_text : (P : Json → Type 0) (w : List ℕ) (p : ℕ) (j : Json) → IsJsonText j w → P j → Begins P (take p w)
+front_of_text P w p j x h = (drop p w, j, subst (λ (y : List ℕ). IsJsonText j y) (sym (take-append-drop p w)) x, h)
 
 any_front : (P : Json → Type 0) (u : List ℕ) → Begins P u → Begins IsAny u
 any_front P u (r, j, x, h) = (r, j, x, tt)
@@ -114,7 +114,7 @@ kept_state w at (goes too_deep s k) l (r, j, x, h) = let deep = opening_deep s k
 kept_state w at (goes (repeated p) s k) l (r, j, x, h) = absurd (twice_not s k j r l.sound ((l.same j r).0 x) h.1)
 
 reach : (w : List ℕ) → IsUtf8 w → (p : ℕ) → p ≤ length w → IsKept (take p w) → (s : State) × (k : Frames) × Leads w p (goes fine s k)
-reach w u zero le h = (state.Value, [], leads_start w)
+reach w u zero le h = (state.value, [], leads_start w)
 reach w u (suc q) le h =
     let e : q + 1 ≡ suc q = omega arith in
     let before = reach w u q (omega arith) (front_of_front (λ j. IsShallow j × HasDistinctNames j) w q (suc q) (omega arith) h) in
@@ -147,8 +147,8 @@ Ends s r = r ≡ []
 inside_piece : (m : List ℕ) (K : List ℕ → List ℕ → Type 0) (z y : List ℕ) (o : Option Piece) → PieceWithin o → PieceMeans K (m ++ 10 ∷ z) o → PieceMeans Ends (m ++ 34 ∷ y) o
     → ((e : Escape) (s : List ℕ) → IsWithin e → InText e s K (m ++ 10 ∷ z) → InText e s Ends (m ++ 34 ∷ y) → ⊥) → ⊥
 inside_piece m K z y None is g h again = absurd g
-inside_piece m K z y (Some (Inside e s)) is g h again = again e s is g h
-inside_piece m K z y (Some (Closed s)) is g h again = not_empty m y 34 h
+inside_piece m K z y (Some (reading e s)) is g h again = again e s is g h
+inside_piece m K z y (Some (finished s)) is g h again = not_empty m y 34 h
 
 inside : (m : List ℕ) (K : List ℕ → List ℕ → Type 0) (e : Escape) (s z y : List ℕ) → IsWithin e → InText e s K (m ++ 10 ∷ z) → InText e s Ends (m ++ 34 ∷ y) → ⊥
 inside [] K e s z y is g h = no_feed K e s z is g
@@ -162,8 +162,8 @@ OpensText v z = (r : Role) × (i : Frames) × Plainly [] (TextEnd r i v) z
 
 no_quote_after : (v : Json) (z : List ℕ) (o : OJson) (k : Frames) → Means (after o k class.Quote) v z → ⊥
 no_quote_after v z o [] h = h
-no_quote_after v z o (frame.Array xs ∷ k) h = h
-no_quote_after v z o (frame.Object ms n ∷ k) h = h
+no_quote_after v z o (frame.array xs ∷ k) h = h
+no_quote_after v z o (frame.object ms n ∷ k) h = h
 
 letters : (x : Word) (i : ℕ) → get_or (word_bytes x) i 0 ≡ 34 → ⊥
 letters word.Null zero e = omega arith
@@ -186,11 +186,11 @@ letters word.False (suc (suc (suc (suc (suc i))))) e = omega arith
 no_quote_word : (v : Json) (z : List ℕ) (x : Word) (i : ℕ) (k : Frames) → Means (word_next x i k 34) v z → ⊥
 no_quote_word v z x i k h = by (nat_lt i (length (word_bytes x))) h
   where
-    by_letter : (t : Bool) → (get_or (word_bytes x) i 0 == 34) ≡ t → Means (cond t (goes fine (state.Word x (i + 1)) k) stuck) v z → ⊥
+    by_letter : (t : Bool) → (get_or (word_bytes x) i 0 == 34) ≡ t → Means (cond t (goes fine (state.word x (i + 1)) k) stuck) v z → ⊥
     by_letter true e h = letters x i (eqb-true (get_or (word_bytes x) i 0) 34 e)
     by_letter false e h = h
 
-    by : (t : Bool) → Means (cond t (cond (get_or (word_bytes x) i 0 == 34) (goes fine (state.Word x (i + 1)) k) stuck) (after (word_value x) k class.Quote)) v z → ⊥
+    by : (t : Bool) → Means (cond t (cond (get_or (word_bytes x) i 0 == 34) (goes fine (state.word x (i + 1)) k) stuck) (after (word_value x) k class.Quote)) v z → ⊥
     by true h = by_letter (get_or (word_bytes x) i 0 == 34) refl h
     by false h = no_quote_after v z (word_value x) k h
 
@@ -209,15 +209,15 @@ no_quote_number v z part.Sign s k h = no_quote_end v z s k false h
 no_quote_number v z part.Power s k h = no_quote_end v z s k true h
 
 opens_text : (s : State) (k : Frames) (v u : Json) (r z : List ℕ) → StateSound s k → Completes s k u (10 ∷ r) → Completes s k v (34 ∷ z) → OpensText v z
-opens_text state.Value k v u r z is f h = (role.Value, k, (step_is 0 state.Value k v 34 z tt).0 h)
-opens_text state.FirstItem k v u r z is f h = (role.Value, frame.Array [] ∷ k, (step_is 0 state.FirstItem k v 34 z tt).0 h)
-opens_text (state.After o) k v u r z is f h = absurd (no_quote_after v z o k ((step_is 0 (state.After o) k v 34 z tt).0 h))
-opens_text state.FirstName k v u r z is f h = (role.Name 0 [], k, (step_is 0 state.FirstName k v 34 z tt).0 h)
-opens_text (state.Name ms) k v u r z is f h = (role.Name 0 ms, k, (step_is 0 (state.Name ms) k v 34 z tt).0 h)
-opens_text (state.Colon ms n) k v u r z is f h = absurd ((step_is 0 (state.Colon ms n) k v 34 z tt).0 h)
-opens_text (state.Word x i) k v u r z is f h = absurd (no_quote_word v z x i k ((step_is 0 (state.Word x i) k v 34 z tt).0 h))
-opens_text (state.Number p t) k v u r z is f h = absurd (no_quote_number v z p t k ((step_is 0 (state.Number p t) k v 34 z tt).0 h))
-opens_text (state.Text e t o) k v u r z is f h = absurd (no_feed (TextEnd o k u) e t r is.0 f)
+opens_text state.value k v u r z is f h = (role.value, k, (step_is 0 state.value k v 34 z tt).0 h)
+opens_text state.first_item k v u r z is f h = (role.value, frame.array [] ∷ k, (step_is 0 state.first_item k v 34 z tt).0 h)
+opens_text (state.after o) k v u r z is f h = absurd (no_quote_after v z o k ((step_is 0 (state.after o) k v 34 z tt).0 h))
+opens_text state.first_name k v u r z is f h = (role.name 0 [], k, (step_is 0 state.first_name k v 34 z tt).0 h)
+opens_text (state.name ms) k v u r z is f h = (role.name 0 ms, k, (step_is 0 (state.name ms) k v 34 z tt).0 h)
+opens_text (state.colon ms n) k v u r z is f h = absurd ((step_is 0 (state.colon ms n) k v 34 z tt).0 h)
+opens_text (state.word x i) k v u r z is f h = absurd (no_quote_word v z x i k ((step_is 0 (state.word x i) k v 34 z tt).0 h))
+opens_text (state.number p t) k v u r z is f h = absurd (no_quote_number v z p t k ((step_is 0 (state.number p t) k v 34 z tt).0 h))
+opens_text (state.text e t o) k v u r z is f h = absurd (no_feed (TextEnd o k u) e t r is.0 f)
 
 -- ---- one place of a name
 take_nil : (n : ℕ) (l : List ℕ) → l ≡ [] → take n l ≡ []
@@ -244,11 +244,11 @@ place_twice (b ∷ m) w v z p q f g long e split (ms, n, x) =
     let front : Begins IsAny (take p w) = any_front (λ j. IsShallow j × HasDistinctNames j) (take p w) kept_p in
     let s = reach w f.utf8 p (omega (arith, f.within)) kept_p in
     let feed = f.starts in
-    let first : Completes s.0 s.1 feed.1 (10 ∷ feed.0) = (s.2.same feed.1 (10 ∷ feed.0)).0 (subst (λ (y : List ℕ). IsText feed.1 y) (append_assoc (take p w) (10 ∷ []) feed.0) feed.2) in
+    let first : Completes s.0 s.1 feed.1 (10 ∷ feed.0) = (s.2.same feed.1 (10 ∷ feed.0)).0 (subst (λ (y : List ℕ). IsJsonText feed.1 y) (append_assoc (take p w) (10 ∷ []) feed.0) feed.2) in
     let later = g.starts in
     let there : (take q w ++ 10 ∷ []) ++ later.0 ≡ take p w ++ 34 ∷ (m ++ 10 ∷ later.0)
     = append_assoc (take q w) (10 ∷ []) later.0 ∙ ap (λ y. y ++ 10 ∷ later.0) e ∙ append_assoc (take p w) (b ∷ m) (10 ∷ later.0) ∙ ap (λ c. take p w ++ c ∷ (m ++ 10 ∷ later.0)) (sym (head_is split)) in
-    let second : Completes s.0 s.1 later.1 (34 ∷ (m ++ 10 ∷ later.0)) = (s.2.same later.1 (34 ∷ (m ++ 10 ∷ later.0))).0 (subst (λ (y : List ℕ). IsText later.1 y) there later.2) in
+    let second : Completes s.0 s.1 later.1 (34 ∷ (m ++ 10 ∷ later.0)) = (s.2.same later.1 (34 ∷ (m ++ 10 ∷ later.0))).0 (subst (λ (y : List ℕ). IsJsonText later.1 y) there later.2) in
     let text = opens_text s.0 s.1 later.1 feed.1 feed.0 (m ++ 10 ∷ later.0) s.2.sound first second in
     inside m (TextEnd text.0 text.1 later.1) Plain [] later.0 z tt text.2 (subst (λ (y : List ℕ). Plainly [] Ends y) (tail_is split) (ms, n, [], x, refl))
   where

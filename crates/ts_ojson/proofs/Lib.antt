@@ -14,3 +14,4 @@ pub mod FinalLemmas
 pub mod CodeLemmas
 pub mod LawLemmas
 pub mod TextLemmas
+pub mod PlaceLemmas

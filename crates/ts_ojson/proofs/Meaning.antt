@@ -5,13 +5,13 @@ use Rattle.ts_ojson.specs.declared.part.Part.{Part}
 use Rattle.ts_ojson.specs.declared.part.Part.TheVariants as part
 use Rattle.ts_ojson.specs.declared.escape.Escape.{Escape}
 use Rattle.ts_ojson.specs.declared.escape.Escape.TheVariants.{Plain, Backslash, First, Second, Third, Fourth, High, HighBackslash, LowFirst, LowSecond, LowThird, LowFourth}
-use Rattle.ts_ojson.specs.declared.escape.Piece.{Piece}
-use Rattle.ts_ojson.specs.declared.escape.Piece.TheVariants.{Inside, Closed}
-use Rattle.ts_ojson.specs.declared.state.Frame.TheVariants as frame
-use Rattle.ts_ojson.specs.declared.state.Role.{Role}
-use Rattle.ts_ojson.specs.declared.state.Role.TheVariants as role
-use Rattle.ts_ojson.specs.declared.state.State.{State}
-use Rattle.ts_ojson.specs.declared.state.State.TheVariants as state
+use Rattle.ts_ojson.specs.Pieces.{Piece}
+use Rattle.ts_ojson.specs.Pieces.{reading, finished}
+use Rattle.ts_ojson.specs.Frames as frame
+use Rattle.ts_ojson.specs.Roles.{Role}
+use Rattle.ts_ojson.specs.Roles as role
+use Rattle.ts_ojson.specs.States.{State}
+use Rattle.ts_ojson.specs.States as state
 use Rattle.ts_ojson.specs.declared.value.OJson.{OJson}
 use Rattle.ts_ojson.specs.Json.{Json, number, string, array, object, Items, item, Members, member, json_of}
 use Rattle.ts_ojson.specs.Number.{Digits, SomeDigits, Whole, Fraction, Sign, Exponent}
@@ -59,8 +59,8 @@ InText (LowFourth h n) s K w = LowRest h 1 n s K w
 
 abbrev pub PieceMeans : (List ℕ → List ℕ → Type 0) → List ℕ → Option Piece → Type 0
 PieceMeans K w None = ⊥
-PieceMeans K w (Some (Inside e s)) = InText e s K w
-PieceMeans K w (Some (Closed s)) = K s w
+PieceMeans K w (Some (reading e s)) = InText e s K w
+PieceMeans K w (Some (finished s)) = K s w
 
 -- ---- values
 abbrev pub onto_items : List OJson → Items → Items
@@ -74,9 +74,9 @@ onto_members (x ∷ xs) m = member x.0 (json_of x.1) (onto_members xs m)
 -- r follows the value j, within what is open, and completes the text of v
 abbrev pub Rest : Frames → Json → Json → List ℕ → Type 0
 Rest [] j v r = (v ≡ j) × Blanks r []
-Rest (frame.Array xs ∷ k) j v r =
+Rest (frame.array xs ∷ k) j v r =
     (a : List ℕ) × (m : Items) × (t : List ℕ) × Blanks r a × MoreItems m a t × Rest k (array (onto_items xs (item j m))) v t
-Rest (frame.Object ms n ∷ k) j v r =
+Rest (frame.object ms n ∷ k) j v r =
     (a : List ℕ) × (m : Members) × (t : List ℕ) × Blanks r a × MoreMembers m a t × Rest k (object (onto_members ms (member n j m))) v t
 
 -- a value that begins at w, behind blanks
@@ -85,22 +85,22 @@ Begun k v w = (a : List ℕ) × (j : Json) × (b : List ℕ) × Blanks w a × Va
 
 -- the rest of an object from a colon on, whose first members and name stand
 abbrev pub Coloned : Gathered → List ℕ → Frames → Json → List ℕ → Type 0
-Coloned ms n k v w = (u : List ℕ) × Blanks w (58 ∷ u) × Begun (frame.Object ms n ∷ k) v u
+Coloned ms n k v w = (u : List ℕ) × Blanks w (58 ∷ u) × Begun (frame.object ms n ∷ k) v u
 
 abbrev pub TextEnd : Role → Frames → Json → List ℕ → List ℕ → Type 0
-TextEnd role.Value k v s r = Rest k (string s) v r
-TextEnd (role.Name p ms) k v s r = Coloned ms s k v r
+TextEnd role.value k v s r = Rest k (string s) v r
+TextEnd (role.name p ms) k v s r = Coloned ms s k v r
 
 abbrev pub Completes : State → Frames → Json → List ℕ → Type 0
-Completes state.Value k v w = Begun k v w
-Completes state.FirstItem k v w = (m : Items) × (t : List ℕ) × FirstItem m w t × Rest k (array m) v t
-Completes (state.After j) k v w = Rest k (json_of j) v w
-Completes state.FirstName k v w = (m : Members) × (t : List ℕ) × FirstMember m w t × Rest k (object m) v t
-Completes (state.Name ms) k v w = (a : List ℕ) × (n : List ℕ) × (b : List ℕ) × Blanks w a × Quoted n a b × Coloned ms n k v b
-Completes (state.Colon ms n) k v w = Coloned ms n k v w
-Completes (state.Word x i) k v w = (r : List ℕ) × (w ≡ drop i (word_bytes x) ++ r) × Rest k (json_of (word_value x)) v r
-Completes (state.Number p s) k v w = (t : List ℕ) × (r : List ℕ) × (w ≡ t ++ r) × Tail p t [] × Rest k (number (s ++ t)) v r
-Completes (state.Text e s r) k v w = InText e s (TextEnd r k v) w
+Completes state.value k v w = Begun k v w
+Completes state.first_item k v w = (m : Items) × (t : List ℕ) × FirstItem m w t × Rest k (array m) v t
+Completes (state.after j) k v w = Rest k (json_of j) v w
+Completes state.first_name k v w = (m : Members) × (t : List ℕ) × FirstMember m w t × Rest k (object m) v t
+Completes (state.name ms) k v w = (a : List ℕ) × (n : List ℕ) × (b : List ℕ) × Blanks w a × Quoted n a b × Coloned ms n k v b
+Completes (state.colon ms n) k v w = Coloned ms n k v w
+Completes (state.word x i) k v w = (r : List ℕ) × (w ≡ drop i (word_bytes x) ++ r) × Rest k (json_of (word_value x)) v r
+Completes (state.number p s) k v w = (t : List ℕ) × (r : List ℕ) × (w ≡ t ++ r) × Tail p t [] × Rest k (number (s ++ t)) v r
+Completes (state.text e s r) k v w = InText e s (TextEnd r k v) w
 
 abbrev pub Means : Outcome → Json → List ℕ → Type 0
 Means stuck v w = ⊥

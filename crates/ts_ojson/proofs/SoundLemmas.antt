@@ -9,15 +9,15 @@ use Rattle.ts_ojson.specs.declared.class.Class.TheVariants as class
 use Rattle.ts_ojson.specs.declared.part.Part.{Part}
 use Rattle.ts_ojson.specs.declared.escape.Escape.{Escape}
 use Rattle.ts_ojson.specs.declared.escape.Escape.TheVariants.{Plain, Backslash, First, Second, Third, Fourth, High, HighBackslash, LowFirst, LowSecond, LowThird, LowFourth}
-use Rattle.ts_ojson.specs.declared.escape.Piece.{Piece}
-use Rattle.ts_ojson.specs.declared.escape.Piece.TheVariants.{Inside, Closed}
-use Rattle.ts_ojson.specs.declared.state.Frame.TheVariants as frame
-use Rattle.ts_ojson.specs.declared.state.Word.{Word}
-use Rattle.ts_ojson.specs.declared.state.Word.TheVariants as word
-use Rattle.ts_ojson.specs.declared.state.Role.{Role}
-use Rattle.ts_ojson.specs.declared.state.Role.TheVariants as role
-use Rattle.ts_ojson.specs.declared.state.State.{State}
-use Rattle.ts_ojson.specs.declared.state.State.TheVariants as state
+use Rattle.ts_ojson.specs.Pieces.{Piece}
+use Rattle.ts_ojson.specs.Pieces.{reading, finished}
+use Rattle.ts_ojson.specs.Frames as frame
+use Rattle.ts_ojson.specs.declared.word.Word.{Word}
+use Rattle.ts_ojson.specs.declared.word.Word.TheVariants as word
+use Rattle.ts_ojson.specs.Roles.{Role}
+use Rattle.ts_ojson.specs.Roles as role
+use Rattle.ts_ojson.specs.States.{State}
+use Rattle.ts_ojson.specs.States as state
 use Rattle.ts_ojson.specs.declared.value.OJson.{OJson}
 use Rattle.ts_ojson.specs.declared.value.OJson.TheVariants as json
 use Rattle.ts_ojson.specs.Json.{Json, null, boolean, number, string, array, object, no_items, item, no_members, member, json_of, depth, items_depth, members_depth, names, IsNone, AreDistinct, HasDistinctNames, ItemsHaveDistinctNames, MembersHaveDistinctNames}
@@ -48,49 +48,49 @@ named (x ∷ xs) = x.0 ∷ named xs
 -- each array and object that is open
 abbrev pub IsSound : Frames → Type 0
 IsSound [] = Unit {0}
-IsSound (frame.Array xs ∷ k) = AllGood (suc (length k)) xs × (suc (length k) ≤ 256) × IsSound k
-IsSound (frame.Object ms n ∷ k) = AllGoodMembers (suc (length k)) ms × AreDistinct (named ms) × (has_name n ms ≡ false) × (suc (length k) ≤ 256) × IsSound k
+IsSound (frame.array xs ∷ k) = AllGood (suc (length k)) xs × (suc (length k) ≤ 256) × IsSound k
+IsSound (frame.object ms n ∷ k) = AllGoodMembers (suc (length k)) ms × AreDistinct (named ms) × (has_name n ms ≡ false) × (suc (length k) ≤ 256) × IsSound k
 
 abbrev pub IsOpen : Gathered → Frames → Type 0
 IsOpen ms k = AllGoodMembers (suc (length k)) ms × AreDistinct (named ms) × (suc (length k) ≤ 256) × IsSound k
 
 abbrev pub RoleSound : Role → Frames → Type 0
-RoleSound role.Value k = IsSound k
-RoleSound (role.Name p ms) k = IsOpen ms k
+RoleSound role.value k = IsSound k
+RoleSound (role.name p ms) k = IsOpen ms k
 
 abbrev pub StateSound : State → Frames → Type 0
-StateSound state.Value k = IsSound k
-StateSound state.FirstItem k = (suc (length k) ≤ 256) × IsSound k
-StateSound (state.After o) k = IsGood (length k) (json_of o) × IsSound k
-StateSound state.FirstName k = (suc (length k) ≤ 256) × IsSound k
-StateSound (state.Name ms) k = IsOpen ms k
-StateSound (state.Colon ms n) k = IsOpen ms k × (has_name n ms ≡ false)
-StateSound (state.Word x i) k = (i < 8) × IsSound k
-StateSound (state.Number p s) k = IsSound k
-StateSound (state.Text e s r) k = IsWithin e × RoleSound r k
+StateSound state.value k = IsSound k
+StateSound state.first_item k = (suc (length k) ≤ 256) × IsSound k
+StateSound (state.after o) k = IsGood (length k) (json_of o) × IsSound k
+StateSound state.first_name k = (suc (length k) ≤ 256) × IsSound k
+StateSound (state.name ms) k = IsOpen ms k
+StateSound (state.colon ms n) k = IsOpen ms k × (has_name n ms ≡ false)
+StateSound (state.word x i) k = (i < 8) × IsSound k
+StateSound (state.number p s) k = IsSound k
+StateSound (state.text e s r) k = IsWithin e × RoleSound r k
 
 -- what each verdict says
 abbrev pub IsOpening : State → Frames → Type 0
-IsOpening state.Value k = ⊥
-IsOpening state.FirstItem k = 256 ≤ length k
-IsOpening (state.After o) k = ⊥
-IsOpening state.FirstName k = 256 ≤ length k
-IsOpening (state.Name ms) k = ⊥
-IsOpening (state.Colon ms n) k = ⊥
-IsOpening (state.Word x i) k = ⊥
-IsOpening (state.Number p s) k = ⊥
-IsOpening (state.Text e s r) k = ⊥
+IsOpening state.value k = ⊥
+IsOpening state.first_item k = 256 ≤ length k
+IsOpening (state.after o) k = ⊥
+IsOpening state.first_name k = 256 ≤ length k
+IsOpening (state.name ms) k = ⊥
+IsOpening (state.colon ms n) k = ⊥
+IsOpening (state.word x i) k = ⊥
+IsOpening (state.number p s) k = ⊥
+IsOpening (state.text e s r) k = ⊥
 
 abbrev pub IsTwice : State → Frames → Type 0
-IsTwice state.Value k = ⊥
-IsTwice state.FirstItem k = ⊥
-IsTwice (state.After o) k = ⊥
-IsTwice state.FirstName k = ⊥
-IsTwice (state.Name ms) k = ⊥
-IsTwice (state.Colon ms n) k = IsOpen ms k × (has_name n ms ≡ true)
-IsTwice (state.Word x i) k = ⊥
-IsTwice (state.Number p s) k = ⊥
-IsTwice (state.Text e s r) k = ⊥
+IsTwice state.value k = ⊥
+IsTwice state.first_item k = ⊥
+IsTwice (state.after o) k = ⊥
+IsTwice state.first_name k = ⊥
+IsTwice (state.name ms) k = ⊥
+IsTwice (state.colon ms n) k = IsOpen ms k × (has_name n ms ≡ true)
+IsTwice (state.word x i) k = ⊥
+IsTwice (state.number p s) k = ⊥
+IsTwice (state.text e s r) k = ⊥
 
 abbrev pub Judged : Outcome → Type 0
 Judged stuck = Unit {0}
@@ -162,8 +162,8 @@ good_more_members d (x ∷ xs) n o all g = (all.0, good_more_members d xs n o al
 
 pub few_open : (k : Frames) → IsSound k → length k ≤ 256
 few_open [] s = omega arith
-few_open (frame.Array xs ∷ k) s = s.1
-few_open (frame.Object ms n ∷ k) s = s.3
+few_open (frame.array xs ∷ k) s = s.1
+few_open (frame.object ms n ∷ k) s = s.3
 
 pub simple_good : (d : ℕ) (i j : Json) → d ≤ 256 → i ≡ j → depth j ≡ 0 → HasDistinctNames j → IsGood d i
 simple_good d i j le e z h = subst (IsGood d) (sym e) (omega arith, h)
@@ -178,8 +178,8 @@ opens_judged s k f g = by (nat_lt (length k) 256) refl
 
 begin_judged : (k : Frames) (b : ℕ) (c : Class) → IsSound k → Judged (begin_class k b c)
 begin_judged k b class.Quote s = (tt, s)
-begin_judged k b class.OpenArray s = opens_judged state.FirstItem k (λ h. (h, s)) (λ h. h)
-begin_judged k b class.OpenObject s = opens_judged state.FirstName k (λ h. (h, s)) (λ h. h)
+begin_judged k b class.OpenArray s = opens_judged state.first_item k (λ h. (h, s)) (λ h. h)
+begin_judged k b class.OpenObject s = opens_judged state.first_name k (λ h. (h, s)) (λ h. h)
 begin_judged k b class.Minus s = s
 begin_judged k b class.Zero s = s
 begin_judged k b class.Digit s = s
@@ -195,14 +195,14 @@ value_judged k b c s = begin_judged k b c s
 item_judged : (k : Frames) (b : ℕ) (c : Class) → suc (length k) ≤ 256 → IsSound k → Judged (item_first_class k b c)
 item_judged k b class.Blank le s = (le, s)
 item_judged k b class.CloseArray le s = (subst (IsGood (length k)) (sym (json_of_array [])) (omega arith, tt), s)
-item_judged k b c le s = begin_judged (frame.Array [] ∷ k) b c (tt, le, s)
+item_judged k b c le s = begin_judged (frame.array [] ∷ k) b c (tt, le, s)
 
-array_judged : (xs : List OJson) (o : OJson) (k : Frames) (c : Class) → IsGood (suc (length k)) (json_of o) → IsSound (frame.Array xs ∷ k) → Judged (after_item xs o k c)
+array_judged : (xs : List OJson) (o : OJson) (k : Frames) (c : Class) → IsGood (suc (length k)) (json_of o) → IsSound (frame.array xs ∷ k) → Judged (after_item xs o k c)
 array_judged xs o k class.Comma g s = (good_more (suc (length k)) xs o s.0 g, s.1, s.2)
 array_judged xs o k class.CloseArray g s = (subst (IsGood (length k)) (sym (array_is xs o)) (array_closed (length k) xs (json_of o) s.0 g s.1), s.2)
 array_judged xs o k c g s = tt
 
-object_judged : (ms : Gathered) (n : List ℕ) (o : OJson) (k : Frames) (c : Class) → IsGood (suc (length k)) (json_of o) → IsSound (frame.Object ms n ∷ k) → Judged (stays (after_member ms n o c) k)
+object_judged : (ms : Gathered) (n : List ℕ) (o : OJson) (k : Frames) (c : Class) → IsGood (suc (length k)) (json_of o) → IsSound (frame.object ms n ∷ k) → Judged (stays (after_member ms n o c) k)
 object_judged ms n o k class.Comma g s =
     (good_more_members (suc (length k)) ms n o s.0 g, subst AreDistinct (sym (named_more ms n o)) (distinct_more n (named ms) s.1 (has_none n ms s.2)), s.3, s.4)
 object_judged ms n o k class.CloseObject g s = (subst (IsGood (length k)) (sym (object_is ms n o)) (object_closed (length k) ms n (json_of o) s.0 s.1 s.2 g s.3), s.4)
@@ -211,10 +211,10 @@ object_judged ms n o k c g s = tt
 after_judged : (o : OJson) (k : Frames) (c : Class) → IsGood (length k) (json_of o) → IsSound k → Judged (after o k c)
 after_judged o [] class.Blank g s = (g, s)
 after_judged o [] c g s = tt
-after_judged o (frame.Array xs ∷ k) class.Blank g s = (g, s)
-after_judged o (frame.Array xs ∷ k) c g s = array_judged xs o k c g s
-after_judged o (frame.Object ms n ∷ k) class.Blank g s = (g, s)
-after_judged o (frame.Object ms n ∷ k) c g s = object_judged ms n o k c g s
+after_judged o (frame.array xs ∷ k) class.Blank g s = (g, s)
+after_judged o (frame.array xs ∷ k) c g s = array_judged xs o k c g s
+after_judged o (frame.object ms n ∷ k) class.Blank g s = (g, s)
+after_judged o (frame.object ms n ∷ k) c g s = object_judged ms n o k c g s
 
 first_judged : (at : ℕ) (k : Frames) (c : Class) → suc (length k) ≤ 256 → IsSound k → Judged (stays (name_first at c) k)
 first_judged at k class.Blank le s = (le, s)
@@ -248,7 +248,7 @@ judged_cond x y false f g = g refl
 
 word_judged : (x : Word) (i : ℕ) (k : Frames) (b : ℕ) → IsSound k → Judged (word_next x i k b)
 word_judged x i k b s =
-    judged_cond _ _ (nat_lt i (length (word_bytes x))) (λ e. judged_cond (goes fine (state.Word x (i + 1)) k) stuck (get_or (word_bytes x) i 0 == b)
+    judged_cond _ _ (nat_lt i (length (word_bytes x))) (λ e. judged_cond (goes fine (state.word x (i + 1)) k) stuck (get_or (word_bytes x) i 0 == b)
     (λ f. let lt = ltb-true i (length (word_bytes x)) e in let short = short_words x in (omega arith, s)) (λ f. tt))
     (λ e. after_judged (word_value x) k (class_of b) (word_good x (length k) (few_open k s)) s)
 
@@ -261,8 +261,8 @@ number_judged p s k b None h =
 -- ---- within strings
 abbrev pub PieceWithin : Option Piece → Type 0
 PieceWithin None = Unit {0}
-PieceWithin (Some (Inside e s)) = IsWithin e
-PieceWithin (Some (Closed s)) = Unit {0}
+PieceWithin (Some (reading e s)) = IsWithin e
+PieceWithin (Some (finished s)) = Unit {0}
 
 piece_cond : (x y : Option Piece) (t : Bool) → (t ≡ true → PieceWithin x) → (t ≡ false → PieceWithin y) → PieceWithin (cond t x y)
 piece_cond x y true f g = f refl
@@ -294,7 +294,7 @@ hex_within : (e : Escape) (s : List ℕ) (b : ℕ) → IsWithin e → PieceWithi
 hex_within e s b is = piece_cond (digit_piece e s (digit_value b)) None (nat_lt (digit_value b) 16) (λ t. digit_within e s (digit_value b) is (ltb-true (digit_value b) 16 t)) (λ t. tt)
 
 pub within : (e : Escape) (s : List ℕ) (b : ℕ) → IsWithin e → PieceWithin (next_piece e s b)
-within Plain s b is = piece_cond _ _ (b == 34) (λ e. tt) (λ e. piece_cond _ _ (b == 92) (λ f. tt) (λ f. piece_cond None (Some (Inside Plain (s ++ b ∷ []))) (nat_lt b 32) (λ g. tt) (λ g. tt)))
+within Plain s b is = piece_cond _ _ (b == 34) (λ e. tt) (λ e. piece_cond _ _ (b == 92) (λ f. tt) (λ f. piece_cond None (Some (reading Plain (s ++ b ∷ []))) (nat_lt b 32) (λ g. tt) (λ g. tt)))
 within Backslash s b is = piece_cond _ _ (b == 117) (λ e. tt) (λ e. short_within s (short_of b))
 within First s b is = hex_within First s b is
 within (Second n) s b is = hex_within (Second n) s b is
@@ -308,25 +308,25 @@ within (LowThird h n) s b is = hex_within (LowThird h n) s b is
 within (LowFourth h n) s b is = hex_within (LowFourth h n) s b is
 
 closed_judged : (s : List ℕ) (r : Role) (k : Frames) → RoleSound r k → Judged (closed s r k)
-closed_judged s role.Value k h = (simple_good (length k) (json_of (json.Text s)) (string s) (few_open k h) (json_of_text s) refl tt, h)
-closed_judged s (role.Name p ms) k h = by (has_name s ms) refl
+closed_judged s role.value k h = (simple_good (length k) (json_of (json.Text s)) (string s) (few_open k h) (json_of_text s) refl tt, h)
+closed_judged s (role.name p ms) k h = by (has_name s ms) refl
   where
-    by : (t : Bool) → has_name s ms ≡ t → Judged (goes (cond t (repeated p) fine) (state.Colon ms s) k)
+    by : (t : Bool) → has_name s ms ≡ t → Judged (goes (cond t (repeated p) fine) (state.colon ms s) k)
     by true e = (h, e)
     by false e = (h, e)
 
 text_judged : (r : Role) (k : Frames) (o : Option Piece) → PieceWithin o → RoleSound r k → Judged (text_piece r k o)
 text_judged r k None is h = tt
-text_judged r k (Some (Inside e s)) is h = (is, h)
-text_judged r k (Some (Closed s)) is h = closed_judged s r k h
+text_judged r k (Some (reading e s)) is h = (is, h)
+text_judged r k (Some (finished s)) is h = closed_judged s r k h
 
 pub judged : (at : ℕ) (s : State) (k : Frames) (b : ℕ) → StateSound s k → Judged (next at s k b)
-judged at state.Value k b s = value_judged k b (class_of b) s
-judged at state.FirstItem k b s = item_judged k b (class_of b) s.0 s.1
-judged at (state.After o) k b s = after_judged o k (class_of b) s.0 s.1
-judged at state.FirstName k b s = first_judged at k (class_of b) s.0 s.1
-judged at (state.Name ms) k b s = name_judged at ms k (class_of b) s
-judged at (state.Colon ms n) k b s = colon_judged ms n k (class_of b) s.0 s.1
-judged at (state.Word x i) k b s = word_judged x i k b s.1
-judged at (state.Number p t) k b s = number_judged p t k b (part_next p (class_of b)) s
-judged at (state.Text e t r) k b s = text_judged r k (next_piece e t b) (within e t b s.0) s.1
+judged at state.value k b s = value_judged k b (class_of b) s
+judged at state.first_item k b s = item_judged k b (class_of b) s.0 s.1
+judged at (state.after o) k b s = after_judged o k (class_of b) s.0 s.1
+judged at state.first_name k b s = first_judged at k (class_of b) s.0 s.1
+judged at (state.name ms) k b s = name_judged at ms k (class_of b) s
+judged at (state.colon ms n) k b s = colon_judged ms n k (class_of b) s.0 s.1
+judged at (state.word x i) k b s = word_judged x i k b s.1
+judged at (state.number p t) k b s = number_judged p t k b (part_next p (class_of b)) s
+judged at (state.text e t r) k b s = text_judged r k (next_piece e t b) (within e t b s.0) s.1

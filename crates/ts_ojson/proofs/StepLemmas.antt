@@ -6,18 +6,18 @@ use Rattle.ts_ojson.specs.declared.class.Class.{Class}
 use Rattle.ts_ojson.specs.declared.class.Class.TheVariants as class
 use Rattle.ts_ojson.specs.declared.part.Part.{Part}
 use Rattle.ts_ojson.specs.declared.part.Part.TheVariants as part
-use Rattle.ts_ojson.specs.declared.escape.Piece.{Piece}
-use Rattle.ts_ojson.specs.declared.escape.Piece.TheVariants.{Inside, Closed}
-use Rattle.ts_ojson.specs.declared.state.Frame.TheVariants as frame
-use Rattle.ts_ojson.specs.declared.state.Word.{Word}
-use Rattle.ts_ojson.specs.declared.state.Role.{Role}
-use Rattle.ts_ojson.specs.declared.state.Role.TheVariants as role
-use Rattle.ts_ojson.specs.declared.state.State.{State}
-use Rattle.ts_ojson.specs.declared.state.State.TheVariants as state
+use Rattle.ts_ojson.specs.Pieces.{Piece}
+use Rattle.ts_ojson.specs.Pieces.{reading, finished}
+use Rattle.ts_ojson.specs.Frames as frame
+use Rattle.ts_ojson.specs.declared.word.Word.{Word}
+use Rattle.ts_ojson.specs.Roles.{Role}
+use Rattle.ts_ojson.specs.Roles as role
+use Rattle.ts_ojson.specs.States.{State}
+use Rattle.ts_ojson.specs.States as state
 use Rattle.ts_ojson.specs.declared.value.OJson.{OJson}
 use Rattle.ts_ojson.specs.declared.value.OJson.TheVariants as json
 use Rattle.ts_ojson.specs.Json.{Json, number, json_of}
-use Rattle.ts_ojson.specs.Text.{Blanks, IsText}
+use Rattle.ts_ojson.specs.Text.{Blanks, IsJsonText}
 use Rattle.ts_ojson.specs.Strings.{next_piece, IsWithin}
 use Rattle.ts_ojson.specs.Machine.{Frames, class_of, digit_next, whole_next, minus_next, more_whole, more_fraction, exponent_next, part_next, part_ends, word_bytes, word_value, Outcome, stuck, goes, fine, after, word_next, number_part, number_next, closed, text_piece, next}
 use Rattle.ts_ojson.proofs.JsonLemmas.{json_of_num, json_of_text}
@@ -37,14 +37,14 @@ may_follow c = false
 follows : (v : Json) (w : List ℕ) (o : OJson) (k : Frames) (c : Class) → Means (after o k c) v w → may_follow c ≡ true
 follows v w o [] class.Blank h = refl
 follows v w o [] c h = absurd h
-follows v w o (frame.Array xs ∷ k) class.Blank h = refl
-follows v w o (frame.Array xs ∷ k) class.Comma h = refl
-follows v w o (frame.Array xs ∷ k) class.CloseArray h = refl
-follows v w o (frame.Array xs ∷ k) c h = absurd h
-follows v w o (frame.Object xs n ∷ k) class.Blank h = refl
-follows v w o (frame.Object xs n ∷ k) class.Comma h = refl
-follows v w o (frame.Object xs n ∷ k) class.CloseObject h = refl
-follows v w o (frame.Object xs n ∷ k) c h = absurd h
+follows v w o (frame.array xs ∷ k) class.Blank h = refl
+follows v w o (frame.array xs ∷ k) class.Comma h = refl
+follows v w o (frame.array xs ∷ k) class.CloseArray h = refl
+follows v w o (frame.array xs ∷ k) c h = absurd h
+follows v w o (frame.object xs n ∷ k) class.Blank h = refl
+follows v w o (frame.object xs n ∷ k) class.Comma h = refl
+follows v w o (frame.object xs n ∷ k) class.CloseObject h = refl
+follows v w o (frame.object xs n ∷ k) c h = absurd h
 
 digit_stops : (c : Class) (p : Part) → may_follow c ≡ true → digit_next c p ≡ None
 digit_stops class.Zero p e = cc
@@ -114,28 +114,28 @@ further_number s b t k v r =
 
 module _ (v : Json) (b : ℕ) (w : List ℕ) where
   -- ---- words
-  word_on : (x : Word) (i : ℕ) (k : Frames) → i < length (word_bytes x) → Completes (state.Word x i) k v (b ∷ w)
-      ↔ Means (cond (get_or (word_bytes x) i 0 == b) (goes fine (state.Word x (i + 1)) k) stuck) v w
+  word_on : (x : Word) (i : ℕ) (k : Frames) → i < length (word_bytes x) → Completes (state.word x i) k v (b ∷ w)
+      ↔ Means (cond (get_or (word_bytes x) i 0 == b) (goes fine (state.word x (i + 1)) k) stuck) v w
   word_on x i k lt =
       let l = word_bytes x in
       let more : drop i l ≡ get_or l i 0 ∷ drop (i + 1) l = drop_more l i 0 lt in
-      test_means v w (Completes (state.Word x i) k v (b ∷ w)) _ _ (get_or l i 0 == b)
+      test_means v w (Completes (state.word x i) k v (b ∷ w)) _ _ (get_or l i 0 == b)
       (λ e. let is = eqb-true (get_or l i 0) b e in (
         (λ h. (h.0, tail_is (h.1 ∙ ap (λ z. z ++ h.0) more), h.2)),
         (λ h. (h.0, cons_is (sym is) h.1 ∙ ap (λ z. z ++ h.0) (sym more), h.2)),
       ))
       (λ e. ((λ h. eqb-false (get_or l i 0) b e (sym (head_is (h.1 ∙ ap (λ z. z ++ h.0) more)))), λ h. absurd h))
 
-  word_off : (x : Word) (i : ℕ) (k : Frames) → length (word_bytes x) ≤ i → Completes (state.Word x i) k v (b ∷ w) ↔ Means (after (word_value x) k (class_of b)) v w
+  word_off : (x : Word) (i : ℕ) (k : Frames) → length (word_bytes x) ≤ i → Completes (state.word x i) k v (b ∷ w) ↔ Means (after (word_value x) k (class_of b)) v w
   word_off x i k le =
       let none : drop i (word_bytes x) ≡ [] = drop_all i (word_bytes x) le in (
         (λ h. rest_forward v b w (word_value x) k (subst (λ (z : List ℕ). Rest k (json_of (word_value x)) v z) (sym (h.1 ∙ ap (λ z. z ++ h.0) none)) h.2)),
         (λ h. (b ∷ w, ap (λ z. z ++ (b ∷ w)) (sym none), rest_back v b w (word_value x) k (class_of b) refl h)),
       )
 
-  word_step : (x : Word) (i : ℕ) (k : Frames) → Completes (state.Word x i) k v (b ∷ w) ↔ Means (word_next x i k b) v w
+  word_step : (x : Word) (i : ℕ) (k : Frames) → Completes (state.word x i) k v (b ∷ w) ↔ Means (word_next x i k b) v w
   word_step x i k =
-      test_means v w (Completes (state.Word x i) k v (b ∷ w)) _ _ (nat_lt i (length (word_bytes x))) (λ e. word_on x i k (ltb-true i (length (word_bytes x)) e)) (λ e. word_off x i k (ltb-false i (length (word_bytes x)) e))
+      test_means v w (Completes (state.word x i) k v (b ∷ w)) _ _ (nat_lt i (length (word_bytes x))) (λ e. word_on x i k (ltb-true i (length (word_bytes x)) e)) (λ e. word_off x i k (ltb-false i (length (word_bytes x)) e))
 
   -- ---- numbers
   number_ends : (p : Part) (s : List ℕ) (k : Frames) → part_ends p ≡ true → Means (after (json.Num s) k (class_of b)) v w → Means (number_next p s k b) v w
@@ -156,51 +156,51 @@ module _ (v : Json) (b : ℕ) (w : List ℕ) where
   number_on p s k (c ∷ t) r e n h =
       number_more p s k t r (tail_forward p b t [] (subst (λ (z : ℕ). Tail p (z ∷ t) []) (sym (head_is e)) n)) (tail_is e) (subst (λ (z : ℕ). Rest k (number (s ++ z ∷ t)) v r) (sym (head_is e)) h)
 
-  number_ended : (p : Part) (s : List ℕ) (k : Frames) (t : Bool) → part_ends p ≡ t → Means (cond t (after (json.Num s) k (class_of b)) stuck) v w → Completes (state.Number p s) k v (b ∷ w)
+  number_ended : (p : Part) (s : List ℕ) (k : Frames) (t : Bool) → part_ends p ≡ t → Means (cond t (after (json.Num s) k (class_of b)) stuck) v w → Completes (state.number p s) k v (b ∷ w)
   number_ended p s k false e h = absurd h
   number_ended p s k true e h = ([], b ∷ w, refl, tail_end p e, (number_rest s k v (b ∷ w)).1 (rest_back v b w (json.Num s) k (class_of b) refl h))
 
-  number_off : (p : Part) (s : List ℕ) (k : Frames) (o : Option Part) → part_next p (class_of b) ≡ o → Means (number_part p s k b o) v w → Completes (state.Number p s) k v (b ∷ w)
+  number_off : (p : Part) (s : List ℕ) (k : Frames) (o : Option Part) → part_next p (class_of b) ≡ o → Means (number_part p s k b o) v w → Completes (state.number p s) k v (b ∷ w)
   number_off p s k None e h = number_ended p s k (part_ends p) refl h
   number_off p s k (Some q) e (t, r, f, n, h) =
       (b ∷ t, r, cons_is refl f, tail_back p b t [] (subst (λ (z : Option Part). TailNext z t []) (sym e) n), (further_number s b t k v r).1 h)
 
   -- ---- strings
   closed_means : (s : List ℕ) (r : Role) (k : Frames) → TextEnd r k v s w ↔ Means (closed s r k) v w
-  closed_means s role.Value k = ((λ h. subst (λ (x : Json). Rest k x v w) (sym (json_of_text s)) h), (λ h. subst (λ (x : Json). Rest k x v w) (json_of_text s) h))
-  closed_means s (role.Name p ms) k = ((λ h. h), λ h. h)
+  closed_means s role.value k = ((λ h. subst (λ (x : Json). Rest k x v w) (sym (json_of_text s)) h), (λ h. subst (λ (x : Json). Rest k x v w) (json_of_text s) h))
+  closed_means s (role.name p ms) k = ((λ h. h), λ h. h)
 
   piece_means : (r : Role) (k : Frames) (o : Option Piece) → PieceMeans (TextEnd r k v) w o ↔ Means (text_piece r k o) v w
   piece_means r k None = ((λ h. h), λ h. h)
-  piece_means r k (Some (Inside e s)) = ((λ h. h), λ h. h)
-  piece_means r k (Some (Closed s)) = closed_means s r k
+  piece_means r k (Some (reading e s)) = ((λ h. h), λ h. h)
+  piece_means r k (Some (finished s)) = closed_means s r k
 
 -- numbers in an escape are as they can be
 abbrev pub HasEscape : State → Type 0
-HasEscape state.Value = Unit {0}
-HasEscape state.FirstItem = Unit {0}
-HasEscape (state.After j) = Unit {0}
-HasEscape state.FirstName = Unit {0}
-HasEscape (state.Name ms) = Unit {0}
-HasEscape (state.Colon ms n) = Unit {0}
-HasEscape (state.Word x i) = Unit {0}
-HasEscape (state.Number p s) = Unit {0}
-HasEscape (state.Text e s r) = IsWithin e
+HasEscape state.value = Unit {0}
+HasEscape state.first_item = Unit {0}
+HasEscape (state.after j) = Unit {0}
+HasEscape state.first_name = Unit {0}
+HasEscape (state.name ms) = Unit {0}
+HasEscape (state.colon ms n) = Unit {0}
+HasEscape (state.word x i) = Unit {0}
+HasEscape (state.number p s) = Unit {0}
+HasEscape (state.text e s r) = IsWithin e
 
 pub step_is : (at : ℕ) (s : State) (k : Frames) (v : Json) (b : ℕ) (w : List ℕ) → HasEscape s → Completes s k v (b ∷ w) ↔ Means (next at s k b) v w
-step_is at state.Value k v b w is = ((λ h. begun_forward v b w k h), (λ h. begun_back v b w k (class_of b) refl h))
-step_is at state.FirstItem k v b w is = ((λ h. item_forward v b w k h.0 h.1 h.2 h.3), (λ h. item_back v b w k (class_of b) refl h))
-step_is at (state.After j) k v b w is = ((λ h. rest_forward v b w j k h), (λ h. rest_back v b w j k (class_of b) refl h))
-step_is at state.FirstName k v b w is = ((λ h. first_forward v b w at k h.0 h.1 h.2 h.3), (λ h. first_back v b w at k (class_of b) refl h))
-step_is at (state.Name ms) k v b w is = ((λ h. name_forward v b w at ms k h), (λ h. name_back v b w at ms k (class_of b) refl h))
-step_is at (state.Colon ms n) k v b w is = ((λ h. colon_forward v b w ms n k h), (λ h. colon_back v b w ms n k (class_of b) refl h))
-step_is at (state.Word x i) k v b w is = word_step v b w x i k
-step_is at (state.Number p s) k v b w is = ((λ h. number_on v b w p s k h.0 h.1 h.2 h.3 h.4), (λ h. number_off v b w p s k (part_next p (class_of b)) refl h))
-step_is at (state.Text e s r) k v b w is =
+step_is at state.value k v b w is = ((λ h. begun_forward v b w k h), (λ h. begun_back v b w k (class_of b) refl h))
+step_is at state.first_item k v b w is = ((λ h. item_forward v b w k h.0 h.1 h.2 h.3), (λ h. item_back v b w k (class_of b) refl h))
+step_is at (state.after j) k v b w is = ((λ h. rest_forward v b w j k h), (λ h. rest_back v b w j k (class_of b) refl h))
+step_is at state.first_name k v b w is = ((λ h. first_forward v b w at k h.0 h.1 h.2 h.3), (λ h. first_back v b w at k (class_of b) refl h))
+step_is at (state.name ms) k v b w is = ((λ h. name_forward v b w at ms k h), (λ h. name_back v b w at ms k (class_of b) refl h))
+step_is at (state.colon ms n) k v b w is = ((λ h. colon_forward v b w ms n k h), (λ h. colon_back v b w ms n k (class_of b) refl h))
+step_is at (state.word x i) k v b w is = word_step v b w x i k
+step_is at (state.number p s) k v b w is = ((λ h. number_on v b w p s k h.0 h.1 h.2 h.3 h.4), (λ h. number_off v b w p s k (part_next p (class_of b)) refl h))
+step_is at (state.text e s r) k v b w is =
     let on = text_step (TextEnd r k v) e s w b is in
     let piece = piece_means v b w r k (next_piece e s b) in
     ((λ h. piece.0 (on.0 h)), (λ h. on.1 (piece.1 h)))
 
 -- ---- the start
-pub start_is : (v : Json) (w : List ℕ) → IsText v w ↔ Completes state.Value [] v w
+pub start_is : (v : Json) (w : List ℕ) → IsJsonText v w ↔ Completes state.value [] v w
 start_is v w = ((λ h. (h.0, v, h.1, h.2, h.3, (refl, h.4))), (λ h. (h.0, h.2, h.3, subst (λ (x : Json). Rattle.ts_ojson.specs.Text.Value x h.0 h.2) (sym h.5.0) h.4, h.5.1)))

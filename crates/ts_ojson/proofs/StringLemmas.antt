@@ -5,7 +5,7 @@ use Rattle.std.proofs.lemmas.List.{append_assoc, append-nil}
 use Rattle.std.specs.Char.{encode_utf8, digit_value}
 use Rattle.ts_ojson.specs.declared.escape.Escape.{Escape}
 use Rattle.ts_ojson.specs.declared.escape.Escape.TheVariants.{Plain, Backslash, First, Second, Third, Fourth, High, HighBackslash, LowFirst, LowSecond, LowThird, LowFourth}
-use Rattle.ts_ojson.specs.declared.escape.Piece.{Piece}
+use Rattle.ts_ojson.specs.Pieces.{Piece}
 use Rattle.ts_ojson.specs.Characters.{Hex, Unit16, IsHigh, IsLow, IsAlone, IsRaw, short_of, pair_of, Mark, raw, short, unit, pair, Characters}
 use Rattle.ts_ojson.specs.Strings.{plain_piece, shorted, backslash_piece, unit_piece, third_piece, digit_piece, hex_piece, next_piece, IsWithin}
 use Rattle.ts_ojson.proofs.Meaning.{Plainly, Paired, UnitRest, LowRest, InText, PieceMeans}

@@ -3,18 +3,18 @@ use Rattle.std.proofs.Common.{◌≡◌, ℕ, ◌+◌, List, [], ◌∷◌, leng
 use Rattle.ts_ojson.specs.declared.class.Class.{Class}
 use Rattle.ts_ojson.specs.declared.class.Class.TheVariants as class
 use Rattle.ts_ojson.specs.declared.part.Part.{Part}
-use Rattle.ts_ojson.specs.declared.escape.Piece.{Piece}
-use Rattle.ts_ojson.specs.declared.escape.Piece.TheVariants.{Inside, Closed}
-use Rattle.ts_ojson.specs.declared.state.Frame.TheVariants as frame
-use Rattle.ts_ojson.specs.declared.state.Word.{Word}
-use Rattle.ts_ojson.specs.declared.state.Role.{Role}
-use Rattle.ts_ojson.specs.declared.state.Role.TheVariants as role
-use Rattle.ts_ojson.specs.declared.state.State.{State}
-use Rattle.ts_ojson.specs.declared.state.State.TheVariants as state
+use Rattle.ts_ojson.specs.Pieces.{Piece}
+use Rattle.ts_ojson.specs.Pieces.{reading, finished}
+use Rattle.ts_ojson.specs.Frames as frame
+use Rattle.ts_ojson.specs.declared.word.Word.{Word}
+use Rattle.ts_ojson.specs.Roles.{Role}
+use Rattle.ts_ojson.specs.Roles as role
+use Rattle.ts_ojson.specs.States.{State}
+use Rattle.ts_ojson.specs.States as state
 use Rattle.ts_ojson.specs.declared.value.OJson.{OJson}
 use Rattle.ts_ojson.specs.declared.value.OJson.TheVariants as json
 use Rattle.ts_ojson.specs.Json.{Json}
-use Rattle.ts_ojson.specs.Text.{IsText}
+use Rattle.ts_ojson.specs.Text.{IsJsonText}
 use Rattle.ts_ojson.specs.Strings.{next_piece}
 use Rattle.ts_ojson.specs.Machine.{Frames, Gathered, class_of, part_next, part_ends, word_bytes, word_value, fine, Outcome, stuck, goes, stays, begin_class, value_class, after, item_first_class, name_first, name_next, colon_next, word_next, number_part, closed, text_piece, next}
 use Rattle.ts_ojson.proofs.Meaning.{Completes, Means}
@@ -42,19 +42,19 @@ value_escape k b c = begin_escape k b c
 item_escape : (k : Frames) (b : ℕ) (c : Class) → OutEscape (item_first_class k b c)
 item_escape k b class.Blank = tt
 item_escape k b class.CloseArray = tt
-item_escape k b c = begin_escape (frame.Array [] ∷ k) b c
+item_escape k b c = begin_escape (frame.array [] ∷ k) b c
 
 after_escape : (o : OJson) (k : Frames) (c : Class) → OutEscape (after o k c)
 after_escape o [] class.Blank = tt
 after_escape o [] c = tt
-after_escape o (frame.Array xs ∷ k) class.Blank = tt
-after_escape o (frame.Array xs ∷ k) class.Comma = tt
-after_escape o (frame.Array xs ∷ k) class.CloseArray = tt
-after_escape o (frame.Array xs ∷ k) c = tt
-after_escape o (frame.Object ms n ∷ k) class.Blank = tt
-after_escape o (frame.Object ms n ∷ k) class.Comma = tt
-after_escape o (frame.Object ms n ∷ k) class.CloseObject = tt
-after_escape o (frame.Object ms n ∷ k) c = tt
+after_escape o (frame.array xs ∷ k) class.Blank = tt
+after_escape o (frame.array xs ∷ k) class.Comma = tt
+after_escape o (frame.array xs ∷ k) class.CloseArray = tt
+after_escape o (frame.array xs ∷ k) c = tt
+after_escape o (frame.object ms n ∷ k) class.Blank = tt
+after_escape o (frame.object ms n ∷ k) class.Comma = tt
+after_escape o (frame.object ms n ∷ k) class.CloseObject = tt
+after_escape o (frame.object ms n ∷ k) c = tt
 
 first_escape : (k : Frames) (c : Class) → OutEscape (stays (name_first 0 c) k)
 first_escape k class.Blank = tt
@@ -74,31 +74,31 @@ colon_escape ms n k c = tt
 
 word_escape : (x : Word) (i : ℕ) (k : Frames) (b : ℕ) → OutEscape (word_next x i k b)
 word_escape x i k b =
-    escape_cond _ _ (nat_lt i (length (word_bytes x))) (escape_cond (goes fine (state.Word x (i + 1)) k) stuck (get_or (word_bytes x) i 0 == b) tt tt) (after_escape (word_value x) k (class_of b))
+    escape_cond _ _ (nat_lt i (length (word_bytes x))) (escape_cond (goes fine (state.word x (i + 1)) k) stuck (get_or (word_bytes x) i 0 == b) tt tt) (after_escape (word_value x) k (class_of b))
 
 number_escape : (p : Part) (s : List ℕ) (k : Frames) (b : ℕ) (o : Option Part) → OutEscape (number_part p s k b o)
 number_escape p s k b (Some q) = tt
 number_escape p s k b None = escape_cond (after (json.Num s) k (class_of b)) stuck (part_ends p) (after_escape (json.Num s) k (class_of b)) tt
 
 closed_escape : (s : List ℕ) (r : Role) (k : Frames) → OutEscape (closed s r k)
-closed_escape s role.Value k = tt
-closed_escape s (role.Name p ms) k = tt
+closed_escape s role.value k = tt
+closed_escape s (role.name p ms) k = tt
 
 text_escape : (r : Role) (k : Frames) (o : Option Piece) → PieceWithin o → OutEscape (text_piece r k o)
 text_escape r k None is = tt
-text_escape r k (Some (Inside e s)) is = is
-text_escape r k (Some (Closed s)) is = closed_escape s r k
+text_escape r k (Some (reading e s)) is = is
+text_escape r k (Some (finished s)) is = closed_escape s r k
 
 escapes : (s : State) (k : Frames) (b : ℕ) → HasEscape s → OutEscape (next 0 s k b)
-escapes state.Value k b is = value_escape k b (class_of b)
-escapes state.FirstItem k b is = item_escape k b (class_of b)
-escapes (state.After o) k b is = after_escape o k (class_of b)
-escapes state.FirstName k b is = first_escape k (class_of b)
-escapes (state.Name ms) k b is = name_escape ms k (class_of b)
-escapes (state.Colon ms n) k b is = colon_escape ms n k (class_of b)
-escapes (state.Word x i) k b is = word_escape x i k b
-escapes (state.Number p s) k b is = number_escape p s k b (part_next p (class_of b))
-escapes (state.Text e s r) k b is = text_escape r k (next_piece e s b) (within e s b is)
+escapes state.value k b is = value_escape k b (class_of b)
+escapes state.first_item k b is = item_escape k b (class_of b)
+escapes (state.after o) k b is = after_escape o k (class_of b)
+escapes state.first_name k b is = first_escape k (class_of b)
+escapes (state.name ms) k b is = name_escape ms k (class_of b)
+escapes (state.colon ms n) k b is = colon_escape ms n k (class_of b)
+escapes (state.word x i) k b is = word_escape x i k b
+escapes (state.number p s) k b is = number_escape p s k b (part_next p (class_of b))
+escapes (state.text e s r) k b is = text_escape r k (next_piece e s b) (within e s b is)
 
 one_outcome : (o : Outcome) (w : List ℕ) (v u : Json) → OutEscape o → Means o v w → Means o u w → ((s : State) (k : Frames) → HasEscape s → Completes s k v w → Completes s k u w → v ≡ u) → v ≡ u
 one_outcome stuck w v u is g h f = absurd g
@@ -109,5 +109,5 @@ one_completed [] s k v u is g h = one_end s k v u (ended_is s k v g) (ended_is s
 one_completed (b ∷ w) s k v u is g h =
     one_outcome (next 0 s k b) w v u (escapes s k b is) ((step_is 0 s k v b w is).0 g) ((step_is 0 s k u b w is).0 h) (λ q i e x y. one_completed w q i v u e x y)
 
-pub one_text : (v u : Json) (w : List ℕ) → IsText v w → IsText u w → v ≡ u
-one_text v u w g h = one_completed w state.Value [] v u tt ((start_is v w).0 g) ((start_is u w).0 h)
+pub one_text : (v u : Json) (w : List ℕ) → IsJsonText v w → IsJsonText u w → v ≡ u
+one_text v u w g h = one_completed w state.value [] v u tt ((start_is v w).0 g) ((start_is u w).0 h)

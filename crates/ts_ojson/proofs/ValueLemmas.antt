@@ -2,9 +2,9 @@
 use Rattle.std.proofs.Common.{◌≡◌, ℕ, inl, inr, List, [], ◌∷◌, ◌++◌, map, true, false, refl, sym, ap, subst, ◌∙◌}
 use Rattle.ts_ojson.specs.declared.class.Class.{Class}
 use Rattle.ts_ojson.specs.declared.class.Class.TheVariants as class
-use Rattle.ts_ojson.specs.declared.state.Frame.TheVariants as frame
-use Rattle.ts_ojson.specs.declared.state.Word.TheVariants as word
-use Rattle.ts_ojson.specs.declared.state.State.TheVariants as state
+use Rattle.ts_ojson.specs.Frames as frame
+use Rattle.ts_ojson.specs.declared.word.Word.TheVariants as word
+use Rattle.ts_ojson.specs.States as state
 use Rattle.ts_ojson.specs.declared.value.OJson.{OJson}
 use Rattle.ts_ojson.specs.declared.value.OJson.TheVariants as json
 use Rattle.ts_ojson.specs.Json.{Json, null, boolean, number, string, array, object, Items, no_items, item, Members, no_members, member, json_of, items_of, members_of}
@@ -115,12 +115,12 @@ module _ (v : Json) (b : ℕ) (w : List ℕ) where
 
   -- ---- behind a value
   after_items : (xs : List OJson) (o : OJson) (k : Frames) (m : Items) (t : List ℕ) → MoreItems m (b ∷ w) t → Rest k (array (onto_items xs (item (json_of o) m))) v t
-      → Means (after o (frame.Array xs ∷ k) (class_of b)) v w
+      → Means (after o (frame.array xs ∷ k) (class_of b)) v w
   after_items xs o k no_items t e h =
-      by_class (after o (frame.Array xs ∷ k)) class.CloseArray (ap class_of (head_is e))
+      by_class (after o (frame.array xs ∷ k)) class.CloseArray (ap class_of (head_is e))
       (same_rest k (array (onto_items xs (item (json_of o) no_items))) (json_of (json.Array (xs ++ o ∷ []))) v t w (sym (array_is xs o)) (sym (tail_is e)) h)
   after_items xs o k (item j m) t (u, q, e, (a, c, first, x, last), more) h =
-      by_class (after o (frame.Array xs ∷ k)) class.Comma (ap class_of (head_is e)) (
+      by_class (after o (frame.array xs ∷ k)) class.Comma (ap class_of (head_is e)) (
         a,
         j,
         c,
@@ -130,12 +130,12 @@ module _ (v : Json) (b : ℕ) (w : List ℕ) where
       )
 
   after_members : (xs : Gathered) (n : List ℕ) (o : OJson) (k : Frames) (m : Members) (t : List ℕ) → MoreMembers m (b ∷ w) t
-      → Rest k (object (onto_members xs (member n (json_of o) m))) v t → Means (after o (frame.Object xs n ∷ k) (class_of b)) v w
+      → Rest k (object (onto_members xs (member n (json_of o) m))) v t → Means (after o (frame.object xs n ∷ k) (class_of b)) v w
   after_members xs n o k no_members t e h =
-      by_class (after o (frame.Object xs n ∷ k)) class.CloseObject (ap class_of (head_is e))
+      by_class (after o (frame.object xs n ∷ k)) class.CloseObject (ap class_of (head_is e))
       (same_rest k (object (onto_members xs (member n (json_of o) no_members))) (json_of (json.Object (xs ++ (n, o) ∷ []))) v t w (sym (object_is xs n o)) (sym (tail_is e)) h)
   after_members xs n o k (member l j m) t (u, q, z, e, (a, c, first, x, last), (d, f, before, y, behind), more) h =
-      by_class (after o (frame.Object xs n ∷ k)) class.Comma (ap class_of (head_is e)) (
+      by_class (after o (frame.object xs n ∷ k)) class.Comma (ap class_of (head_is e)) (
         a,
         l,
         c,
@@ -147,16 +147,16 @@ module _ (v : Json) (b : ℕ) (w : List ℕ) where
   pub rest_forward : (o : OJson) (k : Frames) → Rest k (json_of o) v (b ∷ w) → Means (after o k (class_of b)) v w
   rest_forward o [] (x, inl e) = absurd (nil_is b w e)
   rest_forward o [] (x, inr (is, bl)) = by_class (after o []) class.Blank (blank_class b is) (x, bl)
-  rest_forward o (frame.Array xs ∷ k) (a, m, t, inl e, more, h) = after_items xs o k m t (subst (λ (y : List ℕ). MoreItems m y t) e more) h
-  rest_forward o (frame.Array xs ∷ k) (a, m, t, inr (is, bl), more, h) = by_class (after o (frame.Array xs ∷ k)) class.Blank (blank_class b is) (a, m, t, bl, more, h)
-  rest_forward o (frame.Object xs n ∷ k) (a, m, t, inl e, more, h) = after_members xs n o k m t (subst (λ (y : List ℕ). MoreMembers m y t) e more) h
-  rest_forward o (frame.Object xs n ∷ k) (a, m, t, inr (is, bl), more, h) = by_class (after o (frame.Object xs n ∷ k)) class.Blank (blank_class b is) (a, m, t, bl, more, h)
+  rest_forward o (frame.array xs ∷ k) (a, m, t, inl e, more, h) = after_items xs o k m t (subst (λ (y : List ℕ). MoreItems m y t) e more) h
+  rest_forward o (frame.array xs ∷ k) (a, m, t, inr (is, bl), more, h) = by_class (after o (frame.array xs ∷ k)) class.Blank (blank_class b is) (a, m, t, bl, more, h)
+  rest_forward o (frame.object xs n ∷ k) (a, m, t, inl e, more, h) = after_members xs n o k m t (subst (λ (y : List ℕ). MoreMembers m y t) e more) h
+  rest_forward o (frame.object xs n ∷ k) (a, m, t, inr (is, bl), more, h) = by_class (after o (frame.object xs n ∷ k)) class.Blank (blank_class b is) (a, m, t, bl, more, h)
 
   pub rest_back : (o : OJson) (k : Frames) (c : Class) → class_of b ≡ c → Means (after o k c) v w → Rest k (json_of o) v (b ∷ w)
   rest_back o [] class.Blank e (x, bl) = (x, inr (of_class b class.Blank e, bl))
   rest_back o [] c e h = absurd h
-  rest_back o (frame.Array xs ∷ k) class.Blank e (a, m, t, bl, more, h) = (a, m, t, inr (of_class b class.Blank e, bl), more, h)
-  rest_back o (frame.Array xs ∷ k) class.Comma e (a, j, c, first, x, (q, m, t, last, more, h)) = (
+  rest_back o (frame.array xs ∷ k) class.Blank e (a, m, t, bl, more, h) = (a, m, t, inr (of_class b class.Blank e, bl), more, h)
+  rest_back o (frame.array xs ∷ k) class.Comma e (a, j, c, first, x, (q, m, t, last, more, h)) = (
     b ∷ w,
     item j m,
     t,
@@ -164,11 +164,11 @@ module _ (v : Json) (b : ℕ) (w : List ℕ) where
     (w, q, cons_is (of_class b class.Comma e) refl, (a, c, first, x, last), more),
     subst (λ (y : Items). Rest k (array y) v t) (onto_append xs o (item j m)) h,
   )
-  rest_back o (frame.Array xs ∷ k) class.CloseArray e h =
+  rest_back o (frame.array xs ∷ k) class.CloseArray e h =
       (b ∷ w, no_items, w, inl refl, cons_is (of_class b class.CloseArray e) refl, subst (λ (y : Json). Rest k y v w) (array_is xs o) h)
-  rest_back o (frame.Array xs ∷ k) c e h = absurd h
-  rest_back o (frame.Object xs n ∷ k) class.Blank e (a, m, t, bl, more, h) = (a, m, t, inr (of_class b class.Blank e, bl), more, h)
-  rest_back o (frame.Object xs n ∷ k) class.Comma e (a, l, c, first, x, (q, last, (d, j, f, before, y, (z, m, t, behind, more, h)))) = (
+  rest_back o (frame.array xs ∷ k) c e h = absurd h
+  rest_back o (frame.object xs n ∷ k) class.Blank e (a, m, t, bl, more, h) = (a, m, t, inr (of_class b class.Blank e, bl), more, h)
+  rest_back o (frame.object xs n ∷ k) class.Comma e (a, l, c, first, x, (q, last, (d, j, f, before, y, (z, m, t, behind, more, h)))) = (
     b ∷ w,
     member l j m,
     t,
@@ -176,12 +176,12 @@ module _ (v : Json) (b : ℕ) (w : List ℕ) where
     (w, q, z, cons_is (of_class b class.Comma e) refl, (a, c, first, x, last), (d, f, before, y, behind), more),
     subst (λ (y : Members). Rest k (object y) v t) (onto_append_members xs n o (member l j m)) h,
   )
-  rest_back o (frame.Object xs n ∷ k) class.CloseObject e h =
+  rest_back o (frame.object xs n ∷ k) class.CloseObject e h =
       (b ∷ w, no_members, w, inl refl, cons_is (of_class b class.CloseObject e) refl, subst (λ (y : Json). Rest k y v w) (object_is xs n o) h)
-  rest_back o (frame.Object xs n ∷ k) c e h = absurd h
+  rest_back o (frame.object xs n ∷ k) c e h = absurd h
 
   -- ---- behind the bracket of an array
-  to_item : (k : Frames) (c : Class) → Means (begin_class (frame.Array [] ∷ k) b c) v w → Means (item_first_class k b c) v w
+  to_item : (k : Frames) (c : Class) → Means (begin_class (frame.array [] ∷ k) b c) v w → Means (item_first_class k b c) v w
   to_item k class.Blank h = absurd h
   to_item k class.CloseArray h = absurd h
   to_item k c h = h
@@ -191,7 +191,7 @@ module _ (v : Json) (b : ℕ) (w : List ℕ) where
       by_class (item_first_class k b) class.CloseArray (ap class_of (sym (head_is e))) (same_rest k (array no_items) (json_of (json.Array [])) v t w (sym (json_of_array [])) (tail_is e) h)
   item_forward k no_items t (inr (is, bl)) h = by_class (item_first_class k b) class.Blank (blank_class b is) (no_items, t, bl, h)
   item_forward k (item j m) t (u, (a, c, inl e, x, last), more) h =
-      to_item k (class_of b) (value_forward (frame.Array [] ∷ k) j c (subst (λ (y : List ℕ). Value j y c) e x) (u, m, t, last, more, h))
+      to_item k (class_of b) (value_forward (frame.array [] ∷ k) j c (subst (λ (y : List ℕ). Value j y c) e x) (u, m, t, last, more, h))
   item_forward k (item j m) t (u, (a, c, inr (is, bl), x, last), more) h =
       by_class (item_first_class k b) class.Blank (blank_class b is) (item j m, t, (u, (a, c, bl, x, last), more), h)
 
@@ -202,16 +202,16 @@ module _ (v : Json) (b : ℕ) (w : List ℕ) where
   blank_item k no_items t is bl h = (no_items, t, inr (is, bl), h)
   blank_item k (item j m) t is (u, (a, c, bl, x, last), more) h = (item j m, t, (u, (a, c, inr (is, bl), x, last), more), h)
 
-  first_of_value : (k : Frames) → (j : Json) × (r : List ℕ) × Value j (b ∷ w) r × Rest (frame.Array [] ∷ k) j v r → FirstRest k
+  first_of_value : (k : Frames) → (j : Json) × (r : List ℕ) × Value j (b ∷ w) r × Rest (frame.array [] ∷ k) j v r → FirstRest k
   first_of_value k (j, r, x, (a, m, t, bl, more, h)) = (item j m, t, (a, (b ∷ w, r, inl refl, x, bl), more), h)
 
   pub item_back : (k : Frames) (c : Class) → class_of b ≡ c → Means (item_first_class k b c) v w → FirstRest k
   item_back k class.Blank e (m, t, x, h) = blank_item k m t (of_class b class.Blank e) x h
   item_back k class.CloseArray e h = (no_items, w, inl (cons_is (sym (of_class b class.CloseArray e)) refl), subst (λ (y : Json). Rest k y v w) (json_of_array []) h)
-  item_back k c e h = first_of_value k (value_back (frame.Array [] ∷ k) c e h)
+  item_back k c e h = first_of_value k (value_back (frame.array [] ∷ k) c e h)
 
   -- ---- names
-  pub name_forward : (at : ℕ) (xs : Gathered) (k : Frames) → Completes (state.Name xs) k v (b ∷ w) → Means (stays (name_next at xs (class_of b)) k) v w
+  pub name_forward : (at : ℕ) (xs : Gathered) (k : Frames) → Completes (state.name xs) k v (b ∷ w) → Means (stays (name_next at xs (class_of b)) k) v w
   name_forward at xs k (a, n, c, inl e, q, h) = quoted (subst (λ (y : List ℕ). Quoted n y c) e q)
     where
       quoted : Quoted n (b ∷ w) c → Means (stays (name_next at xs (class_of b)) k) v w
@@ -219,13 +219,13 @@ module _ (v : Json) (b : ℕ) (w : List ℕ) where
           by_class (λ z. stays (name_next at xs z) k) class.Quote (ap class_of (head_is f)) (ms, n, c, subst (λ (y : List ℕ). Rattle.ts_ojson.specs.Characters.Characters ms n y c) (sym (tail_is f)) x, h)
   name_forward at xs k (a, n, c, inr (is, bl), q, h) = by_class (λ z. stays (name_next at xs z) k) class.Blank (blank_class b is) (a, n, c, bl, q, h)
 
-  pub name_back : (at : ℕ) (xs : Gathered) (k : Frames) (c : Class) → class_of b ≡ c → Means (stays (name_next at xs c) k) v w → Completes (state.Name xs) k v (b ∷ w)
+  pub name_back : (at : ℕ) (xs : Gathered) (k : Frames) (c : Class) → class_of b ≡ c → Means (stays (name_next at xs c) k) v w → Completes (state.name xs) k v (b ∷ w)
   name_back at xs k class.Blank e (a, n, c, bl, q, h) = (a, n, c, inr (of_class b class.Blank e, bl), q, h)
   name_back at xs k class.Quote e (ms, n, r, x, h) = (b ∷ w, n, r, inl refl, (w, ms, cons_is (of_class b class.Quote e) refl, x), h)
   name_back at xs k c e h = absurd h
 
   pub colon_forward : (xs : Gathered) (n : List ℕ) (k : Frames) → Coloned xs n k v (b ∷ w) → Means (colon_next xs n k (class_of b)) v w
-  colon_forward xs n k (u, inl e, h) = by_class (colon_next xs n k) class.Colon (ap class_of (sym (head_is e))) (subst (λ (y : List ℕ). Begun (frame.Object xs n ∷ k) v y) (tail_is e) h)
+  colon_forward xs n k (u, inl e, h) = by_class (colon_next xs n k) class.Colon (ap class_of (sym (head_is e))) (subst (λ (y : List ℕ). Begun (frame.object xs n ∷ k) v y) (tail_is e) h)
   colon_forward xs n k (u, inr (is, bl), h) = by_class (colon_next xs n k) class.Blank (blank_class b is) (u, bl, h)
 
   pub colon_back : (xs : Gathered) (n : List ℕ) (k : Frames) (c : Class) → class_of b ≡ c → Means (colon_next xs n k c) v w → Coloned xs n k v (b ∷ w)
@@ -235,10 +235,10 @@ module _ (v : Json) (b : ℕ) (w : List ℕ) where
 
 -- an object with a member is one whose first name comes next
 pub to_named : (v : Json) (w : List ℕ) (k : Frames) (n : List ℕ) (j : Json) (m : Members) (t : List ℕ) → FirstMember (member n j m) w t → Rest k (object (member n j m)) v t
-    → Completes (state.Name []) k v w
+    → Completes (state.name []) k v w
 to_named v w k n j m t (q, z, (a, c, first, x, last), (d, f, before, y, behind), more) h = (a, n, c, first, x, (q, last, (d, j, f, before, y, (z, m, t, behind, more, h))))
 
-pub from_named : (v : Json) (w : List ℕ) (k : Frames) → Completes (state.Name []) k v w → Completes state.FirstName k v w
+pub from_named : (v : Json) (w : List ℕ) (k : Frames) → Completes (state.name []) k v w → Completes state.first_name k v w
 from_named v w k (a, n, c, first, x, (q, last, (d, j, f, before, y, (z, m, t, behind, more, h)))) =
     (member n j m, t, (q, z, (a, c, first, x, last), (d, f, before, y, behind), more), h)
 
@@ -254,11 +254,11 @@ module _ (v : Json) (b : ℕ) (w : List ℕ) where
   first_forward at k no_members t (inr (is, bl)) h = by_class v b w (λ z. stays (name_first at z) k) class.Blank (blank_class b is) (no_members, t, bl, h)
   first_forward at k (member n j m) t x h = to_first at k (class_of b) (name_forward v b w at [] k (to_named v (b ∷ w) k n j m t x h))
 
-  blank_first : (at : ℕ) (k : Frames) (m : Members) (t : List ℕ) → class_of b ≡ class.Blank → FirstMember m w t → Rest k (object m) v t → Completes state.FirstName k v (b ∷ w)
+  blank_first : (at : ℕ) (k : Frames) (m : Members) (t : List ℕ) → class_of b ≡ class.Blank → FirstMember m w t → Rest k (object m) v t → Completes state.first_name k v (b ∷ w)
   blank_first at k no_members t e bl h = (no_members, t, inr (of_class b class.Blank e, bl), h)
   blank_first at k (member n j m) t e x h = from_named v (b ∷ w) k (name_back v b w at [] k class.Blank e (to_named v w k n j m t x h))
 
-  pub first_back : (at : ℕ) (k : Frames) (c : Class) → class_of b ≡ c → Means (stays (name_first at c) k) v w → Completes state.FirstName k v (b ∷ w)
+  pub first_back : (at : ℕ) (k : Frames) (c : Class) → class_of b ≡ c → Means (stays (name_first at c) k) v w → Completes state.first_name k v (b ∷ w)
   first_back at k class.Blank e (m, t, x, h) = blank_first at k m t e x h
   first_back at k class.CloseObject e h = (no_members, w, inl (cons_is (sym (of_class b class.CloseObject e)) refl), subst (λ (y : Json). Rest k y v w) (json_of_object []) h)
   first_back at k class.Quote e h = from_named v (b ∷ w) k (name_back v b w at [] k class.Quote e h)

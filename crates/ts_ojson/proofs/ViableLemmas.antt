@@ -9,10 +9,10 @@ use Rattle.ts_ojson.specs.declared.part.Part.{Part}
 use Rattle.ts_ojson.specs.declared.part.Part.TheVariants as part
 use Rattle.ts_ojson.specs.declared.escape.Escape.{Escape}
 use Rattle.ts_ojson.specs.declared.escape.Escape.TheVariants.{Plain, Backslash, First, Second, Third, Fourth, High, HighBackslash, LowFirst, LowSecond, LowThird, LowFourth}
-use Rattle.ts_ojson.specs.declared.state.Frame.TheVariants as frame
-use Rattle.ts_ojson.specs.declared.state.Role.TheVariants as role
-use Rattle.ts_ojson.specs.declared.state.State.{State}
-use Rattle.ts_ojson.specs.declared.state.State.TheVariants as state
+use Rattle.ts_ojson.specs.Frames as frame
+use Rattle.ts_ojson.specs.Roles as role
+use Rattle.ts_ojson.specs.States.{State}
+use Rattle.ts_ojson.specs.States as state
 use Rattle.ts_ojson.specs.Json.{Json, number, string, array, object, no_items, item, no_members, member, json_of}
 use Rattle.ts_ojson.specs.Number.{Number}
 use Rattle.ts_ojson.specs.Characters.{Hex, IsHigh, IsAlone, pair_of, Mark, raw, Characters}
@@ -30,10 +30,10 @@ Viable P = (v : Json) × (r : List ℕ) × P v r × IsGood 0 v
 
 close_all : (k : Frames) (j : Json) → IsSound k → IsGood (length k) j → Viable (λ v r. Rest k j v r)
 close_all [] j s g = (j, [], (refl, refl), g)
-close_all (frame.Array xs ∷ k) j s g =
+close_all (frame.array xs ∷ k) j s g =
     let c = close_all k (array (onto_items xs (item j no_items))) s.2 (array_closed (length k) xs j s.0 g s.1) in
     (c.0, 93 ∷ c.1, (93 ∷ c.1, no_items, c.1, inl refl, refl, c.2), c.3)
-close_all (frame.Object ms n ∷ k) j s g =
+close_all (frame.object ms n ∷ k) j s g =
     let c = close_all k (object (onto_members ms (member n j no_members))) s.4 (object_closed (length k) ms n j s.0 s.1 s.2 g s.3) in
     (c.0, 125 ∷ c.1, (125 ∷ c.1, no_members, c.1, inl refl, refl, c.2), c.3)
 
@@ -48,7 +48,7 @@ begun_viable k s =
 
 colon_viable : (ms : Gathered) (n : List ℕ) (k : Frames) → IsOpen ms k → has_name n ms ≡ false → Viable (λ v r. Coloned ms n k v r)
 colon_viable ms n k s e =
-    let c = begun_viable (frame.Object ms n ∷ k) (s.0, s.1, e, s.2, s.3) in
+    let c = begun_viable (frame.object ms n ∷ k) (s.0, s.1, e, s.2, s.3) in
     (c.0, 58 ∷ c.1, (c.1, inl refl, c.2), c.3)
 
 -- ---- numbers
@@ -171,35 +171,35 @@ end_text e s is n =
     )
 
 pub viable : (s : State) (k : Frames) → StateSound s k → Viable (λ v r. Completes s k v r)
-viable state.Value k s = begun_viable k s
-viable state.FirstItem k s =
+viable state.value k s = begun_viable k s
+viable state.first_item k s =
     let c = close_all k (array no_items) s.1 (let le = s.0 in omega arith, tt) in
     (c.0, 93 ∷ c.1, (no_items, c.1, inl refl, c.2), c.3)
-viable (state.After o) k s = close_all k (json_of o) s.1 s.0
-viable state.FirstName k s =
+viable (state.after o) k s = close_all k (json_of o) s.1 s.0
+viable state.first_name k s =
     let c = close_all k (object no_members) s.1 (let le = s.0 in omega arith, (tt, tt)) in
     (c.0, 125 ∷ c.1, (no_members, c.1, inl refl, c.2), c.3)
-viable (state.Name ms) k s =
+viable (state.name ms) k s =
     let n = suc (longest ms) in
     let long : longest ms < length (plain_run n) = omega (arith, length_run n) in
     let c = colon_viable ms (plain_run n) k s (long_is_new (plain_run n) ms long) in
     let run = run_characters n c.1 in
     (c.0, 34 ∷ (plain_run n ++ 34 ∷ c.1), (34 ∷ (plain_run n ++ 34 ∷ c.1), plain_run n, c.1, inl refl, (plain_run n ++ 34 ∷ c.1, run.0, refl, run.1), c.2), c.3)
-viable (state.Colon ms n) k s = colon_viable ms n k s.0 s.1
-viable (state.Word x i) k s =
+viable (state.colon ms n) k s = colon_viable ms n k s.0 s.1
+viable (state.word x i) k s =
     let c = close_all k (json_of (word_value x)) s.1 (word_good x (length k) (few_open k s.1)) in
     (c.0, drop i (word_bytes x) ++ c.1, (c.1, refl, c.2), c.3)
-viable (state.Number p t) k s =
+viable (state.number p t) k s =
     let n = tail_viable p in
     let le = few_open k s in
     let c = close_all k (number (t ++ n.0)) s (omega arith, tt) in
     (c.0, n.0 ++ c.1, (n.0, c.1, refl, n.1, c.2), c.3)
-viable (state.Text e t role.Value) k s =
+viable (state.text e t role.value) k s =
     let le = few_open k s.1 in
     let f = end_text e t s.0 0 in
     let c = close_all k (string f.1) s.1 (omega arith, tt) in
-    (c.0, f.0 ++ c.1, f.3 (TextEnd role.Value k c.0) c.1 c.2, c.3)
-viable (state.Text e t (role.Name p ms)) k s =
+    (c.0, f.0 ++ c.1, f.3 (TextEnd role.value k c.0) c.1 c.2, c.3)
+viable (state.text e t (role.name p ms)) k s =
     let f = end_text e t s.0 (suc (longest ms)) in
     let c = colon_viable ms f.1 k s.1 (long_is_new f.1 ms f.2) in
-    (c.0, f.0 ++ c.1, f.3 (TextEnd (role.Name p ms) k c.0) c.1 c.2, c.3)
+    (c.0, f.0 ++ c.1, f.3 (TextEnd (role.name p ms) k c.0) c.1 c.2, c.3)

@@ -62,6 +62,10 @@ abbrev pub names : Members → List (List ℕ)
 names no_members = []
 names (member k j ms) = k ∷ names ms
 
+-- how deep arrays and objects may nest to be read
+abbrev pub most_deep : ℕ
+most_deep = 256
+
 -- the name is none of these; no two are equal
 abbrev pub IsNone : List ℕ → List (List ℕ) → Type 0
 IsNone k [] = ⊤

@@ -4,5 +4,10 @@ pub mod Characters
 pub mod Text
 pub mod Reads
 pub mod Gathered
+pub mod Pieces
 pub mod Strings
+pub mod Roles
+pub mod Frames
+pub mod States
 pub mod Machine
+pub mod Places

@@ -1,27 +1,26 @@
--- How the reader goes on, byte for byte, for private clauses. What its states mean is said in `Meaning`.
-use Rattle.std.specs.Prelude.{◌≡◌, ℕ, ◌+◌, ◌<◌, List, [], ◌∷◌, ◌++◌, length, get_or, Bool, true, false, cond, ◌&&◌, ◌==◌, nat_lt, nat_le, Option, Some, None, ⊤, IsUtf8}
+-- How a text goes on, byte for byte, for private clauses and proofs. What the states mean is said in proofs/Meaning.antt.
+use Rattle.std.specs.Prelude.{ℕ, zero, suc, ◌+◌, List, [], ◌∷◌, ◌++◌, length, get_or, Bool, true, false, cond, ◌&&◌, ◌==◌, nat_lt, nat_le, Option, Some, None}
 use Rattle.ts_ojson.specs.declared.class.Class.{Class}
 use Rattle.ts_ojson.specs.declared.class.Class.TheVariants as class
 use Rattle.ts_ojson.specs.declared.part.Part.{Part}
 use Rattle.ts_ojson.specs.declared.part.Part.TheVariants as part
 use Rattle.ts_ojson.specs.declared.escape.Escape.{Escape}
 use Rattle.ts_ojson.specs.declared.escape.Escape.TheVariants.{Plain}
-use Rattle.ts_ojson.specs.declared.escape.Piece.{Piece}
-use Rattle.ts_ojson.specs.declared.escape.Piece.TheVariants.{Inside, Closed}
-use Rattle.ts_ojson.specs.declared.state.Frame.{Frame}
-use Rattle.ts_ojson.specs.declared.state.Frame.TheVariants as frame
-use Rattle.ts_ojson.specs.declared.state.Word.{Word}
-use Rattle.ts_ojson.specs.declared.state.Word.TheVariants as word
-use Rattle.ts_ojson.specs.declared.state.Role.{Role}
-use Rattle.ts_ojson.specs.declared.state.Role.TheVariants as role
-use Rattle.ts_ojson.specs.declared.state.State.{State}
-use Rattle.ts_ojson.specs.declared.state.State.TheVariants as state
+use Rattle.ts_ojson.specs.Pieces.{Piece}
+use Rattle.ts_ojson.specs.Pieces.{reading, finished}
+use Rattle.ts_ojson.specs.Frames.{Frame}
+use Rattle.ts_ojson.specs.Frames as frame
+use Rattle.ts_ojson.specs.declared.word.Word.{Word}
+use Rattle.ts_ojson.specs.declared.word.Word.TheVariants as word
+use Rattle.ts_ojson.specs.Roles.{Role}
+use Rattle.ts_ojson.specs.Roles as role
+use Rattle.ts_ojson.specs.States.{State}
+use Rattle.ts_ojson.specs.States as state
 use Rattle.ts_ojson.specs.declared.value.OJson.{OJson}
 use Rattle.ts_ojson.specs.declared.value.OJson.TheVariants as json
-use Rattle.ts_ojson.specs.declared.fault.OFault.{OFault}
-use Rattle.ts_ojson.specs.declared.fault.OFault.TheVariants.{Syntax, Utf8, Deep, Duplicate, Memory}
 use Rattle.ts_ojson.specs.Gathered.{has_name}
-use Rattle.ts_ojson.specs.Strings.{next_piece, IsWithin}
+use Rattle.ts_ojson.specs.Json.{most_deep}
+use Rattle.ts_ojson.specs.Strings.{next_piece}
 
 abbrev pub Frames : Type 0
 Frames = List Frame
@@ -37,6 +36,11 @@ class_of b =
     (cond (b == 58) class.Colon (cond (b == 91) class.OpenArray (cond (b == 93) class.CloseArray (cond (b == 123) class.OpenObject (cond (b == 125) class.CloseObject
     (cond (b == 45) class.Minus (cond (b == 43) class.Plus (cond (b == 46) class.Point (cond (b == 48) class.Zero (cond (nat_le 49 b && nat_le b 57) class.Digit
     (cond (b == 101) class.Exponent (cond (b == 69) class.Exponent (cond (b == 116) class.LetterT (cond (b == 102) class.LetterF (cond (b == 110) class.LetterN class.Other))))))))))))))))))))
+
+abbrev pub is_digit_class : Class → Bool
+is_digit_class class.Zero = true
+is_digit_class class.Digit = true
+is_digit_class c = false
 
 abbrev pub digit_next : Class → Part → Option Part
 digit_next class.Zero p = Some p
@@ -115,157 +119,131 @@ stays None k = stuck
 stays (Some s) k = goes fine s k
 
 abbrev pub opens : State → Frames → Outcome
-opens s k = goes (cond (nat_lt (length k) 256) fine too_deep) s k
+opens s k = goes (cond (nat_lt (length k) most_deep) fine too_deep) s k
 
 abbrev pub number_start : Part → ℕ → State
-number_start p b = state.Number p (b ∷ [])
+number_start p b = state.number p (b ∷ [])
 
 abbrev pub begin_class : Frames → ℕ → Class → Outcome
-begin_class k b class.Quote = goes fine (state.Text Plain [] role.Value) k
-begin_class k b class.OpenArray = opens state.FirstItem k
-begin_class k b class.OpenObject = opens state.FirstName k
+begin_class k b class.Quote = goes fine (state.text Plain [] role.value) k
+begin_class k b class.OpenArray = opens state.first_item k
+begin_class k b class.OpenObject = opens state.first_name k
 begin_class k b class.Minus = goes fine (number_start part.Minus b) k
 begin_class k b class.Zero = goes fine (number_start part.Zero b) k
 begin_class k b class.Digit = goes fine (number_start part.Whole b) k
-begin_class k b class.LetterT = goes fine (state.Word word.True 1) k
-begin_class k b class.LetterF = goes fine (state.Word word.False 1) k
-begin_class k b class.LetterN = goes fine (state.Word word.Null 1) k
+begin_class k b class.LetterT = goes fine (state.word word.True 1) k
+begin_class k b class.LetterF = goes fine (state.word word.False 1) k
+begin_class k b class.LetterN = goes fine (state.word word.Null 1) k
 begin_class k b c = stuck
 
 abbrev pub begin : Frames → ℕ → Outcome
 begin k b = begin_class k b (class_of b)
 
 abbrev pub value_class : Frames → ℕ → Class → Outcome
-value_class k b class.Blank = goes fine state.Value k
+value_class k b class.Blank = goes fine state.value k
 value_class k b c = begin_class k b c
 
 abbrev pub after_item : List OJson → OJson → Frames → Class → Outcome
-after_item xs j k class.Comma = goes fine state.Value (frame.Array (xs ++ j ∷ []) ∷ k)
-after_item xs j k class.CloseArray = goes fine (state.After (json.Array (xs ++ j ∷ []))) k
+after_item xs j k class.Comma = goes fine state.value (frame.array (xs ++ j ∷ []) ∷ k)
+after_item xs j k class.CloseArray = goes fine (state.after (json.Array (xs ++ j ∷ []))) k
 after_item xs j k c = stuck
 
 abbrev pub after_member : Gathered → List ℕ → OJson → Class → Option State
-after_member ms n j class.Comma = Some (state.Name (ms ++ (n, j) ∷ []))
-after_member ms n j class.CloseObject = Some (state.After (json.Object (ms ++ (n, j) ∷ [])))
+after_member ms n j class.Comma = Some (state.name (ms ++ (n, j) ∷ []))
+after_member ms n j class.CloseObject = Some (state.after (json.Object (ms ++ (n, j) ∷ [])))
 after_member ms n j c = None
 
 abbrev pub after_within : OJson → Frames → Class → Outcome
 after_within j [] c = stuck
-after_within j (frame.Array xs ∷ k) c = after_item xs j k c
-after_within j (frame.Object ms n ∷ k) c = stays (after_member ms n j c) k
+after_within j (frame.array xs ∷ k) c = after_item xs j k c
+after_within j (frame.object ms n ∷ k) c = stays (after_member ms n j c) k
 
 abbrev pub after : OJson → Frames → Class → Outcome
-after j k class.Blank = goes fine (state.After j) k
+after j k class.Blank = goes fine (state.after j) k
 after j k c = after_within j k c
 
 abbrev pub item_first_class : Frames → ℕ → Class → Outcome
-item_first_class k b class.Blank = goes fine state.FirstItem k
-item_first_class k b class.CloseArray = goes fine (state.After (json.Array [])) k
-item_first_class k b c = begin_class (frame.Array [] ∷ k) b c
+item_first_class k b class.Blank = goes fine state.first_item k
+item_first_class k b class.CloseArray = goes fine (state.after (json.Array [])) k
+item_first_class k b c = begin_class (frame.array [] ∷ k) b c
 
 abbrev pub item_first : Frames → ℕ → Outcome
 item_first k b = item_first_class k b (class_of b)
 
 abbrev pub name_first : ℕ → Class → Option State
-name_first at class.Blank = Some state.FirstName
-name_first at class.CloseObject = Some (state.After (json.Object []))
-name_first at class.Quote = Some (state.Text Plain [] (role.Name at []))
+name_first at class.Blank = Some state.first_name
+name_first at class.CloseObject = Some (state.after (json.Object []))
+name_first at class.Quote = Some (state.text Plain [] (role.name at []))
 name_first at c = None
 
 abbrev pub name_next : ℕ → Gathered → Class → Option State
-name_next at ms class.Blank = Some (state.Name ms)
-name_next at ms class.Quote = Some (state.Text Plain [] (role.Name at ms))
+name_next at ms class.Blank = Some (state.name ms)
+name_next at ms class.Quote = Some (state.text Plain [] (role.name at ms))
 name_next at ms c = None
 
 abbrev pub colon_next : Gathered → List ℕ → Frames → Class → Outcome
-colon_next ms n k class.Blank = goes fine (state.Colon ms n) k
-colon_next ms n k class.Colon = goes fine state.Value (frame.Object ms n ∷ k)
+colon_next ms n k class.Blank = goes fine (state.colon ms n) k
+colon_next ms n k class.Colon = goes fine state.value (frame.object ms n ∷ k)
 colon_next ms n k c = stuck
 
 abbrev pub word_next : Word → ℕ → Frames → ℕ → Outcome
-word_next w i k b = cond (nat_lt i (length (word_bytes w))) (cond (get_or (word_bytes w) i 0 == b) (goes fine (state.Word w (i + 1)) k) stuck) (after (word_value w) k (class_of b))
+word_next w i k b = cond (nat_lt i (length (word_bytes w))) (cond (get_or (word_bytes w) i 0 == b) (goes fine (state.word w (i + 1)) k) stuck) (after (word_value w) k (class_of b))
 
 abbrev pub number_part : Part → List ℕ → Frames → ℕ → Option Part → Outcome
-number_part p s k b (Some q) = goes fine (state.Number q (s ++ b ∷ [])) k
+number_part p s k b (Some q) = goes fine (state.number q (s ++ b ∷ [])) k
 number_part p s k b None = cond (part_ends p) (after (json.Num s) k (class_of b)) stuck
 
 abbrev pub number_next : Part → List ℕ → Frames → ℕ → Outcome
 number_next p s k b = number_part p s k b (part_next p (class_of b))
 
 abbrev pub closed : List ℕ → Role → Frames → Outcome
-closed s role.Value k = goes fine (state.After (json.Text s)) k
-closed s (role.Name p ms) k = goes (cond (has_name s ms) (repeated p) fine) (state.Colon ms s) k
+closed s role.value k = goes fine (state.after (json.Text s)) k
+closed s (role.name p ms) k = goes (cond (has_name s ms) (repeated p) fine) (state.colon ms s) k
 
 abbrev pub text_piece : Role → Frames → Option Piece → Outcome
 text_piece r k None = stuck
-text_piece r k (Some (Inside e s)) = goes fine (state.Text e s r) k
-text_piece r k (Some (Closed s)) = closed s r k
+text_piece r k (Some (reading e s)) = goes fine (state.text e s r) k
+text_piece r k (Some (finished s)) = closed s r k
 
 abbrev pub text_next : Escape → List ℕ → Role → Frames → ℕ → Outcome
 text_next e s r k b = text_piece r k (next_piece e s b)
 
 abbrev pub next : ℕ → State → Frames → ℕ → Outcome
-next at state.Value k b = value_class k b (class_of b)
-next at state.FirstItem k b = item_first k b
-next at (state.After j) k b = after j k (class_of b)
-next at state.FirstName k b = stays (name_first at (class_of b)) k
-next at (state.Name ms) k b = stays (name_next at ms (class_of b)) k
-next at (state.Colon ms n) k b = colon_next ms n k (class_of b)
-next at (state.Word w i) k b = word_next w i k b
-next at (state.Number p s) k b = number_next p s k b
-next at (state.Text e s r) k b = text_next e s r k b
+next at state.value k b = value_class k b (class_of b)
+next at state.first_item k b = item_first k b
+next at (state.after j) k b = after j k (class_of b)
+next at state.first_name k b = stays (name_first at (class_of b)) k
+next at (state.name ms) k b = stays (name_next at ms (class_of b)) k
+next at (state.colon ms n) k b = colon_next ms n k (class_of b)
+next at (state.word w i) k b = word_next w i k b
+next at (state.number p s) k b = number_next p s k b
+next at (state.text e s r) k b = text_next e s r k b
+
+-- what one more byte at this place makes of an outcome
+abbrev pub on_byte : ℕ → ℕ → Outcome → Outcome
+on_byte at b stuck = stuck
+on_byte at b (goes fine s k) = next at s k b
+on_byte at b (goes too_deep s k) = goes too_deep s k
+on_byte at b (goes (repeated p) s k) = goes (repeated p) s k
+
+-- what the bytes before a place lead to
+abbrev pub outcome : List ℕ → ℕ → Outcome
+outcome w zero = goes fine state.value []
+outcome w (suc at) = on_byte at (get_or w at 0) (outcome w at)
 
 -- ---- the end
 
 abbrev pub ended_in : State → Option OJson
-ended_in state.Value = None
-ended_in state.FirstItem = None
-ended_in (state.After j) = Some j
-ended_in state.FirstName = None
-ended_in (state.Name ms) = None
-ended_in (state.Colon ms n) = None
-ended_in (state.Word w i) = cond (nat_lt i (length (word_bytes w))) None (Some (word_value w))
-ended_in (state.Number p s) = cond (part_ends p) (Some (json.Num s)) None
-ended_in (state.Text e s r) = None
+ended_in state.value = None
+ended_in state.first_item = None
+ended_in (state.after j) = Some j
+ended_in state.first_name = None
+ended_in (state.name ms) = None
+ended_in (state.colon ms n) = None
+ended_in (state.word w i) = cond (nat_lt i (length (word_bytes w))) None (Some (word_value w))
+ended_in (state.number p s) = cond (part_ends p) (Some (json.Num s)) None
+ended_in (state.text e s r) = None
 
 abbrev pub ended : State → Frames → Option OJson
 ended s [] = ended_in s
 ended s (f ∷ k) = None
-
--- ---- what the code asks and answers
-
-abbrev pub IsReady : State → ℕ → Type 0
-IsReady state.Value b = ⊤
-IsReady state.FirstItem b = ⊤
-IsReady (state.After j) b = ⊤
-IsReady state.FirstName b = ⊤
-IsReady (state.Name ms) b = ⊤
-IsReady (state.Colon ms n) b = ⊤
-IsReady (state.Word w i) b = i < 8
-IsReady (state.Number p s) b = IsUtf8 s
-IsReady (state.Text e s r) b = IsWithin e × (b ≡ 34 → e ≡ Plain → IsUtf8 s)
-
-abbrev pub CanEnd : State → Type 0
-CanEnd state.Value = ⊤
-CanEnd state.FirstItem = ⊤
-CanEnd (state.After j) = ⊤
-CanEnd state.FirstName = ⊤
-CanEnd (state.Name ms) = ⊤
-CanEnd (state.Colon ms n) = ⊤
-CanEnd (state.Word w i) = ⊤
-CanEnd (state.Number p s) = IsUtf8 s
-CanEnd (state.Text e s r) = ⊤
-
-abbrev pub FailsAt : ℕ → OFault → Option State → Type 0
-FailsAt at (Syntax p) o = (p ≡ at) × (o ≡ None)
-FailsAt at (Utf8 p) o = ⊥
-FailsAt at (Deep p) o = ⊥
-FailsAt at (Duplicate p) o = ⊥
-FailsAt at Memory o = ⊤
-
-abbrev pub Refuses : OFault → ℕ → Outcome → Type 0
-Refuses (Syntax p) at o = (p ≡ at) × (o ≡ stuck)
-Refuses (Utf8 p) at o = ⊥
-Refuses (Deep p) at o = (s : State) × (k : Frames) × (p ≡ at) × (o ≡ goes too_deep s k)
-Refuses (Duplicate p) at o = (s : State) × (k : Frames) × (o ≡ goes (repeated p) s k)
-Refuses Memory at o = ⊤

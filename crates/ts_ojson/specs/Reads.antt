@@ -4,24 +4,24 @@ use Rattle.std.specs.Str.{IsValidUpTo}
 use Rattle.ts_ojson.specs.declared.value.OJson.{OJson}
 use Rattle.ts_ojson.specs.declared.fault.OFault.{OFault}
 use Rattle.ts_ojson.specs.declared.fault.OFault.TheVariants.{Syntax, Utf8, Deep, Duplicate, Memory}
-use Rattle.ts_ojson.specs.Json.{Json, json_of, depth, HasDistinctNames}
+use Rattle.ts_ojson.specs.Json.{Json, json_of, depth, most_deep, HasDistinctNames}
 use Rattle.ts_ojson.specs.Characters.{Quoted}
-use Rattle.ts_ojson.specs.Text.{IsText}
+use Rattle.ts_ojson.specs.Text.{IsJsonText}
 
 -- arrays and objects nest no deeper than is read
 abbrev pub IsShallow : Json → Type 0
-IsShallow j = depth j ≤ 256
+IsShallow j = depth j ≤ most_deep
 
 -- the bytes are a text of this value, in UTF-8
 pub record Reads (v : OJson) (w : List ℕ) : Type 0 where
   pub utf8 : IsUtf8 w
-  pub text : IsText (json_of v) w
+  pub text : IsJsonText (json_of v) w
   pub shallow : IsShallow (json_of v)
   pub distinct : HasDistinctNames (json_of v)
 
 -- The bytes are a front of some text, of a value that is so. That a text is UTF-8 is asked of the whole input, first of all.
 abbrev pub Begins : (Json → Type 0) → List ℕ → Type 0
-Begins P u = (rest : List ℕ) × (j : Json) × IsText j (u ++ rest) × P j
+Begins P u = (rest : List ℕ) × (j : Json) × IsJsonText j (u ++ rest) × P j
 
 abbrev pub IsAny : Json → Type 0
 IsAny j = ⊤
@@ -36,7 +36,7 @@ pub record IsSyntaxFault (w : List ℕ) (p : ℕ) : Type 0 where
   pub within : p ≤ length w
   pub before : IsKept (take p w)
   pub longest : (q : ℕ) → p < q → q ≤ length w → Begins IsAny (take q w) → ⊥
-  pub no_text : (j : Json) → IsText j w → ⊥
+  pub no_text : (j : Json) → IsJsonText j w → ⊥
 
 -- with the byte at p the nesting passes what is read
 pub record IsDeepFault (w : List ℕ) (p : ℕ) : Type 0 where

@@ -3,43 +3,45 @@ use Rattle.std.specs.Prelude.{ℕ, ◌+◌, ◌*◌, ◌<◌, ◌≤◌, ◌⊎�
 use Rattle.std.specs.Char.{encode_utf8, digit_value}
 use Rattle.ts_ojson.specs.declared.escape.Escape.{Escape}
 use Rattle.ts_ojson.specs.declared.escape.Escape.TheVariants.{Plain, Backslash, First, Second, Third, Fourth, High, HighBackslash, LowFirst, LowSecond, LowThird, LowFourth}
-use Rattle.ts_ojson.specs.declared.escape.Piece.{Piece}
-use Rattle.ts_ojson.specs.declared.escape.Piece.TheVariants.{Inside, Closed}
+use Rattle.ts_ojson.specs.declared.escape.Next.{Next}
+use Rattle.ts_ojson.specs.declared.escape.Next.TheVariants.{More, Character}
+use Rattle.ts_ojson.specs.Pieces.{Piece}
+use Rattle.ts_ojson.specs.Pieces.{reading, finished}
 use Rattle.ts_ojson.specs.Characters.{IsHigh, pair_of, short_of}
 
 abbrev pub plain_piece : List ℕ → ℕ → Option Piece
-plain_piece s b = cond (b == 34) (Some (Closed s)) (cond (b == 92) (Some (Inside Backslash s)) (cond (nat_lt b 32) None (Some (Inside Plain (s ++ b ∷ [])))))
+plain_piece s b = cond (b == 34) (Some (finished s)) (cond (b == 92) (Some (reading Backslash s)) (cond (nat_lt b 32) None (Some (reading Plain (s ++ b ∷ [])))))
 
 abbrev pub shorted : List ℕ → Option ℕ → Option Piece
 shorted s None = None
-shorted s (Some c) = Some (Inside Plain (s ++ c ∷ []))
+shorted s (Some c) = Some (reading Plain (s ++ c ∷ []))
 
 abbrev pub backslash_piece : List ℕ → ℕ → Option Piece
-backslash_piece s b = cond (b == 117) (Some (Inside First s)) (shorted s (short_of b))
+backslash_piece s b = cond (b == 117) (Some (reading First s)) (shorted s (short_of b))
 
 abbrev pub unit_piece : List ℕ → ℕ → Option Piece
 unit_piece s u =
-    cond (nat_lt u 55296) (Some (Inside Plain (s ++ encode_utf8 u))) (cond (nat_lt u 56320) (Some (Inside (High u) s))
-    (cond (nat_lt u 57344) None (Some (Inside Plain (s ++ encode_utf8 u)))))
+    cond (nat_lt u 55296) (Some (reading Plain (s ++ encode_utf8 u))) (cond (nat_lt u 56320) (Some (reading (High u) s))
+    (cond (nat_lt u 57344) None (Some (reading Plain (s ++ encode_utf8 u)))))
 
 abbrev pub pair_piece : List ℕ → ℕ → ℕ → Option Piece
-pair_piece s h l = Some (Inside Plain (s ++ encode_utf8 (pair_of h l)))
+pair_piece s h l = Some (reading Plain (s ++ encode_utf8 (pair_of h l)))
 
 abbrev pub third_piece : List ℕ → ℕ → Option Piece
-third_piece s n = cond (nat_lt n 220) (Some (Inside (Third n) s)) (cond (nat_lt n 224) None (Some (Inside (Third n) s)))
+third_piece s n = cond (nat_lt n 220) (Some (reading (Third n) s)) (cond (nat_lt n 224) None (Some (reading (Third n) s)))
 
 abbrev pub digit_piece : Escape → List ℕ → ℕ → Option Piece
 digit_piece Plain s d = None
 digit_piece Backslash s d = None
-digit_piece First s d = Some (Inside (Second d) s)
+digit_piece First s d = Some (reading (Second d) s)
 digit_piece (Second n) s d = third_piece s (n * 16 + d)
-digit_piece (Third n) s d = Some (Inside (Fourth (n * 16 + d)) s)
+digit_piece (Third n) s d = Some (reading (Fourth (n * 16 + d)) s)
 digit_piece (Fourth n) s d = unit_piece s (n * 16 + d)
 digit_piece (High h) s d = None
 digit_piece (HighBackslash h) s d = None
-digit_piece (LowFirst h) s d = cond (d == 13) (Some (Inside (LowSecond h) s)) None
-digit_piece (LowSecond h) s d = cond (nat_lt d 12) None (Some (Inside (LowThird h (208 + d)) s))
-digit_piece (LowThird h n) s d = Some (Inside (LowFourth h (n * 16 + d)) s)
+digit_piece (LowFirst h) s d = cond (d == 13) (Some (reading (LowSecond h) s)) None
+digit_piece (LowSecond h) s d = cond (nat_lt d 12) None (Some (reading (LowThird h (208 + d)) s))
+digit_piece (LowThird h n) s d = Some (reading (LowFourth h (n * 16 + d)) s)
 digit_piece (LowFourth h n) s d = pair_piece s h (n * 16 + d)
 
 abbrev pub hex_piece : Escape → List ℕ → ℕ → Option Piece
@@ -53,8 +55,8 @@ next_piece First s b = hex_piece First s b
 next_piece (Second n) s b = hex_piece (Second n) s b
 next_piece (Third n) s b = hex_piece (Third n) s b
 next_piece (Fourth n) s b = hex_piece (Fourth n) s b
-next_piece (High h) s b = cond (b == 92) (Some (Inside (HighBackslash h) s)) None
-next_piece (HighBackslash h) s b = cond (b == 117) (Some (Inside (LowFirst h) s)) None
+next_piece (High h) s b = cond (b == 92) (Some (reading (HighBackslash h) s)) None
+next_piece (HighBackslash h) s b = cond (b == 117) (Some (reading (LowFirst h) s)) None
 next_piece (LowFirst h) s b = hex_piece (LowFirst h) s b
 next_piece (LowSecond h) s b = hex_piece (LowSecond h) s b
 next_piece (LowThird h n) s b = hex_piece (LowThird h n) s b
@@ -74,3 +76,29 @@ IsWithin (LowFirst h) = IsHigh h
 IsWithin (LowSecond h) = IsHigh h
 IsWithin (LowThird h n) = IsHigh h × (220 ≤ n) × (n < 224)
 IsWithin (LowFourth h n) = IsHigh h × (3520 ≤ n) × (n < 3584)
+
+-- so, and within an escape
+abbrev pub IsInside : Escape → Type 0
+IsInside Plain = ⊥
+IsInside Backslash = ⊤
+IsInside First = ⊤
+IsInside (Second n) = IsWithin (Second n)
+IsInside (Third n) = IsWithin (Third n)
+IsInside (Fourth n) = IsWithin (Fourth n)
+IsInside (High h) = IsHigh h
+IsInside (HighBackslash h) = IsHigh h
+IsInside (LowFirst h) = IsHigh h
+IsInside (LowSecond h) = IsHigh h
+IsInside (LowThird h n) = IsWithin (LowThird h n)
+IsInside (LowFourth h n) = IsWithin (LowFourth h n)
+
+-- the string with an escape that goes on, or whose character was read
+abbrev pub piece_of : List ℕ → Option Next → Option Piece
+piece_of s None = None
+piece_of s (Some (More e)) = Some (reading e s)
+piece_of s (Some (Character c)) = Some (reading Plain (s ++ encode_utf8 c))
+
+-- an escape that goes on is within what it can be
+abbrev pub IsGoing : Next → Type 0
+IsGoing (More e) = IsInside e
+IsGoing (Character c) = ⊤

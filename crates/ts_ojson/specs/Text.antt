@@ -51,5 +51,5 @@ abbrev mutual
   MoreMembers (member k j ms) w r = (u : List ℕ) × (v : List ℕ) × (t : List ℕ) × (w ≡ 44 ∷ u) × Spaced (Quoted k) u (58 ∷ v) × Spaced (Value j) v t × MoreMembers ms t r
 
 -- the bytes are a text of the value
-abbrev pub IsText : Json → List ℕ → Type 0
-IsText j w = Spaced (Value j) w []
+abbrev pub IsJsonText : Json → List ℕ → Type 0
+IsJsonText j w = Spaced (Value j) w []

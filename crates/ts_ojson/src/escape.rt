@@ -1,13 +1,20 @@
-ghost use Rattle.std.specs.Prelude.{◌≡◌, ◌∷◌, [], ◌++◌, ◌<◌, IfOk};
+//! Escapes in strings: from the place behind a backslash to the character and the place behind it.
+
+ghost use Rattle.std.specs.Prelude.{◌≡◌, ℕ, List, ◌∷◌, [], ◌++◌, ◌+◌, ◌-◌, ◌<◌, ◌≤◌, length, get_or, IfOk, IfErr, IfSome};
+ghost use Rattle.std.specs.Str.{IsCharBoundary};
 ghost use Rattle.std.specs.Char.{digit_value, encode_utf8};
+ghost use Rattle.ts_base.specs.Bytes.{Bytes};
 ghost use Rattle.ts_ojson.specs.Characters.{IsHigh, IsLow, short_of};
-ghost use Rattle.ts_ojson.specs.Strings.{plain_piece, backslash_piece, unit_piece, pair_piece, digit_piece, hex_piece, next_piece, IsWithin};
+ghost use Rattle.ts_ojson.specs.Strings.{piece_of, backslash_piece, unit_piece, pair_piece, digit_piece, hex_piece, next_piece, IsInside, IsGoing};
+ghost use Rattle.ts_ojson.specs.Machine.{Frames};
+ghost use Rattle.ts_ojson.specs.Roles.{Role};
+ghost use Rattle.ts_ojson.specs.States.{text as in_text};
+ghost use Rattle.ts_ojson.specs.Places.{Reaches, Refused};
 
-use std::alloc::{AllocError, Global};
-use ts_base::List;
+use crate::stop::Stop;
 
-/// How much of a character of a string was read: of an escape its letter and digits, and where it is
-/// the second of a pair the first one's code unit.
+/// How much of a character of a string was read: nothing, of an escape its letter and digits, and where
+/// it is the second of a pair the first one's code unit.
 #[derive(Clone, Copy, PartialEq, Eq, Debug)]
 pub(crate) enum Escape {
     Plain,
@@ -24,11 +31,11 @@ pub(crate) enum Escape {
     LowFourth(u32, u32),
 }
 
-/// A string after one more byte: its characters so far, and whether it goes on.
-#[derive(Drop)]
-pub(crate) enum Piece {
-    Inside(Escape, List<u8>),
-    Closed(List<u8>),
+/// An escape after one more byte: it goes on, or its character was read.
+#[derive(Clone, Copy, PartialEq, Eq, Debug)]
+pub(crate) enum Next {
+    More(Escape),
+    Character(char),
 }
 
 fn digit(byte: u8) -> u32
@@ -42,136 +49,163 @@ fn digit(byte: u8) -> u32
     }
 }
 
-fn short(byte: u8) -> Option<u8>
+fn short(byte: u8) -> Option<char>
     ensures { result ≡ short_of byte }
 {
     match byte {
-        b'"' => Some(b'"'),
-        b'\\' => Some(b'\\'),
-        b'/' => Some(b'/'),
-        b'b' => Some(8),
-        b'f' => Some(12),
-        b'n' => Some(b'\n'),
-        b'r' => Some(b'\r'),
-        b't' => Some(b'\t'),
+        b'"' => Some('"'),
+        b'\\' => Some('\\'),
+        b'/' => Some('/'),
+        b'b' => Some('\u{8}'),
+        b'f' => Some('\u{c}'),
+        b'n' => Some('\n'),
+        b'r' => Some('\r'),
+        b't' => Some('\t'),
         _ => None,
     }
 }
 
-fn with(mut text: List<u8>, byte: u8) -> Result<List<u8>, AllocError>
-    ensures { IfOk result (λ t. t ≡ text ++ byte ∷ []) }
-{
-    text.push(byte)?;
-    Ok(text)
-}
-
-fn with_all(text: List<u8>, bytes: &[u8]) -> Result<List<u8>, AllocError>
-    ensures { IfOk result (λ t. t ≡ text ++ bytes.now) }
-{
-    let mut all = text.into_vec();
-    all.extend_from_slice(bytes)?;
-    Ok(List::from_vec(all))
-}
-
-fn with_char(text: List<u8>, c: char) -> Result<List<u8>, AllocError>
-    ensures { IfOk result (λ t. t ≡ text ++ encode_utf8 c) }
-{
-    let mut buffer = [0; 4];
-    with_all(text, c.encode_utf8(&mut buffer).as_bytes())
-}
-
-fn plain(text: List<u8>, byte: u8) -> Result<Option<Piece>, AllocError>
-    ensures { IfOk result (λ r. r ≡ plain_piece text byte) }
-{
-    Ok(match byte {
-        b'"' => Some(Piece::Closed(text)),
-        b'\\' => Some(Piece::Inside(Escape::Backslash, text)),
-        0..=31 => None,
-        _ => Some(Piece::Inside(Escape::Plain, with(text, byte)?)),
-    })
-}
-
-fn backslash(text: List<u8>, byte: u8) -> Result<Option<Piece>, AllocError>
-    ensures { IfOk result (λ r. r ≡ backslash_piece text byte) }
+fn backslash(byte: u8) -> Option<Next>
+    ensures piece { (s : Bytes) → backslash_piece s byte ≡ piece_of s result }
+    ensures going { IfSome result IsGoing }
+    ensures ascii { IfSome result (λ _. byte < 128) }
 {
     if byte == b'u' {
-        return Ok(Some(Piece::Inside(Escape::First, text)));
+        return Some(Next::More(Escape::First));
     }
     match short(byte) {
-        Some(c) => Ok(Some(Piece::Inside(Escape::Plain, with(text, c)?))),
-        None => Ok(None),
+        Some(c) => Some(Next::Character(c)),
+        None => None,
     }
 }
 
 /// After all four digits of a code unit that is no second of a pair.
-fn unit(text: List<u8>, unit: u32) -> Result<Option<Piece>, AllocError>
+fn unit(unit: u32) -> Option<Next>
     requires { unit < 65536 }
-    ensures { IfOk result (λ r. r ≡ unit_piece text unit) }
+    ensures piece { (s : Bytes) → unit_piece s unit ≡ piece_of s result }
+    ensures going { IfSome result IsGoing }
 {
     match char::from_u32(unit) {
-        Some(c) => Ok(Some(Piece::Inside(Escape::Plain, with_char(text, c)?))),
-        None if unit < 0xdc00 => Ok(Some(Piece::Inside(Escape::High(unit), text))),
-        None => Ok(None),
+        Some(c) => Some(Next::Character(c)),
+        None if unit < 0xdc00 => Some(Next::More(Escape::High(unit))),
+        None => None,
     }
 }
 
 /// After all four digits of the second of a pair.
-fn pair(text: List<u8>, high: u32, low: u32) -> Result<Option<Piece>, AllocError>
+fn pair(high: u32, low: u32) -> Option<Next>
     requires { IsHigh high × IsLow low }
-    ensures { IfOk result (λ r. r ≡ pair_piece text high low) }
+    ensures piece { (s : Bytes) → pair_piece s high low ≡ piece_of s result }
+    ensures going { IfSome result IsGoing }
 {
     match char::from_u32(0x10000 + (high - 0xd800) * 1024 + (low - 0xdc00)) {
-        Some(c) => Ok(Some(Piece::Inside(Escape::Plain, with_char(text, c)?))),
-        None => Ok(None),
+        Some(c) => Some(Next::Character(c)),
+        None => None,
     }
 }
 
-fn with_digit(escape: Escape, text: List<u8>, digit: u32) -> Result<Option<Piece>, AllocError>
-    requires within { IsWithin escape }
+fn with_digit(escape: Escape, digit: u32) -> Option<Next>
+    requires inside { IsInside escape }
     requires digit { digit < 16 }
-    ensures { IfOk result (λ r. r ≡ digit_piece escape text digit) }
+    ensures piece { (s : Bytes) → digit_piece escape s digit ≡ piece_of s result }
+    ensures going { IfSome result IsGoing }
 {
     let next = match escape {
         Escape::First => Escape::Second(digit),
         Escape::Second(n) => match n * 16 + digit {
-            0xdc..=0xdf => return Ok(None),
+            0xdc..=0xdf => return None,
             n => Escape::Third(n),
         },
         Escape::Third(n) => Escape::Fourth(n * 16 + digit),
-        Escape::Fourth(n) => return unit(text, n * 16 + digit),
+        Escape::Fourth(n) => return unit(n * 16 + digit),
         Escape::LowFirst(high) if digit == 0xd => Escape::LowSecond(high),
         Escape::LowSecond(high) if 0xc <= digit => Escape::LowThird(high, 0xd0 + digit),
         Escape::LowThird(high, n) => Escape::LowFourth(high, n * 16 + digit),
-        Escape::LowFourth(high, n) => return pair(text, high, n * 16 + digit),
-        _ => return Ok(None),
+        Escape::LowFourth(high, n) => return pair(high, n * 16 + digit),
+        Escape::LowFirst(_)
+        | Escape::LowSecond(_)
+        | Escape::Plain
+        | Escape::Backslash
+        | Escape::High(_)
+        | Escape::HighBackslash(_) => return None,
     };
-    Ok(Some(Piece::Inside(next, text)))
+    Some(Next::More(next))
 }
 
-fn hex(escape: Escape, text: List<u8>, byte: u8) -> Result<Option<Piece>, AllocError>
-    requires { IsWithin escape }
-    ensures { IfOk result (λ r. r ≡ hex_piece escape text byte) }
+#[tactic(auto, using(crate::proofs::ClassLemmas::hex_ascii))]
+fn hex(escape: Escape, byte: u8) -> Option<Next>
+    requires { IsInside escape }
+    ensures piece { (s : Bytes) → hex_piece escape s byte ≡ piece_of s result }
+    ensures going { IfSome result IsGoing }
+    ensures ascii { IfSome result (λ _. byte < 128) }
 {
     let digit = digit(byte);
     if digit < 16 {
-        with_digit(escape, text, digit)
+        with_digit(escape, digit)
     } else {
-        Ok(None)
+        None
     }
 }
 
-/// One more byte of a string. `None` where the string has no such byte there.
-pub(crate) fn read_on(escape: Escape, text: List<u8>, byte: u8) -> Result<Option<Piece>, AllocError>
-    requires { IsWithin escape }
-    ensures { IfOk result (λ r. r ≡ next_piece escape text byte) }
+/// One more byte of an escape. `None` where the escape has no such byte there.
+fn read_on(escape: Escape, byte: u8) -> Option<Next>
+    requires { IsInside escape }
+    ensures piece { (s : Bytes) → next_piece escape s byte ≡ piece_of s result }
+    ensures going { IfSome result IsGoing }
+    ensures ascii { IfSome result (λ _. byte < 128) }
 {
-    let next = match escape {
-        Escape::Plain => return plain(text, byte),
-        Escape::Backslash => return backslash(text, byte),
-        Escape::High(high) if byte == b'\\' => Escape::HighBackslash(high),
-        Escape::HighBackslash(high) if byte == b'u' => Escape::LowFirst(high),
-        Escape::High(_) | Escape::HighBackslash(_) => return Ok(None),
-        _ => return hex(escape, text, byte),
-    };
-    Ok(Some(Piece::Inside(next, text)))
+    match escape {
+        Escape::Backslash => backslash(byte),
+        Escape::High(high) if byte == b'\\' => Some(Next::More(Escape::HighBackslash(high))),
+        Escape::HighBackslash(high) if byte == b'u' => Some(Next::More(Escape::LowFirst(high))),
+        Escape::Plain | Escape::High(_) | Escape::HighBackslash(_) => None,
+        Escape::First
+        | Escape::Second(_)
+        | Escape::Third(_)
+        | Escape::Fourth(_)
+        | Escape::LowFirst(_)
+        | Escape::LowSecond(_)
+        | Escape::LowThird(_, _)
+        | Escape::LowFourth(_, _) => hex(escape, byte),
+    }
+}
+
+/// The escape after the byte at a place. `None` where it has no such byte there, or at the end.
+fn read_in(text: &str, at: usize, escape: Escape) -> Option<Next>
+    requires { IsInside escape }
+    ensures piece { at < length text.now → (s : Bytes)
+        → next_piece escape s (get_or text.now at 0) ≡ piece_of s result }
+    ensures going { IfSome result IsGoing }
+    ensures within { IfSome result (λ _. at < length text.now) }
+    ensures ascii { IfSome result (λ _. get_or text.now at 0 < 128) }
+{
+    let bytes = text.as_bytes();
+    if at < bytes.len() {
+        read_on(escape, bytes[at])
+    } else {
+        None
+    }
+}
+
+/// The character of the escape whose backslash stands before `from`, and the place behind it.
+pub(crate) fn escaped(text: &str, from: usize) -> Result<(char, usize), Stop>
+    requires { from ≤ length text.now }
+    ensures later { IfOk result (λ r. (from < r.1) × (r.1 ≤ length text.now)) }
+    ensures boundary { IfOk result (λ r. IsCharBoundary text.now r.1) }
+    ensures ok { IfOk result (λ r. (s : Bytes) (role : Role) (k : Frames)
+        → Reaches text.now from (in_text Escape.Backslash s role) k
+        → Reaches text.now r.1 (in_text Escape.Plain (s ++ encode_utf8 r.0) role) k) }
+    ensures err { IfErr result (λ e. (s : Bytes) (role : Role) (k : Frames)
+        → Reaches text.now from (in_text Escape.Backslash s role) k → Refused e text.now) }
+{
+    let mut escape = Escape::Backslash;
+    let mut at = from;
+    loop {
+        match read_in(text, at, escape) {
+            Some(Next::More(more)) => escape = more,
+            Some(Next::Character(character)) => return Ok((character, at + 1)),
+            None => return Err(Stop::Syntax(at)),
+        }
+        at += 1;
+    }
 }

@@ -1,23 +1,26 @@
+//! The members of an object that is read, with their names in order to look them up.
+
 ghost use Rattle.std.specs.Prelude.{◌≡◌, ◌++◌, ◌∷◌, [], IfOk};
 ghost use Rattle.ts_ojson.specs.Gathered.{has_name};
 
-use indexmap::IndexSet;
 use std::alloc::{AllocError, Global};
+use std::collections::BTreeSet;
 use std::marker::Model;
 use ts_base::{List, Str};
 
-/// The members of an object that were read so far, and their names once more to look them up.
+/// The members of an object that were read so far.
 #[derive(Drop)]
 pub(crate) struct Gathered<V> {
     members: List<(Str, V)>,
-    names: IndexSet<Str>,
+    names: BTreeSet<Str>,
 }
 
 impl<V> Model for Gathered<V> {
     ghost use Rattle.std.specs.Prelude.{◌≡◌, ℕ, List as Values};
     ghost use Rattle.std.specs.Coded.{coded_list, coded×, coded_ℕ};
-    ghost use Rattle.std.specs.Str.{bytes_eq};
-    ghost use Rattle.indexmap.specs.IndexSet.{contains};
+    ghost use Rattle.std.specs.Cmp.Lexicographic.{slice_cmp};
+    ghost use Rattle.std.specs.Ordering.{nat_cmp};
+    ghost use Rattle.std.specs.BTreeSet.{contains};
     ghost use Rattle.ts_ojson.specs.Gathered.{has_name as named};
 
     ghost Value = { Values (Values ℕ × V) };
@@ -26,7 +29,7 @@ impl<V> Model for Gathered<V> {
 
     ghost view = { λ g. g.members };
 
-    ghost invariant = { λ g. (n : Values ℕ) → contains bytes_eq g.names n ≡ named n g.members };
+    ghost invariant = { λ g. (n : Values ℕ) → contains (slice_cmp nat_cmp) g.names n ≡ named n g.members };
 }
 
 impl<V> Gathered<V> {
@@ -35,7 +38,7 @@ impl<V> Gathered<V> {
     {
         Gathered {
             members: List::new(alloc),
-            names: IndexSet::new(alloc),
+            names: BTreeSet::new(alloc),
         }
     }
 
@@ -57,7 +60,7 @@ impl<V: Drop> Gathered<V> {
     ///
     /// # Errors
     ///
-    /// `AllocError` where memory is wanting; the members are then dropped.
+    /// `AllocError` where memory runs out; the members are then dropped.
     pub(crate) fn with(self, alloc: Global, name: Str, value: V) -> Result<Gathered<V>, AllocError>
         ensures { IfOk result (λ g. g ≡ self ++ (name, value) ∷ []) }
     {

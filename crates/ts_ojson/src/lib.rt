@@ -2,19 +2,22 @@
 //! that answers each fault with its place.
 #![tactic(auto)]
 
+mod byte;
 mod class;
 mod escape;
 mod fault;
 mod gathered;
 mod laws;
+mod number;
 mod part;
 mod reader;
-mod stack;
-mod state;
-mod steps;
+mod stop;
+mod string;
 #[cfg(test)]
 mod tests;
+mod tree;
 mod value;
+mod word;
 
 pub use fault::OFault;
 pub use laws::{one_fault, one_value, refused_is_not_read};

@@ -1,5 +1,7 @@
+//! The parts of a number: which may follow which, byte for byte.
+
 ghost use Rattle.std.specs.Prelude.{◌≡◌};
-ghost use Rattle.ts_ojson.specs.Machine.{part_next, part_ends, whole_next, digit_next};
+ghost use Rattle.ts_ojson.specs.Machine.{part_next, part_ends, whole_next, digit_next, is_digit_class};
 
 use crate::class::Class;
 
@@ -22,26 +24,14 @@ impl Part {
         ensures { result ≡ part_next self class }
     {
         match self {
-            Part::Minus => match class {
-                Class::Zero => Some(Part::Zero),
-                Class::Digit => Some(Part::Whole),
-                _ => None,
-            },
-            Part::Zero => after_whole(class),
-            Part::Whole => match class {
-                Class::Zero | Class::Digit => Some(Part::Whole),
-                _ => after_whole(class),
-            },
-            Part::Point => digit(class, Part::Fraction),
-            Part::Fraction => match class {
-                Class::Exponent => Some(Part::Exponent),
-                _ => digit(class, Part::Fraction),
-            },
-            Part::Exponent => match class {
-                Class::Plus | Class::Minus => Some(Part::Sign),
-                _ => digit(class, Part::Power),
-            },
-            Part::Sign | Part::Power => digit(class, Part::Power),
+            Part::Minus if class == Class::Zero => Some(Part::Zero),
+            Part::Minus => digit(class, Part::Whole),
+            Part::Whole if is_digit(class) => Some(Part::Whole),
+            Part::Zero | Part::Whole => after_whole(class),
+            Part::Fraction if class == Class::Exponent => Some(Part::Exponent),
+            Part::Point | Part::Fraction => digit(class, Part::Fraction),
+            Part::Exponent if class == Class::Plus || class == Class::Minus => Some(Part::Sign),
+            Part::Exponent | Part::Sign | Part::Power => digit(class, Part::Power),
         }
     }
 
@@ -51,26 +41,31 @@ impl Part {
     {
         match self {
             Part::Zero | Part::Whole | Part::Fraction | Part::Power => true,
-            _ => false,
+            Part::Minus | Part::Point | Part::Exponent | Part::Sign => false,
         }
     }
+}
+
+fn is_digit(class: Class) -> bool
+    ensures { result ≡ is_digit_class class }
+{
+    class == Class::Zero || class == Class::Digit
 }
 
 fn after_whole(class: Class) -> Option<Part>
     ensures { result ≡ whole_next class }
 {
-    match class {
-        Class::Point => Some(Part::Point),
-        Class::Exponent => Some(Part::Exponent),
-        _ => None,
+    if class == Class::Point {
+        Some(Part::Point)
+    } else if class == Class::Exponent {
+        Some(Part::Exponent)
+    } else {
+        None
     }
 }
 
 fn digit(class: Class, part: Part) -> Option<Part>
     ensures { result ≡ digit_next class part }
 {
-    match class {
-        Class::Zero | Class::Digit => Some(part),
-        _ => None,
-    }
+    if is_digit(class) { Some(part) } else { None }
 }

@@ -1,18 +1,24 @@
+//! The whole of a text: from bytes to the value or the fault.
+
 ghost use Rattle.std.specs.Prelude.{◌≡◌, ◌≢◌, ◌⊎◌, ◌^◌, ◌<◌, length, IfOk, IfErr, IsErrAnd};
 ghost use Rattle.ts_ojson.specs.declared.value.OJson.{OJson as AnyOJson};
 ghost use Rattle.ts_ojson.specs.declared.fault.OFault.{OFault as AnyFault};
 ghost use Rattle.ts_ojson.specs.Reads.{Reads, IsFault};
+ghost use Rattle.ts_ojson.specs.Places.{Refused};
 
+use crate::byte::blanks_end;
 use crate::fault::OFault;
-use crate::stack::Stack;
-use crate::state::State;
-use crate::steps::{finish, step};
+use crate::stop::{Stop, fault_of};
+use crate::tree::value;
 use crate::value::OJson;
 use std::alloc::Global;
 use std::str::from_utf8;
 
+/// How many arrays and objects may be open at once.
+const MOST_DEEP: usize = 256;
+
 /// Reads a whole text of JSON (RFC 8259) in which an escape of a high surrogate is followed by one of
-/// a low surrogate and no low one stands alone, in one pass and without recursion.
+/// a low surrogate and no low one stands alone, in one pass.
 ///
 /// # Errors
 ///
@@ -39,14 +45,22 @@ fn read_text(alloc: Global, text: &str) -> Result<OJson, OFault>
     ensures ok { IfOk result (λ v. Reads v text.now) }
     ensures refused { IfErr result (λ e. IsFault e text.now) }
 {
-    let bytes = text.as_bytes();
-    let mut stack = Stack::new(alloc);
-    let mut state = State::Value;
-    for (at, byte) in bytes.iter().enumerate() {
-        state = step(alloc, state, &mut stack, *byte, at as u32)?;
+    match whole(alloc, text) {
+        Ok(value) => Ok(value),
+        Err(stop) => Err(fault_of(text, stop)),
     }
-    match finish(state, &stack) {
-        Some(value) => Ok(value),
-        None => Err(OFault::Syntax(bytes.len() as u32)),
+}
+
+/// The value of a whole text.
+fn whole(alloc: Global, text: &str) -> Result<OJson, Stop>
+    ensures ok { IfOk result (λ v. Reads v text.now) }
+    ensures err { IfErr result (λ e. Refused e text.now) }
+{
+    let at = blanks_end(text, 0);
+    let (value, end) = value(alloc, text, at, MOST_DEEP)?;
+    let end = blanks_end(text, end);
+    if end < text.len() {
+        return Err(Stop::Syntax(end));
     }
+    Ok(value)
 }
