@@ -4,7 +4,7 @@ use serde::Deserialize;
 use std::alloc::{AllocError, Global};
 
 /// What a file holds or a run prints: one piece, or several one after another.
-#[derive(Debug, Drop, Deserialize)]
+#[derive(Drop, Deserialize)]
 #[serde(untagged)]
 pub(crate) enum Content {
     One(Piece),
@@ -13,7 +13,7 @@ pub(crate) enum Content {
 
 /// A text, bytes in hexadecimal, a text so many times, or a text once for each number from one to before another. In
 /// the last of these `#` stands for the number and `^` for the next one.
-#[derive(Debug, Drop, Deserialize)]
+#[derive(Drop, Deserialize)]
 #[serde(untagged)]
 pub(crate) enum Piece {
     Text(String),

@@ -15,7 +15,7 @@ const MOST_BYTES: u64 = 16_777_216;
 const MOST_OF_A_WRITE: usize = 4_096;
 
 /// One run of the program, and how it has to end.
-#[derive(Debug, Drop, Deserialize)]
+#[derive(Drop, Deserialize)]
 #[serde(deny_unknown_fields)]
 pub(crate) struct Row {
     pub name: String,

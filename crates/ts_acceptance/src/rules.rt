@@ -7,7 +7,7 @@ use std::alloc::Global;
 use std::str;
 
 /// What one file holds: a grammar by its rules in the short notation, or any bytes.
-#[derive(Debug, Drop, Deserialize)]
+#[derive(Drop, Deserialize)]
 #[serde(untagged)]
 pub(crate) enum Held {
     Grammar {

@@ -1,7 +1,7 @@
 //! Answers that agree or differ in; how many of each there were out.
 
 /// How many rows were tried, and how many of their answers differed from the one wanted.
-#[derive(Clone, Copy, Debug, Default, PartialEq, Eq)]
+#[derive(Clone, Copy, Default)]
 pub(crate) struct Tally {
     pub rows: u64,
     pub differing: u64,

@@ -6,14 +6,14 @@ use std::alloc::Global;
 use ts_io::{MemFolder, MemSink};
 
 /// How a run ends: its status and what it wrote.
-#[derive(Debug, PartialEq, Eq, Drop)]
+#[derive(PartialEq, Eq, Drop)]
 pub(crate) struct Answer {
     pub status: u8,
     pub bytes: Vec<u8>,
 }
 
 /// A row whose run was made.
-#[derive(Debug, Drop)]
+#[derive(Drop)]
 pub(crate) struct Trial {
     pub name: String,
     pub wanted: Answer,

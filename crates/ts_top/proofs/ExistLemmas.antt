@@ -2,7 +2,6 @@
 use Rattle.std.proofs.Common.{◌≡◌, ◌∙◌, ap, subst, refl, ℕ, zero, suc, ◌+◌, ◌<◌, ◌≤◌, ◌⊎◌, inl, inr, ⊎_elim, Bool, true, false, List, [], ◌∷◌, length, map, take, Option, Some, None, IsUtf8, arith}
 use Rattle.std.proofs.lemmas.Bool.{cases_eq, cases_lt}
 use Rattle.std.proofs.lemmas.List.{take_all}
-use Rattle.std.proofs.lemmas.Option.{slice_get_cases}
 use Rattle.std.proofs.lemmas.Str.{IsUtf8-nil, IsUtf8-from_is_utf8, is_utf8-from_IsUtf8}
 use Rattle.std.specs.Str.{is_utf8}
 use Rattle.ts_base.specs.Bytes.{Bytes}
@@ -21,10 +20,10 @@ use Rattle.ts_top.specs.Form.{IsBuilt}
 use Rattle.ts_top.specs.Limits.{most_text_bytes}
 use Rattle.ts_top.specs.Lines.{usage_line, unbuilt_line, absent_line, text_size_line, text_line}
 use Rattle.ts_top.specs.Answer.{Parses, Judged, unbuilt, too_large, no_text, parsed, Answers, usage, absent, judged, outcome_line}
-use Rattle.ts_top.proofs.ExpandLemmas.{SomeNode, expands_each, expands_rule, expands_step}
+use Rattle.ts_top.proofs.ExpandLemmas.{SomeNode, node_for}
 use Rattle.ts_top.proofs.NodeLemmas.{node_of_made}
 use Rattle.ts_top.proofs.NormalLemmas.{closed_normal, start_normal}
-use Rattle.ts_top.proofs.PathLemmas.{Bounded, bounded}
+use Rattle.ts_top.proofs.PathLemmas.{bounded}
 
 -- ---- an outcome
 
@@ -47,16 +46,6 @@ outcome_for : (ending : Ending) (root : Node) → (out : Outcome) × Gives endin
 outcome_for accepted root = let tree = tree_for root in (outcome.Tree tree.0, (tree.0, refl, tree.1))
 outcome_for (stuck place) root = (outcome.Stuck place, refl)
 outcome_for deep root = (outcome.Deep, refl)
-
-node_for : (g : PlainGrammar) → IsClosed g → (far k : ℕ) → k < length g.rules → Bounded g far k → SomeNode g (start_of g + k)
-node_for g closed zero k there paths = absurd paths
-node_for g closed (suc far) k there paths = elim (slice_get_cases g.rules k).1 [
-  | inl w ↦ expands_rule g k w.0 w.2 (expands_each g w.0.steps (λ j step at.
-      let within = closed.closed k w.0 w.2 j step at in
-      expands_step g step.0 within.0 within.1 (λ to numbered lt.
-      node_for g closed far to lt (paths to (record { rule = w.0; at = w.2; place = j; step = step; stands = at; numbered = numbered })))))
-  | inr w ↦ absurd (let past = w.0 in omega (arith, past, there))
-]
 
 plain_for : (g : PlainGrammar) (text : Bytes) → SomeNode g (start_of g) → (out : Outcome) × Plain g text out
 plain_for g text root =

@@ -1,5 +1,5 @@
 -- One frame of a walk: what it has passed, and what its rule comes to.
-use Rattle.std.proofs.Common.{◌≡◌, ◌∙◌, sym, ap, refl, subst, ℕ, ◌+◌, ◌-◌, ◌<◌, ◌≤◌, suc, max, min, true, false, nat_lt, inl, inr, List, [], ◌∷◌, ◌++◌, length, length-append, take, drop, get_or, slice_get, slice_index, Some, arith}
+use Rattle.std.proofs.Common.{◌≡◌, ◌∙◌, sym, ap, refl, subst, ℕ, ◌+◌, ◌-◌, ◌<◌, ◌≤◌, suc, max, min, true, false, nat_lt, inl, inr, List, [], ◌∷◌, ◌++◌, length, length-append, take, drop, get_or, slice_get, Some, arith}
 use Rattle.std.proofs.lemmas.List.{take_more, take_all, take-append-drop}
 use Rattle.std.proofs.Math.Seq.{drop-cons}
 use Rattle.std.proofs.lemmas.Option.{slice_get_within, slice_get_cases, get_or_from_slice_get}
@@ -10,17 +10,15 @@ use Rattle.ts_top.specs.declared.plain.PlainRule.{PlainRule}
 use Rattle.ts_top.specs.declared.plain.PlainGrammar.{PlainGrammar}
 use Rattle.ts_top.specs.Tree.{node, Node, Nodes, node_of, depth_of, deepest}
 use Rattle.ts_top.specs.Plain.{IsRule, most_depth, start_of}
-use Rattle.ts_top.specs.declared.plain_form.PlainForm.{PlainForm}
 use Rattle.ts_top.specs.declared.walk.Spot.{Spot}
 use Rattle.ts_top.specs.declared.walk.Halt.{Halt}
 use Rattle.ts_top.specs.declared.walk.Grown.{Grown}
 use Rattle.ts_top.specs.declared.walk.Frame.{Frame}
 use Rattle.ts_top.specs.PlainForm.{IsForm}
-use Rattle.ts_top.specs.Walk.{Passes, PassesAll, Halts, counted, nodes_in, height}
+use Rattle.ts_top.specs.Walk.{Passes, PassesAll, Halts, counted, nodes_in}
 use Rattle.ts_top.specs.Stack.{Awaits, Closes, dot_of, IsAdded, IsEnded, IsFrame, Opens, steps_in, steps_of}
 use Rattle.ts_top.proofs.NodeLemmas.{put, nodes_in_push, deepest_of_put}
 use Rattle.ts_top.proofs.ExpansionLemmas.{same_rule}
-use Rattle.ts_top.proofs.ExpandLemmas.{below_or_not}
 use Rattle.ts_top.proofs.WalkLemmas.{passes_none, passes_more, rule_passes, rule_halts}
 
 -- ---- a list at one of its elements
@@ -43,36 +41,21 @@ place_of : (g : PlainGrammar) (symbol : ℕ) (rule : PlainRule) → IsRule g sym
 place_of g symbol rule is = let number : symbol - start_of g ≡ is.number = omega (arith, is.numbered) in ap (slice_get g.rules) number ∙ is.at
 
 pub steps_are : (g : PlainGrammar) (symbol : ℕ) (rule : PlainRule) → IsRule g symbol rule → steps_of g symbol ≡ rule.steps
-steps_are g symbol rule is = ap steps_in (place_of g symbol rule is)
+steps_are g symbol rule is =
+    let test : nat_lt symbol (start_of g) ≡ false = grind (arith, nat_tests, is.numbered) in
+    rw test (ap steps_in (place_of g symbol rule is))
+
+pub rule_has_steps : (g : PlainGrammar) (symbol : ℕ) → start_of g ≤ symbol → steps_of g symbol ≡ steps_in (slice_get g.rules (symbol - start_of g))
+rule_has_steps g symbol above = let test : nat_lt symbol (start_of g) ≡ false = grind (arith, nat_tests) in rw test refl
+
+pub token_has_no_steps : (g : PlainGrammar) (symbol : ℕ) → symbol < start_of g → steps_of g symbol ≡ []
+token_has_no_steps g symbol below = let test : nat_lt symbol (start_of g) ≡ true = grind (arith, nat_tests) in rw test refl
 
 -- the step that a frame awaits, in the rule that it has passed so far
 awaited_at : (g : PlainGrammar) (text : List ℕ) (f : Frame) (step : Symbol) (fr : IsFrame g text f) → Awaits g f step → slice_get fr.rule.steps (dot_of f) ≡ Some step
 awaited_at g text f step fr aw =
     let same : aw.rule ≡ fr.rule = same_rule g f.symbol.0 aw.rule fr.rule aw.is fr.is in
     ap (λ (r : PlainRule). slice_get r.steps (dot_of f)) (sym same) ∙ aw.at
-
--- ---- heights
-
-height_of_token : (form : PlainForm) (symbol : ℕ) → symbol < start_of form.grammar → height form symbol ≡ 0
-height_of_token form symbol below = let test : nat_lt symbol (start_of form.grammar) ≡ true = grind (arith, nat_tests) in rw test refl
-
-pub height_of_rule : (form : PlainForm) (symbol : ℕ) → start_of form.grammar ≤ symbol → height form symbol ≡ suc (slice_index form.ranks (symbol - start_of form.grammar))
-height_of_rule form symbol above = let test : nat_lt symbol (start_of form.grammar) ≡ false = grind (arith, nat_tests) in rw test refl
-
--- a step of a rule is lower than the rule
-pub step_is_lower : (form : PlainForm) (symbol : ℕ) (rule : PlainRule) (j : ℕ) (step : Symbol) → IsForm form → IsRule form.grammar symbol rule → slice_get rule.steps j ≡ Some step → height form step.0 < height form symbol
-step_is_lower form symbol rule j step f is at =
-    let g : PlainGrammar = form.grammar in
-    let past : start_of g ≤ symbol = omega (arith, is.numbered) in
-    let place : is.number ≡ symbol - start_of g = omega (arith, is.numbered) in
-    elim (below_or_not step.0 (start_of g)) [
-      | inl token ↦ omega (arith, height_of_token form step.0 token, height_of_rule form symbol past)
-      | inr over ↦ (
-          let to : step.0 ≡ start_of g + (step.0 - start_of g) = omega arith in
-          let lower = f.ranked.falls is.number (step.0 - start_of g) (record { rule = rule; at = is.at; place = j; step = step; stands = at; numbered = to }) in
-          let ranks : slice_index form.ranks is.number ≡ slice_index form.ranks (symbol - start_of g) = ap (slice_index form.ranks) place in
-          omega (arith, lower, ranks, height_of_rule form step.0 over, height_of_rule form symbol past))
-    ]
 
 -- ---- children
 
@@ -130,9 +113,9 @@ frame_more g text f child next step fr aw one depth a = record {
 counted_up : (ns : Nodes) (was depth : ℕ) → was ≡ counted (deepest ns) → depth ≡ min was most_depth + 1 → depth ≡ counted (suc (deepest ns))
 counted_up ns was depth was_is depth_is = omega arith
 
-pub frame_passes : (form : PlainForm) (text : List ℕ) (f : Frame) (child : Grown) → IsForm form → IsFrame form.grammar text f → IsEnded form.grammar f → Closes f child → Passes form.grammar text f.symbol.0 (node_of child.tree) f.from child.after
+pub frame_passes : (form : PlainGrammar) (text : List ℕ) (f : Frame) (child : Grown) → IsForm form → IsFrame form text f → IsEnded form f → Closes f child → Passes form text f.symbol.0 (node_of child.tree) f.from child.after
 frame_passes form text f child fo fr en c =
-    let g : PlainGrammar = form.grammar in
+    let g : PlainGrammar = form in
     let same : en.rule ≡ fr.rule = same_rule g f.symbol.0 en.rule fr.rule en.is fr.is in
     let past : length fr.rule.steps ≤ dot_of f = subst (λ (r : PlainRule). length r.steps ≤ dot_of f) same en.past in
     let p : PassesAll g text fr.rule.steps (nodes_in f.children) f.from f.after =

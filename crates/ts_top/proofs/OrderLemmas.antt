@@ -12,7 +12,6 @@ use Rattle.ts_top.specs.Plain.{start_of, IsAcyclic, IsClosed, StandsIn, Leads, s
 use Rattle.ts_top.specs.declared.order.Mark.{Mark}
 use Rattle.ts_top.specs.declared.order.Mark.TheVariants.{Unseen, Open, Done}
 use Rattle.ts_top.specs.Order.{AllDone, AllUnseen, Falls, Goes, IsDone, Lead, is_unseen, rank_of, unseen}
-use Rattle.ts_top.specs.PlainForm.{IsRanked}
 
 -- ---- lists
 
@@ -280,8 +279,13 @@ all_unseen g n e = record { one_each = length-replicate n Unseen ∙ e; unseen =
     same (suc n) zero mark is = cc
     same (suc n) (suc k) mark is = same n k mark is
 
+-- each rule's rank is above those of all rules that stand in it
+record IsRanked (g : PlainGrammar) (ranks : List ℕ) : Type 0 where
+  pub one_each : length ranks ≡ length g.rules
+  pub falls : (from to : ℕ) → StandsIn g from to → get_or ranks to 0 < get_or ranks from 0
+
 -- the ranks that the search gave fall along the steps
-pub is_ranked : (g : PlainGrammar) (marks : List Mark) → IsClosed g → AllDone g marks → IsRanked g (map rank_of marks)
+is_ranked : (g : PlainGrammar) (marks : List Mark) → IsClosed g → AllDone g marks → IsRanked g (map rank_of marks)
 is_ranked g marks closed all = record {
   one_each = length-map marks rank_of ∙ all.falls.one_each;
   falls = λ from to s.
@@ -297,9 +301,13 @@ is_ranked g marks closed all = record {
     rank_is k rank is = get_or_from_slice_get (map rank_of marks) k rank 0 (slice_get-map rank_of marks k ∙ ap (λ (o : Option Mark). option_map rank_of o) is)
 
 -- where ranks fall along the steps no rule comes back to itself
-pub ranked_acyclic : (g : PlainGrammar) (ranks : List ℕ) → IsRanked g ranks → IsAcyclic g
+ranked_acyclic : (g : PlainGrammar) (ranks : List ℕ) → IsRanked g ranks → IsAcyclic g
 ranked_acyclic g ranks ranked = record { acyclic = λ k l. let w = below k k l in omega arith }
   where
     below : (from to : ℕ) → Leads g from to → get_or ranks to 0 < get_or ranks from 0
     below _ _ (stands_in from to s) = ranked.falls from to s
     below _ _ (further from through to s more) = let a = ranked.falls from through s in let b = below through to more in omega arith
+
+-- the search went through all rules
+pub search_acyclic : (g : PlainGrammar) (marks : List Mark) → IsClosed g → AllDone g marks → IsAcyclic g
+search_acyclic g marks closed all = ranked_acyclic g (map rank_of marks) (is_ranked g marks closed all)

@@ -1,11 +1,11 @@
 -- The stack of a walk: what each turn keeps, and that it leaves fewer turns.
-use Rattle.std.proofs.Common.{◌≡◌, ◌∙◌, sym, ap, refl, subst, ℕ, ◌+◌, ◌-◌, ◌<◌, ◌≤◌, zero, suc, List, [], ◌∷◌, ◌++◌, length, drop, slice_get, slice_index, Some, arith}
+use Rattle.std.proofs.Common.{◌≡◌, ◌∙◌, sym, ap, refl, subst, ℕ, ◌+◌, ◌-◌, ◌<◌, ◌≤◌, zero, suc, List, [], ◌∷◌, ◌++◌, length, drop, slice_get, inl, inr, Option, Some, None, arith}
+use Rattle.std.proofs.lemmas.Option.{slice_get_within}
 use Rattle.ts_core.specs.declared.symbol.Symbol.{Symbol}
 use Rattle.ts_top.specs.declared.plain.PlainRule.{PlainRule}
 use Rattle.ts_top.specs.declared.plain.PlainGrammar.{PlainGrammar}
 use Rattle.ts_top.specs.Tree.{node_of, depth_of}
 use Rattle.ts_top.specs.Plain.{IsRule, start_of}
-use Rattle.ts_top.specs.declared.plain_form.PlainForm.{PlainForm}
 use Rattle.ts_top.specs.declared.walk.Spot.{Spot}
 use Rattle.ts_top.specs.declared.walk.Halt.{Halt}
 use Rattle.ts_top.specs.declared.walk.Grown.{Grown}
@@ -14,9 +14,11 @@ use Rattle.ts_top.specs.declared.walk.Stack.{Stack}
 use Rattle.ts_top.specs.declared.walk.Turn.{Turn}
 use Rattle.ts_top.specs.declared.walk.Turn.TheVariants.{On, Done}
 use Rattle.ts_top.specs.PlainForm.{IsForm}
-use Rattle.ts_top.specs.Walk.{Passes, Halts, counted, height, the_start}
-use Rattle.ts_top.specs.Stack.{Awaits, dot_of, IsAdded, IsEnded, IsFrame, Leaves, Nests, Opens, Stands, steps_of, total, turns_around, turns_from, turns_left, turns_of, turns_within, Turns}
-use Rattle.ts_top.proofs.FrameLemmas.{drop_get, rule_of_symbol, steps_are, height_of_rule, step_is_lower, opened_frame, one_more, frame_more, frame_passes, frame_depth, frame_halts}
+use Rattle.ts_top.specs.Walk.{Passes, Halts, counted, the_start}
+use Rattle.ts_top.specs.Stack.{Awaits, dot_of, IsAdded, IsEnded, IsFrame, Leaves, Nests, Opens, Stands, steps_in, steps_of, total, turns_around, turns_from, turns_left, turns_of, turns_within, Turns}
+use Rattle.ts_top.proofs.PathLemmas.{Bounded, bounded}
+use Rattle.ts_top.proofs.ExpandLemmas.{below_or_not}
+use Rattle.ts_top.proofs.FrameLemmas.{drop_get, rule_of_symbol, rule_has_steps, steps_are, token_has_no_steps, opened_frame, one_more, frame_more, frame_passes, frame_depth, frame_halts}
 
 -- ---- frames in one another
 
@@ -68,62 +70,77 @@ total_rises small large (s ∷ steps) each =
     let rest = total_rises small large steps (λ j step at. each (suc j) step at) in
     omega (arith, first, rest)
 
-turns_rise : (g : PlainGrammar) (a b symbol : ℕ) → a ≤ b → turns_within g a symbol ≤ turns_within g b symbol
-turns_rise g zero b symbol le = turns_some g b symbol
-turns_rise g (suc a) zero symbol le = absurd (omega arith)
-turns_rise g (suc a) (suc b) symbol le =
-    let lower : a ≤ b = omega arith in
-    let rest : total (turns_within g a) (steps_of g symbol) ≤ total (turns_within g b) (steps_of g symbol) = total_rises (turns_within g a) (turns_within g b) (steps_of g symbol) (λ j step at. turns_rise g a b step.0 lower) in
+-- no path of rules from the symbol is longer than this
+abbrev Lower : PlainGrammar → ℕ → ℕ → Type 0
+Lower g far symbol = (k : ℕ) → symbol ≡ start_of g + k → Bounded g far k
+
+lower_step : (g : PlainGrammar) (far symbol : ℕ) → start_of g ≤ symbol → Lower g (suc far) symbol → (o : Option PlainRule) → slice_get g.rules (symbol - start_of g) ≡ o
+    → (j : ℕ) (step : Symbol) → slice_get (steps_in o) j ≡ Some step → Lower g far step.0
+lower_step g far symbol above lower None is j step at = cc
+lower_step g far symbol above lower (Some rule) is j step at = λ to numbered.
+    lower (symbol - start_of g) (omega arith) to (record { rule = rule; at = is; place = j; step = step; stands = at; numbered = numbered })
+
+lower_steps : (g : PlainGrammar) (far symbol : ℕ) → Lower g (suc far) symbol → (j : ℕ) (step : Symbol) → slice_get (steps_of g symbol) j ≡ Some step → Lower g far step.0
+lower_steps g far symbol lower j step at = elim (below_or_not symbol (start_of g)) [
+  | inl token ↦ absurd (let none_there : slice_get [] j ≡ Some step = subst (λ (l : List Symbol). slice_get l j ≡ Some step) (token_has_no_steps g symbol token) at in cc)
+  | inr above ↦ lower_step g far symbol above lower (slice_get g.rules (symbol - start_of g)) refl j step
+      (subst (λ (l : List Symbol). slice_get l j ≡ Some step) (rule_has_steps g symbol above) at)
+]
+
+-- a larger bound than the longest path changes nothing
+turns_settle : (g : PlainGrammar) (far symbol : ℕ) → Lower g far symbol → turns_within g (suc far) symbol ≤ turns_within g far symbol
+turns_settle g zero symbol lower = elim (below_or_not symbol (start_of g)) [
+  | inl token ↦ (let same : total (turns_within g zero) (steps_of g symbol) ≡ 0 = ap (total (turns_within g zero)) (token_has_no_steps g symbol token) in omega (arith, same))
+  | inr above ↦ absurd (lower (symbol - start_of g) (omega arith))
+]
+turns_settle g (suc far) symbol lower =
+    let rest : total (turns_within g (suc far)) (steps_of g symbol) ≤ total (turns_within g far) (steps_of g symbol) =
+    total_rises (turns_within g (suc far)) (turns_within g far) (steps_of g symbol) (λ j step at. turns_settle g far step.0 (lower_steps g far symbol lower j step at)) in
     omega (arith, rest)
 
-two_less : (all each far : ℕ) → all ≡ suc (suc far) → each ≤ far → suc (suc each) ≤ all
-two_less all each far is le = omega arith
+rule_turns_at : (g : PlainGrammar) (far symbol : ℕ) → Lower g (suc far) symbol → suc (suc (total (turns_within g (suc far)) (steps_of g symbol))) ≤ turns_within g (suc far) symbol
+rule_turns_at g far symbol lower =
+    let rest : total (turns_within g (suc far)) (steps_of g symbol) ≤ total (turns_within g far) (steps_of g symbol) =
+    total_rises (turns_within g (suc far)) (turns_within g far) (steps_of g symbol) (λ j step at. turns_settle g far step.0 (lower_steps g far symbol lower j step at)) in
+    omega (arith, rest)
 
-below_suc : (a b c : ℕ) → a < b → b ≡ suc c → a ≤ c
-below_suc a b c lt is = omega arith
-
-rule_turns : (form : PlainForm) (symbol : ℕ) (rule : PlainRule) → IsForm form → IsRule form.grammar symbol rule → suc (suc (total (turns_of form) (steps_of form.grammar symbol))) ≤ turns_of form symbol
-rule_turns form symbol rule f is =
-    let g : PlainGrammar = form.grammar in
-    let far : ℕ = slice_index form.ranks (symbol - start_of g) in
-    let high : height form symbol ≡ suc far = height_of_rule form symbol (omega (arith, is.numbered)) in
-    let steps : steps_of g symbol ≡ rule.steps = steps_are g symbol rule is in
-    let each : total (turns_of form) rule.steps ≤ total (turns_within g far) rule.steps =
-    total_rises (turns_of form) (turns_within g far) rule.steps
-    (λ j step at. turns_rise g (height form step.0) far step.0 (below_suc (height form step.0) (height form symbol) far (step_is_lower form symbol rule j step f is at) high)) in
-    let each' : total (turns_of form) (steps_of g symbol) ≤ total (turns_within g far) (steps_of g symbol) =
-    subst (λ (l : List Symbol). total (turns_of form) l ≤ total (turns_within g far) l) (sym steps) each in
-    let all : turns_of form symbol ≡ suc (suc (total (turns_within g far) (steps_of g symbol))) = ap (λ (h : ℕ). turns_within g h symbol) high in
-    two_less (turns_of form symbol) (total (turns_of form) (steps_of g symbol)) (total (turns_within g far) (steps_of g symbol)) all each'
+rule_turns : (g : PlainGrammar) (symbol : ℕ) (rule : PlainRule) → IsForm g → IsRule g symbol rule → suc (suc (total (turns_of g) (steps_of g symbol))) ≤ turns_of g symbol
+rule_turns g symbol rule f is =
+    let some : 0 < length g.rules = f.start in
+    let size : suc (length g.rules - 1) ≡ length g.rules = omega (arith, some) in
+    let within : is.number < length g.rules = slice_get_within g.rules is.number rule is.at in
+    let lower : Lower g (length g.rules) symbol = λ k e. bounded g f.closed f.acyclic k (omega (arith, e, is.numbered, within)) in
+    subst (λ (n : ℕ). suc (suc (total (turns_within g n) (steps_of g symbol))) ≤ turns_within g n symbol) size
+    (rule_turns_at g (length g.rules - 1) symbol (subst (λ (n : ℕ). Lower g n symbol) (sym size) lower))
 
 -- ---- the turns of frames
 
 more_before : (a b c : ℕ) → a ≡ b + c → suc a ≡ b + suc c
 more_before a b c is = omega arith
 
-frame_turns : (form : PlainForm) (f : Frame) (step : Symbol) → Awaits form.grammar f step → turns_from form (dot_of f) f ≡ turns_of form step.0 + turns_from form (suc (dot_of f)) f
+frame_turns : (form : PlainGrammar) (f : Frame) (step : Symbol) → Awaits form f step → turns_from form (dot_of f) f ≡ turns_of form step.0 + turns_from form (suc (dot_of f)) f
 frame_turns form f step aw =
-    let steps : List Symbol = steps_of form.grammar f.symbol.0 in
-    let at : slice_get steps (dot_of f) ≡ Some step = ap (λ (l : List Symbol). slice_get l (dot_of f)) (steps_are form.grammar f.symbol.0 aw.rule aw.is) ∙ aw.at in
+    let steps : List Symbol = steps_of form f.symbol.0 in
+    let at : slice_get steps (dot_of f) ≡ Some step = ap (λ (l : List Symbol). slice_get l (dot_of f)) (steps_are form f.symbol.0 aw.rule aw.is) ∙ aw.at in
     more_before (total (turns_of form) (drop (dot_of f) steps)) (turns_of form step.0) (total (turns_of form) (drop (suc (dot_of f)) steps))
     (ap (total (turns_of form)) (drop_get steps (dot_of f) step at))
 
 plus_one : (a b : ℕ) → a ≡ b + 1 → a ≡ suc b
 plus_one a b is = omega arith
 
-added_turns : (form : PlainForm) (f : Frame) (child : Grown) (next : Frame) → IsAdded f child next → turns_from form (dot_of next) next ≡ turns_from form (suc (dot_of f)) f
+added_turns : (form : PlainGrammar) (f : Frame) (child : Grown) (next : Frame) → IsAdded f child next → turns_from form (dot_of next) next ≡ turns_from form (suc (dot_of f)) f
 added_turns form f child next a =
     let dot : dot_of next ≡ suc (dot_of f) = plus_one (dot_of next) (dot_of f) (one_more f.children next.children child.tree a.children_are) in
-    ap (λ (d : ℕ). turns_from form d next) dot ∙ ap (λ (s : Symbol). suc (total (turns_of form) (drop (suc (dot_of f)) (steps_of form.grammar s.0)))) a.symbol_is
+    ap (λ (d : ℕ). turns_from form d next) dot ∙ ap (λ (s : Symbol). suc (total (turns_of form) (drop (suc (dot_of f)) (steps_of form s.0)))) a.symbol_is
 
-opened_turns : (form : PlainForm) (symbol : Symbol) (from : Spot) (f : Frame) → Opens symbol from f → turns_from form (dot_of f) f ≡ suc (total (turns_of form) (steps_of form.grammar symbol.0))
+opened_turns : (form : PlainGrammar) (symbol : Symbol) (from : Spot) (f : Frame) → Opens symbol from f → turns_from form (dot_of f) f ≡ suc (total (turns_of form) (steps_of form symbol.0))
 opened_turns form symbol from f o =
-    ap (λ (d : ℕ). turns_from form d f) (ap length o.children_are) ∙ ap (λ (s : Symbol). suc (total (turns_of form) (steps_of form.grammar s.0))) o.symbol_is
+    ap (λ (d : ℕ). turns_from form d f) (ap length o.children_are) ∙ ap (λ (s : Symbol). suc (total (turns_of form) (steps_of form s.0))) o.symbol_is
 
 regroup : (a b c d : ℕ) → a ≡ c + d → b + a ≡ (b + c) + d
 regroup a b c d is = omega arith
 
-around_more : (form : PlainForm) (fs : List Frame) (f : Frame) → turns_around form (fs ++ f ∷ []) ≡ turns_around form fs + turns_from form (suc (dot_of f)) f
+around_more : (form : PlainGrammar) (fs : List Frame) (f : Frame) → turns_around form (fs ++ f ∷ []) ≡ turns_around form fs + turns_from form (suc (dot_of f)) f
 around_more form [] f = omega arith
 around_more form (e ∷ fs) f = regroup (turns_around form (fs ++ f ∷ [])) (turns_from form (suc (dot_of e)) e) (turns_around form fs) (turns_from form (suc (dot_of f)) f) (around_more form fs f)
 
@@ -135,26 +152,26 @@ symbol_number a b same = ap (λ (s : Symbol). s.0) same
 pass_falls : (around around' top top' step rest : ℕ) → around' ≡ around → top ≡ step + rest → 1 ≤ step → top' ≡ rest → around' + top' < around + top
 pass_falls around around' top top' step rest a b c d = omega arith
 
-pub passed : (form : PlainForm) (text : List ℕ) (stack next : Stack) (step : Symbol) (child : Grown)
-    → Stands form.grammar text stack → Awaits form.grammar stack.top step → Passes form.grammar text step.0 (node_of child.tree) stack.top.after child.after → child.depth ≡ counted (depth_of (node_of child.tree))
-    → next.outer ≡ stack.outer → IsAdded stack.top child next.top → Stands form.grammar text next × (turns_left form next < turns_left form stack)
+pub passed : (form : PlainGrammar) (text : List ℕ) (stack next : Stack) (step : Symbol) (child : Grown)
+    → Stands form text stack → Awaits form stack.top step → Passes form text step.0 (node_of child.tree) stack.top.after child.after → child.depth ≡ counted (depth_of (node_of child.tree))
+    → next.outer ≡ stack.outer → IsAdded stack.top child next.top → Stands form text next × (turns_left form next < turns_left form stack)
 passed form text stack next step child s aw one depth outer_is a = (
   record {
-    nested = nests_same form.grammar text (start_of form.grammar) the_start stack.outer next.outer stack.top.symbol.0 next.top.symbol.0 stack.top.from next.top.from s.nested outer_is (symbol_number next.top.symbol stack.top.symbol a.symbol_is) a.from_is;
-    top = frame_more form.grammar text stack.top child next.top step s.top aw one depth a;
+    nested = nests_same form text (start_of form) the_start stack.outer next.outer stack.top.symbol.0 next.top.symbol.0 stack.top.from next.top.from s.nested outer_is (symbol_number next.top.symbol stack.top.symbol a.symbol_is) a.from_is;
+    top = frame_more form text stack.top child next.top step s.top aw one depth a;
   },
   pass_falls (turns_around form stack.outer) (turns_around form next.outer) (turns_from form (dot_of stack.top) stack.top) (turns_from form (dot_of next.top) next.top) (turns_of form step.0) (turns_from form (suc (dot_of stack.top)) stack.top)
-      (ap (turns_around form) outer_is) (frame_turns form stack.top step aw) (turns_some form.grammar (height form step.0) step.0) (added_turns form stack.top child next.top a),
+      (ap (turns_around form) outer_is) (frame_turns form stack.top step aw) (turns_some form (length form.rules) step.0) (added_turns form stack.top child next.top a),
 )
 
 enter_falls : (around around' top top' step rest inner : ℕ) → around' ≡ around + rest → top ≡ step + rest → suc (suc inner) ≤ step → top' ≡ suc inner → around' + top' < around + top
 enter_falls around around' top top' step rest inner a b c d = omega arith
 
-pub entered : (form : PlainForm) (text : List ℕ) (stack next : Stack) (step : Symbol)
-    → IsForm form → Stands form.grammar text stack → Awaits form.grammar stack.top step → start_of form.grammar ≤ step.0
-    → next.outer ≡ stack.outer ++ stack.top ∷ [] → Opens step stack.top.after next.top → Stands form.grammar text next × (turns_left form next < turns_left form stack)
+pub entered : (form : PlainGrammar) (text : List ℕ) (stack next : Stack) (step : Symbol)
+    → IsForm form → Stands form text stack → Awaits form stack.top step → start_of form ≤ step.0
+    → next.outer ≡ stack.outer ++ stack.top ∷ [] → Opens step stack.top.after next.top → Stands form text next × (turns_left form next < turns_left form stack)
 entered form text stack next step f s aw above outer_is o =
-    let g : PlainGrammar = form.grammar in
+    let g : PlainGrammar = form in
     let closed = f.closed.closed aw.is.number aw.rule aw.is.at (dot_of stack.top) step aw.at in
     let r = rule_of_symbol g step.0 above closed.1 in (
       record {
@@ -171,12 +188,12 @@ entered form text stack next step f s aw above outer_is o =
 leave_falls : (around around' top top' rest : ℕ) → around ≡ around' + rest → 1 ≤ top → top' ≡ rest → around' + top' < around + top
 leave_falls around around' top top' rest a b c = omega arith
 
-some_turns : (form : PlainForm) (dot : ℕ) (f : Frame) → 1 ≤ turns_from form dot f
+some_turns : (form : PlainGrammar) (dot : ℕ) (f : Frame) → 1 ≤ turns_from form dot f
 some_turns form dot f = omega arith
 
-pub left : (form : PlainForm) (text : List ℕ) (stack : Stack) (turn : Turn) → IsForm form → Stands form.grammar text stack → IsEnded form.grammar stack.top → Leaves stack turn → Turns form text stack turn
+pub left : (form : PlainGrammar) (text : List ℕ) (stack : Stack) (turn : Turn) → IsForm form → Stands form text stack → IsEnded form stack.top → Leaves stack turn → Turns form text stack turn
 left form text stack (On next) f s en (around, child, outer_is, c, a) =
-    let g : PlainGrammar = form.grammar in
+    let g : PlainGrammar = form in
     let n : Nests g text (start_of g) the_start (next.outer ++ around ∷ []) stack.top.symbol.0 stack.top.from =
     subst (λ (l : List Frame). Nests g text (start_of g) the_start l stack.top.symbol.0 stack.top.from) outer_is s.nested in
     let r = nests_last g text (start_of g) the_start next.outer around stack.top.symbol.0 stack.top.from n in
@@ -191,16 +208,16 @@ left form text stack (On next) f s en (around, child, outer_is, c, a) =
           (ap (turns_around form) outer_is ∙ around_more form next.outer around) (some_turns form (dot_of stack.top) stack.top) (added_turns form around child next.top a),
     )
 left form text stack (Done grown) f s en (outer_is, c) =
-    let g : PlainGrammar = form.grammar in
+    let g : PlainGrammar = form in
     let n : Nests g text (start_of g) the_start [] stack.top.symbol.0 stack.top.from = subst (λ (l : List Frame). Nests g text (start_of g) the_start l stack.top.symbol.0 stack.top.from) outer_is s.nested in
     subst (λ (from : Spot). Passes g text (start_of g) (node_of grown.tree) from grown.after) n.1
     (subst (λ (symbol : ℕ). Passes g text symbol (node_of grown.tree) stack.top.from grown.after) n.0 (frame_passes form text stack.top grown f s.top en c))
 
 -- ---- the stack at the text's start
 
-pub begun : (form : PlainForm) (text : List ℕ) (symbol : Symbol) (top : Frame) → IsForm form → symbol.0 ≡ start_of form.grammar → Opens symbol the_start top → Stands form.grammar text (record { top = top; outer = [] })
+pub begun : (form : PlainGrammar) (text : List ℕ) (symbol : Symbol) (top : Frame) → IsForm form → symbol.0 ≡ start_of form → Opens symbol the_start top → Stands form text (record { top = top; outer = [] })
 begun form text symbol top f is o =
-    let g : PlainGrammar = form.grammar in
+    let g : PlainGrammar = form in
     let r = rule_of_symbol g symbol.0 (omega arith) (let s = f.start in omega arith) in
     record {
       nested = (symbol_number top.symbol symbol o.symbol_is ∙ is, o.from_is);

@@ -15,7 +15,6 @@ use Rattle.ts_top.specs.declared.walk.Halt.{Halt}
 use Rattle.ts_top.specs.declared.walk.Halt.TheVariants.{Stuck, Deep, Memory}
 use Rattle.ts_top.specs.declared.tree.Tree.{Tree}
 use Rattle.ts_top.specs.declared.plain.Outcome.TheVariants as outcome
-use Rattle.ts_top.specs.declared.plain_form.PlainForm.{PlainForm}
 use Rattle.ts_top.specs.PlainForm.{IsForm, HasSteps}
 use Rattle.ts_top.specs.Walk.{Ends, FitsText, Passes, PassesAll, Halts, Says, walk_from, counted, the_start}
 use Rattle.ts_top.proofs.NodeLemmas.{put, events_of_put, extent_of_put}
@@ -183,10 +182,10 @@ whole_stuck g text n to p short =
     record { root = n; expands = p.expands; gives = subst (λ (e : Ending). Gives e n (outcome.Stuck to.place)) (sym ends) refl }
 
 -- a halt within the start rule is one of the whole
-pub whole_halts : (form : PlainForm) (text : List ℕ) (halt : Halt) → IsForm form → Halts form.grammar text (start_of form.grammar) the_start halt → Ends form.grammar text halt
+pub whole_halts : (form : PlainGrammar) (text : List ℕ) (halt : Halt) → IsForm form → Halts form text (start_of form) the_start halt → Ends form text halt
 whole_halts form text halt f h =
-    let w = expands_some form f (start_of form.grammar) (omega arith) (let s = f.start in omega arith) in
-    ends form.grammar text halt w.0 w.1 (subst (λ (es : List Event). Says halt (walk form.grammar text es 0 0)) (append-nil (events_of w.0)) (h w.0 w.1 []))
+    let w = expands_some form f (start_of form) (omega arith) (let s = f.start in omega arith) in
+    ends form text halt w.0 w.1 (subst (λ (es : List Event). Says halt (walk form text es 0 0)) (append-nil (events_of w.0)) (h w.0 w.1 []))
   where
     ends : (g : PlainGrammar) (text : List ℕ) (halt : Halt) (n : Node) → Expands g (start_of g) n → Says halt (walk g text (events_of n) 0 0) → Ends g text halt
     ends g text (Stuck place) n e s = record { root = n; expands = e; gives = subst (λ (e : Ending). Gives e n (outcome.Stuck place)) (sym s) refl }

@@ -54,7 +54,7 @@ pub data IsAnswer (files : Option Files) (words : List Bytes) : Status → Bytes
   other : (ends : Status) (bytes : Bytes) → IsJudged ends → (IsUsage words → ⊥)
       → Told files (λ known. Answers known words ends bytes) → IsAnswer files words ends bytes
 
--- What a stop says: a fault is the answer; a failed read has its cause, and the words asked for it; want of memory
+-- What a stop says: a fault is the answer; a failed read has its cause, and the words asked for it; out of memory
 -- needs none.
 abbrev pub Stopped : Option Files → List Bytes → Type 0 → Stop → Type 0
 Stopped files words rose (stop.Fault fault) = IsAnswer files words (status_of fault) (line_of fault)

@@ -1,18 +1,17 @@
 -- The rules that a walk stands in, one in another.
-use Rattle.std.specs.Prelude.{◌≡◌, ℕ, ◌+◌, ◌-◌, ◌<◌, ◌≤◌, zero, suc, max, min, List, [], ◌∷◌, ◌++◌, length, take, drop, slice_get, Option, Some, None}
+use Rattle.std.specs.Prelude.{◌≡◌, ℕ, ◌+◌, ◌-◌, ◌<◌, ◌≤◌, zero, suc, max, min, List, [], ◌∷◌, ◌++◌, length, take, drop, nat_lt, if◌then◌else◌, slice_get, Option, Some, None}
 use Rattle.ts_top.specs.Tree.{node, node_of, deepest}
 use Rattle.ts_top.specs.Plain.{IsRule, most_depth, start_of}
 use Rattle.ts_core.specs.declared.symbol.Symbol.{Symbol}
 use Rattle.ts_top.specs.declared.plain.PlainRule.{PlainRule}
 use Rattle.ts_top.specs.declared.plain.PlainGrammar.{PlainGrammar}
-use Rattle.ts_top.specs.declared.plain_form.PlainForm.{PlainForm}
 use Rattle.ts_top.specs.declared.walk.Spot.{Spot}
 use Rattle.ts_top.specs.declared.walk.Grown.{Grown}
 use Rattle.ts_top.specs.declared.walk.Frame.{Frame}
 use Rattle.ts_top.specs.declared.walk.Stack.{Stack}
 use Rattle.ts_top.specs.declared.walk.Turn.{Turn}
 use Rattle.ts_top.specs.declared.walk.Turn.TheVariants.{On, Done}
-use Rattle.ts_top.specs.Walk.{Passes, PassesAll, counted, nodes_in, height, the_start}
+use Rattle.ts_top.specs.Walk.{Passes, PassesAll, counted, nodes_in, the_start}
 
 -- the dot stands after as many steps as the frame has children
 abbrev pub dot_of : Frame → ℕ
@@ -90,29 +89,29 @@ steps_in None = []
 steps_in (Some rule) = rule.steps
 
 abbrev pub steps_of : PlainGrammar → ℕ → List Symbol
-steps_of g symbol = steps_in (slice_get g.rules (symbol - start_of g))
+steps_of g symbol = if nat_lt symbol (start_of g) then [] else steps_in (slice_get g.rules (symbol - start_of g))
 
--- the turns that a symbol's expansion takes, as far as rules lead down by the first number, and at least one
+-- the turns that a symbol's expansion takes, as far as rules lead down by the first number, and at least two
 abbrev pub turns_within : PlainGrammar → ℕ → ℕ → ℕ
-turns_within g zero symbol = 1
+turns_within g zero symbol = 2
 turns_within g (suc far) symbol = suc (suc (total (turns_within g far) (steps_of g symbol)))
 
-abbrev pub turns_of : PlainForm → ℕ → ℕ
-turns_of form symbol = turns_within form.grammar (height form symbol) symbol
+abbrev pub turns_of : PlainGrammar → ℕ → ℕ
+turns_of form symbol = turns_within form (length form.rules) symbol
 
 -- the turns of a frame's steps from a place on, and that which goes out
-abbrev pub turns_from : PlainForm → ℕ → Frame → ℕ
-turns_from form dot frame = suc (total (turns_of form) (drop dot (steps_of form.grammar frame.symbol.0)))
+abbrev pub turns_from : PlainGrammar → ℕ → Frame → ℕ
+turns_from form dot frame = suc (total (turns_of form) (drop dot (steps_of form frame.symbol.0)))
 
 -- of a frame around others the step after the dot is already begun
-abbrev pub turns_around : PlainForm → List Frame → ℕ
+abbrev pub turns_around : PlainGrammar → List Frame → ℕ
 turns_around form [] = 0
 turns_around form (f ∷ fs) = turns_from form (suc (dot_of f)) f + turns_around form fs
 
-abbrev pub turns_left : PlainForm → Stack → ℕ
+abbrev pub turns_left : PlainGrammar → Stack → ℕ
 turns_left form stack = turns_around form stack.outer + turns_from form (dot_of stack.top) stack.top
 
 -- what a turn comes to: a stack with fewer turns left, or the start rule's node
-abbrev pub Turns : PlainForm → List ℕ → Stack → Turn → Type 0
-Turns form text stack (On next) = Stands form.grammar text next × (turns_left form next < turns_left form stack)
-Turns form text stack (Done grown) = Passes form.grammar text (start_of form.grammar) (node_of grown.tree) the_start grown.after
+abbrev pub Turns : PlainGrammar → List ℕ → Stack → Turn → Type 0
+Turns form text stack (On next) = Stands form text next × (turns_left form next < turns_left form stack)
+Turns form text stack (Done grown) = Passes form text (start_of form) (node_of grown.tree) the_start grown.after

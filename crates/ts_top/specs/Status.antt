@@ -18,6 +18,6 @@ number_of Text = 9
 abbrev pub IsStatus : ℕ → Type 0
 IsStatus number = (status : Status) × (number ≡ number_of status)
 
--- A failed read, a failed write or want of memory cut the run short, so that its answer was not given whole.
+-- A read failed, a write failed or memory ran out, and the answer was not given whole.
 abbrev pub IsCutShort : ℕ → Type 0
 IsCutShort number = (number ≡ number_of ReadFault) ⊎ ((number ≡ number_of WriteFault) ⊎ (number ≡ number_of OutOfMemory))

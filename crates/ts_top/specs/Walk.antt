@@ -1,13 +1,12 @@
 -- How far a walk comes over what a symbol expands to.
-use Rattle.std.specs.Prelude.{◌≡◌, ℕ, ◌+◌, ◌-◌, ◌≤◌, suc, min, nat_lt, if◌then◌else◌, List, ◌++◌, map, length, slice_index}
+use Rattle.std.specs.Prelude.{◌≡◌, ℕ, ◌+◌, ◌≤◌, suc, min, List, ◌++◌, map, length}
 use Rattle.ts_top.specs.Tree.{Node, Nodes, nodes_of, node_of, extent_of, extent_of_all, depth_of}
-use Rattle.ts_top.specs.Plain.{Plain, Expands, ExpandsAll, Event, Ending, stuck, deep, events_of, events_of_all, walk, most_depth, start_of}
+use Rattle.ts_top.specs.Plain.{Plain, Expands, ExpandsAll, Event, Ending, stuck, deep, events_of, events_of_all, walk, most_depth}
 use Rattle.ts_core.specs.declared.symbol.Symbol.{Symbol}
 use Rattle.ts_top.specs.declared.tree.Tree.{Tree}
 use Rattle.ts_top.specs.declared.plain.PlainGrammar.{PlainGrammar}
 use Rattle.ts_top.specs.declared.plain.Outcome.{Outcome}
 use Rattle.ts_top.specs.declared.plain.Outcome.TheVariants as outcome
-use Rattle.ts_top.specs.declared.plain_form.PlainForm.{PlainForm}
 use Rattle.ts_top.specs.declared.walk.Spot.{Spot}
 use Rattle.ts_top.specs.declared.walk.Halt.{Halt}
 use Rattle.ts_top.specs.declared.walk.Halt.TheVariants.{Stuck, Deep, Memory}
@@ -52,11 +51,6 @@ nodes_in trees = nodes_of (map node_of trees)
 -- where a walk begins
 abbrev pub the_start : Spot
 the_start = record { place = 0; depth = 0 }
-
--- a bound on how far rules lead on from a symbol
-abbrev pub height : PlainForm → ℕ → ℕ
-height form symbol =
-    if nat_lt symbol (start_of form.grammar) then 0 else suc (slice_index form.ranks (symbol - start_of form.grammar))
 
 -- what a halt says of the parse of the whole text
 abbrev pub Ends : PlainGrammar → List ℕ → Halt → Type 0

@@ -11,7 +11,7 @@ ghost use Rattle.ts_top.specs.PlainForm.{IsForm};
 
 use crate::form;
 use crate::normal::{NotPlain, normal};
-use crate::plain_form::PlainForm;
+use crate::plain::PlainGrammar;
 use std::alloc::Global;
 use ts_ojson::{OFault, OJson};
 
@@ -19,11 +19,11 @@ use ts_ojson::{OFault, OJson};
 pub(crate) const MOST_GRAMMAR_BYTES: u64 = 4_194_304;
 
 /// The normal form of a grammar file of the plain form.
-pub(crate) fn plain_form(alloc: Global, bytes: &[u8]) -> Result<PlainForm, NotPlain>
+pub(crate) fn plain_form(alloc: Global, bytes: &[u8]) -> Result<PlainGrammar, NotPlain>
     requires { length bytes.now ≤ most_grammar_bytes }
-    ensures plain { IfOk result (λ form. IsBuilt bytes.now form.grammar) }
+    ensures plain { IfOk result (λ form. IsBuilt bytes.now form) }
     ensures form { IfOk result (λ form. IsForm form) }
-    ensures numbered { IfOk result (λ form. start_of form.grammar < 2 ^ 16) }
+    ensures numbered { IfOk result (λ form. start_of form < 2 ^ 16) }
     ensures unbuilt { result ≡ Err NotPlain.Unbuilt → (g : PlainGrammar) → IsBuilt bytes.now g → ⊥ }
 {
     let file = read(alloc, bytes)?;
@@ -50,6 +50,8 @@ fn refusal(fault: &OFault) -> NotPlain
 {
     match fault {
         OFault::Memory => NotPlain::Memory,
-        _ => NotPlain::Unbuilt,
+        OFault::Syntax(_) | OFault::Utf8(_) | OFault::Deep(_) | OFault::Duplicate(_) => {
+            NotPlain::Unbuilt
+        }
     }
 }

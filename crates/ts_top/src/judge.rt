@@ -16,8 +16,7 @@ ghost use Rattle.ts_top.specs.PlainForm.{IsForm};
 use crate::fault::Fault;
 use crate::grammar::plain_form;
 use crate::normal::NotPlain;
-use crate::plain::Outcome;
-use crate::plain_form::PlainForm;
+use crate::plain::{Outcome, PlainGrammar};
 use crate::stop::Stop;
 use crate::visible::visible;
 use crate::{print, walk};
@@ -33,8 +32,10 @@ pub(crate) fn judge<'a>(
     path: &'a str,
 ) -> Result<String, Stop<'a>>
     requires { KeepsLimit most_grammar_bytes grammar.now }
-    ensures line { IfOk result (λ s. (g t : Bytes) → AreRead grammar.now text.now g t → Judged g t path.now Done (string_bytes s)) }
-    ensures stop { IfErr result (λ stop. (g t : Bytes) → AreRead grammar.now text.now g t → StoppedAt g t path.now stop) }
+    ensures line { IfOk result (λ s. (g t : Bytes) → AreRead grammar.now text.now g t
+        → Judged g t path.now Done (string_bytes s)) }
+    ensures stop { IfErr result (λ stop. (g t : Bytes) → AreRead grammar.now text.now g t
+        → StoppedAt g t path.now stop) }
     ensures late { IfErr result IsLate }
 {
     let form = match read_grammar(alloc, grammar) {
@@ -49,7 +50,9 @@ pub(crate) fn judge<'a>(
 
 fn grammar_stop<'a>(refusal: NotPlain) -> Stop<'a>
     ensures late { IsLate result }
-    ensures stop { (g t path : Bytes) → (refusal ≡ NotPlain.Unbuilt → (normal : PlainGrammar) → IsBuilt g normal → ⊥) → StoppedAt g t path result }
+    ensures stop { (g t path : Bytes)
+        → (refusal ≡ NotPlain.Unbuilt → (normal : PlainGrammar) → IsBuilt g normal → ⊥)
+        → StoppedAt g t path result }
 {
     match refusal {
         NotPlain::Unbuilt => Stop::Fault(Fault::Unbuilt),
@@ -59,7 +62,8 @@ fn grammar_stop<'a>(refusal: NotPlain) -> Stop<'a>
 
 fn text_stop<'a>(fault: &TextFault, path: &'a str) -> Stop<'a>
     ensures late { IsLate result }
-    ensures stop { (g t : Bytes) (normal : PlainGrammar) → IsBuilt g normal → IsTextFault t fault.now → StoppedAt g t path.now result }
+    ensures stop { (g t : Bytes) (normal : PlainGrammar) → IsBuilt g normal → IsTextFault t fault.now
+        → StoppedAt g t path.now result }
 {
     match fault {
         TextFault::Size(_) => Stop::Fault(Fault::TextSize(path)),
@@ -72,12 +76,14 @@ fn text_stop<'a>(fault: &TextFault, path: &'a str) -> Stop<'a>
 }
 
 /// The normal form of the grammar file that was read. One with too many bytes isn't built.
-fn read_grammar(alloc: Global, file: &Found) -> Result<PlainForm, NotPlain>
+fn read_grammar(alloc: Global, file: &Found) -> Result<PlainGrammar, NotPlain>
     requires { KeepsLimit most_grammar_bytes file.now }
-    ensures plain { IfOk result (λ form. (bytes : Bytes) → AnswersFor (Some bytes) most_grammar_bytes file.now → IsBuilt bytes form.grammar) }
+    ensures plain { IfOk result (λ form. (bytes : Bytes)
+        → AnswersFor (Some bytes) most_grammar_bytes file.now → IsBuilt bytes form) }
     ensures form { IfOk result (λ form. IsForm form) }
-    ensures numbered { IfOk result (λ form. start_of form.grammar < 2 ^ 16) }
-    ensures unbuilt { result ≡ Err NotPlain.Unbuilt → (bytes : Bytes) → AnswersFor (Some bytes) most_grammar_bytes file.now → (g : PlainGrammar) → IsBuilt bytes g → ⊥ }
+    ensures numbered { IfOk result (λ form. start_of form < 2 ^ 16) }
+    ensures unbuilt { result ≡ Err NotPlain.Unbuilt → (bytes : Bytes)
+        → AnswersFor (Some bytes) most_grammar_bytes file.now → (g : PlainGrammar) → IsBuilt bytes g → ⊥ }
 {
     match file {
         Found::Bytes(bytes) => plain_form(alloc, bytes.as_slice()),
@@ -87,8 +93,10 @@ fn read_grammar(alloc: Global, file: &Found) -> Result<PlainForm, NotPlain>
 
 /// The text of the file that was read.
 fn read_text(alloc: Global, file: &Found) -> Result<Text, TextFault>
-    ensures text { IfOk result (λ text. (bytes : Bytes) → AnswersFor (Some bytes) most_text_bytes file.now → (text ≡ bytes) × IsText bytes) }
-    ensures fault { IfErr result (λ fault. (bytes : Bytes) → AnswersFor (Some bytes) most_text_bytes file.now → IsTextFault bytes fault) }
+    ensures text { IfOk result (λ text. (bytes : Bytes) → AnswersFor (Some bytes) most_text_bytes file.now
+        → (text ≡ bytes) × IsText bytes) }
+    ensures fault { IfErr result (λ fault. (bytes : Bytes) → AnswersFor (Some bytes) most_text_bytes file.now
+        → IsTextFault bytes fault) }
 {
     match file {
         Found::Bytes(bytes) => Text::from_bytes(alloc, bytes.as_slice()),
@@ -97,14 +105,15 @@ fn read_text(alloc: Global, file: &Found) -> Result<Text, TextFault>
 }
 
 /// The line of the outcome of a text.
-fn line(alloc: Global, form: &PlainForm, text: &Text) -> Result<String, AllocError>
+fn line(alloc: Global, form: &PlainGrammar, text: &Text) -> Result<String, AllocError>
     requires form { IsForm form.now }
-    requires numbered { start_of form.now.grammar < 2 ^ 16 }
-    ensures { IfOk result (λ s. (out : AnyOutcome) × Plain form.now.grammar text.now out × (string_bytes s ≡ outcome_line form.now.grammar text.now out)) }
+    requires numbered { start_of form.now < 2 ^ 16 }
+    ensures { IfOk result (λ s. (out : AnyOutcome) × Plain form.now text.now out
+        × (string_bytes s ≡ outcome_line form.now text.now out)) }
 {
     let outcome = walk::parse(alloc, form, text.as_str())?;
     match &outcome {
-        Outcome::Tree(tree) => print::tree(alloc, &visible(alloc, &form.grammar, text, tree)?),
+        Outcome::Tree(tree) => print::tree(alloc, &visible(alloc, form, text, tree)?),
         Outcome::Stuck(place) => print::stuck(alloc, *place),
         Outcome::Deep => print::deep(alloc),
     }

@@ -9,7 +9,6 @@ mod laws;
 mod normal;
 mod order;
 mod plain;
-mod plain_form;
 mod print;
 mod program;
 mod status;

@@ -18,9 +18,8 @@ use crate::normal::steps::plain_rules;
 use crate::normal::symbols::all_symbols;
 use crate::normal::tokens::all_tokens;
 use crate::normal::trees::are_shown;
-use crate::order::ranks;
+use crate::order::is_acyclic;
 use crate::plain::PlainGrammar;
-use crate::plain_form::PlainForm;
 use std::alloc::{AllocError, AllocFailed, Global};
 use thiserror::Error;
 use ts_core::{List, Rule, Str};
@@ -96,8 +95,8 @@ fn grammar_of(alloc: Global, rules: &[(Str, Rule)]) -> Result<PlainGrammar, NotP
 ///
 /// `Unbuilt` where the rules are not plain: a rule is hidden, has an empty part or another type than text, name and
 /// sequence, names a rule that is not there or comes back to itself, or a limit is passed. `Memory` where memory is wanting.
-pub(crate) fn normal(alloc: Global, rules: &List<(Str, Rule)>) -> Result<PlainForm, NotPlain>
-    ensures plain { IfOk result (λ form. IsPlain rules.now form.grammar) }
+pub(crate) fn normal(alloc: Global, rules: &List<(Str, Rule)>) -> Result<PlainGrammar, NotPlain>
+    ensures plain { IfOk result (λ form. IsPlain rules.now form) }
     ensures form { IfOk result (λ form. IsForm form) }
     ensures unbuilt { result ≡ Err Unbuilt → (grammar : PlainGrammar) → IsPlain rules.now grammar → ⊥ }
 {
@@ -109,8 +108,8 @@ pub(crate) fn normal(alloc: Global, rules: &List<(Str, Rule)>) -> Result<PlainFo
     if !is_within(&grammar) {
         return Err(NotPlain::Unbuilt);
     }
-    let Some(ranks) = ranks(alloc, &grammar)? else {
+    if !is_acyclic(alloc, &grammar)? {
         return Err(NotPlain::Unbuilt);
-    };
-    Ok(PlainForm { grammar, ranks })
+    }
+    Ok(grammar)
 }

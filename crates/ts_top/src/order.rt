@@ -1,13 +1,11 @@
-ghost use Rattle.std.specs.Prelude.{◌≡◌, ℕ, ◌+◌, ◌<◌, ◌≤◌, length, map, IfOk, IfSome, IfNone, IsTrue, IsFalse, slice_get, Some};
-ghost use Rattle.ts_top.specs.Plain.{IsClosed, Leads, start_of};
-ghost use Rattle.ts_top.specs.PlainForm.{IsRanked};
+ghost use Rattle.std.specs.Prelude.{◌≡◌, ℕ, ◌+◌, ◌<◌, ◌≤◌, length, IfOk, IfSome, IfNone, IsTrue, IsFalse, slice_get, Some};
+ghost use Rattle.ts_top.specs.Plain.{IsAcyclic, IsClosed, Leads, start_of};
 ghost use Rattle.ts_top.specs.Order.{AllDone, AllUnseen, Falls, Goes, IsDone, Lead, unseen};
-ghost use Rattle.ts_top.specs.Order;
 ghost use Rattle.ts_top.specs.declared.order.Mark.TheVariants.{Unseen};
 
 use crate::plain::PlainGrammar;
 use std::alloc::{AllocError, Global};
-use ts_core::{List, Symbol};
+use ts_core::Symbol;
 
 /// How far the search has come with a rule.
 #[derive(Clone, Copy, Debug, PartialEq, Eq)]
@@ -95,40 +93,13 @@ fn visit_all(grammar: &PlainGrammar, marks: &mut [Mark]) -> bool
     true
 }
 
-fn rank_of(mark: Mark) -> usize
-    ensures { result ≡ Order.rank_of mark }
-{
-    match mark {
-        Mark::Done(rank) => rank,
-        Mark::Unseen | Mark::Open => 0,
-    }
-}
-
-/// The ranks that the search gave.
-fn ranks_of(alloc: Global, marks: &[Mark]) -> Result<List<usize>, AllocError>
-    ensures { IfOk result (λ ranks. ranks ≡ map Order.rank_of marks.now) }
-{
-    let mut ranks = List::new(alloc);
-    for mark in marks {
-        ranks.push(rank_of(*mark))?;
-    }
-    Ok(ranks)
-}
-
-/// A rank for each rule, above those of all rules that stand in it, or none where a rule comes back to itself.
-pub(crate) fn ranks(
-    alloc: Global,
-    grammar: &PlainGrammar,
-) -> Result<Option<List<usize>>, AllocError>
+/// Whether no rule comes back to itself.
+pub(crate) fn is_acyclic(alloc: Global, grammar: &PlainGrammar) -> Result<bool, AllocError>
     requires { IsClosed grammar.now }
-    ensures ranked { IfOk result (λ o. IfSome o (λ ranks. IsRanked grammar.now ranks)) }
-    ensures cyclic { IfOk result (λ o. IfNone o ((k : ℕ) × Leads grammar.now k k)) }
+    ensures acyclic { IfOk result (λ acyclic. IsTrue acyclic → IsAcyclic grammar.now) }
+    ensures cyclic { IfOk result (λ acyclic. IsFalse acyclic → (k : ℕ) × Leads grammar.now k k) }
 {
     let mut search = vec![in alloc; Mark::Unseen; grammar.rules.len()]?;
-    let marks = search.as_mut_slice();
-    if !visit_all(grammar, marks) {
-        return Ok(None);
-    }
-    let ranks = ranks_of(alloc, marks)?;
-    Ok(Some(ranks))
+    let acyclic = visit_all(grammar, search.as_mut_slice());
+    Ok(acyclic)
 }

@@ -1,4 +1,4 @@
-//! Why there is no line of an outcome: a fault that is answered, a failed read, or want of memory.
+//! Why there is no line of an outcome: a fault that is answered, a failed read, or no memory.
 use crate::fault::Fault;
 use std::alloc::AllocError;
 use thiserror::Error;

@@ -6,7 +6,6 @@ ghost use Rattle.ts_top.specs.Stack.{Awaits, Closes, IsAdded, IsEnded, Leaves, O
 ghost use Rattle.ts_top.specs.Walk.{Passes, Halts, Ends, FitsText, counted, the_start};
 
 use crate::plain::{Outcome, PlainGrammar};
-use crate::plain_form::PlainForm;
 use crate::tree::Tree;
 use std::alloc::{AllocError, Global};
 use thiserror::Error;
@@ -88,11 +87,11 @@ impl From<AllocError> for Halt {
 /// # Errors
 ///
 /// `AllocError` where memory is wanting.
-pub(crate) fn parse(alloc: Global, form: &PlainForm, text: &str) -> Result<Outcome, AllocError>
+pub(crate) fn parse(alloc: Global, form: &PlainGrammar, text: &str) -> Result<Outcome, AllocError>
     requires form { IsForm form.now }
-    requires numbered { start_of form.now.grammar < 2 ^ 16 }
+    requires numbered { start_of form.now < 2 ^ 16 }
     requires size { length text.now < 2 ^ 31 }
-    ensures plain { IfOk result (λ out. Plain form.now.grammar text.now out) }
+    ensures plain { IfOk result (λ out. Plain form.now text.now out) }
     ensures fits { IfOk result (λ out. FitsText text.now out) }
 {
     match whole(alloc, form, text.as_bytes()) {
@@ -104,13 +103,13 @@ pub(crate) fn parse(alloc: Global, form: &PlainForm, text: &str) -> Result<Outco
 }
 
 /// The tree of a text that the start rule's tokens make up.
-fn whole(alloc: Global, form: &PlainForm, text: &[u8]) -> Result<Tree, Halt>
+fn whole(alloc: Global, form: &PlainGrammar, text: &[u8]) -> Result<Tree, Halt>
     requires form { IsForm form.now }
-    requires numbered { start_of form.now.grammar < 2 ^ 16 }
+    requires numbered { start_of form.now < 2 ^ 16 }
     requires size { length text.now < 2 ^ 31 }
-    ensures plain { IfOk result (λ tree. Plain form.now.grammar text.now (Outcome.Tree tree)) }
+    ensures plain { IfOk result (λ tree. Plain form.now text.now (Outcome.Tree tree)) }
     ensures fits { IfOk result (λ tree. FitsText text.now (Outcome.Tree tree)) }
-    ensures halts { IfErr result (λ halt. Ends form.now.grammar text.now halt) }
+    ensures halts { IfErr result (λ halt. Ends form.now text.now halt) }
 {
     let Grown {
         tree,
@@ -128,14 +127,14 @@ fn whole(alloc: Global, form: &PlainForm, text: &[u8]) -> Result<Tree, Halt>
 
 /// The tree of what the start rule expands to, from the text's start on. The walk keeps the rules that it
 /// stands in on a stack of its own, since rules can be nested deeper than the native stack allows for.
-fn start_tree(alloc: Global, form: &PlainForm, text: &[u8]) -> Result<Grown, Halt>
+fn start_tree(alloc: Global, form: &PlainGrammar, text: &[u8]) -> Result<Grown, Halt>
     requires form { IsForm form.now }
-    requires numbered { start_of form.now.grammar < 2 ^ 16 }
+    requires numbered { start_of form.now < 2 ^ 16 }
     requires size { length text.now < 2 ^ 31 }
-    ensures passes { IfOk result (λ grown. Passes form.now.grammar text.now (start_of form.now.grammar) (node_of grown.tree) the_start grown.after) }
-    ensures halts { IfErr result (λ halt. Halts form.now.grammar text.now (start_of form.now.grammar) the_start halt) }
+    ensures passes { IfOk result (λ grown. Passes form.now text.now (start_of form.now) (node_of grown.tree) the_start grown.after) }
+    ensures halts { IfErr result (λ halt. Halts form.now text.now (start_of form.now) the_start halt) }
 {
-    let start = Symbol((form.grammar.tokens.len() + 1) as u16);
+    let start = Symbol((form.tokens.len() + 1) as u16);
     let mut stack = Stack {
         top: open_frame(alloc, start, Spot { place: 0, depth: 0 }),
         outer: List::new(alloc),
@@ -149,14 +148,14 @@ fn start_tree(alloc: Global, form: &PlainForm, text: &[u8]) -> Result<Grown, Hal
 }
 
 /// Goes past the next token of the innermost rule, into its next rule, or out of it at its end.
-fn take_turn(alloc: Global, form: &PlainForm, text: &[u8], stack: Stack) -> Result<Turn, Halt>
+fn take_turn(alloc: Global, form: &PlainGrammar, text: &[u8], stack: Stack) -> Result<Turn, Halt>
     requires form { IsForm form.now }
     requires size { length text.now < 2 ^ 31 }
-    requires stands { Stands form.now.grammar text.now stack }
+    requires stands { Stands form.now text.now stack }
     ensures turns { IfOk result (λ turn. Turns form.now text.now stack turn) }
-    ensures halts { IfErr result (λ halt. Halts form.now.grammar text.now (start_of form.now.grammar) the_start halt) }
+    ensures halts { IfErr result (λ halt. Halts form.now text.now (start_of form.now) the_start halt) }
 {
-    let grammar = &form.grammar;
+    let grammar = form;
     match next_step(grammar, &stack.top) {
         None => Ok(leave(stack)?),
         Some(step) => {

@@ -2,14 +2,12 @@ use Rattle.std.proofs.Common.{◌∙◌, List, All, ap, refl, length, subst, sym
 use Rattle.std.proofs.lemmas.Bool.{false≢true}
 use Rattle.ts_top.specs.PlainNormal.{NamedRule, IsPlain}
 use Rattle.ts_top.specs.Normal.{HasParts, IsShown, IsWithin}
-use Rattle.ts_top.specs.PlainForm.{IsRanked}
-use Rattle.ts_top.proofs.OrderLemmas.{ranked_acyclic}
 use Rattle.ts_top.proofs.NormalLemmas.{all_shown, closed_normal, is_plain, start_normal, steps_normal}
 use Rattle.ts_top.proofs.normal.normal.Goals as goal
 use Rattle.ts_top.proofs.normal.normal.Goals.{then-rules-gt-MOST_RULES-via-then-rules-gt-MOST_RULES, then-rules-gt-MOST_RULES-via-else-rules-gt-MOST_RULES+then-not-are_shown}
 
-pub ranks-requires : goal.ranks-requires
-ranks-requires c = closed_normal c.as_slice-rules.result.now c.in_ok-grammar.grammar c.in_ok-grammar.ensures.normal
+pub is_acyclic-requires : goal.is_acyclic-requires
+is_acyclic-requires c = closed_normal c.as_slice-rules.result.now c.in_ok-grammar.grammar c.in_ok-grammar.ensures.normal
 
 pub returns-clause-form : goal.returns-clause-form
 returns-clause-form c =
@@ -17,10 +15,9 @@ returns-clause-form c =
     let g = c.in_ok-grammar.grammar in
     let normal = c.in_ok-grammar.ensures.normal in
     let parts : All HasParts rules = c.if-not-are_shown.ensures.some refl in
-    let ranked : IsRanked g c.in-Some.ranks = rw c.in-Some.is at c.in_ok-ranks.ensures.ranked in
     record {
       closed = closed_normal rules g normal;
-      ranked = ranked;
+      acyclic = c.in_ok-is_acyclic.ensures.acyclic c.if-not-branch.false;
       steps = steps_normal rules g parts normal;
       start = start_normal rules g normal;
     }
@@ -31,9 +28,8 @@ returns-clause-plain c =
     let g = c.in_ok-grammar.grammar in
     let shown : All IsShown rules = c.if-not-are_shown.ensures.shown.0 refl in
     let within : IsWithin g = c.if-not-is_within.ensures.0 refl in
-    let ranked : IsRanked g c.in-Some.ranks = rw c.in-Some.is at c.in_ok-ranks.ensures.ranked in
     let few : length rules ≤ 4096 = omega arith in
-    subst (λ (l : List NamedRule). IsPlain l g) c.as_slice-rules.ensures (is_plain rules g few shown c.in_ok-grammar.ensures.normal within (ranked_acyclic g c.in-Some.ranks ranked))
+    subst (λ (l : List NamedRule). IsPlain l g) c.as_slice-rules.ensures (is_plain rules g few shown c.in_ok-grammar.ensures.normal within (c.in_ok-is_acyclic.ensures.acyclic c.if-not-branch.false))
 
 pub returns-then-rules-gt-MOST_RULES-clause-unbuilt : goal.returns-then-rules-gt-MOST_RULES-clause-unbuilt
 returns-then-rules-gt-MOST_RULES-clause-unbuilt c same g plain = elim c.then-rules-gt-MOST_RULES.branch [
