@@ -20,6 +20,6 @@ mod value;
 mod word;
 
 pub use fault::OFault;
-pub use laws::{one_fault, one_value, refused_is_not_read};
+pub use laws::{json_of_parts, one_fault, one_value, refused_is_not_read};
 pub use reader::read;
 pub use value::{OItems, OJson, OMembers, OText};
