@@ -103,7 +103,7 @@ pub record IsTaken (w : Bytes) (p : ℕ) : Type 0 where
   pub around : Frames
   pub next : next close state inner (get_or w close 0) ≡ goes (repeated p) to around
 
--- the cause of each stop; want of memory has none
+-- the cause of each stop; running out of memory has none
 abbrev pub Refused : Stop → Bytes → Type 0
 Refused (Syntax p) w = IsStuck w p
 Refused (Deep p) w = IsDeep w p

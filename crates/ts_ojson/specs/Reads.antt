@@ -58,7 +58,7 @@ pub record IsDuplicateFault (w : List ℕ) (p : ℕ) : Type 0 where
   pub begins : Begins IsShallow (take (close + 1) w)
   pub twice : Begins HasDistinctNames (take (close + 1) w) → ⊥
 
--- the cause of each refusal; want of memory has none
+-- the cause of each refusal; running out of memory has none
 abbrev pub IsFault : OFault → List ℕ → Type 0
 IsFault (Syntax p) w = IsSyntaxFault w p
 IsFault (Utf8 p) w = IsValidUpTo w p

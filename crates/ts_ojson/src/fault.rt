@@ -16,7 +16,7 @@ pub enum OFault {
     /// The quote that opens a name which stands before in the same object.
     #[error("a name for the second time at byte {0}")]
     Duplicate(u32),
-    /// Memory is wanting.
+    /// Memory ran out.
     #[error("out of memory")]
     Memory,
 }

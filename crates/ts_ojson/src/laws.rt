@@ -17,7 +17,7 @@ pub fn one_value()
     ensures read { (v u : AnyOJson) (w : Bytes) → Reads v w → Reads u w → v ≡ u }
 {}
 
-/// What is refused is read as no value, unless memory was wanting.
+/// What is refused is read as no value, unless memory ran out.
 pub fn refused_is_not_read()
     ensures { (e : AnyFault) (v : AnyOJson) (w : Bytes) → e ≢ OFault.Memory → IsFault e w → Reads v w → ⊥ }
 {}
