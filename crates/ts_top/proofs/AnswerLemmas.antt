@@ -1,8 +1,8 @@
 -- Words and files come to one status and one list of bytes.
-use Rattle.std.proofs.Common.{◌≡◌, ◌∙◌, sym, ap, subst, refl, inl, inr, List, [], ◌∷◌, length, Option, Some, None, codes, arith, IsUtf8}
+use Rattle.std.proofs.Common.{◌≡◌, ◌∙◌, sym, ap, subst, refl, ℕ, inl, inr, List, [], ◌∷◌, length, Option, Some, None, codes, arith}
 use Rattle.ts_base.specs.Bytes.{Bytes}
 use Rattle.ts_io.specs.Outside.{Files, file_at}
-use Rattle.ts_text.proofs.TextLemmas.{whole_breaks_nowhere, breaks_once}
+use Rattle.ts_text.specs.Text.{IsText, BreaksAt}
 use Rattle.ts_top.specs.Form.{IsBuilt}
 use Rattle.ts_top.specs.Tree.{Node}
 use Rattle.ts_top.specs.Visible.{Visible}
@@ -13,8 +13,14 @@ use Rattle.ts_top.specs.declared.status.Status.{Status}
 use Rattle.ts_top.specs.declared.status.Status.TheVariants.{Done}
 use Rattle.ts_top.specs.declared.plain.PlainGrammar.{PlainGrammar}
 use Rattle.ts_top.specs.declared.plain.Outcome.{Outcome}
-use Rattle.ts_top.proofs.GrammarLemmas.{built_once}
+use Rattle.ts_top.proofs.GrammarLemmas.{ReadOnce, built_once}
 use Rattle.ts_top.proofs.ExpansionLemmas.{same_expansion}
+
+-- what is known of the bytes of files
+pub record Laws : Type 0 where
+  pub read_once : ReadOnce
+  pub breaks_once : (bytes : Bytes) (m n : ℕ) → BreaksAt bytes m → BreaksAt bytes n → m ≡ n
+  pub whole : (bytes : Bytes) (n : ℕ) → IsText bytes → BreaksAt bytes n → ⊥
 
 -- ---- the line of an outcome
 
@@ -32,10 +38,10 @@ line_once g text out other a b =
     let moved = subst (λ (r : Node). Gives (walk g text (events_of r) 0 0) r out) root a.gives in
     gives_once g text (walk g text (events_of b.root) 0 0) b.root out other moved b.gives
 
-line_once_built : (grammar text : Bytes) (f h : PlainGrammar) (out other : Outcome) → IsBuilt grammar f → IsBuilt grammar h
+line_once_built : Laws → (grammar text : Bytes) (f h : PlainGrammar) (out other : Outcome) → IsBuilt grammar f → IsBuilt grammar h
     → Plain f text out → Plain h text other → outcome_line f text out ≡ outcome_line h text other
-line_once_built grammar text f h out other one two o q =
-    let same : f ≡ h = built_once grammar f h one two in
+line_once_built laws grammar text f h out other one two o q =
+    let same : f ≡ h = built_once laws.read_once grammar f h one two in
     ap (λ (g : PlainGrammar). outcome_line g text out) same
     ∙ line_once h text out other (subst (λ (g : PlainGrammar). Plain g text out) same o) q
 
@@ -82,55 +88,55 @@ absent_once files words path other a c =
       ]
     ]
 
-judged_once : (g t p : Bytes) (s s2 : Status) (b b2 : Bytes) → Judged g t p s b → Judged g t p s2 b2 → (s ≡ s2) × (b ≡ b2)
-judged_once g t p _ _ _ _ (unbuilt n) (unbuilt m) = (refl, refl)
-judged_once g t p _ _ _ _ (unbuilt n) (too_large f i l) = absurd (n f i)
-judged_once g t p _ _ _ _ (unbuilt n) (no_text f place i l) = absurd (n f i)
-judged_once g t p _ _ _ _ (unbuilt n) (parsed f out i l o) = absurd (n f i)
-judged_once g t p _ _ _ _ (too_large f i l) (unbuilt m) = absurd (m f i)
-judged_once g t p _ _ _ _ (too_large f i l) (too_large h j k) = (refl, refl)
-judged_once g t p _ _ _ _ (too_large f i l) (no_text h place j k) = let w = k.within in absurd (omega (arith, w, l))
-judged_once g t p _ _ _ _ (too_large f i l) (parsed h out j k o) = let w = k.within in absurd (omega (arith, w, l))
-judged_once g t p _ _ _ _ (no_text f place i l) (unbuilt m) = absurd (m f i)
-judged_once g t p _ _ _ _ (no_text f place i l) (too_large h j k) = let w = l.within in absurd (omega (arith, w, k))
-judged_once g t p _ _ _ _ (no_text f place i l) (no_text h other j k) = (refl, ap (text_line p) (breaks_once t place other l.breaks k.breaks))
-judged_once g t p _ _ _ _ (no_text f place i l) (parsed h out j k o) = absurd (whole_breaks_nowhere t place k.utf8 l)
-judged_once g t p _ _ _ _ (parsed f out i l o) (unbuilt m) = absurd (m f i)
-judged_once g t p _ _ _ _ (parsed f out i l o) (too_large h j k) = let w = l.within in absurd (omega (arith, w, k))
-judged_once g t p _ _ _ _ (parsed f out i l o) (no_text h place j k) = absurd (whole_breaks_nowhere t place l.utf8 k)
-judged_once g t p _ _ _ _ (parsed f out i l o) (parsed h other j k q) = (refl, line_once_built g t f h out other i j o q)
+judged_once : Laws → (g t p : Bytes) (s s2 : Status) (b b2 : Bytes) → Judged g t p s b → Judged g t p s2 b2 → (s ≡ s2) × (b ≡ b2)
+judged_once laws g t p _ _ _ _ (unbuilt n) (unbuilt m) = (refl, refl)
+judged_once laws g t p _ _ _ _ (unbuilt n) (too_large f i l) = absurd (n f i)
+judged_once laws g t p _ _ _ _ (unbuilt n) (no_text f place i l) = absurd (n f i)
+judged_once laws g t p _ _ _ _ (unbuilt n) (parsed f out i l o) = absurd (n f i)
+judged_once laws g t p _ _ _ _ (too_large f i l) (unbuilt m) = absurd (m f i)
+judged_once laws g t p _ _ _ _ (too_large f i l) (too_large h j k) = (refl, refl)
+judged_once laws g t p _ _ _ _ (too_large f i l) (no_text h place j k) = let w = k.within in absurd (omega (arith, w, l))
+judged_once laws g t p _ _ _ _ (too_large f i l) (parsed h out j k o) = let w = k.within in absurd (omega (arith, w, l))
+judged_once laws g t p _ _ _ _ (no_text f place i l) (unbuilt m) = absurd (m f i)
+judged_once laws g t p _ _ _ _ (no_text f place i l) (too_large h j k) = let w = l.within in absurd (omega (arith, w, k))
+judged_once laws g t p _ _ _ _ (no_text f place i l) (no_text h other j k) = (refl, ap (text_line p) (laws.breaks_once t place other l k))
+judged_once laws g t p _ _ _ _ (no_text f place i l) (parsed h out j k o) = absurd (laws.whole t place k l)
+judged_once laws g t p _ _ _ _ (parsed f out i l o) (unbuilt m) = absurd (m f i)
+judged_once laws g t p _ _ _ _ (parsed f out i l o) (too_large h j k) = let w = l.within in absurd (omega (arith, w, k))
+judged_once laws g t p _ _ _ _ (parsed f out i l o) (no_text h place j k) = absurd (laws.whole t place l k)
+judged_once laws g t p _ _ _ _ (parsed f out i l o) (parsed h other j k q) = (refl, line_once_built laws g t f h out other i j o q)
 
-judged_once_there : (files : Files) (words : List Bytes) (g t p g2 t2 p2 : Bytes) (s s2 : Status) (b b2 : Bytes) → Has files words g t p → Has files words g2 t2 p2
+judged_once_there : Laws → (files : Files) (words : List Bytes) (g t p g2 t2 p2 : Bytes) (s s2 : Status) (b b2 : Bytes) → Has files words g t p → Has files words g2 t2 p2
     → Judged g t p s b → Judged g2 t2 p2 s2 b2 → (s ≡ s2) × (b ≡ b2)
-judged_once_there files words g t p g2 t2 p2 s s2 b b2 h k j i =
+judged_once_there laws files words g t p g2 t2 p2 s s2 b b2 h k j i =
     let same = has_once files words g t p g2 t2 p2 h k in
     let grammar : Judged g t2 p2 s2 b2 = subst (λ (x : Bytes). Judged x t2 p2 s2 b2) (sym same.0) i in
     let text : Judged g t p2 s2 b2 = subst (λ (x : Bytes). Judged g x p2 s2 b2) (sym same.1) grammar in
     let path : Judged g t p s2 b2 = subst (λ (x : Bytes). Judged g t x s2 b2) (sym same.2) text in
-    judged_once g t p s s2 b b2 j path
+    judged_once laws g t p s s2 b b2 j path
 
-pub answers_once : (files : Files) (words : List Bytes) (s s2 : Status) (b b2 : Bytes) → Answers files words s b → Answers files words s2 b2 → (s ≡ s2) × (b ≡ b2)
-answers_once files words _ _ _ _ (usage u) (usage v) = (refl, refl)
-answers_once files words _ _ _ _ (usage u) (absent path a) = absurd (u a.grammar_path a.text_path a.parses)
-answers_once files words _ _ _ _ (usage u) (judged g t p s b h j) = absurd (u h.grammar_path p h.parses)
-answers_once files words _ _ _ _ (absent path a) (usage v) = absurd (v a.grammar_path a.text_path a.parses)
-answers_once files words _ _ _ _ (absent path a) (absent other c) = (refl, ap absent_line (absent_once files words path other a c))
-answers_once files words _ _ _ _ (absent path a) (judged g t p s b h j) = absurd (absent_or_there files words path g t p a h)
-answers_once files words _ _ _ _ (judged g t p s b h j) (usage v) = absurd (v h.grammar_path p h.parses)
-answers_once files words _ _ _ _ (judged g t p s b h j) (absent path a) = absurd (absent_or_there files words path g t p a h)
-answers_once files words _ _ _ _ (judged g t p s b h j) (judged g2 t2 p2 s2 b2 k i) = judged_once_there files words g t p g2 t2 p2 s s2 b b2 h k j i
+pub answers_once : Laws → (files : Files) (words : List Bytes) (s s2 : Status) (b b2 : Bytes) → Answers files words s b → Answers files words s2 b2 → (s ≡ s2) × (b ≡ b2)
+answers_once laws files words _ _ _ _ (usage u) (usage v) = (refl, refl)
+answers_once laws files words _ _ _ _ (usage u) (absent path a) = absurd (u a.grammar_path a.text_path a.parses)
+answers_once laws files words _ _ _ _ (usage u) (judged g t p s b h j) = absurd (u h.grammar_path p h.parses)
+answers_once laws files words _ _ _ _ (absent path a) (usage v) = absurd (v a.grammar_path a.text_path a.parses)
+answers_once laws files words _ _ _ _ (absent path a) (absent other c) = (refl, ap absent_line (absent_once files words path other a c))
+answers_once laws files words _ _ _ _ (absent path a) (judged g t p s b h j) = absurd (absent_or_there files words path g t p a h)
+answers_once laws files words _ _ _ _ (judged g t p s b h j) (usage v) = absurd (v h.grammar_path p h.parses)
+answers_once laws files words _ _ _ _ (judged g t p s b h j) (absent path a) = absurd (absent_or_there files words path g t p a h)
+answers_once laws files words _ _ _ _ (judged g t p s b h j) (judged g2 t2 p2 s2 b2 k i) = judged_once_there laws files words g t p g2 t2 p2 s s2 b b2 h k j i
 
 -- ---- where nothing stands in the way
 
-clean_judged : (g t p : Bytes) (s : Status) (b : Bytes) (files : Files) (words : List Bytes) (c : IsClean files words) → c.grammar ≡ g → c.text ≡ t → Judged g t p s b → s ≡ Done
-clean_judged g t p _ _ files words c gs ts (unbuilt n) = absurd (n c.normal (subst (λ (x : Bytes). IsBuilt x c.normal) gs c.built))
-clean_judged g t p _ _ files words c gs ts (too_large f i l) = let w = c.is_text.within in let e : length c.text ≡ length t = ap length ts in absurd (omega (arith, w, e, l))
-clean_judged g t p _ _ files words c gs ts (no_text f place i l) = absurd (whole_breaks_nowhere t place (subst IsUtf8 ts c.is_text.utf8) l)
-clean_judged g t p _ _ files words c gs ts (parsed f out i l o) = refl
+clean_judged : Laws → (g t p : Bytes) (s : Status) (b : Bytes) (files : Files) (words : List Bytes) (c : IsClean files words) → c.grammar ≡ g → c.text ≡ t → Judged g t p s b → s ≡ Done
+clean_judged laws g t p _ _ files words c gs ts (unbuilt n) = absurd (n c.normal (subst (λ (x : Bytes). IsBuilt x c.normal) gs c.built))
+clean_judged laws g t p _ _ files words c gs ts (too_large f i l) = let w = c.is_text.within in let e : length c.text ≡ length t = ap length ts in absurd (omega (arith, w, e, l))
+clean_judged laws g t p _ _ files words c gs ts (no_text f place i l) = absurd (laws.whole t place (subst IsText ts c.is_text) l)
+clean_judged laws g t p _ _ files words c gs ts (parsed f out i l o) = refl
 
-pub clean_is_done : (files : Files) (words : List Bytes) (s : Status) (b : Bytes) → IsClean files words → Answers files words s b → s ≡ Done
-clean_is_done files words _ _ c (usage u) = absurd (u c.has.grammar_path c.path c.has.parses)
-clean_is_done files words _ _ c (absent path a) = absurd (absent_or_there files words path c.grammar c.text c.path a c.has)
-clean_is_done files words _ _ c (judged g t p s b h j) =
+pub clean_is_done : Laws → (files : Files) (words : List Bytes) (s : Status) (b : Bytes) → IsClean files words → Answers files words s b → s ≡ Done
+clean_is_done laws files words _ _ c (usage u) = absurd (u c.has.grammar_path c.path c.has.parses)
+clean_is_done laws files words _ _ c (absent path a) = absurd (absent_or_there files words path c.grammar c.text c.path a c.has)
+clean_is_done laws files words _ _ c (judged g t p s b h j) =
     let same = has_once files words c.grammar c.text c.path g t p c.has h in
-    clean_judged g t p s b files words c same.0 same.1 j
+    clean_judged laws g t p s b files words c same.0 same.1 j

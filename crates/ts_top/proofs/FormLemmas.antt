@@ -3,13 +3,24 @@ use Rattle.std.proofs.Common.{◌≡◌, ◌∙◌, sym, ap, refl, ℕ, ◌+◌,
 use Rattle.std.specs.Bool.{IsTrue}
 use Rattle.std.specs.Option.{option_map}
 use Rattle.ts_ojson.specs.declared.value.OJson.{OJson}
-use Rattle.ts_ojson.specs.declared.value.OJson.TheVariants.{Object, Array}
-use Rattle.ts_ojson.specs.Json.{json_of, Json, array, Items, no_items, item}
-use Rattle.ts_ojson.proofs.JsonLemmas.{json_of_object, json_of_array}
+use Rattle.ts_ojson.specs.declared.value.OJson.TheOpen.{OJson-F}
+use Rattle.ts_ojson.specs.declared.value.OJson.TheVariants.{Object, Array, rolls-Array, rolls-Object}
+use Rattle.ts_ojson.specs.declared.value.OJson.TheFolds.{fold-roll-OJson}
+use Rattle.ts_ojson.specs.Json.{json_of, json_step, Json, array, object, Items, no_items, item}
 use Rattle.ts_core.specs.declared.rule.Rule.{Rule}
 use Rattle.ts_top.specs.PlainNormal.{in_front, NamedRule}
 use Rattle.ts_top.specs.Form.{rule_of, rule_at, named_rule, items_rules, rules_in, has_no_items, is_hollow}
 use Rattle.ts_top.specs.Members.{members_json, items_json, prepend, rule_with}
+
+-- ---- the values of arrays and objects
+
+json_of_array : (js : List OJson) → json_of (Array js) ≡ array (items_json js)
+json_of_array js = ap json_of (sym (rolls-Array js)) ∙ fold-roll-OJson Json json_step (OJson-F.Array js)
+
+json_of_object : (ms : List (List ℕ × OJson)) → json_of (Object ms) ≡ object (members_json ms)
+json_of_object ms = ap json_of (sym (rolls-Object ms)) ∙ fold-roll-OJson Json json_step (OJson-F.Object ms)
+
+-- ---- lists that are read one element after another
 
 module _ {X : Type 0} where
   prepend_next : (xs : List X) (x : X) (rest : Option (List X)) → prepend xs (in_front (Some x) rest) ≡ prepend (xs ++ x ∷ []) rest

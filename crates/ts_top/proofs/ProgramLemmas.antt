@@ -8,7 +8,6 @@ use Rattle.ts_io.specs.declared.folder.Found.{Found}
 use Rattle.ts_top.specs.Answer.{texts, Parses, Has, IsAbsent, Judged, Answers, usage, absent, judged, Told, WritesPrefix, IsClean}
 use Rattle.ts_top.specs.Limits.{most_grammar_bytes, most_text_bytes}
 use Rattle.ts_top.specs.Lines.{unbuilt_line, absent_line, text_size_line, text_line}
-use Rattle.ts_top.proofs.AnswerLemmas.{answers_once, clean_is_done}
 use Rattle.ts_top.specs.Faults as faults
 use Rattle.ts_top.specs.Faults.{IsAnswer, Stopped, StoppedAt, AreRead, IsThere, ReadStopped, IsLate}
 use Rattle.ts_top.specs.declared.fault.Fault.TheVariants.{Usage, Unbuilt, Absent, TextSize, Text}
@@ -118,11 +117,13 @@ answer_of : (files : Option Files) (known : Files) (words : List Bytes) (ends : 
 answer_of files known words _ _ is (faults.usage u) = usage u
 answer_of files known words _ _ is (faults.other ends bytes j n told) = subst (λ (f : Option Files). Told f (λ k. Answers k words ends bytes)) is told
 
-pub answer_exact : (files : Option Files) (known : Files) (words : List Bytes) (s s2 : Status) (b b2 : Bytes) → files ≡ Some known → IsAnswer files words s b → Answers known words s2 b2 → s ≡ s2
-answer_exact files known words s s2 b b2 is a other = (answers_once known words s s2 b b2 (answer_of files known words s b is a) other).0
+pub answer_exact : ((files : Files) (words : List Bytes) (s t : Status) (b c : Bytes) → Answers files words s b → Answers files words t c → (s ≡ t) × (b ≡ c))
+    → (files : Option Files) (known : Files) (words : List Bytes) (s s2 : Status) (b b2 : Bytes) → files ≡ Some known → IsAnswer files words s b → Answers known words s2 b2 → s ≡ s2
+answer_exact once files known words s s2 b b2 is a other = (once known words s s2 b b2 (answer_of files known words s b is a) other).0
 
-pub answer_complete : (files : Option Files) (known : Files) (words : List Bytes) (s : Status) (b : Bytes) → files ≡ Some known → IsClean known words → IsAnswer files words s b → s ≡ status.Done
-answer_complete files known words s b is clean a = clean_is_done known words s b clean (answer_of files known words s b is a)
+pub answer_complete : ((files : Files) (words : List Bytes) (s : Status) (b : Bytes) → IsClean files words → Answers files words s b → s ≡ status.Done)
+    → (files : Option Files) (known : Files) (words : List Bytes) (s : Status) (b : Bytes) → files ≡ Some known → IsClean known words → IsAnswer files words s b → s ≡ status.Done
+answer_complete done files known words s b is clean a = done known words s b clean (answer_of files known words s b is a)
 
 pub answer_prefix : (files : Option Files) (words : List Bytes) (s : Status) (b : Bytes) (old new : Option Bytes) → IsAnswer files words s b → AppendsPrefix old new b → Told files (λ known. WritesPrefix known words old new)
 answer_prefix None words s b old new a prefix = tt

@@ -26,6 +26,7 @@ pub(crate) fn plain_form(alloc: Global, bytes: &[u8]) -> Result<PlainGrammar, No
     ensures numbered { IfOk result (λ form. start_of form < 2 ^ 16) }
     ensures unbuilt { result ≡ Err NotPlain.Unbuilt → (g : PlainGrammar) → IsBuilt bytes.now g → ⊥ }
 {
+    ts_ojson::one_value();
     let file = read(alloc, bytes)?;
     match form::rules(alloc, &file)? {
         Some(rules) => normal(alloc, &rules),
@@ -39,6 +40,7 @@ fn read(alloc: Global, bytes: &[u8]) -> Result<OJson, NotPlain>
     ensures ok { IfOk result (λ file. Reads file bytes.now) }
     ensures unbuilt { result ≡ Err NotPlain.Unbuilt → (file : AnyJson) → Reads file bytes.now → ⊥ }
 {
+    ts_ojson::refused_is_not_read();
     match ts_ojson::read(alloc, bytes) {
         Ok(file) => Ok(file),
         Err(fault) => Err(refusal(&fault)),

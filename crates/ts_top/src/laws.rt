@@ -13,7 +13,10 @@ ghost use Rattle.ts_top.specs.declared.status.Status.TheVariants.{Done};
 pub fn answers_once()
     ensures { (files : Files) (words : List Bytes) (s t : AnyStatus) (b c : Bytes)
         → Answers files words s b → Answers files words t c → (s ≡ t) × (b ≡ c) }
-{}
+{
+    ts_ojson::one_value();
+    ts_text::breaks_once();
+}
 
 /// All words and files come to an answer: it cannot be that each status and list of bytes is none.
 pub fn answers_exist()
@@ -25,7 +28,10 @@ pub fn answers_exist()
 pub fn clean_is_done()
     ensures { (files : Files) (words : List Bytes) (status : AnyStatus) (bytes : Bytes)
         → IsClean files words → Answers files words status bytes → status ≡ Done }
-{}
+{
+    ts_ojson::one_value();
+    ts_text::breaks_once();
+}
 
 /// A symbol of a plain grammar expands to one tree at most.
 pub fn one_tree()

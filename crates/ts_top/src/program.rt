@@ -13,6 +13,7 @@ ghost use Rattle.ts_top.specs.declared.status.Status.TheVariants as ends;
 use crate::fault::Fault;
 use crate::grammar::MOST_GRAMMAR_BYTES;
 use crate::judge::judge;
+use crate::laws::{answers_once, clean_is_done};
 use crate::status::Status;
 use crate::stop::Stop;
 use std::alloc::{AllocError, Global};
@@ -101,6 +102,8 @@ pub fn run<R: AllocGlobal, F: Folder, S: Sink>(
     ensures read_faults { F.faults folder.old ≤ F.faults folder.new }
     ensures write_faults { S.faults sink.old ≤ S.faults sink.new }
 {
+    answers_once();
+    clean_is_done();
     match answer_to(rt.alloc(), words, folder) {
         Ok(answer) => match put(sink, answer.line.as_bytes()) {
             Ok(()) => answer.status.number(),

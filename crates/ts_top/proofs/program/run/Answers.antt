@@ -7,11 +7,11 @@ use Rattle.ts_top.proofs.program.run.Goals as goal
 
 pub returns-in-Ok-put-clause-exact : goal.returns-in-Ok-put-clause-exact
 returns-in-Ok-put-clause-exact g c = λ files status bytes is answers.
-    inl (c.number.ensures ∙ ap number_of (answer_exact _ files _ _ status _ bytes is c.in-Ok.ensures.answers answers))
+    inl (c.number.ensures ∙ ap number_of (answer_exact c.answers_once.ensures _ files _ _ status _ bytes is c.in-Ok.ensures.answers answers))
 
 pub returns-in-Ok-put-clause-complete : goal.returns-in-Ok-put-clause-complete
 returns-in-Ok-put-clause-complete g c = λ files is clean read write.
-    inl (c.number.ensures ∙ ap number_of (answer_complete _ files _ _ _ is clean c.in-Ok.ensures.answers))
+    inl (c.number.ensures ∙ ap number_of (answer_complete c.clean_is_done.ensures _ files _ _ _ is clean c.in-Ok.ensures.answers))
 
 pub returns-in-Ok-clause-told_prefix : goal.returns-in-Ok-clause-told_prefix
 returns-in-Ok-clause-told_prefix g c = λ is.
