@@ -1,0 +1,2 @@
+pub mod RegularLemmas
+pub mod WordLemmas
