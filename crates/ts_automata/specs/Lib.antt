@@ -1,0 +1,4 @@
+pub mod Automata
+pub mod Grows
+pub mod Parts
+pub mod Reads
