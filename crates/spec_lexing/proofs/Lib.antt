@@ -1,6 +1,7 @@
 pub mod BeginLemmas
 pub mod CharacterLemmas
 pub mod FrontLemmas
+pub mod GoingOnLemmas
 pub mod LocalLemmas
 pub mod OneLemmas
 pub mod RegularLemmas

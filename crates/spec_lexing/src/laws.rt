@@ -1,4 +1,4 @@
-ghost use Rattle.std.specs.Prelude.{◌≡◌, ℕ, ◌+◌, ◌<◌, ◌≤◌, List, [], ◌++◌, length, drop, encode_utf8, Option, map};
+ghost use Rattle.std.specs.Prelude.{◌≡◌, ℕ, ◌+◌, ◌<◌, ◌≤◌, List, [], ◌∷◌, ◌++◌, length, drop, encode_utf8, Option, map};
 ghost use Rattle.std.specs.List.{Contains};
 ghost use Rattle.std.specs.Char.{IsScalar};
 ghost use Rattle.std.specs.Str.{IsUtf8};
@@ -6,6 +6,7 @@ ghost use Rattle.ts_core.specs.declared.re.Re.{Re as AnyRe};
 ghost use Rattle.ts_base.specs.Bytes.{Bytes};
 ghost use Rattle.ts_core.specs.declared.flat.FlatGrammar.{FlatGrammar as FlatGrammars};
 ghost use Rattle.ts_core.specs.declared.symbol.Symbol.{Symbol as Symbols};
+ghost use Rattle.spec_lexing.specs.Matching.{Begins};
 ghost use Rattle.spec_lexing.specs.Lexing.{Found, token, absent, Lex};
 ghost use Rattle.spec_lexing.specs.Seen.{one_character, Seen, Agree};
 ghost use Rattle.spec_lexing.specs.Words.{Regular, empty, one_of, repeat, all_of, any_of, regular_of, Word, Front};
@@ -31,6 +32,21 @@ pub fn every_word_is_a_front()
 /// What begins a front is a front.
 pub fn a_front_has_fronts()
     ensures { (p : Regular) (u v : List ℕ) → Front p (u ++ v) → Front p u }
+{}
+
+/// What begins a text: of two beginnings the shorter begins the longer, and one goes on with the character
+/// that follows it.
+pub fn beginnings()
+    ensures nothing { (rest : Bytes) → Begins rest [] 0 }
+    ensures prefix { (rest : Bytes) (u w : List ℕ) (n m : ℕ) → Begins rest u n → Begins rest w m → n ≤ m
+        → (v : List ℕ) × (w ≡ u ++ v) }
+    ensures longer { (rest : Bytes) (u v : List ℕ) (c n m : ℕ) → Begins rest u n
+        → Begins rest (u ++ c ∷ v) m → n < m }
+    ensures more { (rest tail : Bytes) (u : List ℕ) (c n : ℕ) → IsScalar c → Begins rest u n
+        → drop n rest ≡ encode_utf8 c ++ tail → Begins rest (u ++ c ∷ []) (n + length (encode_utf8 c)) }
+    ensures follows { (rest tail : Bytes) (u v : List ℕ) (c d n m : ℕ) → Begins rest u n
+        → drop n rest ≡ encode_utf8 c ++ tail → Begins rest (u ++ d ∷ v) m → d ≡ c }
+    ensures within { (rest : Bytes) (u : List ℕ) (n : ℕ) → Begins rest u n → n ≤ length rest }
 {}
 
 /// In UTF-8 the next character has as many bytes as its encoding.

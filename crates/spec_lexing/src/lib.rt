@@ -6,6 +6,6 @@
 mod laws;
 
 pub use laws::{
-    a_front_has_fronts, every_word_is_a_front, fewer_tokens, one_answer, one_character_at_a_time,
-    seen_decides, small_forms, token_within,
+    a_front_has_fronts, beginnings, every_word_is_a_front, fewer_tokens, one_answer,
+    one_character_at_a_time, seen_decides, small_forms, token_within,
 };

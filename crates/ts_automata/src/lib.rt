@@ -3,9 +3,16 @@
 #![tactic(auto)]
 
 mod automaton;
+mod classes;
+mod closing;
 mod compile;
+mod machine;
 mod node;
+mod numbering;
 mod part;
+#[cfg(test)]
+mod tests;
 
 pub use automaton::{Automaton, build};
+pub use machine::{Machine, machine_of};
 pub use node::Node;
