@@ -1,0 +1,4 @@
+pub mod Words
+pub mod Matching
+pub mod Lexing
+pub mod Seen

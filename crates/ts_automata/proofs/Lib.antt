@@ -1,0 +1,17 @@
+pub mod AddLemmas
+pub mod AddsLemmas
+pub mod AfterLemmas
+pub mod BoundLemmas
+pub mod CutLemmas
+pub mod GrowsLemmas
+pub mod LeastLemmas
+pub mod ListLemmas
+pub mod MachineLemmas
+pub mod NodeLemmas
+pub mod NumberLemmas
+pub mod OrderLemmas
+pub mod PartLemmas
+pub mod RegularLemmas
+pub mod RepeatLemmas
+pub mod SetLemmas
+pub mod StandsLemmas

@@ -1,0 +1,177 @@
+-- Numbered sets, row by row.
+use Rattle.std.proofs.Common.{◌≡◌, ◌∙◌, sym, ap, refl, subst, ℕ, zero, suc, ◌+◌, ◌<◌, ◌≤◌, ◌⊎◌, inl, inr, ⊎_elim, List, [], ◌∷◌, ◌++◌, length, take, get_or, slice_get, Some, append_assoc, length-append, arith}
+use Rattle.std.specs.Global.{Vec}
+use Rattle.std.specs.List.{Contains}
+use Rattle.std.proofs.lemmas.List.{append-nil, take_more}
+use Rattle.std.proofs.lemmas.List.Elements.{Contains-append_left, Contains-push, Contains-push_cases}
+use Rattle.std.proofs.lemmas.Option.{slice_get_within, slice_get-map, slice_get_read, slice_get-get_or}
+use Rattle.std.specs.Option.{option_map}
+use Rattle.ts_automata.specs.declared.node.Node.{Node}
+use Rattle.ts_automata.specs.Reads.{Takes}
+use Rattle.ts_automata.specs.Sets.{Adds, Moves, Numbers, Grew, IsNext, IsFirst, IsRow, IsSubset, Each, sets_of}
+use Rattle.ts_automata.proofs.AddsLemmas.{adds_none, adds_both}
+use Rattle.ts_automata.proofs.ListLemmas.{at_front}
+
+-- ---- the nodes to which a character leads
+
+pub moved_none : (T : List Node) (set : List ℕ) (c : ℕ) → Adds (Moves T (take 0 set) c) [] []
+moved_none T set c = adds_none (Moves T (take 0 set) c) [] (λ i m. none m.from m.there)
+  where
+    none : (x : ℕ) → Contains (take 0 set) x → ⊥
+    none x (k, below, _) = omega arith
+
+pub moved_step : (T : List Node) (set : List ℕ) (k d c : ℕ) (a b : List ℕ) → k < length set → Adds (Moves T (take k set) c) [] a → Adds (Takes T (get_or set k d) c) a b
+    → Adds (Moves T (take (k + 1) set) c) [] b
+moved_step T set k d c a b below before one =
+    let x : ℕ = get_or set k d in
+    rw (take_more set k d below) (adds_both (Moves T (take k set) c) (Takes T x c) (Moves T (take k set ++ x ∷ []) c) [] a b before one
+    (λ i m. record { from = m.from; there = Contains-append_left (take k set) (x ∷ []) m.from m.there; takes = m.takes })
+    (λ i t. record { from = x; there = Contains-push (take k set) x; takes = t })
+    (λ i m. ⊎_elim (λ w. inl (record { from = m.from; there = w; takes = m.takes })) (λ e. inr (subst (λ (s : ℕ). Takes T s c i) (sym e) m.takes))
+    (Contains-push_cases (take k set) x m.from m.there)))
+
+-- ---- lists that grow
+
+pub at_last : {X : Type 0} (xs : List X) (x y : X) (k : ℕ) → length xs ≤ k → slice_get (xs ++ x ∷ []) k ≡ Some y → (k ≡ length xs) × (y ≡ x)
+at_last [] x y zero past at = (refl, (let e : Some x ≡ Some y = at in cc))
+at_last [] x y (suc k) past at = absurd (let w = slice_get_within (x ∷ []) (suc k) y at in omega arith)
+at_last (z ∷ xs) x y zero past at = absurd (omega arith)
+at_last (z ∷ xs) x y (suc k) past at = let r = at_last xs x y k (omega arith) at in (ap suc r.0, r.1)
+
+cases_lt : (m n : ℕ) → (m < n) ⊎ (n ≤ m)
+cases_lt zero zero = inr (omega arith)
+cases_lt zero (suc n) = inl (omega arith)
+cases_lt (suc m) zero = inr (omega arith)
+cases_lt (suc m) (suc n) = ⊎_elim (λ h. inl (omega arith)) (λ h. inr (omega arith)) (cases_lt m n)
+
+pub each_more : {X : Type 0} (P : ℕ → X → Type 0) (xs : List X) (x : X) → Each P xs → P (length xs) x → Each P (xs ++ x ∷ [])
+each_more {X} P xs x all one k y at =
+    ⊎_elim (λ lt. all k y (sym (at_front xs (x ∷ []) k lt) ∙ at))
+    (λ past. let r = at_last xs x y k past at in subst (λ (j : ℕ). P j y) (sym r.0) (subst (λ (z : X). P (length xs) z) (sym r.1) one))
+    (cases_lt k (length xs))
+
+pub each_none : {X : Type 0} (P : ℕ → X → Type 0) → Each P []
+each_none P k x at = absurd (let w = slice_get_within [] k x at in omega arith)
+
+pub grew_self : (a : List (List ℕ)) → Grew a a
+grew_self a = ([], sym (append-nil a))
+
+pub grew_both : (a b c : List (List ℕ)) → Grew a b → Grew b c → Grew a c
+grew_both a b c (m, e) (n, f) = (m ++ n, f ∙ ap (λ (l : List (List ℕ)). l ++ n) e ∙ append_assoc a m n)
+
+pub at_grown : (a b : List (List ℕ)) (k : ℕ) (s : List ℕ) → Grew a b → slice_get a k ≡ Some s → slice_get b k ≡ Some s
+at_grown a b k s (m, e) at = ap (λ (l : List (List ℕ)). slice_get l k) e ∙ at_front a m k (slice_get_within a k s at) ∙ at
+
+pub at_shrunk : (a b : List (List ℕ)) (k : ℕ) (s : List ℕ) → Grew a b → k < length a → slice_get b k ≡ Some s → slice_get a k ≡ Some s
+at_shrunk a b k s (m, e) lt at = sym (at_front a m k lt) ∙ ap (λ (l : List (List ℕ)). slice_get l k) (sym e) ∙ at
+
+pub grown_longer : (a b : List (List ℕ)) → Grew a b → length a ≤ length b
+grown_longer a b (m, e) = omega (arith, ap (λ (l : List (List ℕ)). length l) e, length-append a m)
+
+pub grew_number : (a b : List (List ℕ)) (s : List ℕ) (n : ℕ) → Numbers a b s n → Grew a b
+grew_number a b s n h = (h.more, h.is)
+
+pub first_grows : (T : List Node) (a b : List (List ℕ)) (kernel : List ℕ) (n : ℕ) → Grew a b → IsFirst T a kernel n → IsFirst T b kernel n
+first_grows T a b kernel n g f = record { set = f.set; at = at_grown a b n f.set g f.at; closed = f.closed }
+
+pub next_grows : (T : List Node) (a b : List (List ℕ)) (s : List ℕ) (c m : ℕ) → Grew a b → IsNext T a s c m → IsNext T b s c m
+next_grows T a b s c m g f = record { kernel = f.kernel; moves = f.moves; set = f.set; at = at_grown a b m f.set g f.at; closed = f.closed }
+
+-- ---- the numbers of the first sets
+
+pub record Begun (T : List Node) (kernels : List (List ℕ)) (start sets : List (List ℕ)) (numbers : List ℕ) (k : ℕ) : Type 0 where
+  pub grows : Grew start sets
+  pub size : length numbers ≡ k
+  pub first : Each (λ v n. (kernel : List ℕ) → slice_get kernels v ≡ Some kernel → IsFirst T sets kernel n) numbers
+
+pub begun_none : (T : List Node) (kernels : List (List ℕ)) (start : List (List ℕ)) → Begun T kernels start start [] 0
+begun_none T kernels start = record { grows = grew_self start; size = refl; first = each_none (λ v n. (kernel : List ℕ) → slice_get kernels v ≡ Some kernel → IsFirst T start kernel n) }
+
+pub begun_more : (T : List Node) (kernels : List (Vec ℕ)) (start a b : List (List ℕ)) (numbers : List ℕ) (k m : ℕ) (kernel : Vec ℕ) → k < length kernels → kernel ≡ get_or kernels k kernel
+    → Begun T (sets_of kernels) start a numbers k → Grew a b → IsFirst T b kernel.items m → Begun T (sets_of kernels) start b (numbers ++ m ∷ []) (k + 1)
+begun_more T kernels start a b numbers k m kernel below is before g one = record {
+  grows = grew_both start a b before.grows g;
+  size = omega (arith, length-append numbers (m ∷ []), before.size);
+  first = each_more (λ v n. (x : List ℕ) → slice_get (sets_of kernels) v ≡ Some x → IsFirst T b x n) numbers m
+      (λ v n at x there. first_grows T a b x n g (before.first v n at x there))
+      (λ x there.
+      let place : slice_get (sets_of kernels) k ≡ Some kernel.items = slice_get-map (λ (v : Vec ℕ). v.items) kernels k ∙ ap (option_map (λ (v : Vec ℕ). v.items)) (slice_get_read kernels (length kernels) k kernel refl below is) in
+      let same : Some kernel.items ≡ Some x = sym place ∙ ap (λ (j : ℕ). slice_get (sets_of kernels) j) (sym before.size) ∙ there in
+      let e : kernel.items ≡ x = cc in
+      subst (λ (l : List ℕ). IsFirst T b l m) e one);
+}
+
+-- ---- one row
+
+pub record Rowing (T : List Node) (bounds : List ℕ) (start sets : List (List ℕ)) (row : List ℕ) (at k : ℕ) : Type 0 where
+  pub grows : Grew start sets
+  pub size : length row ≡ k
+  pub next : (s : List ℕ) → slice_get start at ≡ Some s → Each (λ j m. (c : ℕ) → slice_get bounds j ≡ Some c → IsNext T sets s c m) row
+
+pub rowing_none : (T : List Node) (bounds : List ℕ) (start : List (List ℕ)) (at : ℕ) → Rowing T bounds start start [] at 0
+rowing_none T bounds start at = record { grows = grew_self start; size = refl; next = λ s is. each_none (λ j m. (c : ℕ) → slice_get bounds j ≡ Some c → IsNext T start s c m) }
+
+pub rowing_more : (T : List Node) (bounds : List ℕ) (start a b : List (List ℕ)) (row : List ℕ) (at k m d : ℕ) → k < length bounds → Rowing T bounds start a row at k → Grew a b
+    → ((s : List ℕ) → slice_get a at ≡ Some s → IsNext T b s (get_or bounds k d) m) → Rowing T bounds start b (row ++ m ∷ []) at (k + 1)
+rowing_more T bounds start a b row at k m d below before g one = record {
+  grows = grew_both start a b before.grows g;
+  size = omega (arith, length-append row (m ∷ []), before.size);
+  next = λ s is. each_more (λ j n. (c : ℕ) → slice_get bounds j ≡ Some c → IsNext T b s c n) row m
+      (λ j n there c has. next_grows T a b s c n g (before.next s is j n there c has))
+      (λ c has.
+      let x : ℕ = get_or bounds k d in
+      let place : slice_get bounds k ≡ Some x = slice_get-get_or bounds k d below in
+      let same : Some x ≡ Some c = sym place ∙ ap (λ (j : ℕ). slice_get bounds j) (sym before.size) ∙ has in
+      let e : x ≡ c = cc in
+      subst (λ (y : ℕ). IsNext T b s y m) e (one s (at_grown start a at s before.grows is)));
+}
+
+pub row_done : (T : List Node) (bounds : List ℕ) (start sets : List (List ℕ)) (row : List ℕ) (at k : ℕ) → length bounds ≤ k → k ≤ length bounds → Rowing T bounds start sets row at k
+    → (s : List ℕ) → slice_get start at ≡ Some s → IsRow T sets s bounds row
+row_done T bounds start sets row at k past within h s is = record { size = omega (arith, h.size); next = h.next s is }
+
+row_grows : (T : List Node) (a b : List (List ℕ)) (s bounds row : List ℕ) → Grew a b → IsRow T a s bounds row → IsRow T b s bounds row
+row_grows T a b s bounds row g r = record { size = r.size; next = λ k m at c has. next_grows T a b s c m g (r.next k m at c has) }
+
+-- ---- all rows
+
+pub record Collecting (T : List Node) (kernels : List (List ℕ)) (bounds begins : List ℕ) (sets table : List (List ℕ)) (next : ℕ) : Type 0 where
+  pub first : Each (λ v n. (kernel : List ℕ) → slice_get kernels v ≡ Some kernel → IsFirst T sets kernel n) begins
+  pub each : length begins ≡ length kernels
+  pub rows : Each (λ n row. (s : List ℕ) → slice_get sets n ≡ Some s → IsRow T sets s bounds row) table
+  pub count : length table ≡ next
+  pub within : next ≤ length sets
+
+pub collecting_begins : (T : List Node) (kernels : List (List ℕ)) (bounds begins : List ℕ) (sets : List (List ℕ)) → length begins ≡ length kernels
+    → Each (λ v n. (kernel : List ℕ) → slice_get kernels v ≡ Some kernel → IsFirst T sets kernel n) begins → Collecting T kernels bounds begins sets [] 0
+collecting_begins T kernels bounds begins sets size first = record {
+  first = first;
+  each = size;
+  rows = each_none (λ n row. (s : List ℕ) → slice_get sets n ≡ Some s → IsRow T sets s bounds row);
+  count = refl;
+  within = omega arith;
+}
+
+pub collecting_more : (T : List Node) (kernels : List (List ℕ)) (bounds begins : List ℕ) (a b table : List (List ℕ)) (next : ℕ) (row : List ℕ) → next < length a → Grew a b
+    → ((s : List ℕ) → slice_get a next ≡ Some s → IsRow T b s bounds row) → Collecting T kernels bounds begins a table next → Collecting T kernels bounds begins b (table ++ row ∷ []) (next + 1)
+collecting_more T kernels bounds begins a b table next row below g one before =
+    let longer = grown_longer a b g in
+    record {
+      first = λ v n at kernel has. first_grows T a b kernel n g (before.first v n at kernel has);
+      each = before.each;
+      rows = each_more (λ n r. (s : List ℕ) → slice_get b n ≡ Some s → IsRow T b s bounds r) table row
+          (λ n r at s has.
+          let w = slice_get_within table n r at in
+          row_grows T a b s bounds r g (before.rows n r at s (at_shrunk a b n s g (omega (arith, before.count, before.within)) has)))
+          (λ s has. one s (at_shrunk a b next s g below (ap (λ (j : ℕ). slice_get b j) (sym before.count) ∙ has)));
+      count = omega (arith, length-append table (row ∷ []), before.count);
+      within = omega arith;
+    }
+
+pub collected : (T : List Node) (kernels : List (List ℕ)) (bounds begins : List ℕ) (sets table : List (List ℕ)) (next : ℕ) → length sets ≤ next → Collecting T kernels bounds begins sets table next
+    → IsSubset T kernels bounds begins sets table
+collected T kernels bounds begins sets table next past h = record { first = h.first; each = h.each; rows = h.rows; all = omega (arith, h.count, h.within) }
+
+pub map_push : (xs : List (Vec ℕ)) (y : Vec ℕ) → sets_of (xs ++ y ∷ []) ≡ sets_of xs ++ y.items ∷ []
+map_push [] y = refl
+map_push (x ∷ xs) y = ap (λ (l : List (List ℕ)). x.items ∷ l) (map_push xs y)

@@ -1,0 +1,18 @@
+//! The automaton that reads the tokens and the separators of a grammar: a grammar in normal form goes in,
+//! and nodes come out, which lead on over characters, with a first node for each token and separator.
+#![tactic(auto)]
+
+mod automaton;
+mod classes;
+mod closing;
+mod compile;
+mod machine;
+mod node;
+mod numbering;
+mod part;
+#[cfg(test)]
+mod tests;
+
+pub use automaton::{Automaton, build};
+pub use machine::{Machine, machine_of};
+pub use node::Node;

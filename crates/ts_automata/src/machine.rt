@@ -1,0 +1,102 @@
+//! An automaton made deterministic: the automaton goes in, and tables come out, by which one set of nodes
+//! leads to the next over a character by one look-up.
+ghost use Rattle.std.specs.Prelude.{◌≡◌, ◌<◌, ◌++◌, ◌∷◌, [], ℕ, List, slice_get, Some, IfOk};
+ghost use Rattle.ts_automata.specs.Sets.{sets_of};
+ghost use Rattle.ts_automata.specs.Machine.{IsMachine, HasRead, state_count};
+
+use crate::automaton::Automaton;
+use crate::classes::{ascii_of, bounds_of, class_of};
+use crate::numbering::{Numbered, determinise, set_at};
+use indexmap::IndexSet;
+use std::alloc::{AllocError, Global};
+
+/// The sets of nodes in which an automaton can be, by number, and where each leads.
+#[derive(Drop)]
+pub struct Machine {
+    pub automaton: Automaton,
+    pub sets: IndexSet<Vec<usize>>,
+    /// The set to which each set leads over each class of characters.
+    pub rows: Vec<Vec<usize>>,
+    /// The first character of each class.
+    pub bounds: Vec<u32>,
+    /// The class of each ASCII character.
+    pub ascii: Vec<usize>,
+    /// The set of the first nodes of all parts.
+    pub first: usize,
+}
+
+/// The tables of an automaton.
+///
+/// # Errors
+///
+/// `AllocError` where there is no memory for them. There can be more sets than any memory holds.
+pub fn machine_of(alloc: Global, automaton: Automaton) -> Result<Machine, AllocError>
+    ensures made { IfOk result (λ m. IsMachine m) }
+    ensures automaton { IfOk result (λ m. m.automaton ≡ automaton) }
+{
+    let bounds = bounds_of(alloc, automaton.nodes.as_slice())?;
+    let ascii = ascii_of(alloc, bounds.as_slice())?;
+    let kernels = kernels_of(alloc, automaton.entries.as_slice())?;
+    let numbered = determinise(
+        alloc,
+        automaton.nodes.as_slice(),
+        bounds.as_slice(),
+        kernels.as_slice(),
+    )?;
+    let Numbered { sets, firsts, rows } = numbered;
+    let first = firsts[0];
+    Ok(Machine {
+        automaton,
+        sets,
+        rows,
+        bounds,
+        ascii,
+        first,
+    })
+}
+
+/// One list of first nodes.
+fn kernels_of(alloc: Global, entries: &[usize]) -> Result<Vec<Vec<usize>>, AllocError>
+    ensures { IfOk result (λ kernels. sets_of kernels.items ≡ entries.now ∷ []) }
+{
+    let mut kernels: Vec<Vec<usize>> = Vec::new(alloc);
+    kernels.push(Vec::from_slice(alloc, entries)?)?;
+    Ok(kernels)
+}
+
+impl Machine {
+    /// The set in which nothing has been read.
+    pub fn first(&self) -> usize
+        requires { IsMachine self.now }
+        ensures within { result < state_count self.now }
+        ensures stands { HasRead self.now [] result }
+    {
+        self.first
+    }
+
+    /// The set to which a set leads over a character.
+    pub fn next(&self, state: usize, c: char) -> usize
+        requires made { IsMachine self.now }
+        requires within { state < state_count self.now }
+        ensures within { result < state_count self.now }
+        ensures stands { (w : List ℕ) → HasRead self.now w state → HasRead self.now (w ++ c ∷ []) result }
+    {
+        let class = class_of(self.bounds.as_slice(), self.ascii.as_slice(), c as u32);
+        self.rows[state][class]
+    }
+
+    /// The nodes of a set, rising.
+    pub fn members(&self, state: usize) -> &[usize]
+        requires { state < state_count self.now }
+        ensures { slice_get (sets_of self.now.sets.keys) state ≡ Some result.now }
+    {
+        set_at(&self.sets, state)
+    }
+
+    /// How many sets there are.
+    pub fn states(&self) -> usize
+        ensures { result ≡ state_count self.now }
+    {
+        self.sets.len()
+    }
+}
