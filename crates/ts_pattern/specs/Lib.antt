@@ -1,0 +1,9 @@
+pub mod Characters
+pub mod Escapes
+pub mod Classes
+pub mod Sets
+pub mod Signs
+pub mod Trees
+pub mod Reads
+pub mod Machine
+pub mod States

@@ -1,0 +1,26 @@
+-- What the reader knows between two signs, for private clauses.
+use Rattle.std.specs.Prelude.{◌≡◌, ℕ, ◌≤◌, ◌<◌, Bool, false, List, length, map, Some}
+use Rattle.ts_pattern.specs.declared.outcome.Outcome.{Outcome}
+use Rattle.ts_pattern.specs.declared.state.State.{State}
+use Rattle.ts_pattern.specs.declared.state.Turn.{Turn}
+use Rattle.ts_pattern.specs.declared.state.Turn.TheVariants as turn
+use Rattle.ts_pattern.specs.Characters.{Text}
+use Rattle.ts_pattern.specs.Trees.{Token, Pattern}
+use Rattle.ts_pattern.specs.Reads.{Tokens, IsOutcome, ends_quantified}
+use Rattle.ts_pattern.specs.Machine.{run_from, start, level_of}
+
+-- some tokens lead to the place, and these patterns are open behind them
+pub record IsState (ignore_case : Bool) (w : Text) (s : State) : Type 0 where
+  pub before : List Token
+  pub inner : Pattern
+  pub round : List Pattern
+  pub tokens : Tokens ignore_case w 0 before s.at
+  pub run : run_from start before ≡ Some (inner, round)
+  pub level : s.level ≡ level_of inner
+  pub outer : s.outer ≡ map level_of round
+  pub quantified : s.quantified ≡ ends_quantified false before
+  pub within : s.at ≤ length w
+
+abbrev pub IsTurn : Bool → Text → State → Turn → Type 0
+IsTurn ignore_case w s (turn.Goes t) = IsState ignore_case w t × (s.at < t.at)
+IsTurn ignore_case w s (turn.Stops o) = IsOutcome ignore_case w o
