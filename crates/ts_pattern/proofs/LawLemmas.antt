@@ -47,7 +47,7 @@ module _ (ignore_case : Bool) (w : Text) where
 
   -- where the text goes wrong, no token goes on with a pattern
   goes_on : (ts : List Token) (i : ℕ) (f : Flaw) (p : ℕ) (t : Token) (n : ℕ) → GoesWrong ignore_case w ts i f p → IsToken ignore_case w i t n → Begins (ts ++ t ∷ []) → ⊥
-  goes_on ts i f p t n (inl no) g b = sign_or_flaw w i g.0 n f p g.1 no
+  goes_on ts i f p t n (inl absent) g b = sign_or_flaw w i g.0 n f p g.1 absent
   goes_on ts i f p t n (inr (inl x)) g b = x.3 (subst (λ (u : Token). Begins (ts ++ u ∷ [])) (one_token ignore_case w i t x.0 n x.1 g x.2).0 b)
   goes_on ts i f p t n (inr (inr x)) g b = let h = token_within ignore_case w i t n g in omega (arith, h, x.0)
 
@@ -58,11 +58,11 @@ module _ (ignore_case : Bool) (w : Text) where
   whole_begins p = ([], p, sym (append-nil (spelling p)))
 
   no_sign_ends : (i : ℕ) (f : Flaw) (p : ℕ) → IsNoSign w i f p → i ≡ length w → ⊥
-  no_sign_ends i f p no h = let lt = no_sign_within w i f p no in omega (arith, lt, h)
+  no_sign_ends i f p absent h = let lt = no_sign_within w i f p absent in omega (arith, lt, h)
 
   -- nothing but the end is wrong where the text ends, and there the tokens are no pattern
   ends : (p : Pattern) (ts : List Token) (i : ℕ) (f : Flaw) (at : ℕ) → GoesWrong ignore_case w ts i f at → ts ≡ spelling p → i ≡ length w → ⊥
-  ends p ts i f at (inl no) e h = no_sign_ends i f at no h
+  ends p ts i f at (inl absent) e h = no_sign_ends i f at absent h
   ends p ts i f at (inr (inl x)) e h = let lt = token_within ignore_case w i x.0 x.1 x.2 in omega (arith, lt, h)
   ends p ts i f at (inr (inr x)) e h = x.1 p (sym e)
 

@@ -1,5 +1,5 @@
 -- The characters of a pattern's text, by their places from 0.
-use Rattle.std.specs.Prelude.{ℕ, ◌+◌, ◌*◌, ◌<◌, ◌≤◌, Bool, true, ◌&&◌, ◌||◌, nat_le, nat_lt, ◌==◌, List, [], ◌∷◌, length, take, drop, fold, slice_index_or, codes}
+use Rattle.std.specs.Prelude.{ℕ, ◌+◌, ◌-◌, ◌*◌, ◌<◌, ◌≤◌, Bool, true, ◌&&◌, ◌||◌, nat_le, nat_lt, ◌==◌, List, [], ◌∷◌, length, take, drop, fold, slice_index_or, codes, if◌then◌else◌}
 use Rattle.std.specs.List.{prefix_len}
 use Rattle.std.specs.Char.{digit_value, is_digit, is_ascii_alphanumeric}
 use Prim.Native.String.{String}
@@ -53,6 +53,14 @@ value radix digits = fold (λ n d. n * radix + digit_value d) 0 digits
 -- the number that the n digits from a place on write
 abbrev pub number : ℕ → Text → ℕ → ℕ → ℕ
 number radix w i n = value radix (take n (drop i w))
+
+-- the digit at a place of a number that is written with so many digits, zeros in front
+abbrev pub padded_digit : Text → ℕ → ℕ → ℕ
+padded_digit digits width i =
+    if nat_lt i (width - length digits) then 0 else digit_value (slice_index_or digits (i - (width - length digits)) 0)
+
+abbrev pub AreDecimal : Text → Type 0
+AreDecimal digits = (k : ℕ) → k < length digits → digit_value (slice_index_or digits k 0) < 10
 
 -- a character's code is no surrogate and at most 10FFFF
 abbrev pub is_scalar : ℕ → Bool

@@ -2,6 +2,7 @@ pub mod Characters
 pub mod Escapes
 pub mod Classes
 pub mod Sets
+pub mod Classify
 pub mod Signs
 pub mod Trees
 pub mod Reads

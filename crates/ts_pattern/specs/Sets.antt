@@ -1,5 +1,5 @@
 -- The characters of a set.
-use Rattle.std.specs.Prelude.{◌≡◌, ◌↔◌, ℕ, ◌≤◌, Bool, true, false, ◌&&◌, List, [], ◌∷◌, Any}
+use Rattle.std.specs.Prelude.{◌≡◌, ◌↔◌, ℕ, ◌≤◌, Bool, true, false, ◌&&◌, List, [], ◌∷◌, ◌⊎◌}
 use Rattle.ucd_case.specs.CaseFolding.{simple_fold}
 use Rattle.ucd_sets.specs.Sets.{in_set}
 use Rattle.regex_class.specs.Ranges.{in_ranges, IsCanonical}
@@ -41,7 +41,8 @@ abbrev pub InItem : Bool → ℕ → Item → Type 0
 InItem ignore_case c item = Unless item.lacking (Folded (ignore_case && item.lacking) (λ d. in_base item.base d ≡ true) c)
 
 abbrev pub InUnion : Bool → List Item → ℕ → Type 0
-InUnion ignore_case items c = Any (InItem ignore_case c) items
+InUnion ignore_case [] c = ⊥
+InUnion ignore_case (x ∷ xs) c = InItem ignore_case c x ⊎ InUnion ignore_case xs c
 
 -- the set of these items: their characters with all that fold like them, or where it is inverted all others
 abbrev pub InSet : Bool → CharSet → ℕ → Type 0
@@ -51,7 +52,3 @@ InSet ignore_case set c = Unless set.inverted (Folded ignore_case (InUnion ignor
 pub record AreRangesOf (ranges : List (ℕ × ℕ)) (M : ℕ → Type 0) : Type 0 where
   pub canonical : IsCanonical ranges
   pub members : (c : ℕ) → (in_ranges ranges c ≡ true) ↔ ((is_scalar c ≡ true) × M c)
-
--- up to the greatest code, the ranges have just the members of M
-abbrev pub Have : List (ℕ × ℕ) → (ℕ → Type 0) → Type 0
-Have ranges M = (c : ℕ) → c ≤ 0x10FFFF → (in_ranges ranges c ≡ true) ↔ M c

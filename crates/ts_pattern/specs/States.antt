@@ -1,13 +1,21 @@
 -- What the reader knows between two signs, for private clauses.
-use Rattle.std.specs.Prelude.{◌≡◌, ℕ, ◌≤◌, ◌<◌, Bool, false, List, length, map, Some}
+use Rattle.std.specs.Prelude.{◌≡◌, ℕ, ◌≤◌, ◌<◌, Bool, false, List, length, map, Option, Some}
 use Rattle.ts_pattern.specs.declared.outcome.Outcome.{Outcome}
+use Rattle.ts_pattern.specs.declared.level.Level.{Level}
+use Rattle.ts_pattern.specs.declared.sign.Sign.{Sign}
 use Rattle.ts_pattern.specs.declared.state.State.{State}
 use Rattle.ts_pattern.specs.declared.state.Turn.{Turn}
 use Rattle.ts_pattern.specs.declared.state.Turn.TheVariants as turn
 use Rattle.ts_pattern.specs.Characters.{Text}
 use Rattle.ts_pattern.specs.Trees.{Token, Pattern}
-use Rattle.ts_pattern.specs.Reads.{Tokens, IsOutcome, ends_quantified}
-use Rattle.ts_pattern.specs.Machine.{run_from, start, level_of}
+use Rattle.ts_pattern.specs.Reads.{Means, Tokens, IsOutcome, ends_quantified}
+use Rattle.ts_pattern.specs.Machine.{step, run_from, start, level_of, Follows}
+
+-- what is kept of the open patterns after a sign
+abbrev pub IsTaken : Bool → Sign → Level → List Level → Option Level → List Level → Type 0
+IsTaken ignore_case sign level outer after round =
+    (t : Token) × Means ignore_case sign t
+    × ((p : Pattern) (k : List Pattern) → level ≡ level_of p → outer ≡ map level_of k → Follows (step p k t) after round)
 
 -- some tokens lead to the place, and these patterns are open behind them
 pub record IsState (ignore_case : Bool) (w : Text) (s : State) : Type 0 where

@@ -60,11 +60,8 @@ chosen [] = re.Alt []
 chosen (r ∷ []) = r
 chosen (r ∷ s ∷ rs) = re.Alt (r ∷ s ∷ rs)
 
--- the regular expression of each
+-- the regular expressions of the parts
 abbrev mutual
-  pub re_of : Pattern → Re
-  re_of p = chosen (branches_of p)
-
   pub branches_of : Pattern → List Re
   branches_of (only b) = joined (pieces_of b) ∷ []
   branches_of (or p b) = branches_of p ++ joined (pieces_of b) ∷ []
@@ -80,6 +77,9 @@ abbrev mutual
   pub atom_re : Atom → Re
   atom_re (set ranges) = re.Set ranges
   atom_re (group p) = chosen (branches_of p)
+
+abbrev pub re_of : Pattern → Re
+re_of p = chosen (branches_of p)
 
 -- how deep groups nest
 abbrev mutual
@@ -143,10 +143,14 @@ abbrev mutual
   atom_positions (set ranges) = 1
   atom_positions (group p) = positions p
 
+-- the limit that such a nesting, such a count or so many positions pass
+abbrev pub limit_passed : ℕ → ℕ → ℕ → Option ℕ
+limit_passed nests counts places =
+    if nat_lt 200 nests then Some 200
+    else if nat_lt 65535 counts then Some 65535
+    else if nat_lt 8192 places then Some 8192
+    else None
+
 -- the limit that the pattern passes, where it passes one
 abbrev pub passed_limit : Pattern → Option ℕ
-passed_limit p =
-    if nat_lt 200 (nesting p) then Some 200
-    else if nat_lt 65535 (greatest p) then Some 65535
-    else if nat_lt 8192 (positions p) then Some 8192
-    else None
+passed_limit p = limit_passed (nesting p) (greatest p) (positions p)

@@ -1,7 +1,7 @@
 //! Looks at the characters of a pattern's text, by their places from 0.
 ghost use Rattle.std.specs.Prelude.{◌≡◌, ◌+◌, ◌≤◌, ◌<◌, min, IsTrue, nat_lt, length, take, drop};
 ghost use Rattle.std.specs.Char.{digit_value};
-ghost use Rattle.ts_pattern.specs.Characters.{ending, peek, passes, run, goes_on, value, is_scalar};
+ghost use Rattle.ts_pattern.specs.Characters.{ending, peek, passes, run, goes_on, value, padded_digit, AreDecimal, is_scalar};
 
 /// What stands past the end: no character has this code.
 pub(crate) const ENDING: u32 = 0x11_0000;
@@ -66,6 +66,14 @@ pub(crate) fn is_name_char(code: u32) -> bool
     matches!(code, 48..=57 | 65..=90 | 95 | 97..=122)
 }
 
+/// So many characters from a place on.
+pub(crate) fn part(text: &[char], at: usize, count: usize) -> &[char]
+    requires { at + count ≤ length text.now }
+    ensures { result.now ≡ take count (drop at text.now) }
+{
+    &text[at..at + count]
+}
+
 /// How many characters from a place on pass the test, one after another.
 pub(crate) fn run(text: &[char], at: usize, test: Test) -> usize
     requires { at ≤ length text.now }
@@ -115,10 +123,34 @@ pub(crate) fn number(digits: &[char], radix: u32, most: u32) -> u32
     number
 }
 
+/// The digit at a place of a number that is written with `width` digits, zeros in front.
+fn digit_at(digits: &[char], width: usize, at: usize) -> u32
+    requires room { length digits.now ≤ width }
+    requires place { at < width }
+    ensures { result ≡ padded_digit digits.now width at }
+{
+    let zeros = width - digits.len();
+    if at < zeros {
+        0
+    } else {
+        digit_value(digits[at - zeros])
+    }
+}
+
 /// Whether the one number is below the other, both by their decimal digits.
 pub(crate) fn is_below(lower: &[char], upper: &[char]) -> bool
+    requires lower { AreDecimal lower.now }
+    requires upper { AreDecimal upper.now }
     ensures { result ≡ nat_lt (value 10 lower.now) (value 10 upper.now) }
 {
+    let width = lower.len().max(upper.len());
+    'places: for at in 0..width {
+        let low = digit_at(lower, width, at);
+        let high = digit_at(upper, width, at);
+        if low != high {
+            return low < high;
+        }
+    }
     false
 }
 

@@ -1,7 +1,7 @@
 //! Classes: from an opening bracket to the items up to the closing one.
-ghost use Rattle.std.specs.Prelude.{◌≡◌, ◌≢◌, ◌≤◌, ◌<◌, ◌+◌, IfOk, length};
+ghost use Rattle.std.specs.Prelude.{◌≡◌, ◌≢◌, false, ◌≤◌, ◌<◌, ◌+◌, IfOk, length};
 ghost use Rattle.ts_pattern.specs.Characters.{peek, IsWithin};
-ghost use Rattle.ts_pattern.specs.Classes.{is_itself, hyphen, mark, is_joined, range_to, item_from, item, is_class, is_inverted, inside, IsClassSight};
+ghost use Rattle.ts_pattern.specs.Classes.{is_itself, hyphen, mark, is_joined, range_to, item_from, item, is_class, inside, IsClassSight};
 
 use crate::chars::{BACKSLASH, CARET, CLOSE_BRACKET, ENDING, HYPHEN, peek};
 use crate::escape::{escape, is_class_escape};
@@ -115,6 +115,20 @@ impl Base {
     }
 }
 
+/// Where the items begin of the class whose bracket stands at a place.
+fn inside(text: &[char], at: usize) -> usize
+    requires { at < length text.now }
+    ensures value { result ≡ inside text.now at }
+    ensures after { at < result }
+    ensures within { result ≤ length text.now }
+{
+    if peek(text, at + 1) == CARET {
+        at + 2
+    } else {
+        at + 1
+    }
+}
+
 /// The class whose bracket stands at a place.
 pub(crate) fn class(
     alloc: Global,
@@ -125,12 +139,11 @@ pub(crate) fn class(
     ensures value { IfOk result (IsClassSight text.now at) }
     ensures within { IfOk result (IsWithin text.now at) }
 {
-    let inverted = peek(text, at + 1) == CARET;
-    let start = if inverted { at + 2 } else { at + 1 };
+    let start = inside(text, at);
     if peek(text, start) == CLOSE_BRACKET {
         return Ok(Sight::Wrong(Flaw::EmptyClass, at));
     }
-    items(alloc, text, at, inverted, start)
+    items(alloc, text, at, start)
 }
 
 /// The items from a place on, up to the closing bracket.
@@ -138,12 +151,10 @@ fn items(
     alloc: Global,
     text: &[char],
     at: usize,
-    inverted: bool,
     start: usize,
 ) -> Result<Sight<CharSet>, AllocError>
-    requires bracket { at < start }
-    requires start { start ≤ length text.now }
-    requires inverted { inverted ≡ is_inverted text.now at }
+    requires after { at < start }
+    requires within { start ≤ length text.now }
     requires inside { start ≡ inside text.now at }
     requires some { peek text.now start ≢ 93 }
     ensures value { IfOk result (IsClassSight text.now at) }
@@ -162,5 +173,6 @@ fn items(
             Sight::Wrong(flaw, place) => return Ok(Sight::Wrong(flaw, place)),
         }
     }
+    let inverted = peek(text, at + 1) == CARET;
     Ok(Sight::Sees(CharSet { inverted, items }, next + 1))
 }

@@ -1,9 +1,9 @@
 //! Escapes: from a backslash to the character or the class that it stands for.
-ghost use Rattle.std.specs.Prelude.{◌≡◌, ◌≤◌, ◌<◌, ◌+◌, IfOk, IfSome, IsTrue, length, take, drop};
+ghost use Rattle.std.specs.Prelude.{◌≡◌, ◌≤◌, ◌<◌, ◌+◌, ◌^◌, IfOk, IfSome, IsTrue, length, take, drop};
 ghost use Rattle.ts_pattern.specs.Characters.{IsWithin};
 ghost use Rattle.ts_pattern.specs.Escapes.{shorthand, escaped_char, coded, fixed_code, braced_code, unicode_code, short_escape, escape, is_class_escape};
 
-use crate::chars::{BACKSLASH, CLOSE_BRACE, ENDING, OPEN_BRACE, Test, is_scalar, number, peek, run};
+use crate::chars::{BACKSLASH, CLOSE_BRACE, ENDING, OPEN_BRACE, Test, is_scalar, number, part, peek, run};
 use crate::item::{Base, Item, Mark};
 use crate::property::property;
 use crate::sight::{Flaw, Sight};
@@ -78,7 +78,7 @@ fn code_of(text: &[char], at: usize, count: usize) -> u32
     requires { at + count ≤ length text.now }
     ensures { (i n : _) → coded i result n ≡ coded i (Rattle.ts_pattern.specs.Characters.number 16 text.now at count) n }
 {
-    number(&text[at..at + count], 16, ENDING)
+    number(part(text, at, count), 16, ENDING)
 }
 
 fn fixed_code(text: &[char], at: usize, count: usize) -> Sight<Mark>
@@ -120,6 +120,7 @@ fn unicode_code(text: &[char], at: usize) -> Sight<Mark>
 }
 
 fn short_escape(at: usize, letter: u32) -> Sight<Mark>
+    requires { at + 2 < 2 ^ 64 }
     ensures value { result ≡ short_escape at letter (shorthand letter) (escaped_char letter) }
 {
     if let Some(item) = shorthand(letter) {

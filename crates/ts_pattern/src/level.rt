@@ -1,7 +1,7 @@
 //! Patterns that are open: from parts, bars and quantifiers to a regular expression and its measures.
 ghost use Rattle.std.specs.Prelude.{◌≡◌, ◌≤◌, ◌*◌, ◌+◌, ℕ, min, max, nat_lt, [], ◌∷◌, ◌++◌, Option, None, Some, IfOk, if◌then◌else◌};
-ghost use Rattle.ts_pattern.specs.Trees.{Pattern, Atom, group, once, or, only, empty, joined, chosen, factor, greater_count};
-ghost use Rattle.ts_pattern.specs.Machine.{plus, times_last, level_of, part_of, IsTimes, IsFinish};
+ghost use Rattle.ts_pattern.specs.Trees.{Pattern, Atom, set, group, once, or, only, empty, joined, chosen, factor, greater_count, nesting, limit_passed};
+ghost use Rattle.ts_pattern.specs.Machine.{plus, times_last, last_branch, built_before, built_pieces, built_atom, level_of, part_of, IsTimes, IsFinish};
 
 use crate::limits::{MOST_COUNTED, MOST_NESTED, MOST_POSITIONS};
 use std::alloc::{AllocError, Global};
@@ -94,10 +94,36 @@ fn added(positions: u32, others: u32) -> u32
     (positions.min(most) + others.min(most)).min(most)
 }
 
+/// The expression of a group that nests so deep, up to one more than is allowed.
+fn grouped(branches: List<Re>, pieces: List<Re>, depth: u32) -> Result<Re, AllocError>
+    ensures { IfOk result (λ r. (p : Pattern) → branches ≡ built_before p
+        → pieces ≡ built_pieces (last_branch p) → depth ≡ min 201 (nesting p + 1)
+        → r ≡ built_atom (group p)) }
+{
+    if depth > MOST_NESTED {
+        return Ok(Re::Empty);
+    }
+    chosen(branches, joined(pieces))
+}
+
+fn limit_passed(nesting: u32, greatest: u32, positions: u32) -> Option<u32>
+    ensures { result ≡ limit_passed nesting greatest positions }
+{
+    if nesting > MOST_NESTED {
+        Some(MOST_NESTED)
+    } else if greatest > MOST_COUNTED {
+        Some(MOST_COUNTED)
+    } else if positions > MOST_POSITIONS {
+        Some(MOST_POSITIONS)
+    } else {
+        None
+    }
+}
+
 impl Part {
     /// One set.
     pub(crate) fn of_set(ranges: List<(u32, u32)>) -> Part
-        ensures { result ≡ part_of (Atom.set ranges) }
+        ensures { result ≡ part_of (set ranges) }
     {
         Part {
             re: Re::Set(ranges),
@@ -192,14 +218,9 @@ impl Level {
         ensures { IfOk result (λ a. (p : Pattern) → self ≡ level_of p → a ≡ part_of (group p)) }
     {
         let Level { branches, pieces, nesting, greatest, earlier, latest, repeatable: _ } = self;
-        let nesting = (nesting + 1).min(MOST_NESTED + 1);
-        let re = if nesting > MOST_NESTED {
-            Re::Empty
-        } else {
-            chosen(branches, joined(pieces))?
-        };
+        let nesting = nesting.min(MOST_NESTED) + 1;
         Ok(Part {
-            re,
+            re: grouped(branches, pieces, nesting)?,
             nesting,
             greatest,
             positions: added(earlier, latest),
@@ -211,14 +232,9 @@ impl Level {
         ensures { IfOk result (λ f. (p : Pattern) → self ≡ level_of p → IsFinish p f) }
     {
         let Level { branches, pieces, nesting, greatest, earlier, latest, repeatable: _ } = self;
-        if nesting > MOST_NESTED {
-            Ok(Finished::Over(MOST_NESTED))
-        } else if greatest > MOST_COUNTED {
-            Ok(Finished::Over(MOST_COUNTED))
-        } else if added(earlier, latest) > MOST_POSITIONS {
-            Ok(Finished::Over(MOST_POSITIONS))
-        } else {
-            Ok(Finished::Whole(chosen(branches, joined(pieces))?))
+        match limit_passed(nesting, greatest, added(earlier, latest)) {
+            Some(limit) => Ok(Finished::Over(limit)),
+            None => Ok(Finished::Whole(chosen(branches, joined(pieces))?)),
         }
     }
 }

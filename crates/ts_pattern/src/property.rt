@@ -4,7 +4,7 @@ ghost use Rattle.ucd_sets.specs.Lookup.{by_name, by_value};
 ghost use Rattle.ts_pattern.specs.Characters.{IsWithin};
 ghost use Rattle.ts_pattern.specs.Escapes.{named, prefix, found, braced_name, short_name, property};
 
-use crate::chars::{CLOSE_BRACE, OPEN_BRACE, Test, goes_on, is_name_char, peek, run};
+use crate::chars::{CLOSE_BRACE, OPEN_BRACE, Test, goes_on, is_name_char, part, peek, run};
 use crate::item::{Base, Item, Mark};
 use crate::sight::{Flaw, Sight};
 use std::alloc::{AllocError, Global};
@@ -105,7 +105,7 @@ fn braced_name(
     if count < 1 || peek(text, start + count) != CLOSE_BRACE {
         return Ok(Sight::Wrong(Flaw::Syntax, at));
     }
-    let name = sets::normalize(alloc, &text[start..start + count])?;
+    let name = sets::normalize(alloc, part(text, start, count))?;
     let set = named(table, &name);
     Ok(found(at, lacking, start + count + 1, set))
 }
@@ -123,7 +123,7 @@ fn short_name(
     if !is_name_char(peek(text, at + 2)) {
         return Ok(Sight::Wrong(Flaw::Syntax, at));
     }
-    let name = sets::normalize(alloc, &text[at + 2..at + 3])?;
+    let name = sets::normalize(alloc, part(text, at + 2, 1))?;
     let set = named(Table::Any, &name);
     Ok(found(at, lacking, at + 3, set))
 }

@@ -27,6 +27,14 @@ pub fn pattern(alloc: Global, source: &str, ignore_case: bool) -> Result<Re, PFa
     ensures exact { (f : AnyFault) → f ≢ PFault.Memory → IsFault source.now ignore_case f → IsErrAnd result
         (λ e. (e ≡ f) ⊎ (e ≡ PFault.Memory)) }
 {
+    read_source(alloc, source, ignore_case)
+}
+
+fn read_source(alloc: Global, source: &str, ignore_case: bool) -> Result<Re, PFault>
+    requires { length source.now < 2 ^ 32 }
+    ensures ok { IfOk result (λ r. Reads source.now ignore_case r) }
+    ensures refused { IfErr result (λ e. IsFault source.now ignore_case e) }
+{
     let text: Vec<char> = source.chars().collect(alloc)?;
     match read(alloc, &text, ignore_case)? {
         Outcome::Whole(re) => Ok(re),

@@ -1,7 +1,8 @@
 //! Sets: from items to the ranges of their characters.
-ghost use Rattle.std.specs.Prelude.{◌≡◌, ◌↔◌, ◌⊎◌, ℕ, ◌≤◌, IfOk, OnOk, Any};
-ghost use Rattle.regex_class.specs.Ranges.{in_ranges};
-ghost use Rattle.ts_pattern.specs.Sets.{Folded, InItem, InSet, InUnion, Unless, AreRangesOf, Have, in_base};
+ghost use Rattle.std.specs.Prelude.{◌≡◌, true, IfOk};
+ghost use Rattle.regex_class.specs.Ranges.{HasExactly};
+ghost use Rattle.ts_pattern.specs.Sets.{InItem, InSet, InUnion, AreRangesOf, in_base};
+ghost use Rattle.ts_pattern.specs.Classify.{Have, in_folded, in_inverted, in_characters};
 
 use crate::item::{Base, CharSet, Item};
 use regex_class::{Class, ClassRange, MAX};
@@ -26,16 +27,45 @@ fn base_ranges(alloc: Global, base: Base) -> Result<Vec<ClassRange>, AllocError>
     }
 }
 
-/// The class, with the flag also all characters that share a simple folding with a member.
-fn folded(class: Class, ignore_case: bool) -> Result<Class, AllocError>
-    ensures { IfOk result (λ r. (M : ℕ → Type 0) → Have class.ranges.items M → Have r.ranges.items (Folded ignore_case M)) }
+/// The class with all characters that share a simple folding with a member.
+fn with_folds(class: &Class) -> Result<Class, AllocError>
+    ensures { IfOk result (λ r. HasExactly r.ranges.items (in_folded true class.now.ranges.items)) }
 {
-    if !ignore_case {
-        return Ok(class);
-    }
     let mut ranges = Vec::from_slice(*class.ranges.allocator(), &class.ranges)?;
     class.append_image(fold_pairs(), &mut ranges)?;
     Class::new(ranges)
+}
+
+/// The class, with the flag also all that fold like its members.
+fn folded(class: Class, ignore_case: bool) -> Result<Class, AllocError>
+    ensures { IfOk result
+        (λ r. HasExactly r.ranges.items (in_folded ignore_case class.ranges.items)) }
+{
+    if ignore_case {
+        with_folds(&class)
+    } else {
+        Ok(class)
+    }
+}
+
+/// The class, or with the flag all other codes.
+fn inverted(class: Class, is_inverted: bool) -> Result<Class, AllocError>
+    ensures { IfOk result
+        (λ r. HasExactly r.ranges.items (in_inverted is_inverted class.ranges.items)) }
+{
+    if is_inverted {
+        class.negate(MAX)
+    } else {
+        Ok(class)
+    }
+}
+
+/// The class without surrogates.
+fn characters(class: Class) -> Result<Class, AllocError>
+    ensures { IfOk result (λ r. HasExactly r.ranges.items (in_characters class.ranges.items)) }
+{
+    let surrogates = Class::from_ranges(*class.ranges.allocator(), &[SURROGATES])?;
+    class.difference(&surrogates)
 }
 
 /// The ranges of an item, in any order.
@@ -46,8 +76,7 @@ fn item_ranges(alloc: Global, item: Item, ignore_case: bool) -> Result<Vec<Class
     if !item.lacking {
         return Ok(ranges);
     }
-    let class = folded(Class::new(ranges)?, ignore_case)?;
-    let others = class.negate(MAX)?;
+    let others = inverted(folded(Class::new(ranges)?, ignore_case)?, true)?;
     Vec::from_slice(alloc, &others.ranges)
 }
 
@@ -63,16 +92,6 @@ fn all_ranges(alloc: Global, items: &[Item], ignore_case: bool) -> Result<Vec<Cl
     Ok(all)
 }
 
-fn inverted(class: Class, inverted: bool) -> Result<Class, AllocError>
-    ensures { IfOk result (λ r. (M : ℕ → Type 0) → Have class.ranges.items M → Have r.ranges.items (λ c. Unless inverted (M c))) }
-{
-    if inverted {
-        class.negate(MAX)
-    } else {
-        Ok(class)
-    }
-}
-
 /// The ranges of a set's characters: they rise, and neither meet nor touch.
 pub(crate) fn ranges(
     alloc: Global,
@@ -84,7 +103,6 @@ pub(crate) fn ranges(
     let all = all_ranges(alloc, set.items.as_slice(), ignore_case)?;
     let class = folded(Class::new(all)?, ignore_case)?;
     let class = inverted(class, set.inverted)?;
-    let surrogates = Class::from_ranges(alloc, &[SURROGATES])?;
-    let Class { ranges } = class.difference(&surrogates)?;
+    let Class { ranges } = characters(class)?;
     Ok(List::from_vec(ranges))
 }

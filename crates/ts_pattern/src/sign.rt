@@ -1,11 +1,11 @@
 //! Signs: what a pattern is written with, one sign after another.
-ghost use Rattle.std.specs.Prelude.{◌≡◌, ◌≤◌, ◌<◌, ◌+◌, min, length, IfOk};
-ghost use Rattle.ts_pattern.specs.Characters.{IsWithin, peek};
+ghost use Rattle.std.specs.Prelude.{◌≡◌, ◌≤◌, ◌<◌, ◌+◌, ◌^◌, true, false, length, IfOk};
+ghost use Rattle.ts_pattern.specs.Characters.{IsWithin, run, is_decimal};
 ghost use Rattle.ts_pattern.specs.Signs.{count, set_of, char, brace, two_counts, counts, opened, escaped, plain, bracketed, IsSight};
 
 use crate::chars::{
     BACKSLASH, BAR, CARET, CLOSE, CLOSE_BRACE, COLON, COMMA, DOLLAR, DOT, NEWLINE, OPEN, OPEN_BRACE,
-    OPEN_BRACKET, PLUS, QUESTION, STAR, Test, is_below, number, peek, run,
+    OPEN_BRACKET, PLUS, QUESTION, STAR, Test, is_below, number, part, peek, run,
 };
 use crate::class::class;
 use crate::escape::escape;
@@ -34,7 +34,7 @@ fn count(text: &[char], at: usize, digits: usize) -> u32
     requires { at + digits ≤ length text.now }
     ensures { result ≡ count text.now at digits }
 {
-    number(&text[at..at + digits], 10, PAST_COUNTED)
+    number(part(text, at, digits), 10, PAST_COUNTED)
 }
 
 /// The set of one item, or its complement.
@@ -55,6 +55,7 @@ fn char(alloc: Global, code: u32) -> Result<Sign, AllocError>
 }
 
 fn brace(alloc: Global, at: usize) -> Result<Sight<Sign>, AllocError>
+    requires { at + 1 < 2 ^ 64 }
     ensures { IfOk result (λ s. s ≡ brace at) }
 {
     Ok(Sight::Sees(char(alloc, OPEN_BRACE)?, at + 1))
@@ -69,8 +70,10 @@ fn two_counts(
     start: usize,
     most: usize,
 ) -> Result<Sight<Sign>, AllocError>
-    requires least { at + 1 + least < start }
-    requires most { start + most ≤ length text.now }
+    requires before { at + 1 + least < start }
+    requires within { start + most ≤ length text.now }
+    requires least { least ≡ run is_decimal text.now (at + 1) }
+    requires most { most ≡ run is_decimal text.now start }
     ensures value { IfOk result (λ s. s ≡ two_counts text.now at least start most) }
     ensures within { IfOk result (IsWithin text.now at) }
 {
@@ -82,7 +85,7 @@ fn two_counts(
     if most == 0 {
         return Ok(Sight::Sees(Sign::Times(fewest, None), end + 1));
     }
-    if is_below(&text[start..end], &text[at + 1..at + 1 + least]) {
+    if is_below(part(text, start, most), part(text, at + 1, least)) {
         return Ok(Sight::Wrong(Flaw::Syntax, at));
     }
     let greatest = count(text, start, most);
@@ -96,7 +99,8 @@ fn counts(
     at: usize,
     least: usize,
 ) -> Result<Sight<Sign>, AllocError>
-    requires { at + 1 + least ≤ length text.now }
+    requires within { at + 1 + least ≤ length text.now }
+    requires least { least ≡ run is_decimal text.now (at + 1) }
     ensures value { IfOk result (λ s. s ≡ counts text.now at least) }
     ensures within { IfOk result (IsWithin text.now at) }
 {
@@ -190,7 +194,7 @@ fn bracketed(set: Sight<CharSet>) -> Sight<Sign>
 }
 
 /// The sign that stands at a place.
-pub(crate) fn sign(alloc: Global, text: &[char], at: usize) -> Result<Sight<Sign>, AllocError>
+pub(crate) fn sign_at(alloc: Global, text: &[char], at: usize) -> Result<Sight<Sign>, AllocError>
     requires { at < length text.now }
     ensures value { IfOk result (IsSight text.now at) }
     ensures within { IfOk result (IsWithin text.now at) }

@@ -1,17 +1,15 @@
 //! The walk over the signs of a text, with the open patterns on a stack of its own.
-ghost use Rattle.std.specs.Prelude.{◌≡◌, ℕ, ◌<◌, ◌≤◌, ◌==◌, ◌&&◌, List as Values, length, map, IfOk, if◌then◌else◌};
-ghost use Rattle.ts_pattern.specs.Characters.{peek};
-ghost use Rattle.ts_pattern.specs.Trees.{Token, Pattern};
+ghost use Rattle.std.specs.Prelude.{◌≡◌, ◌<◌, ◌==◌, ◌&&◌, length, IfOk, if◌then◌else◌};
+ghost use Rattle.ts_pattern.specs.Trees.{Token};
 ghost use Rattle.ts_pattern.specs.Reads.{Means, is_quantifier, IsOutcome};
-ghost use Rattle.ts_pattern.specs.Machine.{level_of, step, Follows};
-ghost use Rattle.ts_pattern.specs.States.{IsState, IsTurn};
+ghost use Rattle.ts_pattern.specs.States.{IsTaken, IsState, IsTurn};
 
 use crate::chars::{QUESTION, peek};
 use crate::level::{Finished, Level, Part};
 use crate::outcome::Outcome;
 use crate::sets::ranges;
 use crate::sight::{Flaw, Sight};
-use crate::sign::{Sign, sign};
+use crate::sign::{Sign, sign_at};
 use crate::stack::Stack;
 use std::alloc::{AllocError, Global};
 
@@ -43,6 +41,7 @@ impl Sign {
     }
 }
 
+#[tactic(auto, using(crate::proofs::TakeLemmas::taken_set, crate::proofs::TakeLemmas::taken_times))]
 /// Puts a sign to what is open. There is nothing where it cannot stand there.
 fn take(
     alloc: Global,
@@ -51,8 +50,7 @@ fn take(
     outer: &mut Stack<Level>,
     ignore_case: bool,
 ) -> Result<Option<Level>, AllocError>
-    ensures { IfOk result (λ r. (p : Pattern) (k : Values Pattern) (t : Token) → level ≡ level_of p
-        → outer.old ≡ map level_of k → Means ignore_case sign t → Follows (step p k t) r outer.new) }
+    ensures { IfOk result (λ r. IsTaken ignore_case sign level outer.old r outer.new) }
 {
     match sign {
         Sign::Set(set) => {
@@ -95,7 +93,7 @@ fn advance(
     ensures { IfOk result (IsTurn ignore_case text.now state) }
 {
     let State { at, level, mut outer, quantified } = state;
-    match sign(alloc, text, at)? {
+    match sign_at(alloc, text, at)? {
         Sight::Wrong(flaw, place) => Ok(Turn::Stops(Outcome::Flawed(flaw, place))),
         Sight::Sees(sign, next) => {
             let is_quantifier = sign.is_quantifier();
