@@ -4,9 +4,10 @@ use Rattle.ts_core.specs.declared.re.Re.{Re}
 use Rattle.ts_pattern.specs.declared.fault.PFault.{PFault}
 use Rattle.ts_pattern.specs.declared.fault.PFault.TheVariants.{Memory}
 use Rattle.ts_pattern.specs.declared.fault.PFault.TheVariants as fault
+use Rattle.ts_pattern.specs.declared.outcome.Outcome.TheVariants as outcome
 use Rattle.ts_pattern.specs.declared.sight.Flaw.{Flaw}
 use Rattle.ts_pattern.specs.declared.sight.Flaw.TheVariants.{Syntax, Unsupported, EmptyClass, UnknownProperty}
-use Rattle.ts_pattern.specs.Reads.{Reads, Stops, IsFlawed, IsFault, bytes_before, fault_of}
+use Rattle.ts_pattern.specs.Reads.{Reads, IsTree, Stops, IsFlawed, IsFault, IsOutcome, bytes_before, fault_of}
 use Rattle.ts_pattern.proofs.LawLemmas.{fault_or_read, one_fault}
 
 pub fault_is : (source : List ℕ) (ignore_case : Bool) (flaw : Flaw) (p : ℕ) → IsFlawed source ignore_case flaw p → IsFault source ignore_case (fault_of flaw p)
@@ -32,3 +33,13 @@ pub exact_is : (r : Result Re PFault) (source : List ℕ) (ignore_case : Bool) �
     (f : PFault) → f ≢ Memory → IsFault source ignore_case f → IsErrAnd r (λ e. (e ≡ f) ⊎ (e ≡ Memory))
 exact_is (Ok q) source ignore_case g h f m k = absurd (fault_or_read f q source ignore_case m k g)
 exact_is (Err e) source ignore_case g h f m k = one_or_memory e f source ignore_case h m k
+
+pub read_whole : (source w : List ℕ) (ignore_case : Bool) (r : Re) → w ≡ chars source → IsOutcome ignore_case w (outcome.Whole r) → Reads source ignore_case r
+read_whole source w ignore_case r e g = (g.0, subst (λ (v : List ℕ). IsTree ignore_case v g.0) e g.1, g.2, g.3)
+
+pub read_flaw : (source w : List ℕ) (ignore_case : Bool) (flaw : Flaw) (at p : ℕ) → w ≡ chars source → IsOutcome ignore_case w (outcome.Flawed flaw at) →
+    p ≡ bytes_before (chars source) at → IsFault source ignore_case (fault_of flaw p)
+read_flaw source w ignore_case flaw at p e g h = fault_is source ignore_case flaw p (at, subst (λ (v : List ℕ). Stops ignore_case v flaw at) e g, h)
+
+pub read_limit : (source w : List ℕ) (ignore_case : Bool) (n : ℕ) → w ≡ chars source → IsOutcome ignore_case w (outcome.Over n) → IsFault source ignore_case (fault.Limit n)
+read_limit source w ignore_case n e g = (g.0, subst (λ (v : List ℕ). IsTree ignore_case v g.0) e g.1, g.2)

@@ -8,7 +8,7 @@ use Rattle.ucd_case.proofs.FoldPairsLemmas.{IsFoldPairs-fold_pairs}
 use Rattle.ucd_table.specs.Rows as table
 use Rattle.regex_class.specs.Ranges.{Range, in_range, in_ranges, in_image, IsCanonical, HasExactly, KeysRise}
 use Rattle.regex_class.specs.declared.Class.{Class}
-use Rattle.regex_class.proofs.RangesLemmas.{in_ranges-above_max, in_ranges-append, keys_rise_from, KeysRise-from_test}
+use Rattle.regex_class.proofs.RangesLemmas.{in_ranges-above_max, in_ranges-append, in_ranges-nil, keys_rise_from, KeysRise-from_test}
 use Rattle.ts_pattern.specs.declared.item.Item.{Item}
 use Rattle.ts_pattern.specs.Characters.{is_scalar}
 use Rattle.ts_pattern.specs.Sets.{in_base, Folded, Unless, InItem, InUnion, InSet, AreRangesOf}
@@ -217,3 +217,6 @@ have_more rs ss ignore_case xs x g h c le = (
     | inr b ↦ or_right (in_ranges rs c) (in_ranges ss c) ((h c le).1 b)
   ],
 )
+
+pub have_none : (ignore_case : Bool) → Have [] (InUnion ignore_case [])
+have_none ignore_case c le = (λ e. absurd (true≢false (sym e ∙ in_ranges-nil c)), λ m. absurd m)

@@ -35,12 +35,18 @@ fn read_source(alloc: Global, source: &str, ignore_case: bool) -> Result<Re, PFa
     ensures ok { IfOk result (λ r. Reads source.now ignore_case r) }
     ensures refused { IfErr result (λ e. IsFault source.now ignore_case e) }
 {
-    let text: Vec<char> = source.chars().collect(alloc)?;
+    let text = characters(alloc, source)?;
     match read(alloc, &text, ignore_case)? {
         Outcome::Whole(re) => Ok(re),
         Outcome::Flawed(flaw, at) => Err(fault(flaw, byte_place(source, at))),
         Outcome::Over(limit) => Err(PFault::Limit(limit)),
     }
+}
+
+fn characters(alloc: Global, source: &str) -> Result<Vec<char>, AllocError>
+    ensures { IfOk result (λ text. text.items ≡ chars source.now) }
+{
+    source.chars().collect(alloc)
 }
 
 /// Where the character with this index starts, or the end of the text, in bytes.

@@ -179,7 +179,8 @@ fn plain(alloc: Global, text: &[char], at: usize) -> Result<Sight<Sign>, AllocEr
             let least = run(text, at + 1, Test::Decimal);
             counts(alloc, text, at, least)
         }
-        CARET | DOLLAR => Ok(Sight::Wrong(Flaw::Unsupported, at)),
+        CARET => Ok(Sight::Wrong(Flaw::Unsupported, at)),
+        DOLLAR => Ok(Sight::Wrong(Flaw::Unsupported, at)),
         code => Ok(Sight::Sees(char(alloc, code)?, at + 1)),
     }
 }

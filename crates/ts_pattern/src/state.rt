@@ -41,7 +41,6 @@ impl Sign {
     }
 }
 
-#[tactic(auto, using(crate::proofs::TakeLemmas::taken_set, crate::proofs::TakeLemmas::taken_times))]
 /// Puts a sign to what is open. There is nothing where it cannot stand there.
 fn take(
     alloc: Global,
