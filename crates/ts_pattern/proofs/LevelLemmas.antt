@@ -127,15 +127,6 @@ close_is p s r n k hs hr hn hk =
     ∙ ap (λ (t : Level). make (built_atom (group p)) (min 201 (nesting p + 1)) t.greatest k) hs
     ∙ ap (λ (x : ℕ). make (built_atom (group p)) (min 201 (nesting p + 1)) (greatest p) x) (hk ∙ ap (min 8193) (sym (positions_split p)))
 
-pub deep_is : (p : Pattern) (n : ℕ) → n ≡ min 201 (nesting p + 1) → 200 < n → re.Empty ≡ built_atom (group p)
-deep_is p n e lt = let a : nat_lt 200 (nesting p + 1) ≡ true = lt-ltb _ _ (omega (arith, e, lt)) in sym (cond-true _ _ _ a)
-
-pub shallow_is : (p : Pattern) (n : ℕ) (bs ps : List Re) → n ≡ min 201 (nesting p + 1) → n ≤ 200 → bs ≡ built_before p → ps ≡ built_pieces (last_branch p) →
-    chosen (bs ++ joined ps ∷ []) ≡ built_atom (group p)
-shallow_is p n bs ps e le hb hp =
-    let a : nat_lt 200 (nesting p + 1) ≡ false = le-ltb _ _ (omega (arith, e, le)) in
-    ap₂ (λ (xs ys : List Re). chosen (xs ++ joined ys ∷ [])) hb hp ∙ ap chosen (sym (branches_split p)) ∙ sym (cond-false _ _ _ a)
-
 -- the limits are seen in what is kept
 capped_test : (c n : ℕ) → nat_lt c (min (c + 1) n) ≡ nat_lt c n
 capped_test c n = elim (cases_lt c n) [

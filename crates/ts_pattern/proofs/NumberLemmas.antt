@@ -4,7 +4,6 @@ use Rattle.std.specs.List.{prefix_len}
 use Rattle.std.specs.Char.{digit_value}
 use Rattle.std.proofs.lemmas.Bool.{cases_lt, cond-true, cond-false, lt-ltb, le-ltb, ltb-true}
 use Rattle.std.proofs.lemmas.List.{take_more}
-use Rattle.std.proofs.lemmas.Nat.{mul-le}
 use Rattle.ts_pattern.specs.Characters.{Text, peek, run, goes_on, is_decimal, value, padded_digit, AreDecimal}
 
 -- ---- runs
@@ -15,9 +14,6 @@ bool_cases false = inr refl
 
 below_zero : (k : ℕ) → k < 0 → ⊥
 below_zero k lt = omega (arith, lt)
-
-le_times : (x y : ℕ) → 1 ≤ y → x ≤ x * y
-le_times x y h = let m = mul-le x 1 x y (omega arith) h in omega (arith, m)
 
 pub run_passes : (p : ℕ → Bool) (xs : List ℕ) (k : ℕ) → k < prefix_len p xs → p (get_or xs k 0) ≡ true
 run_passes p [] k lt = absurd (below_zero k lt)
@@ -60,19 +56,6 @@ fold_push radix n (y ∷ ys) x = fold_push radix (next_value radix n y) ys x
 
 pub value_more : (radix : ℕ) (xs : List ℕ) (i : ℕ) → i < length xs → value radix (take (i + 1) xs) ≡ value radix (take i xs) * radix + digit_value (get_or xs i 0)
 value_more radix xs i lt = ap (value radix) (take_more xs i 0 lt) ∙ fold_push radix 0 (take i xs) (get_or xs i 0)
-
--- a number that stops at a bound goes on as it would
-pub capped_more : (most radix n d : ℕ) → 1 ≤ radix → min most (min most n * radix + d) ≡ min most (n * radix + d)
-capped_more most radix n d pos = elim (cases_lt most n) [
-  | inl over ↦
-      let m : min most n ≡ most = omega (arith, over) in
-      let p = le_times most radix pos in
-      let q = le_times n radix pos in
-      let l : min most (most * radix + d) ≡ most = omega (arith, p) in
-      let r : min most (n * radix + d) ≡ most = omega (arith, q, over) in
-      ap (λ (k : ℕ). min most (k * radix + d)) m ∙ l ∙ sym r
-  | inr h ↦ let m : min most n ≡ n = omega (arith, h) in ap (λ (k : ℕ). min most (k * radix + d)) m
-]
 
 -- ---- two numbers of one width
 

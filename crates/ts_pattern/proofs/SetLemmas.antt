@@ -31,9 +31,6 @@ have_test rs p h c le = (λ g. sym (h c le) ∙ g, λ g. h c le ∙ g)
 pub have_table : (rs : List Range) (p : ℕ → Bool) → table.HasExactly rs p → Have rs (λ c. p c ≡ true)
 have_table rs p h = have_test rs p (λ c le. in_ranges-table rs c ∙ h c le)
 
-pub have_itself : (rs : List Range) → Have rs (λ c. in_ranges rs c ≡ true)
-have_itself rs c le = (λ g. g, λ g. g)
-
 pub have_same : (rs ss : List Range) (M : ℕ → Type 0) → ((c : ℕ) → c ≤ 0x10FFFF → in_ranges ss c ≡ in_ranges rs c) → Have rs M → Have ss M
 have_same rs ss M e h c le = (λ g. (h c le).0 (sym (e c le) ∙ g), λ g. e c le ∙ (h c le).1 g)
 

@@ -1,4 +1,4 @@
--- What is kept after each sign.
+-- What is kept after a set and after a quantifier.
 use Rattle.std.proofs.Common.{◌≡◌, ℕ, Bool, List, [], ◌∷◌, map, Option, Some, None, option_map, refl, sym, ap, ◌∙◌}
 use Rattle.std.proofs.lemmas.Option.{none-some, same_Some}
 use Rattle.ts_pattern.specs.declared.item.CharSet.{CharSet}
@@ -21,46 +21,6 @@ taken_set ignore_case chars ranges level l part outer h hp law = (
   (ranges, refl, h),
   λ p k hl ho. (ap (λ (x : Level). Some x) (law p (set ranges) hl hp), ho),
 )
-
-pub taken_open : (ignore_case : Bool) (level l : Level) (outer round : List Level) → l ≡ level_of (only empty) → round ≡ level ∷ outer →
-    IsTaken ignore_case sign.Open level outer (Some l) round
-taken_open ignore_case level l outer round h g = (
-  opening,
-  refl,
-  λ p k hl ho. (ap (λ (x : Level). Some x) h, g ∙ ap (λ (x : Level). x ∷ outer) hl ∙ ap (λ (xs : List Level). level_of p ∷ xs) ho),
-)
-
-abbrev head_or : Level → List Level → Level
-head_or d [] = d
-head_or d (x ∷ xs) = x
-
-abbrev rest_of : List Level → List Level
-rest_of [] = []
-rest_of (x ∷ xs) = xs
-
-closes : (p : Pattern) (k : List Pattern) (l q : Level) (round : List Level) → q ∷ round ≡ map level_of k →
-    ((r : Pattern) → q ≡ level_of r → l ≡ level_of (plus r (once (group p)))) → Follows (closed p k) (Some l) round
-closes p [] l q round e law = absurd (nil_cons q round (sym e))
-closes p (r ∷ k) l q round e law = (ap (λ (x : Level). Some x) (law r (ap (head_or q) e)), ap rest_of e)
-
-pub taken_close : (ignore_case : Bool) (level l q : Level) (part : Part) (outer round : List Level) → outer ≡ q ∷ round →
-    ((p : Pattern) → level ≡ level_of p → part ≡ part_of (group p)) → Extends q part l → IsTaken ignore_case sign.Close level outer (Some l) round
-taken_close ignore_case level l q part outer round e groups law = (
-  closing,
-  refl,
-  λ p k hl ho. closes p k l q round (sym e ∙ ho) (λ r h. law r (group p) h (groups p hl)),
-)
-
-halts : (p : Pattern) (k : List Pattern) (round : List Level) → [] ≡ map level_of k → Follows (closed p k) None round
-halts p [] round e = refl
-halts p (q ∷ k) round e = absurd (nil_cons (level_of q) (map level_of k) e)
-
-pub taken_none : (ignore_case : Bool) (level : Level) (outer round : List Level) → outer ≡ [] → IsTaken ignore_case sign.Close level outer None round
-taken_none ignore_case level outer round e = (closing, refl, λ p k hl ho. halts p k round (sym e ∙ ho))
-
-pub taken_bar : (ignore_case : Bool) (level l : Level) (outer : List Level) → ((p : Pattern) → level ≡ level_of p → l ≡ level_of (or p empty)) →
-    IsTaken ignore_case sign.Bar level outer (Some l) outer
-taken_bar ignore_case level l outer law = (bar, refl, λ p k hl ho. (ap (λ (x : Level). Some x) (law p hl), ho))
 
 follows : (o : Option Pattern) (k : List Pattern) (r : Option Level) (outer : List Level) → IsTimes o r → outer ≡ map level_of k → Follows (option_map (with_rest k) o) r outer
 follows None k r outer g h = g

@@ -15,6 +15,28 @@ Text = List ℕ
 abbrev pub ending : ℕ
 ending = 0x110000
 
+-- the signs that more than one rule names
+abbrev pub hyphen : ℕ
+hyphen = 45
+
+abbrev pub question : ℕ
+question = 63
+
+abbrev pub open_bracket : ℕ
+open_bracket = 91
+
+abbrev pub backslash : ℕ
+backslash = 92
+
+abbrev pub close_bracket : ℕ
+close_bracket = 93
+
+abbrev pub open_brace : ℕ
+open_brace = 123
+
+abbrev pub close_brace : ℕ
+close_brace = 125
+
 -- the code of the character at a place
 abbrev pub peek : Text → ℕ → ℕ
 peek w i = slice_index_or w i ending

@@ -10,16 +10,16 @@ use Rattle.ts_pattern.specs.declared.item.Item.{Item}
 use Rattle.ts_pattern.specs.declared.item.CharSet.{CharSet}
 use Rattle.ts_pattern.specs.declared.item.Mark.{Mark}
 use Rattle.ts_pattern.specs.declared.item.Mark.TheVariants.{Char, Class, Join}
-use Rattle.ts_pattern.specs.Characters.{Text, ending, peek}
+use Rattle.ts_pattern.specs.Characters.{Text, ending, hyphen, backslash, close_bracket, peek}
 use Rattle.ts_pattern.specs.Escapes.{escape, is_class_escape}
 
 -- the `-` here is itself; `opens` says that a class escape or the class's beginning stands before it
 abbrev pub is_itself : Text → Bool → ℕ → Bool
-is_itself w opens i = opens || (peek w (i + 1) == 93) || is_class_escape w (i + 1)
+is_itself w opens i = opens || (peek w (i + 1) == close_bracket) || is_class_escape w (i + 1)
 
-abbrev pub hyphen : Text → Bool → ℕ → Sight Mark
-hyphen w opens i =
-    if is_itself w opens i then Sees (Char 45) (i + 1)
+abbrev pub hyphen_mark : Text → Bool → ℕ → Sight Mark
+hyphen_mark w opens i =
+    if is_itself w opens i then Sees (Char hyphen) (i + 1)
     else if peek w (i + 1) == ending then Wrong Syntax (i + 1)
     else Sees Join (i + 1)
 
@@ -27,8 +27,8 @@ hyphen w opens i =
 abbrev pub mark : Text → Bool → ℕ → Sight Mark
 mark w opens i =
     let c = peek w i in
-    if c == 92 then escape w i
-    else if c == 45 then hyphen w opens i
+    if c == backslash then escape w i
+    else if c == hyphen then hyphen_mark w opens i
     else if c == ending then Wrong Syntax i
     else Sees (Char c) (i + 1)
 
@@ -37,7 +37,7 @@ one base = record { base = base; lacking = false }
 
 -- a `-` that joins stands here
 abbrev pub is_joined : Text → ℕ → Bool
-is_joined w i = (peek w i == 45) && not (is_itself w false i) && not (peek w (i + 1) == ending)
+is_joined w i = (peek w i == hyphen) && not (is_itself w false i) && not (peek w (i + 1) == ending)
 
 -- the range from c, which stands at i, to what stands at k
 abbrev pub range_to : ℕ → ℕ → ℕ → Sight Mark → Sight Item
@@ -66,7 +66,7 @@ is_class (Property s) = true
 -- from place i to place j stand these items, and no bracket closes before them
 abbrev pub Items : Text → Bool → ℕ → List Item → ℕ → Type 0
 Items w opens i [] j = i ≡ j
-Items w opens i (x ∷ xs) j = (k : ℕ) × ((peek w i == 93) ≡ false) × (item w opens i ≡ Sees x k) × Items w (is_class x.base) k xs j
+Items w opens i (x ∷ xs) j = (k : ℕ) × ((peek w i == close_bracket) ≡ false) × (item w opens i ≡ Sees x k) × Items w (is_class x.base) k xs j
 
 -- whether a `-` that follows the items is itself for what stands before it
 abbrev pub opens_after : Bool → List Item → Bool
@@ -82,17 +82,17 @@ inside w i = if is_inverted w i then i + 2 else i + 1
 
 -- a class of these items, of which at least one is written
 abbrev pub IsClass : Text → ℕ → List Item → ℕ → Type 0
-IsClass w i xs j = (k : ℕ) × ((peek w (inside w i) == 93) ≡ false) × Items w true (inside w i) xs k × (peek w k ≡ 93) × (j ≡ k + 1)
+IsClass w i xs j = (k : ℕ) × ((peek w (inside w i) == close_bracket) ≡ false) × Items w true (inside w i) xs k × (peek w k ≡ close_bracket) × (j ≡ k + 1)
 
 -- the items go on with nothing that may stand there
 abbrev pub IsWrongItem : Text → ℕ → Flaw → ℕ → Type 0
-IsWrongItem w i flaw p = (xs : List Item) × (k : ℕ) × Items w true (inside w i) xs k × ((peek w k == 93) ≡ false) × (item w (opens_after true xs) k ≡ Wrong flaw p)
+IsWrongItem w i flaw p = (xs : List Item) × (k : ℕ) × Items w true (inside w i) xs k × ((peek w k == close_bracket) ≡ false) × (item w (opens_after true xs) k ≡ Wrong flaw p)
 
 -- no class: nothing is written in it, or an item is wrong
 abbrev pub IsWrongClass : Text → ℕ → Flaw → ℕ → Type 0
 IsWrongClass w i flaw p =
-    (((peek w (inside w i) == 93) ≡ true) × (flaw ≡ EmptyClass) × (p ≡ i))
-    ⊎ (((peek w (inside w i) == 93) ≡ false) × IsWrongItem w i flaw p)
+    (((peek w (inside w i) == close_bracket) ≡ true) × (flaw ≡ EmptyClass) × (p ≡ i))
+    ⊎ (((peek w (inside w i) == close_bracket) ≡ false) × IsWrongItem w i flaw p)
 
 -- what is seen is a class with its flag, and what is wrong is none
 abbrev pub IsClassSight : Text → ℕ → Sight CharSet → Type 0

@@ -14,7 +14,7 @@ use Rattle.ts_pattern.specs.declared.item.Mark.{Mark}
 use Rattle.ts_pattern.specs.declared.item.Mark.TheVariants.{Char, Class}
 use Rattle.ts_pattern.specs.declared.property.Table.{Table}
 use Rattle.ts_pattern.specs.declared.property.Table.TheVariants.{Any, Category, Script}
-use Rattle.ts_pattern.specs.Characters.{Text, ending, peek, spells, run, number, is_hex, is_name_char, is_scalar}
+use Rattle.ts_pattern.specs.Characters.{Text, ending, open_brace, close_brace, backslash, peek, spells, run, number, is_hex, is_name_char, is_scalar}
 
 -- `\d \w \s`, and `\D \W \S` for the characters that are none of them
 abbrev pub shorthand : ℕ → Option Item
@@ -50,10 +50,10 @@ fixed_code w i n = if nat_le n (run is_hex w (i + 2)) then coded i (number 16 w 
 -- `\u{H}` with this many digits
 abbrev pub braced_code : Text → ℕ → ℕ → Sight Mark
 braced_code w i n =
-    if nat_le 1 n && nat_le n 6 && (peek w (i + 3 + n) == 125) then coded i (number 16 w (i + 3) n) (i + 4 + n) else Wrong Syntax i
+    if nat_le 1 n && nat_le n 6 && (peek w (i + 3 + n) == close_brace) then coded i (number 16 w (i + 3) n) (i + 4 + n) else Wrong Syntax i
 
 abbrev pub unicode_code : Text → ℕ → Sight Mark
-unicode_code w i = if peek w (i + 2) == 123 then braced_code w i (run is_hex w (i + 3)) else fixed_code w i 4
+unicode_code w i = if peek w (i + 2) == open_brace then braced_code w i (run is_hex w (i + 3)) else fixed_code w i 4
 
 -- the set with this name, in the form in which names are compared: a general category, a script, or a binary property
 abbrev pub named : Table → List ℕ → Option Set
@@ -77,7 +77,7 @@ found i lacking j (Some s) = Sees (Class (record { base = Property s; lacking = 
 -- `\p{N}` whose N, of these tables, is the n characters from k on
 abbrev pub braced_name : Text → ℕ → Bool → Table → ℕ → ℕ → Sight Mark
 braced_name w i lacking table k n =
-    if nat_le 1 n && (peek w (k + n) == 125) then found i lacking (k + n + 1) (named table (normalize (take n (drop k w)))) else Wrong Syntax i
+    if nat_le 1 n && (peek w (k + n) == close_brace) then found i lacking (k + n + 1) (named table (normalize (take n (drop k w)))) else Wrong Syntax i
 
 -- `\pN`
 abbrev pub short_name : Text → ℕ → Bool → Sight Mark
@@ -86,7 +86,7 @@ short_name w i lacking =
 
 abbrev pub property : Text → ℕ → Bool → Sight Mark
 property w i lacking =
-    if peek w (i + 2) == 123 then (
+    if peek w (i + 2) == open_brace then (
       let k = i + 3 + (prefix w (i + 3)).1 in
       braced_name w i lacking (prefix w (i + 3)).0 k (run is_name_char w k)
     ) else short_name w i lacking
@@ -110,4 +110,4 @@ escape w i =
 abbrev pub is_class_escape : Text → ℕ → Bool
 is_class_escape w i =
     let c = peek w (i + 1) in
-    (peek w i == 92) && ((c == 100) || (c == 119) || (c == 115) || (c == 68) || (c == 87) || (c == 83) || (c == 112) || (c == 80))
+    (peek w i == backslash) && ((c == 100) || (c == 119) || (c == 115) || (c == 68) || (c == 87) || (c == 83) || (c == 112) || (c == 80))

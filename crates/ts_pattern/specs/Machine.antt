@@ -1,11 +1,12 @@
 -- How the reader goes on, token for token, for private clauses: what it keeps of the patterns that are open, the innermost first.
-use Rattle.std.specs.Prelude.{◌≡◌, ℕ, ◌+◌, min, Bool, true, false, nat_lt, List, [], ◌∷◌, ◌++◌, map, option_map, option_and_then, Option, Some, None, ⊤, if◌then◌else◌}
+use Rattle.std.specs.Prelude.{◌≡◌, ℕ, ◌+◌, Bool, true, false, nat_lt, List, [], ◌∷◌, ◌++◌, map, option_map, option_and_then, Option, Some, None, ⊤, if◌then◌else◌}
 use Rattle.ts_core.specs.declared.re.Re.{Re}
 use Rattle.ts_core.specs.declared.re.Re.TheVariants as re
 use Rattle.ts_pattern.specs.declared.level.Level.{Level}
 use Rattle.ts_pattern.specs.declared.level.Part.{Part}
 use Rattle.ts_pattern.specs.declared.level.Finished.{Finished}
 use Rattle.ts_pattern.specs.declared.level.Finished.TheVariants.{Whole, Over}
+use Rattle.ts_pattern.specs.Limits.{most_nested, stopped_nesting, stopped_positions}
 use Rattle.ts_pattern.specs.Trees.{Token, one_of, opening, closing, bar, quantifier, Pattern, only, or, Branch, empty, more, Piece, once, times, Atom, set, group, joined, chosen, re_of, passed_limit, nesting, atom_nesting, greatest, atom_greatest, positions, branch_positions, piece_positions, atom_positions}
 
 -- the pattern that is open, and those round it
@@ -71,7 +72,7 @@ abbrev mutual
 
   pub built_atom : Atom → Re
   built_atom (set ranges) = re.Set ranges
-  built_atom (group p) = if nat_lt 200 (nesting p + 1) then re.Empty else chosen (built_branches p)
+  built_atom (group p) = if nat_lt most_nested (nesting p + 1) then re.Empty else chosen (built_branches p)
 
 abbrev pub built_before : Pattern → List Re
 built_before (only b) = []
@@ -99,15 +100,15 @@ abbrev pub level_of : Pattern → Level
 level_of p = record {
   branches = built_before p;
   pieces = built_pieces (last_branch p);
-  nesting = min 201 (nesting p);
+  nesting = stopped_nesting (nesting p);
   greatest = greatest p;
-  earlier = min 8193 (earlier p);
-  latest = min 8193 (branch_latest (last_branch p));
+  earlier = stopped_positions (earlier p);
+  latest = stopped_positions (branch_latest (last_branch p));
   repeatable = is_repeatable (last_branch p);
 }
 
 abbrev pub part_of : Atom → Part
-part_of a = record { re = built_atom a; nesting = min 201 (atom_nesting a); greatest = atom_greatest a; positions = min 8193 (atom_positions a) }
+part_of a = record { re = built_atom a; nesting = stopped_nesting (atom_nesting a); greatest = atom_greatest a; positions = stopped_positions (atom_positions a) }
 
 -- what is kept after a token: nothing where it cannot stand there
 abbrev pub Follows : Option Open → Option Level → List Level → Type 0

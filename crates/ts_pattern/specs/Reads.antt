@@ -9,7 +9,7 @@ use Rattle.ts_pattern.specs.declared.sight.Flaw.{Flaw}
 use Rattle.ts_pattern.specs.declared.sight.Flaw.TheVariants.{Syntax, Unsupported, EmptyClass, UnknownProperty}
 use Rattle.ts_pattern.specs.declared.sign.Sign.{Sign}
 use Rattle.ts_pattern.specs.declared.sign.Sign.TheVariants as sign
-use Rattle.ts_pattern.specs.Characters.{Text, peek}
+use Rattle.ts_pattern.specs.Characters.{Text, question, peek}
 use Rattle.ts_pattern.specs.Sets.{InSet, AreRangesOf}
 use Rattle.ts_pattern.specs.Signs.{IsSign, IsNoSign}
 use Rattle.ts_pattern.specs.Trees.{Token, one_of, opening, closing, bar, quantifier, Pattern, spelling, re_of, passed_limit}
@@ -56,8 +56,11 @@ ends_quantified before [] = before
 ends_quantified before (t ∷ ts) = ends_quantified (is_quantifier t) ts
 
 -- A token that no pattern has there is a fault of syntax, but for the `?` of a lazy form.
+abbrev pub flaw_at : Bool → ℕ → Flaw
+flaw_at quantified code = if quantified && (code == question) then Unsupported else Syntax
+
 abbrev pub misplaced : List Token → Text → ℕ → Flaw
-misplaced ts w i = if ends_quantified false ts && (peek w i == 63) then Unsupported else Syntax
+misplaced ts w i = flaw_at (ends_quantified false ts) (peek w i)
 
 -- The tokens ts lead to place i, and what stands there is no token.
 -- Or it is one that no pattern has after them. Or the text ends there, and they are no pattern.

@@ -1,6 +1,7 @@
 -- The trees of patterns, the tokens that spell them, and what they stand for.
 use Rattle.std.specs.Prelude.{ℕ, suc, ◌+◌, ◌*◌, max, nat_lt, List, [], ◌∷◌, ◌++◌, Option, Some, None, if◌then◌else◌}
 use Rattle.ts_core.specs.declared.re.Re.{Re}
+use Rattle.ts_pattern.specs.Limits.{most_nested, most_counted, most_positions}
 use Rattle.ts_core.specs.declared.re.Re.TheVariants as re
 
 -- what a sign stands for: its set by its ranges
@@ -146,9 +147,9 @@ abbrev mutual
 -- the limit that such a nesting, such a count or so many positions pass
 abbrev pub limit_passed : ℕ → ℕ → ℕ → Option ℕ
 limit_passed nests counts places =
-    if nat_lt 200 nests then Some 200
-    else if nat_lt 65535 counts then Some 65535
-    else if nat_lt 8192 places then Some 8192
+    if nat_lt most_nested nests then Some most_nested
+    else if nat_lt most_counted counts then Some most_counted
+    else if nat_lt most_positions places then Some most_positions
     else None
 
 -- the limit that the pattern passes, where it passes one

@@ -1,7 +1,7 @@
 //! Classes: from an opening bracket to the items up to the closing one.
 ghost use Rattle.std.specs.Prelude.{◌≡◌, ◌≢◌, false, ◌≤◌, ◌<◌, ◌+◌, IfOk, length};
-ghost use Rattle.ts_pattern.specs.Characters.{peek, IsWithin};
-ghost use Rattle.ts_pattern.specs.Classes.{is_itself, hyphen, mark, is_joined, range_to, item_from, item, is_class, inside, IsClassSight};
+ghost use Rattle.ts_pattern.specs.Characters.{close_bracket, peek, IsWithin};
+ghost use Rattle.ts_pattern.specs.Classes.{is_itself, hyphen_mark, mark, is_joined, range_to, item_from, item, is_class, inside, IsClassSight};
 
 use crate::chars::{BACKSLASH, CARET, CLOSE_BRACKET, ENDING, HYPHEN, peek};
 use crate::escape::{escape, is_class_escape};
@@ -18,9 +18,9 @@ fn is_itself(text: &[char], opens: bool, at: usize) -> bool
     opens || peek(text, at + 1) == CLOSE_BRACKET || is_class_escape(text, at + 1)
 }
 
-fn hyphen(text: &[char], opens: bool, at: usize) -> Sight<Mark>
+fn hyphen_mark(text: &[char], opens: bool, at: usize) -> Sight<Mark>
     requires { at < length text.now }
-    ensures value { result ≡ hyphen text.now opens at }
+    ensures value { result ≡ hyphen_mark text.now opens at }
     ensures within { IsWithin text.now at result }
 {
     if is_itself(text, opens, at) {
@@ -44,7 +44,7 @@ fn mark(
 {
     match peek(text, at) {
         BACKSLASH => escape(alloc, text, at),
-        HYPHEN => Ok(hyphen(text, opens, at)),
+        HYPHEN => Ok(hyphen_mark(text, opens, at)),
         ENDING => Ok(Sight::Wrong(Flaw::Syntax, at)),
         code => Ok(Sight::Sees(Mark::Char(code), at + 1)),
     }
@@ -156,7 +156,7 @@ fn items(
     requires after { at < start }
     requires within { start ≤ length text.now }
     requires inside { start ≡ inside text.now at }
-    requires some { peek text.now start ≢ 93 }
+    requires some { peek text.now start ≢ close_bracket }
     ensures value { IfOk result (IsClassSight text.now at) }
     ensures within { IfOk result (IsWithin text.now at) }
 {

@@ -1,6 +1,7 @@
 //! Patterns that are open: from parts, bars and quantifiers to a regular expression and its measures.
 ghost use Rattle.std.specs.Prelude.{◌≡◌, ◌≤◌, ◌*◌, ◌+◌, ℕ, min, max, nat_lt, [], ◌∷◌, ◌++◌, Option, None, Some, IfOk, if◌then◌else◌};
 ghost use Rattle.ts_pattern.specs.Trees.{Pattern, Atom, set, group, once, or, only, empty, joined, chosen, factor, greater_count, nesting, limit_passed};
+ghost use Rattle.ts_pattern.specs.Limits.{stopped_nesting, stopped_positions};
 ghost use Rattle.ts_pattern.specs.Machine.{plus, times_last, last_branch, built_before, built_pieces, built_atom, level_of, part_of, IsTimes, IsFinish};
 
 use crate::limits::{MOST_COUNTED, MOST_NESTED, MOST_POSITIONS};
@@ -81,14 +82,16 @@ fn factor(least: u32, most: Option<u32>) -> u32
 
 /// So many positions so many times, up to one more than are allowed.
 fn multiplied(positions: u32, factor: u32) -> u32
-    ensures { (n : ℕ) → positions ≡ min 8193 n → result ≡ min 8193 (n * factor) }
+    ensures { (n : ℕ) → positions ≡ stopped_positions n
+        → result ≡ stopped_positions (n * factor) }
 {
     let most = MOST_POSITIONS + 1;
     (positions.min(most) * factor.min(most)).min(most)
 }
 
 fn added(positions: u32, others: u32) -> u32
-    ensures { (n k : ℕ) → positions ≡ min 8193 n → others ≡ min 8193 k → result ≡ min 8193 (n + k) }
+    ensures { (n k : ℕ) → positions ≡ stopped_positions n → others ≡ stopped_positions k
+        → result ≡ stopped_positions (n + k) }
 {
     let most = MOST_POSITIONS + 1;
     (positions.min(most) + others.min(most)).min(most)
@@ -97,7 +100,7 @@ fn added(positions: u32, others: u32) -> u32
 /// The expression of a group that nests so deep, up to one more than is allowed.
 fn grouped(branches: List<Re>, pieces: List<Re>, depth: u32) -> Result<Re, AllocError>
     ensures { IfOk result (λ r. (p : Pattern) → branches ≡ built_before p
-        → pieces ≡ built_pieces (last_branch p) → depth ≡ min 201 (nesting p + 1)
+        → pieces ≡ built_pieces (last_branch p) → depth ≡ stopped_nesting (nesting p + 1)
         → r ≡ built_atom (group p)) }
 {
     if depth > MOST_NESTED {

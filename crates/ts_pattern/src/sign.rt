@@ -1,7 +1,7 @@
 //! Signs: what a pattern is written with, one sign after another.
-ghost use Rattle.std.specs.Prelude.{◌≡◌, ◌≤◌, ◌<◌, ◌+◌, ◌^◌, true, false, length, IfOk};
+ghost use Rattle.std.specs.Prelude.{◌≡◌, ◌≤◌, ◌<◌, ◌+◌, ◌^◌, length, IfOk};
 ghost use Rattle.ts_pattern.specs.Characters.{IsWithin, run, is_decimal};
-ghost use Rattle.ts_pattern.specs.Signs.{count, set_of, char, brace, two_counts, counts, opened, escaped, plain, bracketed, IsSight};
+ghost use Rattle.ts_pattern.specs.Signs.{count, set_of, char, dot, brace, two_counts, counts, opened, escaped, plain, bracketed, IsSight};
 
 use crate::chars::{
     BACKSLASH, BAR, CARET, CLOSE, CLOSE_BRACE, COLON, COMMA, DOLLAR, DOT, NEWLINE, OPEN, OPEN_BRACE,
@@ -149,8 +149,7 @@ fn escaped(alloc: Global, at: usize, mark: Sight<Mark>) -> Result<Sight<Sign>, A
 }
 
 fn dot(alloc: Global) -> Result<Sign, AllocError>
-    ensures { IfOk result
-        (λ s. s ≡ set_of true (record { base = Base.Range 10 10; lacking = false })) }
+    ensures { IfOk result (λ s. s ≡ dot) }
 {
     let base = Base::Range(NEWLINE, NEWLINE);
     let lacking = false;

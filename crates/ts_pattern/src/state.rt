@@ -1,7 +1,7 @@
 //! The walk over the signs of a text, with the open patterns on a stack of its own.
 ghost use Rattle.std.specs.Prelude.{◌≡◌, ◌<◌, ◌==◌, ◌&&◌, length, IfOk, if◌then◌else◌};
 ghost use Rattle.ts_pattern.specs.Trees.{Token};
-ghost use Rattle.ts_pattern.specs.Reads.{Means, is_quantifier, IsOutcome};
+ghost use Rattle.ts_pattern.specs.Reads.{Means, is_quantifier, flaw_at, IsOutcome};
 ghost use Rattle.ts_pattern.specs.States.{IsTaken, IsState, IsTurn};
 
 use crate::chars::{QUESTION, peek};
@@ -71,7 +71,7 @@ fn take(
 
 /// The flaw of a sign that cannot stand where it is.
 fn misplaced(quantified: bool, code: u32) -> Flaw
-    ensures { result ≡ (if quantified && (code == 63) then Flaw.Unsupported else Flaw.Syntax) }
+    ensures { result ≡ flaw_at quantified code }
 {
     if quantified && code == QUESTION {
         Flaw::Unsupported
