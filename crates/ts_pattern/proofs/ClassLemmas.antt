@@ -1,20 +1,14 @@
 -- Classes, item for item, and the signs that they are.
-use Rattle.std.proofs.Common.{◌≡◌, ◌≢◌, ℕ, ◌+◌, ◌<◌, ◌≤◌, Bool, true, false, ◌==◌, nat_le, List, [], ◌∷◌, ◌++◌, length, refl, sym, ap, subst, ◌∙◌, arith, inl, inr, if◌then◌else◌}
-use Rattle.std.proofs.lemmas.Bool.{ne_eqb, eq-eqb, cond-true, cond-false}
+use Rattle.std.proofs.Common.{◌≡◌, ◌≢◌, ℕ, ◌<◌, Bool, true, List, [], ◌∷◌, ◌++◌, length, refl, sym, ap, subst, ◌∙◌, inl, inr}
+use Rattle.std.proofs.lemmas.Bool.{ne_eqb}
 use Rattle.ts_pattern.specs.declared.sight.Flaw.{Flaw}
-use Rattle.ts_pattern.specs.declared.sight.Flaw.TheVariants.{Syntax, EmptyClass}
 use Rattle.ts_pattern.specs.declared.sight.Sight.{Sight}
 use Rattle.ts_pattern.specs.declared.sight.Sight.TheVariants.{Sees, Wrong}
 use Rattle.ts_pattern.specs.declared.item.Item.{Item}
-use Rattle.ts_pattern.specs.declared.item.CharSet.{CharSet}
-use Rattle.ts_pattern.specs.declared.item.Mark.{Mark}
-use Rattle.ts_pattern.specs.declared.item.Mark.TheVariants.{Char, Class, Join}
-use Rattle.ts_pattern.specs.declared.item.Base.TheVariants.{Range}
 use Rattle.ts_pattern.specs.declared.sign.Sign.{Sign}
-use Rattle.ts_pattern.specs.declared.sign.Sign.TheVariants as sign
-use Rattle.ts_pattern.specs.Characters.{Text, peek, IsWithin}
-use Rattle.ts_pattern.specs.Classes.{Items, item, one, is_class, opens_after, is_inverted, inside, range_to, IsClassSight}
-use Rattle.ts_pattern.specs.Signs.{plain, bracketed, IsSight}
+use Rattle.ts_pattern.specs.Characters.{Text, peek}
+use Rattle.ts_pattern.specs.Classes.{Items, item, is_class, opens_after, inside, IsClassSight}
+use Rattle.ts_pattern.specs.Signs.{plain, IsSight}
 
 pub items_push : (w : Text) (xs : List Item) (o : Bool) (i j k : ℕ) (x : Item) → Items w o i xs j → peek w j ≢ 93 → item w (opens_after o xs) j ≡ Sees x k → Items w o i (xs ++ x ∷ []) k
 items_push w [] o i j k x g h e =

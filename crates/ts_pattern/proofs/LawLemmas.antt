@@ -1,5 +1,5 @@
 -- A source has one tree, or one fault.
-use Rattle.std.proofs.Common.{◌≡◌, ◌≢◌, ℕ, ◌+◌, ◌<◌, ◌⊎◌, Bool, List, [], ◌∷◌, ◌++◌, length, Option, Some, None, refl, sym, ap, subst, ◌∙◌, inl, inr, arith, chars, append-nil}
+use Rattle.std.proofs.Common.{◌≡◌, ◌≢◌, ℕ, ◌⊎◌, Bool, List, [], ◌∷◌, ◌++◌, length, Some, refl, sym, ap, subst, ◌∙◌, inl, inr, arith, chars, append-nil}
 use Rattle.std.proofs.lemmas.List.{append_assoc}
 use Rattle.std.proofs.lemmas.Option.{none-some, same_Some}
 use Rattle.ts_core.specs.declared.re.Re.{Re}
@@ -10,7 +10,7 @@ use Rattle.ts_pattern.specs.declared.sight.Flaw.TheVariants.{Syntax, Unsupported
 use Rattle.ts_pattern.specs.Characters.{Text}
 use Rattle.ts_pattern.specs.Signs.{IsNoSign}
 use Rattle.ts_pattern.specs.Trees.{Token, Pattern, spelling, re_of, passed_limit}
-use Rattle.ts_pattern.specs.Reads.{IsToken, Tokens, IsTree, Reads, Begins, GoesWrong, misplaced, Stops, IsFlawed, IsFault, bytes_before, fault_of}
+use Rattle.ts_pattern.specs.Reads.{IsToken, Tokens, IsTree, Reads, Begins, GoesWrong, Stops, IsFlawed, IsFault, bytes_before, fault_of}
 use Rattle.ts_pattern.proofs.MachineLemmas.{one_spelled}
 use Rattle.ts_pattern.proofs.TokenLemmas.{one_token, token_within, no_sign_within, sign_or_flaw, one_flaw}
 

@@ -1,13 +1,13 @@
 -- What is kept of an open pattern, after a piece, a bar, a quantifier and at its end.
-use Rattle.std.proofs.Common.{◌≡◌, ℕ, zero, suc, ◌+◌, ◌*◌, ◌<◌, ◌≤◌, min, max, Bool, true, false, nat_lt, List, [], ◌∷◌, ◌++◌, Option, Some, None, refl, sym, ap, ap₂, subst, ◌∙◌, arith, ◌⊎◌, inl, inr, if◌then◌else◌}
+use Rattle.std.proofs.Common.{◌≡◌, ℕ, ◌+◌, ◌≤◌, min, max, Bool, true, false, nat_lt, List, [], ◌∷◌, ◌++◌, Some, None, refl, sym, ap, ap₂, ◌∙◌, arith, inl, inr, if◌then◌else◌}
 use Rattle.std.proofs.lemmas.Bool.{cases_lt, cond-true, cond-false, lt-ltb, le-ltb}
 use Rattle.std.proofs.lemmas.Option.{none-some}
 use Rattle.ts_pattern.specs.declared.level.Level.{Level}
 use Rattle.ts_pattern.specs.declared.level.Part.{Part}
 use Rattle.ts_core.specs.declared.re.Re.{Re}
 use Rattle.ts_core.specs.declared.re.Re.TheVariants as re
-use Rattle.ts_pattern.specs.Trees.{Pattern, only, or, Branch, empty, more, Piece, once, times, Atom, set, group, joined, chosen, branches_of, pieces_of, piece_re, atom_re, re_of, nesting, branch_nesting, piece_nesting, atom_nesting, greatest, branch_greatest, piece_greatest, positions, branch_positions, piece_positions, factor, greater_count, limit_passed, passed_limit}
-use Rattle.ts_pattern.specs.Machine.{plus, last_branch, times_last, repeated, built_branches, built_pieces, built_piece, built_atom, built_before, earlier, branch_earlier, branch_latest, is_repeatable, level_of, part_of}
+use Rattle.ts_pattern.specs.Trees.{Pattern, only, or, Branch, empty, more, Piece, once, times, Atom, set, group, joined, chosen, branches_of, pieces_of, piece_re, atom_re, re_of, nesting, branch_nesting, piece_nesting, atom_nesting, greatest, piece_greatest, positions, piece_positions, limit_passed, passed_limit}
+use Rattle.ts_pattern.specs.Machine.{plus, last_branch, built_branches, built_pieces, built_piece, built_atom, built_before, earlier, branch_latest, is_repeatable, level_of, part_of}
 
 -- ---- numbers that stop
 

@@ -1,10 +1,10 @@
 -- Runs of characters, and the numbers that digits write.
-use Rattle.std.proofs.Common.{◌≡◌, ℕ, zero, suc, ◌+◌, ◌-◌, ◌*◌, ◌<◌, ◌≤◌, min, Bool, true, false, nat_lt, List, [], ◌∷◌, ◌++◌, length, take, drop, fold, get_or, refl, sym, ap, subst, ◌∙◌, arith, inl, inr, ◌⊎◌, take_all, length-take, get_or-take}
+use Rattle.std.proofs.Common.{◌≡◌, ℕ, zero, suc, ◌+◌, ◌-◌, ◌*◌, ◌<◌, ◌≤◌, Bool, true, false, nat_lt, List, [], ◌∷◌, ◌++◌, length, take, drop, fold, get_or, refl, sym, ap, subst, ◌∙◌, arith, inl, inr, ◌⊎◌, take_all, length-take, get_or-take}
 use Rattle.std.specs.List.{prefix_len}
 use Rattle.std.specs.Char.{digit_value}
 use Rattle.std.proofs.lemmas.Bool.{cases_lt, cond-true, cond-false, lt-ltb, le-ltb, ltb-true}
 use Rattle.std.proofs.lemmas.List.{take_more}
-use Rattle.ts_pattern.specs.Characters.{Text, peek, run, goes_on, is_decimal, value, padded_digit, AreDecimal}
+use Rattle.ts_pattern.specs.Characters.{Text, run, is_decimal, value, padded_digit, AreDecimal}
 
 -- ---- runs
 

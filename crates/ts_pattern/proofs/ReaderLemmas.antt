@@ -1,5 +1,5 @@
 -- What is read of a source, from what its characters are.
-use Rattle.std.proofs.Common.{◌≡◌, ◌≢◌, ◌⊎◌, ℕ, Bool, List, chars, Result, Ok, Err, IfOk, IfErr, IsErrAnd, refl, sym, ap, subst, ◌∙◌, inl, inr}
+use Rattle.std.proofs.Common.{◌≡◌, ◌≢◌, ◌⊎◌, ℕ, Bool, List, chars, Result, Ok, Err, IfOk, IfErr, IsErrAnd, refl, subst, inl, inr}
 use Rattle.ts_core.specs.declared.re.Re.{Re}
 use Rattle.ts_pattern.specs.declared.fault.PFault.{PFault}
 use Rattle.ts_pattern.specs.declared.fault.PFault.TheVariants.{Memory}

@@ -1,8 +1,8 @@
 -- Ranges and the characters that they have.
-use Rattle.std.proofs.Common.{◌≡◌, ◌≢◌, ◌↔◌, ℕ, ◌+◌, ◌<◌, ◌≤◌, ◌⊎◌, Bool, true, false, not, ◌&&◌, ◌||◌, ◌==◌, nat_le, List, [], ◌∷◌, ◌++◌, take, length, IfOk, Result, Ok, Err, slice_index_or, zero, suc, Contains, refl, sym, ap, ap₂, subst, ◌∙◌, true≢false, inl, inr, arith}
+use Rattle.std.proofs.Common.{◌≡◌, ◌≢◌, ℕ, ◌<◌, ◌≤◌, ◌⊎◌, Bool, true, false, not, ◌&&◌, ◌||◌, ◌==◌, nat_le, List, [], ◌∷◌, ◌++◌, length, IfOk, Result, Ok, Err, slice_index_or, zero, suc, Contains, refl, sym, ap, subst, ◌∙◌, true≢false, inl, inr, arith}
 use Rattle.std.proofs.lemmas.Bool.{cases_lt, eqb-true, eq-eqb, le-leb}
 use Rattle.std.proofs.lemmas.Bool.Decides.{nat_tests}
-use Rattle.ucd_case.specs.CaseFolding.{simple_fold, fold_pairs, IsFoldPairs}
+use Rattle.ucd_case.specs.CaseFolding.{fold_pairs, IsFoldPairs}
 use Rattle.ucd_case.specs.FoldOtherRows.{fold_other_rows}
 use Rattle.ucd_case.proofs.FoldPairsLemmas.{IsFoldPairs-fold_pairs}
 use Rattle.ucd_table.specs.Rows as table
@@ -11,7 +11,7 @@ use Rattle.regex_class.specs.declared.Class.{Class}
 use Rattle.regex_class.proofs.RangesLemmas.{in_ranges-above_max, in_ranges-append, in_ranges-nil, keys_rise_from, KeysRise-from_test}
 use Rattle.ts_pattern.specs.declared.item.Item.{Item}
 use Rattle.ts_pattern.specs.Characters.{is_scalar}
-use Rattle.ts_pattern.specs.Sets.{in_base, Folded, Unless, InItem, InUnion, InSet, AreRangesOf}
+use Rattle.ts_pattern.specs.Sets.{Folded, Unless, InItem, InUnion, InSet, AreRangesOf}
 use Rattle.ts_pattern.specs.Classify.{Have, in_folded, in_inverted, in_characters}
 use Rattle.ts_pattern.specs.declared.item.CharSet.{CharSet}
 
@@ -159,12 +159,12 @@ ranges_of rs us M canonical h g = record {
   canonical = canonical;
   members = λ c. (
     λ e.
-      let le = bounded us c canonical e in
-      let both = and_both (in_ranges rs c) (is_scalar c) (sym (h c le) ∙ e) in
-      (both.1, (g c le).0 both.0),
+        let le = bounded us c canonical e in
+        let both = and_both (in_ranges rs c) (is_scalar c) (sym (h c le) ∙ e) in
+        (both.1, (g c le).0 both.0),
     λ m.
-      let le = scalar_within c m.0 in
-      h c le ∙ and_of (in_ranges rs c) (is_scalar c) ((g c le).1 m.1) m.0,
+        let le = scalar_within c m.0 in
+        h c le ∙ and_of (in_ranges rs c) (is_scalar c) ((g c le).1 m.1) m.0,
   );
 }
 

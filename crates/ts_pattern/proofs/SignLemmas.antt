@@ -1,5 +1,5 @@
 -- A character that stands for itself.
-use Rattle.std.proofs.Common.{◌≡◌, ◌≢◌, ℕ, ◌+◌, Bool, true, false, ◌||◌, ◌==◌, refl, sym, ◌∙◌}
+use Rattle.std.proofs.Common.{◌≡◌, ◌≢◌, ℕ, ◌+◌, Bool, true, false, ◌||◌, ◌∙◌}
 use Rattle.std.proofs.lemmas.Bool.{cond-false, ne_eqb}
 use Rattle.ts_pattern.specs.declared.sight.Sight.TheVariants.{Sees}
 use Rattle.ts_pattern.specs.Characters.{Text, peek}

@@ -1,7 +1,6 @@
 -- What the reader knows after one more sign, and at the end.
-use Rattle.std.proofs.Common.{◌≡◌, ℕ, ◌+◌, ◌<◌, ◌≤◌, Bool, true, false, ◌==◌, ◌&&◌, List, [], ◌∷◌, ◌++◌, map, length, Option, Some, None, refl, sym, ap, ap₂, subst, ◌∙◌, arith, inl, inr, true≢false, if◌then◌else◌}
+use Rattle.std.proofs.Common.{◌≡◌, ℕ, ◌<◌, ◌≤◌, Bool, true, false, ◌==◌, ◌&&◌, List, [], ◌∷◌, ◌++◌, map, length, Option, Some, None, refl, sym, ap, subst, ◌∙◌, arith, inl, inr, true≢false, if◌then◌else◌}
 use Rattle.std.proofs.lemmas.Option.{none-some, same_Some}
-use Rattle.ts_core.specs.declared.re.Re.{Re}
 use Rattle.ts_pattern.specs.declared.sight.Flaw.{Flaw}
 use Rattle.ts_pattern.specs.declared.sight.Flaw.TheVariants.{Syntax, Unsupported}
 use Rattle.ts_pattern.specs.declared.sign.Sign.{Sign}
@@ -9,8 +8,8 @@ use Rattle.ts_pattern.specs.declared.level.Level.{Level}
 use Rattle.ts_pattern.specs.declared.state.State.{State}
 use Rattle.ts_pattern.specs.Characters.{Text, peek}
 use Rattle.ts_pattern.specs.Signs.{IsSign, IsNoSign}
-use Rattle.ts_pattern.specs.Trees.{Token, Pattern, spelling}
-use Rattle.ts_pattern.specs.Reads.{Means, IsToken, Tokens, IsTree, is_quantifier, ends_quantified, misplaced, Stops}
+use Rattle.ts_pattern.specs.Trees.{Token, Pattern}
+use Rattle.ts_pattern.specs.Reads.{Means, IsToken, Tokens, IsTree, is_quantifier, ends_quantified, Stops}
 use Rattle.ts_pattern.specs.Machine.{Open, step, run_from, start, level_of, Follows}
 use Rattle.ts_pattern.specs.States.{IsState}
 use Rattle.ts_pattern.proofs.MachineLemmas.{run_append, begins, stuck, unfinished, finished}

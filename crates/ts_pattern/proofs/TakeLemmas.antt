@@ -1,15 +1,13 @@
 -- What is kept after a set and after a quantifier.
-use Rattle.std.proofs.Common.{◌≡◌, ℕ, Bool, List, [], ◌∷◌, map, Option, Some, None, option_map, refl, sym, ap, ◌∙◌}
-use Rattle.std.proofs.lemmas.Option.{none-some, same_Some}
+use Rattle.std.proofs.Common.{◌≡◌, ℕ, Bool, List, map, Option, Some, None, option_map, refl, ap}
 use Rattle.ts_pattern.specs.declared.item.CharSet.{CharSet}
 use Rattle.ts_pattern.specs.declared.sign.Sign.TheVariants as sign
 use Rattle.ts_pattern.specs.declared.level.Level.{Level}
 use Rattle.ts_pattern.specs.declared.level.Part.{Part}
 use Rattle.ts_pattern.specs.Sets.{InSet, AreRangesOf}
-use Rattle.ts_pattern.specs.Trees.{Token, one_of, opening, closing, bar, quantifier, Pattern, only, or, empty, once, Atom, set, group}
-use Rattle.ts_pattern.specs.Machine.{Open, plus, times_last, closed, with_rest, step, level_of, part_of, Follows, IsTimes}
+use Rattle.ts_pattern.specs.Trees.{one_of, quantifier, Pattern, once, Atom, set}
+use Rattle.ts_pattern.specs.Machine.{plus, times_last, with_rest, level_of, part_of, Follows, IsTimes}
 use Rattle.ts_pattern.specs.States.{IsTaken}
-use Rattle.ts_pattern.proofs.StateLemmas.{nil_cons}
 
 abbrev pub Extends : Level → Part → Level → Type 0
 Extends level part l = (p : Pattern) (a : Atom) → level ≡ level_of p → part ≡ part_of a → l ≡ level_of (plus p (once a))

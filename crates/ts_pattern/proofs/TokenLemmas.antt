@@ -1,20 +1,19 @@
 -- At a place stands one token, or one flaw.
-use Rattle.std.proofs.Common.{◌≡◌, ℕ, ◌+◌, ◌<◌, ◌≤◌, ◌⊎◌, Bool, true, false, ◌==◌, List, [], ◌∷◌, ◌++◌, length, get_or, refl, sym, ap, subst, ◌∙◌, true≢false, inl, inr, arith}
+use Rattle.std.proofs.Common.{◌≡◌, ℕ, ◌+◌, ◌<◌, Bool, true, false, ◌==◌, List, [], ◌∷◌, length, refl, sym, ap, subst, ◌∙◌, true≢false, inl, inr, arith}
 use Rattle.std.proofs.lemmas.Bool.{cases_lt, eqb-true}
 use Rattle.std.proofs.lemmas.List.{get_or_past}
-use Rattle.regex_class.specs.Ranges.{in_ranges, HasExactly}
+use Rattle.regex_class.specs.Ranges.{in_ranges}
 use Rattle.regex_class.proofs.RangesLemmas.{same_members-same}
 use Rattle.ts_pattern.specs.declared.sight.Flaw.{Flaw}
 use Rattle.ts_pattern.specs.declared.sight.Sight.{Sight}
 use Rattle.ts_pattern.specs.declared.sight.Sight.TheVariants.{Sees, Wrong}
 use Rattle.ts_pattern.specs.declared.item.Item.{Item}
-use Rattle.ts_pattern.specs.declared.item.CharSet.{CharSet}
 use Rattle.ts_pattern.specs.declared.sign.Sign.{Sign}
 use Rattle.ts_pattern.specs.declared.sign.Sign.TheVariants as sign
 use Rattle.ts_pattern.specs.Characters.{Text, ending, peek}
-use Rattle.ts_pattern.specs.Classes.{Items, item, is_class, opens_after, is_inverted, inside, IsClass, IsWrongItem, IsWrongClass}
+use Rattle.ts_pattern.specs.Classes.{Items, item, is_class, opens_after, is_inverted, inside, IsClass, IsWrongClass}
 use Rattle.ts_pattern.specs.Sets.{InSet, AreRangesOf}
-use Rattle.ts_pattern.specs.Signs.{IsSign, IsNoSign, plain}
+use Rattle.ts_pattern.specs.Signs.{IsSign, IsNoSign}
 use Rattle.ts_pattern.specs.Trees.{Token, one_of}
 use Rattle.ts_pattern.specs.Reads.{Means, IsToken}
 

@@ -79,7 +79,8 @@ number radix w i n = value radix (take n (drop i w))
 -- the digit at a place of a number that is written with so many digits, zeros in front
 abbrev pub padded_digit : Text → ℕ → ℕ → ℕ
 padded_digit digits width i =
-    if nat_lt i (width - length digits) then 0 else digit_value (slice_index_or digits (i - (width - length digits)) 0)
+    if nat_lt i (width - length digits)
+    then 0 else digit_value (slice_index_or digits (i - (width - length digits)) 0)
 
 abbrev pub AreDecimal : Text → Type 0
 AreDecimal digits = (k : ℕ) → k < length digits → digit_value (slice_index_or digits k 0) < 10
@@ -88,7 +89,8 @@ AreDecimal digits = (k : ℕ) → k < length digits → digit_value (slice_index
 abbrev pub is_scalar : ℕ → Bool
 is_scalar c = nat_lt c 0xD800 || (nat_le 0xE000 c && nat_le c 0x10FFFF)
 
--- what is seen at place i ends after it, and what is wrong stands no earlier; both are within the text
+-- what is seen at place i ends after it, and what is wrong stands no earlier; both are within the
+-- text
 abbrev pub IsWithin : {T : Type 0} → Text → ℕ → Sight T → Type 0
 IsWithin w i (Sees x j) = (i < j) × (j ≤ length w)
 IsWithin w i (Wrong flaw p) = (i ≤ p) × (p ≤ length w)

@@ -1,4 +1,5 @@
--- What stands in a class, `[..]`: characters, ranges and escapes. A `-` is itself at either end and beside a class escape; else it joins two characters.
+-- What stands in a class, `[..]`: characters, ranges and escapes. A `-` is itself at either end
+-- and beside a class escape; else it joins two characters.
 use Rattle.std.specs.Prelude.{◌≡◌, ◌⊎◌, ℕ, ◌+◌, Bool, true, false, not, ◌&&◌, ◌||◌, ◌==◌, nat_le, List, [], ◌∷◌, if◌then◌else◌}
 use Rattle.ts_pattern.specs.declared.sight.Flaw.{Flaw}
 use Rattle.ts_pattern.specs.declared.sight.Flaw.TheVariants.{Syntax, EmptyClass}
@@ -13,7 +14,8 @@ use Rattle.ts_pattern.specs.declared.item.Mark.TheVariants.{Char, Class, Join}
 use Rattle.ts_pattern.specs.Characters.{Text, ending, hyphen, backslash, close_bracket, peek}
 use Rattle.ts_pattern.specs.Escapes.{escape, is_class_escape}
 
--- the `-` here is itself; `opens` says that a class escape or the class's beginning stands before it
+-- the `-` here is itself; `opens` says that a class escape or the class's beginning stands before
+-- it
 abbrev pub is_itself : Text → Bool → ℕ → Bool
 is_itself w opens i = opens || (peek w (i + 1) == close_bracket) || is_class_escape w (i + 1)
 
@@ -47,7 +49,8 @@ range_to i c k (Sees Join j) = Wrong Syntax k
 range_to i c k (Wrong flaw j) = Wrong flaw j
 
 abbrev pub item_from : Text → ℕ → Sight Mark → Sight Item
-item_from w i (Sees (Char c) j) = if is_joined w j then range_to i c (j + 1) (mark w false (j + 1)) else Sees (one (Range c c)) j
+item_from w i (Sees (Char c) j) =
+    if is_joined w j then range_to i c (j + 1) (mark w false (j + 1)) else Sees (one (Range c c)) j
 item_from w i (Sees (Class item) j) = Sees item j
 item_from w i (Sees Join j) = Wrong Syntax i
 item_from w i (Wrong flaw j) = Wrong flaw j
@@ -66,7 +69,11 @@ is_class (Property s) = true
 -- from place i to place j stand these items, and no bracket closes before them
 abbrev pub Items : Text → Bool → ℕ → List Item → ℕ → Type 0
 Items w opens i [] j = i ≡ j
-Items w opens i (x ∷ xs) j = (k : ℕ) × ((peek w i == close_bracket) ≡ false) × (item w opens i ≡ Sees x k) × Items w (is_class x.base) k xs j
+Items w opens i (x ∷ xs) j =
+    (k : ℕ)
+    × ((peek w i == close_bracket) ≡ false)
+    × (item w opens i ≡ Sees x k)
+    × Items w (is_class x.base) k xs j
 
 -- whether a `-` that follows the items is itself for what stands before it
 abbrev pub opens_after : Bool → List Item → Bool
@@ -82,11 +89,21 @@ inside w i = if is_inverted w i then i + 2 else i + 1
 
 -- a class of these items, of which at least one is written
 abbrev pub IsClass : Text → ℕ → List Item → ℕ → Type 0
-IsClass w i xs j = (k : ℕ) × ((peek w (inside w i) == close_bracket) ≡ false) × Items w true (inside w i) xs k × (peek w k ≡ close_bracket) × (j ≡ k + 1)
+IsClass w i xs j =
+    (k : ℕ)
+    × ((peek w (inside w i) == close_bracket) ≡ false)
+    × Items w true (inside w i) xs k
+    × (peek w k ≡ close_bracket)
+    × (j ≡ k + 1)
 
 -- the items go on with nothing that may stand there
 abbrev pub IsWrongItem : Text → ℕ → Flaw → ℕ → Type 0
-IsWrongItem w i flaw p = (xs : List Item) × (k : ℕ) × Items w true (inside w i) xs k × ((peek w k == close_bracket) ≡ false) × (item w (opens_after true xs) k ≡ Wrong flaw p)
+IsWrongItem w i flaw p =
+    (xs : List Item)
+    × (k : ℕ)
+    × Items w true (inside w i) xs k
+    × ((peek w k == close_bracket) ≡ false)
+    × (item w (opens_after true xs) k ≡ Wrong flaw p)
 
 -- no class: nothing is written in it, or an item is wrong
 abbrev pub IsWrongClass : Text → ℕ → Flaw → ℕ → Type 0

@@ -1,5 +1,6 @@
--- What a backslash and what follows it stand for. Each definition says what stands from place i on, where the backslash is.
-use Rattle.std.specs.Prelude.{ℕ, ◌+◌, Bool, true, false, ◌&&◌, ◌||◌, ◌==◌, nat_le, List, [], ◌∷◌, take, drop, Option, Some, None, if◌then◌else◌, codes}
+-- What a backslash and what follows it stand for. Each definition says what stands from place i
+-- on, where the backslash is.
+use Rattle.std.specs.Prelude.{ℕ, ◌+◌, Bool, true, false, ◌&&◌, ◌||◌, ◌==◌, nat_le, List, take, drop, Option, Some, None, if◌then◌else◌, codes}
 use Rattle.std.specs.Option.{option_or}
 use Rattle.std.specs.Char.{is_ascii_punctuation}
 use Rattle.ucd_sets.specs.declared.set.Set.{Set}
@@ -45,17 +46,23 @@ coded i c j = if is_scalar c then Sees (Char c) j else Wrong Syntax i
 
 -- `\xHH` and `\uHHHH`
 abbrev pub fixed_code : Text → ℕ → ℕ → Sight Mark
-fixed_code w i n = if nat_le n (run is_hex w (i + 2)) then coded i (number 16 w (i + 2) n) (i + 2 + n) else Wrong Syntax i
+fixed_code w i n =
+    if nat_le n (run is_hex w (i + 2))
+    then coded i (number 16 w (i + 2) n) (i + 2 + n) else Wrong Syntax i
 
 -- `\u{H}` with this many digits
 abbrev pub braced_code : Text → ℕ → ℕ → Sight Mark
 braced_code w i n =
-    if nat_le 1 n && nat_le n 6 && (peek w (i + 3 + n) == close_brace) then coded i (number 16 w (i + 3) n) (i + 4 + n) else Wrong Syntax i
+    if nat_le 1 n && nat_le n 6 && (peek w (i + 3 + n) == close_brace)
+    then coded i (number 16 w (i + 3) n) (i + 4 + n) else Wrong Syntax i
 
 abbrev pub unicode_code : Text → ℕ → Sight Mark
-unicode_code w i = if peek w (i + 2) == open_brace then braced_code w i (run is_hex w (i + 3)) else fixed_code w i 4
+unicode_code w i =
+    if peek w (i + 2) == open_brace
+    then braced_code w i (run is_hex w (i + 3)) else fixed_code w i 4
 
--- the set with this name, in the form in which names are compared: a general category, a script, or a binary property
+-- the set with this name, in the form in which names are compared: a general category, a script,
+-- or a binary property
 abbrev pub named : Table → List ℕ → Option Set
 named Any n = option_or (by_value (codes "gc") n) (option_or (by_value (codes "sc") n) (by_name n))
 named Category n = by_value (codes "gc") n
@@ -77,18 +84,22 @@ found i lacking j (Some s) = Sees (Class (record { base = Property s; lacking = 
 -- `\p{N}` whose N, of these tables, is the n characters from k on
 abbrev pub braced_name : Text → ℕ → Bool → Table → ℕ → ℕ → Sight Mark
 braced_name w i lacking table k n =
-    if nat_le 1 n && (peek w (k + n) == close_brace) then found i lacking (k + n + 1) (named table (normalize (take n (drop k w)))) else Wrong Syntax i
+    if nat_le 1 n && (peek w (k + n) == close_brace)
+    then found i lacking (k + n + 1) (named table (normalize (take n (drop k w))))
+    else Wrong Syntax i
 
 -- `\pN`
 abbrev pub short_name : Text → ℕ → Bool → Sight Mark
 short_name w i lacking =
-    if is_name_char (peek w (i + 2)) then found i lacking (i + 3) (named Any (normalize (take 1 (drop (i + 2) w)))) else Wrong Syntax i
+    if is_name_char (peek w (i + 2))
+    then found i lacking (i + 3) (named Any (normalize (take 1 (drop (i + 2) w))))
+    else Wrong Syntax i
 
 abbrev pub property : Text → ℕ → Bool → Sight Mark
 property w i lacking =
     if peek w (i + 2) == open_brace then (
-      let k = i + 3 + (prefix w (i + 3)).1 in
-      braced_name w i lacking (prefix w (i + 3)).0 k (run is_name_char w k)
+    let k = i + 3 + (prefix w (i + 3)).1 in
+    braced_name w i lacking (prefix w (i + 3)).0 k (run is_name_char w k)
     ) else short_name w i lacking
 
 abbrev pub short_escape : ℕ → ℕ → Option Item → Option ℕ → Sight Mark
@@ -110,4 +121,5 @@ escape w i =
 abbrev pub is_class_escape : Text → ℕ → Bool
 is_class_escape w i =
     let c = peek w (i + 1) in
-    (peek w i == backslash) && ((c == 100) || (c == 119) || (c == 115) || (c == 68) || (c == 87) || (c == 83) || (c == 112) || (c == 80))
+    (peek w i == backslash)
+    && ((c == 100) || (c == 119) || (c == 115) || (c == 68) || (c == 87) || (c == 83) || (c == 112) || (c == 80))

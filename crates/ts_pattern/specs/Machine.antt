@@ -1,5 +1,6 @@
--- How the reader goes on, token for token, for private clauses: what it keeps of the patterns that are open, the innermost first.
-use Rattle.std.specs.Prelude.{◌≡◌, ℕ, ◌+◌, Bool, true, false, nat_lt, List, [], ◌∷◌, ◌++◌, map, option_map, option_and_then, Option, Some, None, ⊤, if◌then◌else◌}
+-- How the reader goes on, token for token, for private clauses: what it keeps of the patterns
+-- that are open, the innermost first.
+use Rattle.std.specs.Prelude.{◌≡◌, ℕ, ◌+◌, Bool, true, false, nat_lt, List, [], ◌∷◌, ◌++◌, map, option_map, Option, Some, None, if◌then◌else◌}
 use Rattle.ts_core.specs.declared.re.Re.{Re}
 use Rattle.ts_core.specs.declared.re.Re.TheVariants as re
 use Rattle.ts_pattern.specs.declared.level.Level.{Level}
@@ -55,7 +56,8 @@ run_from (Some z) (t ∷ ts) = run_from (step z.0 z.1 t) ts
 abbrev pub start : Option Open
 start = Some (only empty, [])
 
--- ---- what is kept of an open pattern; below 200 groups nothing is kept, since such a pattern is refused
+-- ---- what is kept of an open pattern; below the limit on nesting nothing is kept, since such a pattern is
+-- refused
 
 abbrev mutual
   pub built_branches : Pattern → List Re
@@ -72,7 +74,8 @@ abbrev mutual
 
   pub built_atom : Atom → Re
   built_atom (set ranges) = re.Set ranges
-  built_atom (group p) = if nat_lt most_nested (nesting p + 1) then re.Empty else chosen (built_branches p)
+  built_atom (group p) =
+      if nat_lt most_nested (nesting p + 1) then re.Empty else chosen (built_branches p)
 
 abbrev pub built_before : Pattern → List Re
 built_before (only b) = []
@@ -108,7 +111,13 @@ level_of p = record {
 }
 
 abbrev pub part_of : Atom → Part
-part_of a = record { re = built_atom a; nesting = stopped_nesting (atom_nesting a); greatest = atom_greatest a; positions = stopped_positions (atom_positions a) }
+part_of a =
+    record {
+      re = built_atom a;
+      nesting = stopped_nesting (atom_nesting a);
+      greatest = atom_greatest a;
+      positions = stopped_positions (atom_positions a);
+    }
 
 -- what is kept after a token: nothing where it cannot stand there
 abbrev pub Follows : Option Open → Option Level → List Level → Type 0

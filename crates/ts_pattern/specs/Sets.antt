@@ -36,15 +36,18 @@ abbrev pub Unless : Bool → Type 0 → Type 0
 Unless false M = M
 Unless true M = M → ⊥
 
--- The character is one of the item's. The folding of a complement comes before it; all others come with the whole set.
+-- The character is one of the item's. The folding of a complement comes before it; all others
+-- come with the whole set.
 abbrev pub InItem : Bool → ℕ → Item → Type 0
-InItem ignore_case c item = Unless item.lacking (Folded (ignore_case && item.lacking) (λ d. in_base item.base d ≡ true) c)
+InItem ignore_case c item =
+    Unless item.lacking (Folded (ignore_case && item.lacking) (λ d. in_base item.base d ≡ true) c)
 
 abbrev pub InUnion : Bool → List Item → ℕ → Type 0
 InUnion ignore_case [] c = ⊥
 InUnion ignore_case (x ∷ xs) c = InItem ignore_case c x ⊎ InUnion ignore_case xs c
 
--- the set of these items: their characters with all that fold like them, or where it is inverted all others
+-- the set of these items: their characters with all that fold like them, or where it is inverted
+-- all others
 abbrev pub InSet : Bool → CharSet → ℕ → Type 0
 InSet ignore_case set c = Unless set.inverted (Folded ignore_case (InUnion ignore_case set.items) c)
 

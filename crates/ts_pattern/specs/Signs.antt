@@ -1,5 +1,6 @@
--- The signs that a pattern is written with, one after another. Each definition says what stands from place i on.
-use Rattle.std.specs.Prelude.{◌≡◌, ℕ, ◌+◌, ◌<◌, min, Bool, true, false, ◌||◌, ◌==◌, nat_lt, List, [], ◌∷◌, length, Option, Some, None, if◌then◌else◌, ◌⊎◌}
+-- The signs that a pattern is written with, one after another. Each definition says what stands
+-- from place i on.
+use Rattle.std.specs.Prelude.{◌≡◌, ℕ, ◌+◌, ◌<◌, min, Bool, true, false, ◌||◌, ◌==◌, nat_lt, List, [], ◌∷◌, length, Some, None, if◌then◌else◌, ◌⊎◌}
 use Rattle.ts_pattern.specs.declared.sight.Flaw.{Flaw}
 use Rattle.ts_pattern.specs.declared.sight.Flaw.TheVariants.{Syntax, Unsupported}
 use Rattle.ts_pattern.specs.declared.sight.Sight.{Sight}
@@ -39,23 +40,26 @@ brace i = Sees (char open_brace) (i + 1)
 abbrev pub two_counts : Text → ℕ → ℕ → ℕ → ℕ → Sight Sign
 two_counts w i n k m =
     if peek w (k + m) == close_brace then (
-      if m == 0 then Sees (sign.Times (count w (i + 1) n) None) (k + m + 1)
-      else if nat_lt (number 10 w k m) (number 10 w (i + 1) n) then Wrong Syntax i
-      else Sees (sign.Times (count w (i + 1) n) (Some (count w k m))) (k + m + 1)
+    if m == 0 then Sees (sign.Times (count w (i + 1) n) None) (k + m + 1)
+    else if nat_lt (number 10 w k m) (number 10 w (i + 1) n) then Wrong Syntax i
+    else Sees (sign.Times (count w (i + 1) n) (Some (count w k m))) (k + m + 1)
     ) else brace i
 
 -- `{n}` as well, whose digits are the n from i + 1 on
 abbrev pub counts : Text → ℕ → ℕ → Sight Sign
 counts w i n =
     if n == 0 then brace i
-    else if peek w (i + 1 + n) == close_brace then Sees (sign.Times (count w (i + 1) n) (Some (count w (i + 1) n))) (i + 2 + n)
-    else if peek w (i + 1 + n) == 44 then two_counts w i n (i + 2 + n) (run is_decimal w (i + 2 + n))
+    else if peek w (i + 1 + n) == close_brace
+    then Sees (sign.Times (count w (i + 1) n) (Some (count w (i + 1) n))) (i + 2 + n)
+    else if peek w (i + 1 + n) == 44
+    then two_counts w i n (i + 2 + n) (run is_decimal w (i + 2 + n))
     else brace i
 
 -- a group that begins `(?` but not `(?:` is not supported
 abbrev pub opened : Text → ℕ → Sight Sign
 opened w i =
-    if peek w (i + 1) == question then (if peek w (i + 2) == 58 then Sees sign.Open (i + 3) else Wrong Unsupported i)
+    if peek w (i + 1) == question
+    then (if peek w (i + 2) == 58 then Sees sign.Open (i + 3) else Wrong Unsupported i)
     else Sees sign.Open (i + 1)
 
 abbrev pub escaped : ℕ → Sight Mark → Sight Sign
@@ -85,11 +89,19 @@ abbrev pub bracketed : Sight CharSet → Sight Sign
 bracketed (Sees set j) = Sees (sign.Set set) j
 bracketed (Wrong flaw p) = Wrong flaw p
 
+-- from place i to place j stands a class, which is this sign
+abbrev pub IsBracketed : Text → ℕ → Sign → ℕ → Type 0
+IsBracketed w i s j =
+    ((peek w i == open_bracket) ≡ true)
+    × (xs : List Item)
+    × IsClass w i xs j
+    × (s ≡ sign.Set (record { inverted = is_inverted w i; items = xs }))
+
 -- from place i to place j stands this sign
 abbrev pub IsSign : Text → ℕ → Sign → ℕ → Type 0
 IsSign w i s j =
     (((peek w i == open_bracket) ≡ false) × (i < length w) × (plain w i ≡ Sees s j))
-    ⊎ (((peek w i == open_bracket) ≡ true) × (xs : List Item) × IsClass w i xs j × (s ≡ sign.Set (record { inverted = is_inverted w i; items = xs })))
+    ⊎ IsBracketed w i s j
 
 -- what stands at place i is no sign, for this flaw at place p
 abbrev pub IsNoSign : Text → ℕ → Flaw → ℕ → Type 0

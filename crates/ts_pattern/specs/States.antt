@@ -1,6 +1,5 @@
 -- What the reader knows between two signs, for private clauses.
-use Rattle.std.specs.Prelude.{◌≡◌, ℕ, ◌≤◌, ◌<◌, Bool, false, List, length, map, Option, Some}
-use Rattle.ts_pattern.specs.declared.outcome.Outcome.{Outcome}
+use Rattle.std.specs.Prelude.{◌≡◌, ◌≤◌, ◌<◌, Bool, false, List, length, map, Option, Some}
 use Rattle.ts_pattern.specs.declared.level.Level.{Level}
 use Rattle.ts_pattern.specs.declared.sign.Sign.{Sign}
 use Rattle.ts_pattern.specs.declared.state.State.{State}

@@ -1,5 +1,5 @@
 -- The trees of patterns, the tokens that spell them, and what they stand for.
-use Rattle.std.specs.Prelude.{ℕ, suc, ◌+◌, ◌*◌, max, nat_lt, List, [], ◌∷◌, ◌++◌, Option, Some, None, if◌then◌else◌}
+use Rattle.std.specs.Prelude.{ℕ, ◌+◌, ◌*◌, max, nat_lt, List, [], ◌∷◌, ◌++◌, Option, Some, None, if◌then◌else◌}
 use Rattle.ts_core.specs.declared.re.Re.{Re}
 use Rattle.ts_pattern.specs.Limits.{most_nested, most_counted, most_positions}
 use Rattle.ts_core.specs.declared.re.Re.TheVariants as re

@@ -7,22 +7,39 @@ ghost use Rattle.ts_pattern.specs.Characters.{ending, peek, passes, run, goes_on
 pub(crate) const ENDING: u32 = 0x11_0000;
 
 pub(crate) const BAR: u32 = '|' as u32;
+
 pub(crate) const BACKSLASH: u32 = '\\' as u32;
+
 pub(crate) const CARET: u32 = '^' as u32;
+
 pub(crate) const CLOSE: u32 = ')' as u32;
+
 pub(crate) const CLOSE_BRACE: u32 = '}' as u32;
+
 pub(crate) const CLOSE_BRACKET: u32 = ']' as u32;
+
 pub(crate) const COLON: u32 = ':' as u32;
+
 pub(crate) const COMMA: u32 = ',' as u32;
+
 pub(crate) const DOLLAR: u32 = '$' as u32;
+
 pub(crate) const DOT: u32 = '.' as u32;
+
 pub(crate) const HYPHEN: u32 = '-' as u32;
+
 pub(crate) const NEWLINE: u32 = '\n' as u32;
+
 pub(crate) const OPEN: u32 = '(' as u32;
+
 pub(crate) const OPEN_BRACE: u32 = '{' as u32;
+
 pub(crate) const OPEN_BRACKET: u32 = '[' as u32;
+
 pub(crate) const PLUS: u32 = '+' as u32;
+
 pub(crate) const QUESTION: u32 = '?' as u32;
+
 pub(crate) const STAR: u32 = '*' as u32;
 
 /// What the characters of a run have in common.

@@ -32,12 +32,7 @@ fn hyphen_mark(text: &[char], opens: bool, at: usize) -> Sight<Mark>
     }
 }
 
-fn mark(
-    alloc: Global,
-    text: &[char],
-    opens: bool,
-    at: usize,
-) -> Result<Sight<Mark>, AllocError>
+fn mark(alloc: Global, text: &[char], opens: bool, at: usize) -> Result<Sight<Mark>, AllocError>
     requires { at ≤ length text.now }
     ensures value { IfOk result (λ s. s ≡ mark text.now opens at) }
     ensures within { IfOk result (IsWithin text.now at) }
@@ -79,12 +74,7 @@ fn range_to(at: usize, first: u32, second: usize, mark: Sight<Mark>) -> Sight<It
     }
 }
 
-fn item(
-    alloc: Global,
-    text: &[char],
-    opens: bool,
-    at: usize,
-) -> Result<Sight<Item>, AllocError>
+fn item(alloc: Global, text: &[char], opens: bool, at: usize) -> Result<Sight<Item>, AllocError>
     requires { at ≤ length text.now }
     ensures value { IfOk result (λ s. s ≡ item text.now opens at) }
     ensures within { IfOk result (IsWithin text.now at) }
@@ -130,11 +120,7 @@ fn inside(text: &[char], at: usize) -> usize
 }
 
 /// The class whose bracket stands at a place.
-pub(crate) fn class(
-    alloc: Global,
-    text: &[char],
-    at: usize,
-) -> Result<Sight<CharSet>, AllocError>
+pub(crate) fn class(alloc: Global, text: &[char], at: usize) -> Result<Sight<CharSet>, AllocError>
     requires { at < length text.now }
     ensures value { IfOk result (IsClassSight text.now at) }
     ensures within { IfOk result (IsWithin text.now at) }

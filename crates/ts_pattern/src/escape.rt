@@ -1,29 +1,46 @@
 //! Escapes: from a backslash to the character or the class that it stands for.
 ghost use Rattle.std.specs.Prelude.{◌≡◌, ◌≤◌, ◌<◌, ◌+◌, ◌^◌, IfOk, IfSome, IsTrue, length, take, drop};
-ghost use Rattle.ts_pattern.specs.Characters.{IsWithin};
+ghost use Rattle.ts_pattern.specs.Characters.{number as number_of, IsWithin};
 ghost use Rattle.ts_pattern.specs.Escapes.{shorthand, escaped_char, coded, fixed_code, braced_code, unicode_code, short_escape, escape, is_class_escape};
 
-use crate::chars::{BACKSLASH, CLOSE_BRACE, ENDING, OPEN_BRACE, Test, is_scalar, number, part, peek, run};
+use crate::chars::{
+    BACKSLASH, CLOSE_BRACE, ENDING, OPEN_BRACE, Test, is_scalar, number, part, peek, run,
+};
 use crate::item::{Base, Item, Mark};
 use crate::property::property;
 use crate::sight::{Flaw, Sight};
 use std::alloc::{AllocError, Global};
 
 const LETTER_D: u32 = 'd' as u32;
+
 const LETTER_F: u32 = 'f' as u32;
+
 const LETTER_N: u32 = 'n' as u32;
+
 const LETTER_P: u32 = 'p' as u32;
+
 const LETTER_R: u32 = 'r' as u32;
+
 const LETTER_S: u32 = 's' as u32;
+
 const LETTER_T: u32 = 't' as u32;
+
 const LETTER_U: u32 = 'u' as u32;
+
 const LETTER_V: u32 = 'v' as u32;
+
 const LETTER_W: u32 = 'w' as u32;
+
 const LETTER_X: u32 = 'x' as u32;
+
 const CAPITAL_D: u32 = 'D' as u32;
+
 const CAPITAL_P: u32 = 'P' as u32;
+
 const CAPITAL_S: u32 = 'S' as u32;
+
 const CAPITAL_W: u32 = 'W' as u32;
+
 const ZERO: u32 = '0' as u32;
 
 fn item(base: Base, lacking: bool) -> Option<Item>
@@ -73,10 +90,10 @@ fn coded(at: usize, code: u32, next: usize) -> Sight<Mark>
     }
 }
 
-/// The code that so many hex digits write.
+/// The code that so many hex digits write, where it is a character's.
 fn code_of(text: &[char], at: usize, count: usize) -> u32
     requires { at + count ≤ length text.now }
-    ensures { (i n : _) → coded i result n ≡ coded i (Rattle.ts_pattern.specs.Characters.number 16 text.now at count) n }
+    ensures { (i n : _) → coded i result n ≡ coded i (number_of 16 text.now at count) n }
 {
     number(part(text, at, count), 16, ENDING)
 }
@@ -137,11 +154,7 @@ fn short_escape(at: usize, letter: u32) -> Sight<Mark>
 }
 
 /// The escape whose backslash stands at a place.
-pub(crate) fn escape(
-    alloc: Global,
-    text: &[char],
-    at: usize,
-) -> Result<Sight<Mark>, AllocError>
+pub(crate) fn escape(alloc: Global, text: &[char], at: usize) -> Result<Sight<Mark>, AllocError>
     requires { at < length text.now }
     ensures value { IfOk result (λ s. s ≡ escape text.now at) }
     ensures within { IfOk result (IsWithin text.now at) }
@@ -164,6 +177,13 @@ pub(crate) fn is_class_escape(text: &[char], at: usize) -> bool
     peek(text, at) == BACKSLASH
         && matches!(
             letter,
-            LETTER_D | LETTER_W | LETTER_S | CAPITAL_D | CAPITAL_W | CAPITAL_S | LETTER_P | CAPITAL_P
+            LETTER_D
+                | LETTER_W
+                | LETTER_S
+                | CAPITAL_D
+                | CAPITAL_W
+                | CAPITAL_S
+                | LETTER_P
+                | CAPITAL_P
         )
 }

@@ -8,7 +8,8 @@ use crate::fault::PFault;
 
 /// A source is read as one regular expression at most.
 pub fn one_pattern()
-    ensures { (r q : AnyRe) (w : List ℕ) (ignore_case : Bool) → Reads w ignore_case r → Reads w ignore_case q → r ≡ q }
+    ensures { (r q : AnyRe) (w : List ℕ) (ignore_case : Bool) → Reads w ignore_case r
+        → Reads w ignore_case q → r ≡ q }
 {}
 
 /// What is refused is read as nothing, unless memory ran out.

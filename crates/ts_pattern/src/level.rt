@@ -158,7 +158,15 @@ impl Level {
         ensures { IfOk result (λ l. (p : Pattern) (a : Atom) → self ≡ level_of p → part ≡ part_of a
             → l ≡ level_of (plus p (once a))) }
     {
-        let Level { branches, mut pieces, nesting, greatest, earlier, latest, repeatable: _ } = self;
+        let Level {
+            branches,
+            mut pieces,
+            nesting,
+            greatest,
+            earlier,
+            latest,
+            repeatable: _,
+        } = self;
         pieces.push(part.re)?;
         Ok(Level {
             branches,
@@ -175,7 +183,15 @@ impl Level {
     pub(crate) fn with_bar(self, alloc: Global) -> Result<Level, AllocError>
         ensures { IfOk result (λ l. (p : Pattern) → self ≡ level_of p → l ≡ level_of (or p empty)) }
     {
-        let Level { mut branches, pieces, nesting, greatest, earlier, latest, repeatable: _ } = self;
+        let Level {
+            mut branches,
+            pieces,
+            nesting,
+            greatest,
+            earlier,
+            latest,
+            repeatable: _,
+        } = self;
         branches.push(joined(pieces))?;
         Ok(Level {
             branches,
@@ -197,7 +213,15 @@ impl Level {
     ) -> Result<Option<Level>, AllocError>
         ensures { IfOk result (λ r. (p : Pattern) → self ≡ level_of p → IsTimes (times_last p least most) r) }
     {
-        let Level { branches, mut pieces, nesting, greatest, earlier, latest, repeatable } = self;
+        let Level {
+            branches,
+            mut pieces,
+            nesting,
+            greatest,
+            earlier,
+            latest,
+            repeatable,
+        } = self;
         if !repeatable {
             return Ok(None);
         }
@@ -220,7 +244,15 @@ impl Level {
     pub(crate) fn close(self) -> Result<Part, AllocError>
         ensures { IfOk result (λ a. (p : Pattern) → self ≡ level_of p → a ≡ part_of (group p)) }
     {
-        let Level { branches, pieces, nesting, greatest, earlier, latest, repeatable: _ } = self;
+        let Level {
+            branches,
+            pieces,
+            nesting,
+            greatest,
+            earlier,
+            latest,
+            repeatable: _,
+        } = self;
         let nesting = nesting.min(MOST_NESTED) + 1;
         Ok(Part {
             re: grouped(branches, pieces, nesting)?,
@@ -234,7 +266,15 @@ impl Level {
     pub(crate) fn finish(self) -> Result<Finished, AllocError>
         ensures { IfOk result (λ f. (p : Pattern) → self ≡ level_of p → IsFinish p f) }
     {
-        let Level { branches, pieces, nesting, greatest, earlier, latest, repeatable: _ } = self;
+        let Level {
+            branches,
+            pieces,
+            nesting,
+            greatest,
+            earlier,
+            latest,
+            repeatable: _,
+        } = self;
         match limit_passed(nesting, greatest, added(earlier, latest)) {
             Some(limit) => Ok(Finished::Over(limit)),
             None => Ok(Finished::Whole(chosen(branches, joined(pieces))?)),

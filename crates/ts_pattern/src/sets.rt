@@ -11,8 +11,11 @@ use ts_base::List;
 use unicode::case::fold_pairs;
 
 const DIGITS: [ClassRange; 1] = [(48, 57)];
+
 const WORDS: [ClassRange; 4] = [(48, 57), (65, 90), (95, 95), (97, 122)];
+
 const SPACES: [ClassRange; 2] = [(9, 13), (32, 32)];
+
 const SURROGATES: ClassRange = (0xD800, 0xDFFF);
 
 fn base_ranges(alloc: Global, base: Base) -> Result<Vec<ClassRange>, AllocError>
@@ -81,7 +84,11 @@ fn item_ranges(alloc: Global, item: Item, ignore_case: bool) -> Result<Vec<Class
 }
 
 /// The ranges of all items, in any order.
-fn all_ranges(alloc: Global, items: &[Item], ignore_case: bool) -> Result<Vec<ClassRange>, AllocError>
+fn all_ranges(
+    alloc: Global,
+    items: &[Item],
+    ignore_case: bool,
+) -> Result<Vec<ClassRange>, AllocError>
     ensures { IfOk result (λ v. Have v.items (InUnion ignore_case items.now)) }
 {
     let mut all = Vec::new(alloc);

@@ -4,13 +4,13 @@ ghost use Rattle.ts_pattern.specs.Characters.{IsWithin, run, is_decimal};
 ghost use Rattle.ts_pattern.specs.Signs.{count, set_of, char, dot, brace, two_counts, counts, opened, escaped, plain, bracketed, IsSight};
 
 use crate::chars::{
-    BACKSLASH, BAR, CARET, CLOSE, CLOSE_BRACE, COLON, COMMA, DOLLAR, DOT, NEWLINE, OPEN, OPEN_BRACE,
-    OPEN_BRACKET, PLUS, QUESTION, STAR, Test, is_below, number, part, peek, run,
+    BACKSLASH, BAR, CARET, CLOSE, CLOSE_BRACE, COLON, COMMA, DOLLAR, DOT, NEWLINE, OPEN,
+    OPEN_BRACE, OPEN_BRACKET, PLUS, QUESTION, STAR, Test, is_below, number, part, peek, run,
 };
 use crate::class::class;
 use crate::escape::escape;
-use crate::limits::MOST_COUNTED;
 use crate::item::{Base, CharSet, Item, Mark};
+use crate::limits::MOST_COUNTED;
 use crate::sight::{Flaw, Sight};
 use std::alloc::{AllocError, Global};
 use ts_base::List;
@@ -93,12 +93,7 @@ fn two_counts(
 }
 
 /// A counted form whose first count has the `least` digits after the brace, or the brace alone.
-fn counts(
-    alloc: Global,
-    text: &[char],
-    at: usize,
-    least: usize,
-) -> Result<Sight<Sign>, AllocError>
+fn counts(alloc: Global, text: &[char], at: usize, least: usize) -> Result<Sight<Sign>, AllocError>
     requires within { at + 1 + least ≤ length text.now }
     requires least { least ≡ run is_decimal text.now (at + 1) }
     ensures value { IfOk result (λ s. s ≡ counts text.now at least) }

@@ -91,7 +91,12 @@ fn advance(
     requires more { state.at < length text.now }
     ensures { IfOk result (IsTurn ignore_case text.now state) }
 {
-    let State { at, level, mut outer, quantified } = state;
+    let State {
+        at,
+        level,
+        mut outer,
+        quantified,
+    } = state;
     match sign_at(alloc, text, at)? {
         Sight::Wrong(flaw, place) => Ok(Turn::Stops(Outcome::Flawed(flaw, place))),
         Sight::Sees(sign, next) => {
@@ -114,9 +119,15 @@ fn advance(
 
 /// What the text is whose last sign was read.
 fn end(state: State) -> Result<Outcome, AllocError>
-    ensures { IfOk result (λ o. (ignore_case : _) (w : _) → IsState ignore_case w state → state.at ≡ length w → IsOutcome ignore_case w o) }
+    ensures { IfOk result (λ o. (ignore_case : _) (w : _) → IsState ignore_case w state
+        → state.at ≡ length w → IsOutcome ignore_case w o) }
 {
-    let State { at, level, outer, quantified: _ } = state;
+    let State {
+        at,
+        level,
+        outer,
+        quantified: _,
+    } = state;
     if outer.len() > 0 {
         return Ok(Outcome::Flawed(Flaw::Syntax, at));
     }
@@ -127,11 +138,7 @@ fn end(state: State) -> Result<Outcome, AllocError>
 }
 
 /// Reads a whole text, by its characters.
-pub(crate) fn read(
-    alloc: Global,
-    text: &[char],
-    ignore_case: bool,
-) -> Result<Outcome, AllocError>
+pub(crate) fn read(alloc: Global, text: &[char], ignore_case: bool) -> Result<Outcome, AllocError>
     ensures { IfOk result (IsOutcome ignore_case text.now) }
 {
     let mut state = State {

@@ -37,7 +37,10 @@ fn refuses_with_places(rt: HostRuntime) -> Result<(), Fail> {
         ("{2}", PFault::Syntax(0)),
         ("\u{e9}{3,2}", PFault::Syntax(2)),
         ("a{70000,69999}", PFault::Syntax(1)),
-        ("a{100000000000000000000000,99999999999999999999999}", PFault::Syntax(1)),
+        (
+            "a{100000000000000000000000,99999999999999999999999}",
+            PFault::Syntax(1),
+        ),
         ("(?", PFault::Unsupported(0)),
         ("a(?=b)", PFault::Unsupported(1)),
         ("(?i)a", PFault::Unsupported(0)),
@@ -120,10 +123,24 @@ fn reads_sets(rt: HostRuntime) -> Result<(), Fail> {
         ("[^\\n]", false, &[(0, 9), (11, 0xd7ff), (0xe000, 0x10ffff)]),
         ("[^\\d\\D]", false, &[]),
         ("k", true, &[(75, 75), (107, 107), (0x212a, 0x212a)]),
-        ("[^k]", true, &[(0, 74), (76, 106), (108, 0x2129), (0x212b, 0xd7ff), (0xe000, 0x10ffff)]),
+        (
+            "[^k]",
+            true,
+            &[
+                (0, 74),
+                (76, 106),
+                (108, 0x2129),
+                (0x212b, 0xd7ff),
+                (0xe000, 0x10ffff),
+            ],
+        ),
         ("\\p{Cs}", false, &[]),
         ("\\P{Any}", false, &[]),
-        ("\\p{ASCII_Hex_Digit}", false, &[(48, 57), (65, 70), (97, 102)]),
+        (
+            "\\p{ASCII_Hex_Digit}",
+            false,
+            &[(48, 57), (65, 70), (97, 102)],
+        ),
         ("\\p{gc=Zl}", false, &[(0x2028, 0x2028)]),
     ];
     for (source, ignore_case, ranges) in table {
@@ -162,16 +179,27 @@ fn reads_trees(rt: HostRuntime) -> Result<(), Fail> {
         ("a{2}", repeat(alloc, set(alloc, a)?, 2, Some(2))?),
         ("a{2,}", repeat(alloc, set(alloc, a)?, 2, None)?),
         ("a|", Re::Alt(two(alloc, set(alloc, a)?, Re::Empty)?)),
-        ("(a|b)+b?", Re::Cat(two(
-            alloc,
-            repeat(alloc, Re::Alt(two(alloc, set(alloc, a)?, set(alloc, b)?)?), 1, None)?,
-            repeat(alloc, set(alloc, b)?, 0, Some(1))?,
-        )?)),
-        ("(ab)b", Re::Cat(two(
-            alloc,
-            Re::Cat(two(alloc, set(alloc, a)?, set(alloc, b)?)?),
-            set(alloc, b)?,
-        )?)),
+        (
+            "(a|b)+b?",
+            Re::Cat(two(
+                alloc,
+                repeat(
+                    alloc,
+                    Re::Alt(two(alloc, set(alloc, a)?, set(alloc, b)?)?),
+                    1,
+                    None,
+                )?,
+                repeat(alloc, set(alloc, b)?, 0, Some(1))?,
+            )?),
+        ),
+        (
+            "(ab)b",
+            Re::Cat(two(
+                alloc,
+                Re::Cat(two(alloc, set(alloc, a)?, set(alloc, b)?)?),
+                set(alloc, b)?,
+            )?),
+        ),
     ];
     for (source, re) in table {
         assert!(rt; answer(alloc, source, false) == Ok(re));

@@ -1,4 +1,4 @@
-use Rattle.std.proofs.Common.{◌≡◌, ◌≤◌, length, sym, ap, ap₂, ◌∙◌, arith, nat_lt}
+use Rattle.std.proofs.Common.{◌≡◌, sym, ap₂, ◌∙◌, arith, nat_lt}
 use Rattle.ts_pattern.proofs.NumberLemmas.{padded_start, padded_next, told, same_below}
 use Rattle.ts_pattern.proofs.chars.is_below.Goals as goal
 

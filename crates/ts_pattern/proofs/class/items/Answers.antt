@@ -1,4 +1,4 @@
-use Rattle.std.proofs.Common.{◌≡◌, Bool, true, List, sym, ap, subst, ◌∙◌, arith}
+use Rattle.std.proofs.Common.{Bool, true, List, sym, ap, subst, ◌∙◌, arith}
 use Rattle.ts_pattern.specs.declared.sight.Sight.{Sight}
 use Rattle.ts_pattern.specs.declared.item.Item.{Item}
 use Rattle.ts_pattern.specs.Characters.{IsWithin}

@@ -1,4 +1,4 @@
-use Rattle.std.proofs.Common.{◌≡◌, ◌+◌, ◌≤◌, true, sym, ap, ◌∙◌, arith}
+use Rattle.std.proofs.Common.{◌≡◌, ◌+◌, true, sym, ap, ◌∙◌}
 use Rattle.ucd_sets.specs.Loose.{normalize}
 use Rattle.ts_pattern.specs.declared.property.Table.TheVariants.{Any}
 use Rattle.ts_pattern.specs.Characters.{is_name_char}

@@ -1,6 +1,5 @@
-use Rattle.std.proofs.Common.{◌&&◌, not, ap₂, ap, ◌∙◌, refl}
+use Rattle.std.proofs.Common.{◌&&◌, not, ap, ◌∙◌}
 use Rattle.regex_class.specs.Ranges.{in_ranges}
-use Rattle.ts_pattern.specs.Characters.{is_scalar}
 use Rattle.ts_pattern.proofs.SetLemmas.{HasExactly-within, scalar_or_not}
 use Rattle.ts_pattern.proofs.sets.characters.Goals as goal
 

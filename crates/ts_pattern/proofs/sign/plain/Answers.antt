@@ -1,4 +1,4 @@
-use Rattle.std.proofs.Common.{◌≡◌, ℕ, ◌+◌, sym, ap, ◌∙◌, arith}
+use Rattle.std.proofs.Common.{◌+◌, sym, ap, ◌∙◌, arith}
 use Rattle.ts_pattern.specs.declared.sight.Sight.TheVariants.{Sees}
 use Rattle.ts_pattern.specs.declared.sign.Sign.{Sign}
 use Rattle.ts_pattern.specs.Signs.{char}

@@ -1,4 +1,4 @@
-use Rattle.std.proofs.Common.{◌∙◌, arith}
+use Rattle.std.proofs.Common.{arith}
 use Rattle.std.proofs.lemmas.Result.{IfOk-weaker}
 use Rattle.ts_pattern.proofs.ClassLemmas.{plain_sight}
 use Rattle.ts_pattern.proofs.sign.sign_at.Goals as goal

@@ -1,4 +1,4 @@
-use Rattle.std.proofs.Common.{ℕ, ◌==◌, ◌&&◌, Option, sym, ap, subst, ◌∙◌, if◌then◌else◌}
+use Rattle.std.proofs.Common.{ℕ, ◌==◌, ◌&&◌, Option, ap, subst, ◌∙◌, if◌then◌else◌}
 use Rattle.ts_pattern.specs.declared.sight.Flaw.TheVariants.{Syntax, Unsupported}
 use Rattle.ts_pattern.specs.declared.sight.Sight.{Sight}
 use Rattle.ts_pattern.specs.declared.sign.Sign.{Sign}
@@ -24,7 +24,7 @@ returns-in-Some c =
     let ends = subst (λ (x : Sight Sign). IsWithin w s.at x) c.in-Sees.is c.in_ok-flaw.ensures.within in
     let t = subst (λ (o : Option Level). IsTaken c.args.ignore_case c.in-Sees.sign s.level s.outer o c.take.new.outer) c.in-Some.is c.in_ok-level-in-Sees.ensures in (
       advanced c.args.ignore_case w s h c.in-Sees.sign c.in-Sees.next t.0 c.in-Some.level c.take.new.outer c.is_quantifier-is_quantifier.result seen t.1
-      (t.2 h.inner h.round h.level h.outer) (c.is_quantifier-is_quantifier.ensures c.args.ignore_case t.0 t.1) ends.1,
+          (t.2 h.inner h.round h.level h.outer) (c.is_quantifier-is_quantifier.ensures c.args.ignore_case t.0 t.1) ends.1,
       ends.0,
     )
 

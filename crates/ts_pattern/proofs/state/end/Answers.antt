@@ -1,4 +1,4 @@
-use Rattle.std.proofs.Common.{◌≡◌, ◌<◌, [], length, arith, subst}
+use Rattle.std.proofs.Common.{arith, subst}
 use Rattle.ts_pattern.specs.declared.level.Finished.{Finished}
 use Rattle.ts_pattern.specs.Machine.{IsFinish}
 use Rattle.ts_pattern.proofs.StateLemmas.{stops_at_end, whole, empty_stack}

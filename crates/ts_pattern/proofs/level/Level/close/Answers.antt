@@ -1,6 +1,5 @@
 use Rattle.std.proofs.Common.{ap, ◌∙◌, ◌+◌, ℕ}
 use Rattle.ts_pattern.specs.declared.level.Level.{Level}
-use Rattle.ts_pattern.specs.Trees.{nesting}
 use Rattle.ts_pattern.specs.Machine.{earlier, branch_latest, last_branch}
 use Rattle.ts_pattern.proofs.LevelLemmas.{close_is, depth_is}
 use Rattle.ts_pattern.proofs.level.Level.close.Goals as goal

@@ -1,4 +1,4 @@
-use Rattle.std.proofs.Common.{List, [], ◌∷◌, ◌++◌, ap, sym, ◌∙◌}
+use Rattle.std.proofs.Common.{[], ◌∷◌, ◌++◌, ap, sym, ◌∙◌}
 use Rattle.ts_core.specs.declared.re.Re.{Re}
 use Rattle.ts_pattern.specs.Trees.{chosen}
 use Rattle.ts_pattern.specs.declared.level.Level.{Level}
