@@ -1,0 +1,13 @@
+pub mod MachineLemmas
+pub mod TokenLemmas
+pub mod LawLemmas
+pub mod LevelLemmas
+pub mod SetLemmas
+pub mod NumberLemmas
+pub mod PlaceLemmas
+pub mod StateLemmas
+pub mod ReaderLemmas
+pub mod PropertyLemmas
+pub mod TakeLemmas
+pub mod ClassLemmas
+pub mod SignLemmas

@@ -1,0 +1,11 @@
+pub mod Limits
+pub mod Characters
+pub mod Escapes
+pub mod Classes
+pub mod Sets
+pub mod Classify
+pub mod Signs
+pub mod Trees
+pub mod Reads
+pub mod Machine
+pub mod States

@@ -1,0 +1,21 @@
+-- The limits of a pattern.
+use Rattle.std.specs.Prelude.{ℕ, ◌+◌, min}
+
+-- how deep groups may nest
+abbrev pub most_nested : ℕ
+most_nested = 200
+
+-- the greatest count of a quantifier
+abbrev pub most_counted : ℕ
+most_counted = 65535
+
+-- how many positions there may be
+abbrev pub most_positions : ℕ
+most_positions = 8192
+
+-- numbers that stop one above their limit, for private clauses
+abbrev pub stopped_nesting : ℕ → ℕ
+stopped_nesting n = min (most_nested + 1) n
+
+abbrev pub stopped_positions : ℕ → ℕ
+stopped_positions n = min (most_positions + 1) n
