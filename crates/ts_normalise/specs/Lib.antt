@@ -1,0 +1,11 @@
+pub mod Alternatives
+pub mod FileGrammar
+pub mod FirstSights
+pub mod Fit
+pub mod Normal
+pub mod Numbers
+pub mod Patterns
+pub mod Productions
+pub mod Refusals
+pub mod Sights
+pub mod Tokens
