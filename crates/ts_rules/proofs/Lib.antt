@@ -1,0 +1,7 @@
+pub mod AlternativeLemmas
+pub mod CapLemmas
+pub mod CountLemmas
+pub mod FirstSightLemmas
+pub mod InsideLemmas
+pub mod NothingLemmas
+pub mod SightLemmas
