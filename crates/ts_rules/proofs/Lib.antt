@@ -3,5 +3,6 @@ pub mod CapLemmas
 pub mod CountLemmas
 pub mod FirstSightLemmas
 pub mod InsideLemmas
+pub mod LengthLemmas
 pub mod NothingLemmas
 pub mod SightLemmas

@@ -1,5 +1,5 @@
 -- The alternatives of a rule tree, by cases on its type.
-use Rattle.std.specs.Prelude.{ℕ, ◌&&◌, Bool, true, false, nat_lt, if◌then◌else◌, List, [], ◌∷◌, ◌++◌, map, Some}
+use Rattle.std.specs.Prelude.{ℕ, ◌&&◌, Bool, true, false, nat_lt, if◌then◌else◌, List, [], ◌∷◌, ◌++◌, map, Some, ◌+◌, max, length}
 use Rattle.std.specs.Int.RustNames.{unsigned_abs}
 use lib.IntN.{ℤ, pos}
 use Rattle.ts_core.specs.declared.flat.Prec.{Prec}
@@ -29,7 +29,13 @@ blank = alternative (pos 0) []
 
 -- a step has the marks of what stands round it
 abbrev pub step_at : ℕ → Around → NumberedStep
-step_at symbol around = record { symbol = symbol; prec = around.prec; assoc = around.assoc; alias = around.alias; field = around.field }
+step_at symbol around = record {
+  symbol = symbol;
+  prec = around.prec;
+  assoc = around.assoc;
+  alias = around.alias;
+  field = around.field;
+}
 
 abbrev pub single : ℕ → Around → Alternative
 single symbol around = alternative around.dynamic (step_at symbol around ∷ [])
@@ -132,9 +138,20 @@ alternatives_of = fold-Tree (Around → Alternatives) layer
 -- each member's alternatives, in its place
 abbrev pub members_of : List Tree → Around → List Alternatives
 members_of [] around = []
-members_of (tree ∷ rest) around = alternatives_of tree (in_sequence (is_last rest) around) ∷ members_of rest around
+members_of (tree ∷ rest) around = alternatives_of tree (in_sequence (is_last rest) around)
+    ∷ members_of rest around
 
 -- one list after another
 abbrev pub choice_of : List Tree → Around → Alternatives
 choice_of [] around = []
 choice_of (tree ∷ rest) around = alternatives_of tree around ++ choice_of rest around
+
+-- the most steps of one of them
+abbrev pub longest_of : Alternatives → ℕ
+longest_of [] = 0
+longest_of (x ∷ xs) = max (length x.steps) (longest_of xs)
+
+-- the most steps of one of each, together
+abbrev pub longest_together : List Alternatives → ℕ
+longest_together [] = 0
+longest_together (xs ∷ rest) = longest_of xs + longest_together rest

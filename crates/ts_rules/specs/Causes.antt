@@ -1,5 +1,5 @@
--- Why a grammar has no normal form, as far as its rule trees alone tell: a name that no rule has, an inlined rule
--- that can't be one, a word or an extra that is no token.
+-- Why a grammar has no normal form, as far as its rule trees alone tell: a name that no rule has,
+-- an inlined rule that can't be one, a word or an extra that is no token.
 use Rattle.std.specs.Prelude.{◌≡◌, Bool, true, false, List, [], ◌∷◌, ◌++◌, map, Option, Some, None, ◌⊎◌}
 use Rattle.std.specs.List.{Contains, flat_map}
 use Rattle.ts_base.specs.Bytes.{Bytes}
@@ -23,7 +23,8 @@ joined = flat_map (λ (names : List Bytes). names)
 
 -- the SYMBOLs of the walk, the word, and the entries of conflicts, precedences and supertypes
 abbrev pub names_used : Grammar → List Bytes
-names_used g = symbols_in (walk g) ++ listed g.word ++ joined g.conflicts ++ ranked_rules g ++ g.supertypes
+names_used g = symbols_in (walk g) ++ listed g.word ++ joined g.conflicts ++ ranked_rules g
+    ++ g.supertypes
 
 abbrev pub IsUndefined : Grammar → Bytes → Type 0
 IsUndefined g name = Not (IsRule g name)

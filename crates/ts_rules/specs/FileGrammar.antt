@@ -49,8 +49,8 @@ abbrev pub HasShortWord : Option Bytes → Type 0
 HasShortWord None = Unit {0}
 HasShortWord (Some name) = IsShort name
 
--- A grammar file has at least one rule and not too many, no two of one name; each CHOICE has a branch, and
--- each text and list is short.
+-- A grammar file has at least one rule and not too many, no two of one name; each CHOICE has a
+-- branch, and each text and list is short.
 pub record IsFileGrammar (g : Grammar) : Type 0 where
   pub some_rule : Not (g.rules ≡ [])
   pub few_rules : length g.rules ≤ most_rules

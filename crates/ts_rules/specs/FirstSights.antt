@@ -1,4 +1,5 @@
--- Lists by first sight, what stands in one list in the order of another, and the first with a property.
+-- Lists by first sight, what stands in one list in the order of another, and the first with a
+-- property.
 use Rattle.std.specs.Prelude.{◌≡◌, ℕ, ◌<◌, ◌≤◌, List, [], ◌∷◌, ◌++◌, slice_get, Some, All}
 use Rattle.std.specs.List.{Contains}
 

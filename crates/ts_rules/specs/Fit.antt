@@ -55,8 +55,8 @@ abbrev pub times : ℕ → Option ℕ → ℕ
 times least None = max least 1
 times least (Some most) = most
 
--- A set has one position, and a list of parts the sum of theirs; a repeat has those of its inner expression
--- once for each time, or once and at least as often as it must where there is no most.
+-- A set has one position, and a list of parts the sum of theirs; a repeat has those of its inner
+-- expression once for each time, or once and at least as often as it must where there is no most.
 abbrev pub positions_step : Re-F ℕ → ℕ
 positions_step Re-F.Empty = 0
 positions_step (Re-F.Set ranges) = 1
@@ -73,7 +73,8 @@ IsCharacter c = (c < 55296) ⊎ ((57344 ≤ c) × (c < 1114112))
 
 -- The range rises and lies on one side of the surrogates.
 abbrev pub IsRange : ℕ × ℕ → Type 0
-IsRange range = (range.0 ≤ range.1) × IsCharacter range.0 × IsCharacter range.1 × ((range.1 < 55296) ⊎ (57344 ≤ range.0))
+IsRange range = (range.0 ≤ range.1) × IsCharacter range.0 × IsCharacter range.1
+    × ((range.1 < 55296) ⊎ (57344 ≤ range.0))
 
 -- neither meets nor touches the range before it
 abbrev pub AreApart : List (ℕ × ℕ) → Type 0
@@ -165,7 +166,8 @@ pub record IsFitToken (f : FlatGrammar) (d : TokenDef) : Type 0 where
   pub word : d.keyword ≡ true → Never (f.word ≡ None)
 
 abbrev pub all_positions : FlatGrammar → ℕ
-all_positions f = sum (map (λ (d : TokenDef). positions d.re) f.tokens) + sum (map positions f.separators)
+all_positions f = sum (map (λ (d : TokenDef). positions d.re) f.tokens)
+    + sum (map positions f.separators)
 
 -- ---- repetitions
 
@@ -175,14 +177,21 @@ IsRepetitionAt f k r = Never (r.owner ≡ rule_symbol f k)
 
 -- the symbol as a step without marks
 abbrev pub bare_step : Symbol → Step
-bare_step s = record { symbol = s; prec = Prec.Absent; assoc = Assoc.Absent; alias = None; field = None }
+bare_step s = record {
+  symbol = s;
+  prec = Prec.Absent;
+  assoc = Assoc.Absent;
+  alias = None;
+  field = None;
+}
 
 -- the symbol itself before a production
 abbrev pub again_after : Symbol → Production → Production
 again_after s p = record { dynamic = p.dynamic; steps = bare_step s ∷ p.steps }
 
--- A repetition is not the start rule, is hidden and has no name; its owner is a rule that is no repetition; and
--- its productions are at least one, and then the same ones after the repetition itself.
+-- A repetition is not the start rule, is hidden and has no name; its owner is a rule that is no
+-- repetition; and its productions are at least one, and then the same ones after the repetition
+-- itself.
 pub record IsFitRepetition (f : FlatGrammar) (k : ℕ) (r : FlatRule) : Type 0 where
   pub not_start : 0 < k
   pub hidden : r.kind ≡ Kind.Hidden
@@ -196,7 +205,8 @@ pub record IsFitRepetition (f : FlatGrammar) (k : ℕ) (r : FlatRule) : Type 0 w
 
 -- some production steps to the symbol
 abbrev pub IsUsed : FlatGrammar → Symbol → Type 0
-IsUsed f s = (r : FlatRule) × (p : Production) × (step : Step) × Contains f.rules r × Contains r.productions p
+IsUsed f s = (r : FlatRule) × (p : Production) × (step : Step) × Contains f.rules r
+    × Contains r.productions p
     × Contains p.steps step × (step.symbol ≡ s)
 
 abbrev pub HasEmpty : FlatRule → Type 0
@@ -204,7 +214,8 @@ HasEmpty r = (p : Production) × Contains r.productions p × (p.steps ≡ [])
 
 -- the rule at this place has an empty production, and is not the start rule or is used
 abbrev pub IsEmptyRule : FlatGrammar → ℕ → Type 0
-IsEmptyRule f k = (r : FlatRule) × (slice_get f.rules k ≡ Some r) × HasEmpty r × ((0 < k) ⊎ IsUsed f (rule_symbol f k))
+IsEmptyRule f k = (r : FlatRule) × (slice_get f.rules k ≡ Some r) × HasEmpty r
+    × ((0 < k) ⊎ IsUsed f (rule_symbol f k))
 
 -- a production of the one symbol is the other symbol alone
 pub record Alone (f : FlatGrammar) (from to : Symbol) : Type 0 where
@@ -245,12 +256,14 @@ IsFitEntry f (Entry.Rule s) = IsSymbol f s
 
 -- each symbol is above the one before it
 abbrev pub AreRising : List Symbol → Type 0
-AreRising symbols = (j k : ℕ) (a b : Symbol) → j < k → slice_get symbols j ≡ Some a → slice_get symbols k ≡ Some b
+AreRising symbols = (j k : ℕ) (a b : Symbol) → j < k → slice_get symbols j ≡ Some a
+    → slice_get symbols k ≡ Some b
     → a.0 < b.0
 
 -- the symbol is a token or a rule that is hidden
 abbrev pub IsHiddenSymbol : FlatGrammar → Symbol → Type 0
-IsHiddenSymbol f s = ((d : TokenDef) × (k : ℕ) × (slice_get f.tokens k ≡ Some d) × (s.0 ≡ suc k) × (d.kind ≡ Kind.Hidden))
+IsHiddenSymbol f s = ((d : TokenDef) × (k : ℕ) × (slice_get f.tokens k ≡ Some d)
+    × (s.0 ≡ suc k) × (d.kind ≡ Kind.Hidden))
     ⊎ ((r : FlatRule) × HasRule f s r × (r.kind ≡ Kind.Hidden))
 
 abbrev pub AreShort : {X : Type 0} → List (List X) → Type 0
@@ -273,6 +286,8 @@ pub record Fit (f : FlatGrammar) : Type 0 where
   pub word : IfThere (IsToken f) f.word
   pub fields : AreShort f.fields
   pub precs : AreShort f.precs
-  pub conflicts : AreShort f.conflicts × All (λ (set : List Symbol). All (IsSymbol f) set) f.conflicts
-  pub precedences : AreShort f.precedences × All (λ (list : List Entry). All (IsFitEntry f) list) f.precedences
+  pub conflicts : AreShort f.conflicts
+      × All (λ (set : List Symbol). All (IsSymbol f) set) f.conflicts
+  pub precedences : AreShort f.precedences
+      × All (λ (list : List Entry). All (IsFitEntry f) list) f.precedences
   pub supertypes : All (IsHiddenSymbol f) f.supertypes × AreRising f.supertypes

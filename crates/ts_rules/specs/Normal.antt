@@ -21,7 +21,8 @@ use Rattle.ts_rules.specs.Tokens.{Patterns, IsTokenDef, IsKind, re_of}
 -- ---- rules
 
 -- a rule of the file; every such rule is its own owner
-pub record IsOwnRule (g : Grammar) (n : Numbers) (x : Lists) (rule : NamedRule) (r : FlatRule) : Type 0 where
+pub record IsOwnRule (g : Grammar) (n : Numbers) (x : Lists) (rule : NamedRule)
+    (r : FlatRule) : Type 0 where
   pub name : r.name ≡ rule.0
   pub kind : IsKind g rule.0 r.kind
   pub owner : r.owner ≡ symbol (n.rule rule.0)
@@ -30,11 +31,14 @@ pub record IsOwnRule (g : Grammar) (n : Numbers) (x : Lists) (rule : NamedRule) 
 -- the rule in which the content is first seen, or the start rule where that rule is inlined
 abbrev pub IsOwner : Grammar → Rule → Bytes → Type 0
 IsOwner g content name =
-    (rule : NamedRule) × First (λ (r : NamedRule). Contains (contents_in (sights r.1)) content) g.rules rule
-    × ((Not (IsInlined g rule.0) × (name ≡ rule.0)) ⊎ (IsInlined g rule.0 × (start_of g.rules ≡ Some name)))
+    (rule : NamedRule)
+    × First (λ (r : NamedRule). Contains (contents_in (sights r.1)) content) g.rules rule
+    × ((Not (IsInlined g rule.0) × (name ≡ rule.0))
+    ⊎ (IsInlined g rule.0 × (start_of g.rules ≡ Some name)))
 
 -- a repetition is hidden, and its name is empty
-pub record IsRepetition (g : Grammar) (n : Numbers) (x : Lists) (content : Rule) (r : FlatRule) : Type 0 where
+pub record IsRepetition (g : Grammar) (n : Numbers) (x : Lists) (content : Rule)
+    (r : FlatRule) : Type 0 where
   pub name : r.name ≡ []
   pub kind : r.kind ≡ Kind.Hidden
   pub owner : (name : Bytes) × IsOwner g content name × (r.owner ≡ symbol (n.rule name))
@@ -44,7 +48,8 @@ pub record IsRepetition (g : Grammar) (n : Numbers) (x : Lists) (content : Rule)
 
 -- a SYMBOL, or a token of the rules; any other extra is a separator
 abbrev pub IsTokenExtra : Grammar → Rule → Type 0
-IsTokenExtra g tree = ((name : Bytes) × (tree ≡ rule.Symbol name)) ⊎ Contains (tokens_in (rule_sights g)) tree
+IsTokenExtra g tree = ((name : Bytes) × (tree ≡ rule.Symbol name))
+    ⊎ Contains (tokens_in (rule_sights g)) tree
 
 -- the symbol of an extra: of the rule that a SYMBOL names, or of the token itself
 abbrev pub IsExtra : Numbers → Rule → Symbol → Type 0
@@ -76,16 +81,19 @@ AreEntries g n entries found =
 -- ---- supertypes
 
 abbrev pub IsSupertype : Grammar → Numbers → Symbol → Type 0
-IsSupertype g n s = (name : Bytes) × Contains g.supertypes name × Not (IsInlined g name) × (s ≡ symbol (n.rule name))
+IsSupertype g n s = (name : Bytes) × Contains g.supertypes name × Not (IsInlined g name)
+    × (s ≡ symbol (n.rule name))
 
 -- each symbol is above the one before it
 abbrev pub Rising : List Symbol → Type 0
-Rising symbols = (j k : ℕ) (a b : Symbol) → j < k → slice_get symbols j ≡ Some a → slice_get symbols k ≡ Some b
+Rising symbols = (j k : ℕ) (a b : Symbol) → j < k → slice_get symbols j ≡ Some a
+    → slice_get symbols k ≡ Some b
     → a.0 < b.0
 
 -- ---- the whole
 
--- how a pattern's source, with or without the flag i, is read: the meaning of patterns, which is told elsewhere
+-- how a pattern's source, with or without the flag i, is read: the meaning of patterns, which is
+-- told elsewhere
 abbrev pub Reading : Type 1
 Reading = Bytes → Bool → Re → Type 0
 
@@ -109,8 +117,10 @@ pub record IsNormal (Reads : Reading) (g : Grammar) (f : FlatGrammar) : Type 0 w
   pub rules : f.rules ≡ own ++ repetitions
   pub are_own : Each (IsOwnRule g numbers lists) lists.rules own
   pub are_repetitions : Each (IsRepetition g numbers lists) lists.contents repetitions
-  pub separators : (trees : List Rule) × AreSeparators g trees × (f.separators ≡ map (re_of pattern) trees)
-  pub extras : (trees : List Rule) × Picks (IsTokenExtra g) g.extras trees × Each (IsExtra numbers) trees f.extras
+  pub separators : (trees : List Rule) × AreSeparators g trees
+      × (f.separators ≡ map (re_of pattern) trees)
+  pub extras : (trees : List Rule) × Picks (IsTokenExtra g) g.extras trees
+      × Each (IsExtra numbers) trees f.extras
   pub word : f.word ≡ option_map (λ (name : Bytes). symbol (numbers.rule name)) g.word
   pub fields : f.fields ≡ lists.fields
   pub precs : f.precs ≡ lists.precs

@@ -35,7 +35,14 @@ pub record Numbers : Type 0 where
 
 -- nothing stands round a whole rule
 abbrev pub outermost : Around
-outermost = record { prec = Prec.Absent; assoc = Assoc.Absent; alias = None; field = None; dynamic = pos 0; at_end = true }
+outermost = record {
+  prec = Prec.Absent;
+  assoc = Assoc.Absent;
+  alias = None;
+  field = None;
+  dynamic = pos 0;
+  at_end = true;
+}
 
 abbrev pub is_blank : {X : Type 0} → List X → Bool
 is_blank [] = true
@@ -43,11 +50,13 @@ is_blank (x ∷ xs) = false
 
 -- some alternative has no step
 abbrev pub has_blank : Tree → Bool
-has_blank content = list_any (λ (x : Alternative). is_blank x.steps) (alternatives_of content outermost)
+has_blank content = list_any (λ (x : Alternative). is_blank x.steps)
+    (alternatives_of content outermost)
 
 -- some alternative has a step
 abbrev pub has_steps : Tree → Bool
-has_steps content = list_any (λ (x : Alternative). not (is_blank x.steps)) (alternatives_of content outermost)
+has_steps content = list_any (λ (x : Alternative). not (is_blank x.steps))
+    (alternatives_of content outermost)
 
 abbrev pub where_so : Bool → Tree → List Tree
 where_so true tree = tree ∷ []
@@ -55,12 +64,15 @@ where_so false tree = []
 
 -- the repetition where the content has a step in some alternative, and nothing in any case
 abbrev pub any_times : ℕ → Tree → Tree
-any_times repetition content = tree.Choice (where_so (has_steps content) (tree.Step repetition) ++ tree.Blank ∷ [])
+any_times repetition content = tree.Choice (where_so (has_steps content)
+    (tree.Step repetition) ++ tree.Blank ∷ [])
 
--- the repetition where the content has a step in some alternative, and nothing where some alternative is empty
+-- the repetition where the content has a step in some alternative, and nothing where some
+-- alternative is empty
 abbrev pub many_times : ℕ → Tree → Tree
 many_times repetition content =
-    tree.Choice (where_so (has_steps content) (tree.Step repetition) ++ where_so (has_blank content) tree.Blank)
+    tree.Choice (where_so (has_steps content) (tree.Step repetition) ++ where_so
+    (has_blank content) tree.Blank)
 
 abbrev pub prec_of : Numbers → PrecValue → Prec
 prec_of n (PrecValue.Number value) = Prec.Number value
@@ -109,7 +121,8 @@ abbrev pub start_of : List NamedRule → Option Bytes
 start_of [] = None
 start_of (rule ∷ rules) = Some rule.0
 
--- a rule other than the start rule whose whole tree is a token that stands nowhere else in the rules
+-- a rule other than the start rule whose whole tree is a token that stands nowhere else in the
+-- rules
 pub record NamesToken (g : Grammar) (name : Bytes) (tree : Rule) : Type 0 where
   pub is : Contains g.rules (name, tree)
   pub other : Not (start_of g.rules ≡ Some name)

@@ -43,9 +43,10 @@ inserted step [] = []
 inserted step (s ∷ []) = ended_by step (marked_by step s) ∷ []
 inserted step (s ∷ t ∷ ss) = marked_by step s ∷ inserted step (t ∷ ss)
 
--- the step is replaced by one alternative of its rule; the dynamic value is the one of greater magnitude, the
--- outer on a tie
-abbrev pub replaced_by : ℤ → List NumberedStep → NumberedStep → List NumberedStep → Alternative → Alternative
+-- the step is replaced by one alternative of its rule; the dynamic value is the one of greater
+-- magnitude, the outer on a tie
+abbrev pub replaced_by : ℤ → List NumberedStep → NumberedStep → List NumberedStep → Alternative
+    → Alternative
 replaced_by dynamic before step after inner =
     alternative (stronger dynamic inner.dynamic) (before ++ inserted step inner.steps ++ after)
 
@@ -61,18 +62,22 @@ abbrev pub Stays : (ℕ → Alternatives → Type 0) → NumberedStep → Type 0
 Stays Inner step = (inner : Alternatives) → Not (Inner step.symbol inner)
 
 mutual
-  -- The first step that is replaced is replaced by each of its rule's alternatives in order, until none is left.
+  -- The first step that is replaced is replaced by each of its rule's alternatives in order, until
+  -- none is left.
   pub data Becomes (Inner : ℕ → Alternatives → Type 0) : Alternative → Alternatives → Type 0 where
     stays : (p : Alternative) → All (Stays Inner) p.steps → Becomes Inner p (p ∷ [])
-    replaced : (dynamic : ℤ) (before : List NumberedStep) (step : NumberedStep) (after : List NumberedStep)
+    replaced : (dynamic : ℤ) (before : List NumberedStep) (step : NumberedStep)
+        (after : List NumberedStep)
         (inner all : Alternatives) → All (Stays Inner) before → Inner step.symbol inner
         → AllBecome Inner (map (replaced_by dynamic before step after) inner) all
         → Becomes Inner (alternative dynamic (before ++ step ∷ after)) all
 
   -- one alternative after another
-  pub data AllBecome (Inner : ℕ → Alternatives → Type 0) : Alternatives → Alternatives → Type 0 where
+  pub data AllBecome (Inner : ℕ → Alternatives → Type 0) : Alternatives → Alternatives
+      → Type 0 where
     none_left : AllBecome Inner [] []
-    one_more : (p : Alternative) (ps qs rs : Alternatives) → Becomes Inner p qs → AllBecome Inner ps rs
+    one_more : (p : Alternative) (ps qs rs : Alternatives) → Becomes Inner p qs
+        → AllBecome Inner ps rs
         → AllBecome Inner (p ∷ ps) (qs ++ rs)
 
 -- ---- productions
@@ -86,13 +91,20 @@ alias_of n (Some number) = Some (n.alias_at number)
 
 abbrev pub flat_step : Numbers → NumberedStep → Step
 flat_step n s =
-    record { symbol = symbol s.symbol; prec = s.prec; assoc = s.assoc; alias = alias_of n s.alias; field = s.field }
+    record {
+      symbol = symbol s.symbol;
+      prec = s.prec;
+      assoc = s.assoc;
+      alias = alias_of n s.alias;
+      field = s.field;
+    }
 
 abbrev pub production : Numbers → Alternative → Production
 production n p = record { dynamic = p.dynamic; steps = map (flat_step n) p.steps }
 
 -- what the alternatives become by inlining; of equal productions the first stays
-pub record AreProductions (n : Numbers) (x : Lists) (from : Alternatives) (found : List Production) : Type 0 where
+pub record AreProductions (n : Numbers) (x : Lists) (from : Alternatives)
+    (found : List Production) : Type 0 where
   pub all : Alternatives
   pub become : AllBecome (IsInner n x) from all
   pub firsts : AreFirstSights (map (production n) all) found
@@ -113,8 +125,10 @@ abbrev pub again : ℕ → Alternatives → Alternatives
 again number ps =
     map (λ (p : Alternative). alternative p.dynamic (step_at number outermost ∷ p.steps)) ps
 
--- `c` for each alternative of the content that is not empty, then `r c` for each; equal ones are dropped apart
-pub record AreRepeated (n : Numbers) (x : Lists) (content : Rule) (found : List Production) : Type 0 where
+-- `c` for each alternative of the content that is not empty, then `r c` for each; equal ones are
+-- dropped apart
+pub record AreRepeated (n : Numbers) (x : Lists) (content : Rule)
+    (found : List Production) : Type 0 where
   pub once : List Production
   pub more : List Production
   pub is : found ≡ once ++ more

@@ -1,4 +1,5 @@
--- What a token is: its regular expression, its precedence, its name and kind, and whether it is a keyword.
+-- What a token is: its regular expression, its precedence, its name and kind, and whether it is a
+-- keyword.
 use Rattle.std.specs.Prelude.{◌≡◌, ℕ, Bool, true, false, List, [], ◌∷◌, map, Some, None, IsTrue, ◌↔◌, ◌⊎◌}
 use Rattle.std.specs.List.{Contains}
 use Rattle.std.specs.Str.{chars}

@@ -1,12 +1,12 @@
-//! The names that a grammar uses: what comes in is a grammar and its walk, and what goes out is the first name
-//! that no rule has, or nothing.
+//! The names that a grammar uses: what comes in is a grammar and its walk, and what goes out is the
+//! first name that no rule has, or nothing.
 
 ghost use Rattle.std.specs.Prelude.{◌≡◌, ◌++◌, [], ◌↔◌, map, IfOk, OnOk, MatchOption, IsTrue};
 ghost use Rattle.std.specs.List.{Contains, flat_map};
 ghost use Rattle.ts_base.specs.Bytes.{Bytes};
 ghost use Rattle.ts_core.specs.declared.rule.Rule.TheViews.{out-Rule};
-ghost use Rattle.ts_rules.specs.FirstSights.{AreFirstSights, Clear, First, Not};
-ghost use Rattle.ts_rules.specs.Names.{told, told_option, BeginsWith};
+ghost use Rattle.ts_rules.specs.FirstSights.{AreFirstSights, Clear, First};
+ghost use Rattle.ts_rules.specs.Names.{told, told_option, BeginsWith, IsAbsent};
 ghost use Rattle.ts_rules.specs.Causes as causes;
 ghost use Rattle.ts_rules.specs.Sights as sights;
 
@@ -107,7 +107,8 @@ fn add_lists<'a>(names: &mut Vec<&'a Str>, lists: &'a [List<Str>]) -> Result<(),
 
 /// Puts the rule of an entry at the end, if it is one.
 fn add_rule<'a>(names: &mut Vec<&'a Str>, entry: &'a Ranked) -> Result<(), AllocError>
-    ensures { OnOk result (told names.new.items ≡ told names.old.items ++ sights.ranked_rule entry.now) }
+    ensures { OnOk result (told names.new.items
+        ≡ told names.old.items ++ sights.ranked_rule entry.now) }
 {
     match entry {
         Ranked::Name(_) => Ok(()),
@@ -188,8 +189,8 @@ pub fn rule_names<'a>(
 
 /// The first name that is not among names.
 pub fn first_undefined<'a>(names: &IndexSet<&Str>, used: &[&'a Str]) -> Option<&'a Str>
-    ensures { MatchOption result (Clear (λ (n : Bytes). Not (Contains (told names.now.keys) n)) (told used.now))
-        (λ name. First (λ (n : Bytes). Not (Contains (told names.now.keys) n)) (told used.now) name.now) }
+    ensures { MatchOption result (Clear (IsAbsent (told names.now.keys)) (told used.now))
+        (λ name. First (IsAbsent (told names.now.keys)) (told used.now) name.now) }
 {
     for name in used {
         if !is_among(names, name) {

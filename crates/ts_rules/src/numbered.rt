@@ -1,5 +1,5 @@
-//! The field names and precedence names of a grammar by first sight: what comes in is its walk, and what goes out
-//! are sets in which each name's place is its number.
+//! The field names and precedence names of a grammar by first sight: what comes in is its walk, and
+//! what goes out are sets in which each name's place is its number.
 
 ghost use Rattle.std.specs.Prelude.{◌≡◌, ◌++◌, IfOk, OnOk};
 ghost use Rattle.std.specs.List.{flat_map};
@@ -154,7 +154,8 @@ fn add_precs<'a>(names: &mut Vec<&'a Str>, spots: &[Spot<'a>]) -> Result<(), All
 
 /// Puts the precedence name of an entry at the end, if it is one.
 fn add_ranked<'a>(names: &mut Vec<&'a Str>, entry: &'a Ranked) -> Result<(), AllocError>
-    ensures { OnOk result (told names.new.items ≡ told names.old.items ++ sights.ranked_name entry.now) }
+    ensures { OnOk result (told names.new.items
+        ≡ told names.old.items ++ sights.ranked_name entry.now) }
 {
     match entry {
         Ranked::Name(name) => add_option(names, Some(name)),

@@ -1,5 +1,5 @@
-//! What stands in rule trees, in preorder: what comes in is trees, and what goes out is a list of all trees in
-//! them, each with whether it stands inside a token.
+//! What stands in rule trees, in preorder: what comes in is trees, and what goes out is a list of
+//! all trees in them, each with whether it stands inside a token.
 
 ghost use Rattle.std.specs.Prelude.{◌≡◌, ◌++◌, IfOk, OnOk};
 ghost use Rattle.ts_rules.specs.Sights.{sights, walk, sights_within, below, seen_trees, all_seen, seen_rules};

@@ -1,5 +1,5 @@
-//! What a token's tree says besides its text: what comes in is the tree, and what goes out are its precedence,
-//! its text or source, and whether it is immediate.
+//! What a token's tree says besides its text: what comes in is the tree, and what goes out are its
+//! precedence, its text or source, and whether it is immediate.
 
 ghost use Rattle.std.specs.Prelude.{◌≡◌};
 ghost use Rattle.ts_rules.specs.Tokens as tokens;

@@ -2,8 +2,8 @@
 
 use ts_core::{Assoc, Boxed, List, Prec};
 
-/// A rule tree by numbers. A step is a token, a rule or a repetition; a REPEAT or REPEAT1 is a choice of
-/// its repetition and nothing.
+/// A rule tree by numbers. A step is a token, a rule or a repetition; a REPEAT or REPEAT1 is a
+/// choice of its repetition and nothing.
 #[derive(Debug, PartialEq, Eq, Drop)]
 pub enum Tree {
     Blank,

@@ -1,4 +1,5 @@
-//! What comes in is a rule tree by numbers and what stands round it, and what goes out are its alternatives.
+//! What comes in is a rule tree by numbers and what stands round it, and what goes out are its
+//! alternatives.
 
 ghost use Rattle.std.specs.Prelude.{◌≡◌, ◌++◌, ◌∷◌, [], map, IfOk, OnOk};
 ghost use Rattle.ts_rules.specs.Alternatives.{alternatives_of, blank, joins, sequence, single, stronger, choice_of, members_of, in_field, in_alias, in_group, in_dynamic, in_sequence, group, left, left_by, last_left, step_at, followed};

@@ -1,5 +1,5 @@
-//! Whether a text is a word of a regular expression: what comes in are the expression and the text's characters,
-//! and what goes out are the places at which words end.
+//! Whether the empty text is a word of a regular expression: what comes in is the expression, and
+//! what goes out is the answer.
 
 ghost use Rattle.std.specs.Prelude.{◌≡◌, ◌≤◌, ◌↔◌, IsTrue, [], map};
 ghost use Rattle.spec_lexing.specs.Words.{Word, regular_of, all_of, any_of, AtMost};
