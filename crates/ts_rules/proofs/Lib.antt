@@ -1,0 +1,8 @@
+pub mod AlternativeLemmas
+pub mod CapLemmas
+pub mod CountLemmas
+pub mod FirstSightLemmas
+pub mod InsideLemmas
+pub mod LengthLemmas
+pub mod NothingLemmas
+pub mod SightLemmas

@@ -1,0 +1,7 @@
+use Rattle.std.proofs.Common.{◌≡◌, ◌++◌, take}
+use Rattle.ts_rules.specs.Sights.{rules_ranked}
+use Rattle.ts_rules.specs.Names.{told}
+use Rattle.ts_rules.proofs.names.add_orderings.Given as goal
+
+abbrev pub invariant-loop-list : goal.invariant-loop-list
+invariant-loop-list l = told l.names.items ≡ told l.initial.names.items ++ rules_ranked (take l.list-index l.lists)

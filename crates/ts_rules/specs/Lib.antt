@@ -1,0 +1,12 @@
+pub mod Alternatives
+pub mod Causes
+pub mod Counts
+pub mod FileGrammar
+pub mod FirstSights
+pub mod Fit
+pub mod Names
+pub mod Normal
+pub mod Numbers
+pub mod Productions
+pub mod Sights
+pub mod Tokens
