@@ -1,0 +1,4 @@
+pub mod KindLemmas
+pub mod PointerLemmas
+pub mod FoundLemmas
+pub mod ShapeLemmas

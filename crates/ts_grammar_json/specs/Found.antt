@@ -1,0 +1,48 @@
+-- What the reader's private parts answer: a value or the first of some faults, and the members that it found.
+use Rattle.std.specs.Prelude.{◌≡◌, ◌≢◌, ℕ, ◌≤◌, max, List, [], ◌∷◌, ◌++◌, map, Option, Some, None, option_map, option_and_then, Result, Ok, Err, codes, if◌then◌else◌}
+use Rattle.std.specs.Option.{option_copied}
+use Rattle.std.specs.Str.{bytes_eq}
+use Rattle.ts_base.specs.Bytes.{Bytes}
+use Rattle.ts_ojson.specs.declared.value.OJson.{OJson}
+use Rattle.ts_ojson.specs.Json.{Json, json_of}
+use Rattle.ts_grammar_json.specs.declared.fault.GFault.{GFault}
+use Rattle.ts_grammar_json.specs.declared.fault.GFault.TheVariants.{Memory}
+use Rattle.ts_grammar_json.specs.declared.found.Found.{Found}
+use Rattle.ts_grammar_json.specs.Faults.{first}
+use Rattle.ts_grammar_json.specs.Rules.{Looked}
+
+-- the answer is the value where there are no faults, else the first of them, or want of memory
+abbrev pub Gives : {X : Type 0} → List GFault → X → Result X GFault → Type 0
+Gives faults value (Ok x) = (faults ≡ []) × (x ≡ value)
+Gives faults value (Err fault) = fault ≢ Memory → first faults ≡ Some fault
+
+abbrev pub seen : Option OJson → Option Json
+seen value = option_map json_of value
+
+-- a member that was found before, or else this one where its name is the one that is wanted
+abbrev pub noted : Option Json → Bytes → Bytes → Json → Option Json
+noted (Some before) wanted name value = Some before
+noted None wanted name value = if bytes_eq name wanted then Some value else None
+
+abbrev pub looked_of : Found → Looked
+looked_of found = record {
+  kind = seen (option_copied found.kind);
+  value = seen (option_copied found.value);
+  flags = seen (option_copied found.flags);
+  name = seen (option_copied found.name);
+  members = seen (option_copied found.members);
+  content = seen (option_copied found.content);
+  named = seen (option_copied found.named)
+}
+
+-- the members that were found, and one more
+abbrev pub looked_and : Looked → Bytes → Json → Looked
+looked_and before name value = record {
+  kind = noted before.kind (codes "type") name value;
+  value = noted before.value (codes "value") name value;
+  flags = noted before.flags (codes "flags") name value;
+  name = noted before.name (codes "name") name value;
+  members = noted before.members (codes "members") name value;
+  content = noted before.content (codes "content") name value;
+  named = noted before.named (codes "named") name value
+}

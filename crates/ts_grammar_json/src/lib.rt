@@ -1,0 +1,14 @@
+//! Grammar files in Tree-sitter's grammar.json form: from a JSON value to the grammar that it stands for, or to
+//! its first fault with a pointer to it.
+#![tactic(auto)]
+
+mod fault;
+mod found;
+mod kinds;
+mod member;
+mod pointer;
+mod rule;
+mod rule_type;
+mod shape;
+
+pub use fault::GFault;
