@@ -6,7 +6,8 @@ use Rattle.ts_ojson.specs.declared.value.OJson.{OJson}
 use Rattle.ts_ojson.specs.Json.{Json, json_of, Members, no_members, member}
 use Rattle.ts_grammar_json.specs.Members.{find, members_json}
 use Rattle.ts_grammar_json.specs.Rules.{Looked, looked}
-use Rattle.ts_grammar_json.specs.Found.{noted, looked_and}
+use Rattle.ts_grammar_json.specs.File.{FileMembers, file_members}
+use Rattle.ts_grammar_json.specs.Found.{noted, looked_and, file_and}
 
 abbrev pub or_find : Option Json → Bytes → Members → Option Json
 or_find (Some before) wanted ms = Some before
@@ -77,3 +78,72 @@ found_step all i m before after lt at is so_far =
 pub found_end : (all : List (Bytes × OJson)) (i : ℕ) (before : Looked) → drop i all ≡ []
     → looked (members_json all) ≡ looked_on before (members_json (drop i all)) → before ≡ looked (members_json all)
 found_end all i before over so_far = sym (so_far ∙ ap (λ (ms : List (Bytes × OJson)). looked_on before (members_json ms)) over ∙ looked_end before)
+
+-- ---- the same of a file's members
+
+abbrev pub file_on : FileMembers → Members → FileMembers
+file_on before ms = record {
+  name = or_find before.name (codes "name") ms;
+  rules = or_find before.rules (codes "rules") ms;
+  word = or_find before.word (codes "word") ms;
+  extras = or_find before.extras (codes "extras") ms;
+  conflicts = or_find before.conflicts (codes "conflicts") ms;
+  precedences = or_find before.precedences (codes "precedences") ms;
+  externals = or_find before.externals (codes "externals") ms;
+  reserved = or_find before.reserved (codes "reserved") ms;
+  inline = or_find before.inline (codes "inline") ms;
+  supertypes = or_find before.supertypes (codes "supertypes") ms
+}
+
+file_made : (name rules word extras conflicts precedences externals reserved inline supertypes : Option Json) → FileMembers
+file_made name rules word extras conflicts precedences externals reserved inline supertypes = record { name = name; rules = rules; word = word; extras = extras; conflicts = conflicts; precedences = precedences; externals = externals; reserved = reserved; inline = inline; supertypes = supertypes }
+
+same_file_made : (a b : FileMembers) → a.name ≡ b.name → a.rules ≡ b.rules → a.word ≡ b.word → a.extras ≡ b.extras → a.conflicts ≡ b.conflicts → a.precedences ≡ b.precedences → a.externals ≡ b.externals → a.reserved ≡ b.reserved → a.inline ≡ b.inline → a.supertypes ≡ b.supertypes
+    → file_made a.name a.rules a.word a.extras a.conflicts a.precedences a.externals a.reserved a.inline a.supertypes
+    ≡ file_made b.name b.rules b.word b.extras b.conflicts b.precedences b.externals b.reserved b.inline b.supertypes
+same_file_made a b name rules word extras conflicts precedences externals reserved inline supertypes = cc
+
+same_file : (a b : FileMembers) → a.name ≡ b.name → a.rules ≡ b.rules → a.word ≡ b.word → a.extras ≡ b.extras → a.conflicts ≡ b.conflicts → a.precedences ≡ b.precedences → a.externals ≡ b.externals → a.reserved ≡ b.reserved → a.inline ≡ b.inline → a.supertypes ≡ b.supertypes → a ≡ b
+unfolding file_made
+same_file a b name rules word extras conflicts precedences externals reserved inline supertypes = same_file_made a b name rules word extras conflicts precedences externals reserved inline supertypes
+
+file_more : (before : FileMembers) (key : Bytes) (value : Json) (ms : Members) → file_on (file_and before key value) ms ≡ file_on before (member key value ms)
+file_more before key value ms =
+    same_file (file_on (file_and before key value) ms) (file_on before (member key value ms))
+        (one_more before.name (codes "name") key value ms)
+        (one_more before.rules (codes "rules") key value ms)
+        (one_more before.word (codes "word") key value ms)
+        (one_more before.extras (codes "extras") key value ms)
+        (one_more before.conflicts (codes "conflicts") key value ms)
+        (one_more before.precedences (codes "precedences") key value ms)
+        (one_more before.externals (codes "externals") key value ms)
+        (one_more before.reserved (codes "reserved") key value ms)
+        (one_more before.inline (codes "inline") key value ms)
+        (one_more before.supertypes (codes "supertypes") key value ms)
+
+file_end : (before : FileMembers) → file_on before no_members ≡ before
+file_end before =
+    same_file (file_on before no_members) before
+        (find_end before.name (codes "name"))
+        (find_end before.rules (codes "rules"))
+        (find_end before.word (codes "word"))
+        (find_end before.extras (codes "extras"))
+        (find_end before.conflicts (codes "conflicts"))
+        (find_end before.precedences (codes "precedences"))
+        (find_end before.externals (codes "externals"))
+        (find_end before.reserved (codes "reserved"))
+        (find_end before.inline (codes "inline"))
+        (find_end before.supertypes (codes "supertypes"))
+
+pub file_step : (all : List (Bytes × OJson)) (i : ℕ) (m : Bytes × OJson) (before after : FileMembers) → i < length all → m ≡ get_or all i m
+    → after ≡ file_and before m.0 (json_of m.1)
+    → file_members (members_json all) ≡ file_on before (members_json (drop i all)) → file_members (members_json all) ≡ file_on after (members_json (drop (i + 1) all))
+file_step all i m before after lt at is so_far =
+    so_far
+    ∙ ap (file_on before) (members_split all i m lt at)
+    ∙ sym (file_more before m.0 (json_of m.1) (members_json (drop (i + 1) all)))
+    ∙ ap (λ (x : FileMembers). file_on x (members_json (drop (i + 1) all))) (sym is)
+
+pub file_ends : (all : List (Bytes × OJson)) (i : ℕ) (before : FileMembers) → drop i all ≡ []
+    → file_members (members_json all) ≡ file_on before (members_json (drop i all)) → before ≡ file_members (members_json all)
+file_ends all i before over so_far = sym (so_far ∙ ap (λ (ms : List (Bytes × OJson)). file_on before (members_json ms)) over ∙ file_end before)

@@ -2,3 +2,5 @@ pub mod KindLemmas
 pub mod PointerLemmas
 pub mod FoundLemmas
 pub mod ShapeLemmas
+pub mod ListLemmas
+pub mod RuleLemmas

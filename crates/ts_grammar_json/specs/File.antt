@@ -15,7 +15,7 @@ use Rattle.ts_grammar_json.specs.Pointer.{step}
 use Rattle.ts_grammar_json.specs.Members.{find}
 use Rattle.ts_grammar_json.specs.Kinds.{text_of, word_of, read_or, text_in}
 use Rattle.ts_grammar_json.specs.Faults.{under, first, wrong, be, must, may, list}
-use Rattle.ts_grammar_json.specs.Rules.{rule_faults, rule_of, array_faults, array_rules}
+use Rattle.ts_grammar_json.specs.Rules.{Looked, looked, rule_faults, rule_of, array_faults, array_rules}
 
 -- ---- rules
 
@@ -23,14 +23,16 @@ use Rattle.ts_grammar_json.specs.Rules.{rule_faults, rule_of, array_faults, arra
 abbrev pub most_rules : ℕ
 most_rules = 4096
 
-abbrev pub is_empty : Bytes → Bool
-is_empty [] = true
-is_empty (byte ∷ text) = false
+-- no rule has an empty name
+abbrev pub have_names : Members → Bool
+have_names no_members = true
+have_names (member [] value ms) = false
+have_names (member (byte ∷ name) value ms) = have_names ms
 
 -- there is a rule, and none has an empty name
 abbrev pub are_named : Members → Bool
 are_named no_members = false
-are_named (member name value ms) = if list_any is_empty (name ∷ names ms) then false else true
+are_named (member name value ms) = have_names (member name value ms)
 
 abbrev pub wrong_if_not : Bool → List GFault
 wrong_if_not true = []
@@ -80,22 +82,22 @@ abbrev pub entry_of : Option Json → Result Entry GFault
 entry_of None = Err (Missing (step (codes "type")))
 entry_of (Some value) = entry_of_text (text_of value)
 
-abbrev pub entry_faults : Result Entry GFault → Members → List GFault
-entry_faults (Err fault) ms = fault ∷ []
-entry_faults (Ok by_name) ms = must (codes "value") (be text_of) (find (codes "value") ms)
-entry_faults (Ok by_rule) ms = must (codes "name") (be text_of) (find (codes "name") ms)
+abbrev pub entry_faults : Result Entry GFault → Looked → List GFault
+entry_faults (Err fault) m = fault ∷ []
+entry_faults (Ok by_name) m = must (codes "value") (be text_of) m.value
+entry_faults (Ok by_rule) m = must (codes "name") (be text_of) m.name
 
 abbrev pub ranked_faults : Json → List GFault
-ranked_faults (object ms) = entry_faults (entry_of (find (codes "type") ms)) ms
+ranked_faults (object ms) = entry_faults (entry_of (find (codes "type") ms)) (looked ms)
 ranked_faults _ = wrong
 
-abbrev pub ranked_by : Result Entry GFault → Members → Ranked
-ranked_by (Err fault) ms = ranked.Name []
-ranked_by (Ok by_name) ms = ranked.Name (text_in (find (codes "value") ms))
-ranked_by (Ok by_rule) ms = ranked.Rule (text_in (find (codes "name") ms))
+abbrev pub ranked_by : Result Entry GFault → Looked → Ranked
+ranked_by (Err fault) m = ranked.Name []
+ranked_by (Ok by_name) m = ranked.Name (text_in m.value)
+ranked_by (Ok by_rule) m = ranked.Rule (text_in m.name)
 
 abbrev pub ranked_of : Json → Ranked
-ranked_of (object ms) = ranked_by (entry_of (find (codes "type") ms)) ms
+ranked_of (object ms) = ranked_by (entry_of (find (codes "type") ms)) (looked ms)
 ranked_of _ = ranked.Name []
 
 -- ---- lists
@@ -136,23 +138,50 @@ reserved_faults _ = wrong
 
 -- ---- the file
 
--- the faults of the file's members, in the order in which the format has them
-abbrev pub member_faults : Members → List GFault
-member_faults ms =
-    must (codes "name") is_text (find (codes "name") ms)
-    ++ (must (codes "rules") rules_faults (find (codes "rules") ms)
-    ++ (may (codes "word") (be word_of) (find (codes "word") ms)
-    ++ (may (codes "extras") array_faults (find (codes "extras") ms)
-    ++ (may (codes "conflicts") (list (list is_text)) (find (codes "conflicts") ms)
-    ++ (may (codes "precedences") (list (list ranked_faults)) (find (codes "precedences") ms)
-    ++ (may (codes "externals") external_faults (find (codes "externals") ms)
-    ++ (may (codes "reserved") reserved_faults (find (codes "reserved") ms)
-    ++ (may (codes "inline") (list is_text) (find (codes "inline") ms)
-    ++ may (codes "supertypes") (list is_text) (find (codes "supertypes") ms)))))))))
+-- the values of the file's members
+pub record FileMembers : Type 0 where
+  pub name : Option Json
+  pub rules : Option Json
+  pub word : Option Json
+  pub extras : Option Json
+  pub conflicts : Option Json
+  pub precedences : Option Json
+  pub externals : Option Json
+  pub reserved : Option Json
+  pub inline : Option Json
+  pub supertypes : Option Json
+
+abbrev pub file_members : Members → FileMembers
+file_members ms = record {
+  name = find (codes "name") ms;
+  rules = find (codes "rules") ms;
+  word = find (codes "word") ms;
+  extras = find (codes "extras") ms;
+  conflicts = find (codes "conflicts") ms;
+  precedences = find (codes "precedences") ms;
+  externals = find (codes "externals") ms;
+  reserved = find (codes "reserved") ms;
+  inline = find (codes "inline") ms;
+  supertypes = find (codes "supertypes") ms
+}
+
+-- their faults, in the order in which the format has the members
+abbrev pub member_faults : FileMembers → List GFault
+member_faults m =
+    must (codes "name") is_text m.name
+    ++ (must (codes "rules") rules_faults m.rules
+    ++ (may (codes "word") (be word_of) m.word
+    ++ (may (codes "extras") array_faults m.extras
+    ++ (may (codes "conflicts") (list (list is_text)) m.conflicts
+    ++ (may (codes "precedences") (list (list ranked_faults)) m.precedences
+    ++ (may (codes "externals") external_faults m.externals
+    ++ (may (codes "reserved") reserved_faults m.reserved
+    ++ (may (codes "inline") (list is_text) m.inline
+    ++ may (codes "supertypes") (list is_text) m.supertypes))))))))
 
 -- the faults of a value as a grammar file
 abbrev pub file_faults : Json → List GFault
-file_faults (object ms) = member_faults ms
+file_faults (object ms) = member_faults (file_members ms)
 file_faults _ = wrong
 
 -- the rule trees of an array, where there is one
@@ -160,22 +189,22 @@ abbrev pub extras_in : Option Json → List Rule
 extras_in None = []
 extras_in (Some value) = array_rules value
 
--- the grammar of a file's members, where they have no faults
-abbrev pub members_grammar : Members → Grammar
-members_grammar ms = record {
-  name = text_in (find (codes "name") ms);
-  rules = rules_in (find (codes "rules") ms);
-  word = read_or None word_of (find (codes "word") ms);
-  extras = extras_in (find (codes "extras") ms);
-  conflicts = list_in (list_of text_at) (find (codes "conflicts") ms);
-  precedences = list_in (list_of ranked_of) (find (codes "precedences") ms);
-  inline = list_in text_at (find (codes "inline") ms);
-  supertypes = list_in text_at (find (codes "supertypes") ms)
+-- the grammar of a file with these members, where they have no faults
+abbrev pub members_grammar : FileMembers → Grammar
+members_grammar m = record {
+  name = text_in m.name;
+  rules = rules_in m.rules;
+  word = read_or None word_of m.word;
+  extras = extras_in m.extras;
+  conflicts = list_in (list_of text_at) m.conflicts;
+  precedences = list_in (list_of ranked_of) m.precedences;
+  inline = list_in text_at m.inline;
+  supertypes = list_in text_at m.supertypes
 }
 
 abbrev pub grammar_of : Json → Grammar
-grammar_of (object ms) = members_grammar ms
-grammar_of _ = members_grammar no_members
+grammar_of (object ms) = members_grammar (file_members ms)
+grammar_of _ = members_grammar (file_members no_members)
 
 -- the value is a grammar file, and stands for this grammar
 pub record IsGrammar (value : Json) (grammar : Grammar) : Type 0 where

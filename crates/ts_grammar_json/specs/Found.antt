@@ -1,15 +1,17 @@
 -- What the reader's private parts answer: a value or the first of some faults, and the members that it found.
-use Rattle.std.specs.Prelude.{◌≡◌, ◌≢◌, ℕ, ◌≤◌, max, List, [], ◌∷◌, ◌++◌, map, Option, Some, None, option_map, option_and_then, Result, Ok, Err, codes, if◌then◌else◌}
+use Rattle.std.specs.Prelude.{◌≡◌, ◌≢◌, Bool, true, false, List, [], Option, Some, None, option_map, option_and_then, Result, Ok, Err, codes, if◌then◌else◌}
 use Rattle.std.specs.Option.{option_copied}
 use Rattle.std.specs.Str.{bytes_eq}
 use Rattle.ts_base.specs.Bytes.{Bytes}
 use Rattle.ts_ojson.specs.declared.value.OJson.{OJson}
-use Rattle.ts_ojson.specs.Json.{Json, json_of}
+use Rattle.ts_ojson.specs.Json.{Json, json_of, null, boolean, number, string, array, object, no_items, item, no_members, member}
 use Rattle.ts_grammar_json.specs.declared.fault.GFault.{GFault}
 use Rattle.ts_grammar_json.specs.declared.fault.GFault.TheVariants.{Memory}
 use Rattle.ts_grammar_json.specs.declared.found.Found.{Found}
+use Rattle.ts_grammar_json.specs.declared.found.FileFound.{FileFound}
 use Rattle.ts_grammar_json.specs.Faults.{first}
 use Rattle.ts_grammar_json.specs.Rules.{Looked}
+use Rattle.ts_grammar_json.specs.File.{FileMembers}
 
 -- the answer is the value where there are no faults, else the first of them, or want of memory
 abbrev pub Gives : {X : Type 0} → List GFault → X → Result X GFault → Type 0
@@ -46,3 +48,39 @@ looked_and before name value = record {
   content = noted before.content (codes "content") name value;
   named = noted before.named (codes "named") name value
 }
+
+abbrev pub file_of : FileFound → FileMembers
+file_of found = record {
+  name = seen (option_copied found.name);
+  rules = seen (option_copied found.rules);
+  word = seen (option_copied found.word);
+  extras = seen (option_copied found.extras);
+  conflicts = seen (option_copied found.conflicts);
+  precedences = seen (option_copied found.precedences);
+  externals = seen (option_copied found.externals);
+  reserved = seen (option_copied found.reserved);
+  inline = seen (option_copied found.inline);
+  supertypes = seen (option_copied found.supertypes)
+}
+
+abbrev pub file_and : FileMembers → Bytes → Json → FileMembers
+file_and before key value = record {
+  name = noted before.name (codes "name") key value;
+  rules = noted before.rules (codes "rules") key value;
+  word = noted before.word (codes "word") key value;
+  extras = noted before.extras (codes "extras") key value;
+  conflicts = noted before.conflicts (codes "conflicts") key value;
+  precedences = noted before.precedences (codes "precedences") key value;
+  externals = noted before.externals (codes "externals") key value;
+  reserved = noted before.reserved (codes "reserved") key value;
+  inline = noted before.inline (codes "inline") key value;
+  supertypes = noted before.supertypes (codes "supertypes") key value
+}
+
+-- whether an array or an object has nothing in it
+abbrev pub emptiness : Json → Option Bool
+emptiness (array no_items) = Some true
+emptiness (array (item value js)) = Some false
+emptiness (object no_members) = Some true
+emptiness (object (member name value ms)) = Some false
+emptiness _ = None

@@ -4,7 +4,8 @@ ghost use Rattle.std.specs.Option.{option_copied};
 ghost use Rattle.ts_ojson.specs.Json.{json_of};
 ghost use Rattle.ts_grammar_json.specs.Members.{members_json, find};
 ghost use Rattle.ts_grammar_json.specs.Rules.{looked};
-ghost use Rattle.ts_grammar_json.specs.Found.{seen, noted as noted_of, looked_of, looked_and};
+ghost use Rattle.ts_grammar_json.specs.File.{file_members};
+ghost use Rattle.ts_grammar_json.specs.Found.{seen, noted as noted_of, looked_of, looked_and, file_of, file_and};
 
 use ts_ojson::{OJson, OText};
 
@@ -67,6 +68,62 @@ impl<'a> Found<'a> {
             members: noted(self.members, "members", name, value),
             content: noted(self.content, "content", name, value),
             named: noted(self.named, "named", name, value),
+        }
+    }
+}
+
+/// The members of a grammar file.
+#[derive(Clone, Copy, Debug)]
+pub(crate) struct FileFound<'a> {
+    pub name: Option<&'a OJson>,
+    pub rules: Option<&'a OJson>,
+    pub word: Option<&'a OJson>,
+    pub extras: Option<&'a OJson>,
+    pub conflicts: Option<&'a OJson>,
+    pub precedences: Option<&'a OJson>,
+    pub externals: Option<&'a OJson>,
+    pub reserved: Option<&'a OJson>,
+    pub inline: Option<&'a OJson>,
+    pub supertypes: Option<&'a OJson>,
+}
+
+impl<'a> FileFound<'a> {
+    /// The members of an object, the first of each name.
+    pub(crate) fn of(members: &'a [(OText, OJson)]) -> FileFound<'a>
+        ensures { file_of result ≡ file_members (members_json members.now) }
+    {
+        let mut found = FileFound {
+            name: None,
+            rules: None,
+            word: None,
+            extras: None,
+            conflicts: None,
+            precedences: None,
+            externals: None,
+            reserved: None,
+            inline: None,
+            supertypes: None,
+        };
+        for member in members {
+            found = found.and(member.0.text(), &member.1);
+        }
+        found
+    }
+
+    fn and(self, key: &str, value: &'a OJson) -> FileFound<'a>
+        ensures { file_of result ≡ file_and (file_of self.entry) key.now (json_of value.now) }
+    {
+        FileFound {
+            name: noted(self.name, "name", key, value),
+            rules: noted(self.rules, "rules", key, value),
+            word: noted(self.word, "word", key, value),
+            extras: noted(self.extras, "extras", key, value),
+            conflicts: noted(self.conflicts, "conflicts", key, value),
+            precedences: noted(self.precedences, "precedences", key, value),
+            externals: noted(self.externals, "externals", key, value),
+            reserved: noted(self.reserved, "reserved", key, value),
+            inline: noted(self.inline, "inline", key, value),
+            supertypes: noted(self.supertypes, "supertypes", key, value),
         }
     }
 }

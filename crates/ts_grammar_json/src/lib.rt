@@ -3,8 +3,11 @@
 #![tactic(auto)]
 
 mod fault;
+mod file;
 mod found;
 mod kinds;
+mod laws;
+mod lists;
 mod member;
 mod pointer;
 mod rule;
@@ -12,3 +15,5 @@ mod rule_type;
 mod shape;
 
 pub use fault::GFault;
+pub use file::grammar;
+pub use laws::{one_fault, one_grammar, refused_is_no_grammar};
