@@ -103,7 +103,7 @@ same_file_made : (a b : FileMembers) → a.name ≡ b.name → a.rules ≡ b.rul
     ≡ file_made b.name b.rules b.word b.extras b.conflicts b.precedences b.externals b.reserved b.inline b.supertypes
 same_file_made a b name rules word extras conflicts precedences externals reserved inline supertypes = cc
 
-same_file : (a b : FileMembers) → a.name ≡ b.name → a.rules ≡ b.rules → a.word ≡ b.word → a.extras ≡ b.extras → a.conflicts ≡ b.conflicts → a.precedences ≡ b.precedences → a.externals ≡ b.externals → a.reserved ≡ b.reserved → a.inline ≡ b.inline → a.supertypes ≡ b.supertypes → a ≡ b
+pub same_file : (a b : FileMembers) → a.name ≡ b.name → a.rules ≡ b.rules → a.word ≡ b.word → a.extras ≡ b.extras → a.conflicts ≡ b.conflicts → a.precedences ≡ b.precedences → a.externals ≡ b.externals → a.reserved ≡ b.reserved → a.inline ≡ b.inline → a.supertypes ≡ b.supertypes → a ≡ b
 unfolding file_made
 same_file a b name rules word extras conflicts precedences externals reserved inline supertypes = same_file_made a b name rules word extras conflicts precedences externals reserved inline supertypes
 

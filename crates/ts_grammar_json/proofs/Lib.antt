@@ -4,3 +4,4 @@ pub mod FoundLemmas
 pub mod ShapeLemmas
 pub mod ListLemmas
 pub mod RuleLemmas
+pub mod FileLemmas

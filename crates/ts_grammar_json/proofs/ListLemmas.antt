@@ -1,12 +1,14 @@
 -- Lists whose items are read one after another: what holds when those before a place are read without fault.
-use Rattle.std.proofs.Common.{◌≡◌, ◌≢◌, ◌∙◌, sym, ap, refl, ℕ, zero, suc, ◌+◌, ◌<◌, add-one, List, [], ◌∷◌, ◌++◌, append_assoc, length, get_or, drop, drop-cons, Option, Some, None, Result, Ok, Err}
-use Rattle.std.proofs.lemmas.List.{append-nil}
+use Rattle.std.proofs.Common.{◌≡◌, ◌≢◌, ◌∙◌, sym, ap, refl, ℕ, zero, suc, ◌+◌, ◌<◌, add-one, List, [], ◌∷◌, ◌++◌, append_assoc, length, get_or, drop, drop-cons, Option, Some, None, Result, Ok, Err, Bor, subst}
+use Rattle.std.specs.Option.{option_copied}
+use Rattle.ts_base.specs.Bytes.{Bytes}
 use Rattle.ts_ojson.specs.declared.value.OJson.{OJson}
 use Rattle.ts_ojson.specs.Json.{Json, json_of, Items, no_items, item}
 use Rattle.ts_grammar_json.specs.declared.fault.GFault.{GFault}
-use Rattle.ts_grammar_json.specs.Pointer.{place}
+use Rattle.ts_grammar_json.specs.Pointer.{step, place}
 use Rattle.ts_grammar_json.specs.Members.{items_json}
-use Rattle.ts_grammar_json.specs.Faults.{under, first}
+use Rattle.ts_grammar_json.specs.Faults.{under, first, must, may}
+use Rattle.ts_grammar_json.specs.Found.{Gives, seen}
 
 -- the faults of a whole array are those from this place on, and what is read of it are these and then the rest
 pub record SoFar {X : Type 0} (faults : ℕ → Items → List GFault) (read_all : Items → List X) (all : List OJson) (i : ℕ) (out : List X) : Type 0 where
@@ -46,3 +48,16 @@ module _ {X : Type 0} (faults : ℕ → Items → List GFault) (read_all : Items
   stops all i a out fault lt at is so =
     ap first (so.none_yet ∙ ap (faults i) (items_split all i a lt at) ∙ faults_law i (json_of a) (items_json (drop (suc i) all)))
     ∙ first_before (under (place i) (judged (json_of a))) (faults (suc i) (items_json (drop (suc i) all))) fault is
+
+-- ---- members that may be there, or have to be
+
+pub seen_some : (value : Option (Bor OJson)) (r : Bor OJson) → value ≡ Some r → seen (option_copied value) ≡ Some (json_of r.now)
+seen_some value r is = ap (λ (o : Option (Bor OJson)). seen (option_copied o)) is
+
+pub may_gives : {X : Type 0} (name : Bytes) (judged : Json → List GFault) (read : Option Json → X) (v : Option Json) (j : Json) (r : Result X GFault)
+    → v ≡ Some j → Gives (under (step name) (judged j)) (read (Some j)) r → Gives (may name judged v) (read v) r
+may_gives {X = X} name judged read v j r is gives = subst (λ (o : Option Json). Gives (may name judged o) (read o) r) (sym is) gives
+
+pub must_gives : {X : Type 0} (name : Bytes) (judged : Json → List GFault) (read : Option Json → X) (v : Option Json) (j : Json) (r : Result X GFault)
+    → v ≡ Some j → Gives (under (step name) (judged j)) (read (Some j)) r → Gives (must name judged v) (read v) r
+must_gives {X = X} name judged read v j r is gives = subst (λ (o : Option Json). Gives (must name judged o) (read o) r) (sym is) gives

@@ -1,14 +1,14 @@
 //! The whole file: from a JSON value to the grammar that it stands for.
 ghost use Rattle.std.specs.Prelude.{◌≡◌, ◌≢◌, ◌⊎◌, Some, IfOk, IfErr, IsErrAnd};
 ghost use Rattle.std.specs.Option.{option_copied};
-ghost use Rattle.ts_ojson.specs.Json.{json_of, object as object_json};
+ghost use Rattle.ts_ojson.specs.Json.{json_of, array as array_json, object as object_json};
 ghost use Rattle.ts_core.specs.declared.rule.Grammar.{Grammar as AnyGrammar};
 ghost use Rattle.ts_grammar_json.specs.declared.fault.GFault.{GFault as AnyFault};
 ghost use Rattle.ts_grammar_json.specs.Pointer.{step};
-ghost use Rattle.ts_grammar_json.specs.Members.{members_json};
+ghost use Rattle.ts_grammar_json.specs.Members.{items_json, members_json};
 ghost use Rattle.ts_grammar_json.specs.Faults.{must, may, under};
 ghost use Rattle.ts_grammar_json.specs.Rules.{array_faults, array_rules, rule_faults, rule_of};
-ghost use Rattle.ts_grammar_json.specs.File.{rules_faults, rules_in, external_faults, reserved_faults, extras_in, member_faults, members_grammar, are_named as named_all, have_names as have_names_in, named_rules, each_rule, IsGrammar, IsFault};
+ghost use Rattle.ts_grammar_json.specs.File.{rules_faults, rules_in, external_faults, reserved_faults, extras_in, member_faults, members_grammar, are_named as named_all, have_names as have_names_in, named_rules, each_rule, file_faults, grammar_of, IsGrammar, IsFault};
 ghost use Rattle.ts_grammar_json.specs.Found.{Gives, seen, file_of, emptiness};
 
 use crate::fault::GFault;
@@ -39,6 +39,12 @@ pub fn grammar(alloc: Global, json: &OJson) -> Result<Grammar, GFault>
         (λ e. e ≢ GFault.Memory → (g : AnyGrammar) → IsGrammar (json_of json.now) g → ⊥) }
     ensures exact { (f : AnyFault) → f ≢ GFault.Memory → IsFault f (json_of json.now) → IsErrAnd result
         (λ e. (e ≡ f) ⊎ (e ≡ GFault.Memory)) }
+{
+    file(alloc, json)
+}
+
+fn file(alloc: Global, json: &OJson) -> Result<Grammar, GFault>
+    ensures { Gives (file_faults (json_of json.now)) (grammar_of (json_of json.now)) result }
 {
     match kinds::object(json) {
         Some(members) => read(alloc, &FileFound::of(members)),
@@ -174,9 +180,18 @@ fn external(alloc: Global, value: &OJson) -> Result<(), GFault>
     ensures { Gives (external_faults (json_of value.now)) tt result }
 {
     match kinds::array(value) {
-        Some([]) => Ok(()),
-        Some(_) => Err(GFault::External),
+        Some(items) => no_items(items),
         None => Err(wrong(alloc)),
+    }
+}
+
+fn no_items(items: &[OJson]) -> Result<(), GFault>
+    ensures { Gives (external_faults (array_json (items_json items.now))) tt result }
+{
+    if items.is_empty() {
+        Ok(())
+    } else {
+        Err(GFault::External)
     }
 }
 
@@ -203,11 +218,9 @@ fn reserved(alloc: Global, value: &OJson) -> Result<(), GFault>
 fn is_empty(value: &OJson) -> Option<bool>
     ensures { result ≡ emptiness (json_of value.now) }
 {
-    if let OJson::Array(items) = value {
-        Some(items.is_empty())
-    } else if let OJson::Object(members) = value {
-        Some(members.is_empty())
-    } else {
-        None
+    if let Some(items) = kinds::array(value) {
+        return Some(items.is_empty());
     }
+    let members = kinds::object(value)?;
+    Some(members.is_empty())
 }

@@ -1,5 +1,4 @@
-use Rattle.std.proofs.Common.{refl, arith, sym, ap, ◌∙◌}
-use Rattle.std.specs.Option.{option_map, option_copied}
+use Rattle.std.proofs.Common.{refl, arith}
 use Rattle.std.proofs.lemmas.Result.{err_from_is_err_and}
 use Rattle.ts_ojson.specs.Json.{json_of}
 use Rattle.ts_grammar_json.specs.Members.{items_json, members_json}
@@ -17,16 +16,16 @@ member_rules-returns t c = c.in_member.ensures (item_faults 0 (items_json c.args
 pub rule-returns-in_err-shape_of-in-Some : goal.rule-returns-in_err-shape_of-in-Some
 rule-returns-in_err-shape_of-in-Some t c =
     let p = err_from_is_err_and c.from_residual.result c.from_residual.ensures.1 in
-    rw (p.1, p.2) (rule_stops (json_of c.args.value.now) (members_json c.in-Some.members.now) c.in_err-shape_of-in-Some.field-0.0 ? c.in_err-shape_of-in-Some.ensures)
+    rw (p.1, p.2) (rule_stops (json_of c.args.value.now) (members_json c.in-Some.members.now) c.in_err-shape_of-in-Some.field-0.0 c.in-Some.ensures c.in_err-shape_of-in-Some.ensures)
 
 pub rule-inside-requires : goal.rule-inside-requires
 rule-inside-requires t c =
-    let lower = shape_lower (json_of c.args.value.now) (members_json c.in-Some.members.now) c.in_ok-shape_of-in-Some.field-0 ? c.in_ok-shape_of-in-Some.ensures in
+    let lower = shape_lower (json_of c.args.value.now) (members_json c.in-Some.members.now) c.in_ok-shape_of-in-Some.field-0 c.in-Some.ensures c.in_ok-shape_of-in-Some.ensures in
     (omega arith, tt)
 
 pub rule-returns-in_ok-shape_of-in-Some : goal.rule-returns-in_ok-shape_of-in-Some
 rule-returns-in_ok-shape_of-in-Some t c =
-    rule_gives (json_of c.args.value.now) (members_json c.in-Some.members.now) c.in_ok-shape_of-in-Some.field-0 c.inside.result ? c.in_ok-shape_of-in-Some.ensures c.inside.ensures
+    rule_gives (json_of c.args.value.now) (members_json c.in-Some.members.now) c.in_ok-shape_of-in-Some.field-0 c.inside.result c.in-Some.ensures c.in_ok-shape_of-in-Some.ensures c.inside.ensures
 
 pub rules-rule-requires : goal.rules-rule-requires
 rules-rule-requires t c =
