@@ -56,14 +56,14 @@ pub next_rule : (all : List (Bytes × OJson)) (i : ℕ) (m : Bytes × OJson) (ou
     → under (step m.0) (rule_faults (json_of m.1)) ≡ [] → x ≡ (m.0, rule_of (json_of m.1)) → RulesSoFar all i out → RulesSoFar all (i + 1) (out ++ x ∷ [])
 next_rule all i m out x lt at none is so = record {
   none_yet =
-    so.none_yet
-    ∙ ap each_rule (members_split all i m lt at)
-    ∙ ap (λ (own : List GFault). own ++ each_rule (members_json (drop (i + 1) all))) none;
+      so.none_yet
+      ∙ ap each_rule (members_split all i m lt at)
+      ∙ ap (λ (own : List GFault). own ++ each_rule (members_json (drop (i + 1) all))) none;
   read_yet =
-    so.read_yet
-    ∙ ap (λ (ms : Members). out ++ named_rules ms) (members_split all i m lt at)
-    ∙ ap (λ (y : Bytes × Rule). out ++ y ∷ named_rules (members_json (drop (i + 1) all))) (sym is)
-    ∙ sym (append_assoc out (x ∷ []) (named_rules (members_json (drop (i + 1) all))))
+      so.read_yet
+      ∙ ap (λ (ms : Members). out ++ named_rules ms) (members_split all i m lt at)
+      ∙ ap (λ (y : Bytes × Rule). out ++ y ∷ named_rules (members_json (drop (i + 1) all))) (sym is)
+      ∙ sym (append_assoc out (x ∷ []) (named_rules (members_json (drop (i + 1) all))));
 }
 
 pub rules_stop : (all : List (Bytes × OJson)) (i : ℕ) (m : Bytes × OJson) (out : List (Bytes × Rule)) (fault : GFault) → i < length all → m ≡ get_or all i m

@@ -22,7 +22,7 @@ looked_on before ms = record {
   name = or_find before.name (codes "name") ms;
   members = or_find before.members (codes "members") ms;
   content = or_find before.content (codes "content") ms;
-  named = or_find before.named (codes "named") ms
+  named = or_find before.named (codes "named") ms;
 }
 
 one_more : (before : Option Json) (wanted name : Bytes) (value : Json) (ms : Members) → or_find (noted before wanted name value) wanted ms ≡ or_find before wanted (member name value ms)
@@ -48,8 +48,8 @@ same_looked a b kind value flags name members content named = same_made a b kind
 looked_more : (before : Looked) (name : Bytes) (value : Json) (ms : Members) → looked_on (looked_and before name value) ms ≡ looked_on before (member name value ms)
 looked_more before name value ms =
     same_looked (looked_on (looked_and before name value) ms) (looked_on before (member name value ms))
-        (one_more before.kind (codes "type") name value ms) (one_more before.value (codes "value") name value ms) (one_more before.flags (codes "flags") name value ms) (one_more before.name (codes "name") name value ms)
-        (one_more before.members (codes "members") name value ms) (one_more before.content (codes "content") name value ms) (one_more before.named (codes "named") name value ms)
+    (one_more before.kind (codes "type") name value ms) (one_more before.value (codes "value") name value ms) (one_more before.flags (codes "flags") name value ms) (one_more before.name (codes "name") name value ms)
+    (one_more before.members (codes "members") name value ms) (one_more before.content (codes "content") name value ms) (one_more before.named (codes "named") name value ms)
 
 find_end : (before : Option Json) (wanted : Bytes) → or_find before wanted no_members ≡ before
 find_end (Some before) wanted = refl
@@ -58,8 +58,8 @@ find_end None wanted = refl
 looked_end : (before : Looked) → looked_on before no_members ≡ before
 looked_end before =
     same_looked (looked_on before no_members) before
-        (find_end before.kind (codes "type")) (find_end before.value (codes "value")) (find_end before.flags (codes "flags")) (find_end before.name (codes "name"))
-        (find_end before.members (codes "members")) (find_end before.content (codes "content")) (find_end before.named (codes "named"))
+    (find_end before.kind (codes "type")) (find_end before.value (codes "value")) (find_end before.flags (codes "flags")) (find_end before.name (codes "name"))
+    (find_end before.members (codes "members")) (find_end before.content (codes "content")) (find_end before.named (codes "named"))
 
 pub members_split : (all : List (Bytes × OJson)) (i : ℕ) (m : Bytes × OJson) → i < length all → m ≡ get_or all i m
     → members_json (drop i all) ≡ member m.0 (json_of m.1) (members_json (drop (i + 1) all))
@@ -92,7 +92,7 @@ file_on before ms = record {
   externals = or_find before.externals (codes "externals") ms;
   reserved = or_find before.reserved (codes "reserved") ms;
   inline = or_find before.inline (codes "inline") ms;
-  supertypes = or_find before.supertypes (codes "supertypes") ms
+  supertypes = or_find before.supertypes (codes "supertypes") ms;
 }
 
 file_made : (name rules word extras conflicts precedences externals reserved inline supertypes : Option Json) → FileMembers
@@ -110,30 +110,30 @@ same_file a b name rules word extras conflicts precedences externals reserved in
 file_more : (before : FileMembers) (key : Bytes) (value : Json) (ms : Members) → file_on (file_and before key value) ms ≡ file_on before (member key value ms)
 file_more before key value ms =
     same_file (file_on (file_and before key value) ms) (file_on before (member key value ms))
-        (one_more before.name (codes "name") key value ms)
-        (one_more before.rules (codes "rules") key value ms)
-        (one_more before.word (codes "word") key value ms)
-        (one_more before.extras (codes "extras") key value ms)
-        (one_more before.conflicts (codes "conflicts") key value ms)
-        (one_more before.precedences (codes "precedences") key value ms)
-        (one_more before.externals (codes "externals") key value ms)
-        (one_more before.reserved (codes "reserved") key value ms)
-        (one_more before.inline (codes "inline") key value ms)
-        (one_more before.supertypes (codes "supertypes") key value ms)
+    (one_more before.name (codes "name") key value ms)
+    (one_more before.rules (codes "rules") key value ms)
+    (one_more before.word (codes "word") key value ms)
+    (one_more before.extras (codes "extras") key value ms)
+    (one_more before.conflicts (codes "conflicts") key value ms)
+    (one_more before.precedences (codes "precedences") key value ms)
+    (one_more before.externals (codes "externals") key value ms)
+    (one_more before.reserved (codes "reserved") key value ms)
+    (one_more before.inline (codes "inline") key value ms)
+    (one_more before.supertypes (codes "supertypes") key value ms)
 
 file_end : (before : FileMembers) → file_on before no_members ≡ before
 file_end before =
     same_file (file_on before no_members) before
-        (find_end before.name (codes "name"))
-        (find_end before.rules (codes "rules"))
-        (find_end before.word (codes "word"))
-        (find_end before.extras (codes "extras"))
-        (find_end before.conflicts (codes "conflicts"))
-        (find_end before.precedences (codes "precedences"))
-        (find_end before.externals (codes "externals"))
-        (find_end before.reserved (codes "reserved"))
-        (find_end before.inline (codes "inline"))
-        (find_end before.supertypes (codes "supertypes"))
+    (find_end before.name (codes "name"))
+    (find_end before.rules (codes "rules"))
+    (find_end before.word (codes "word"))
+    (find_end before.extras (codes "extras"))
+    (find_end before.conflicts (codes "conflicts"))
+    (find_end before.precedences (codes "precedences"))
+    (find_end before.externals (codes "externals"))
+    (find_end before.reserved (codes "reserved"))
+    (find_end before.inline (codes "inline"))
+    (find_end before.supertypes (codes "supertypes"))
 
 pub file_step : (all : List (Bytes × OJson)) (i : ℕ) (m : Bytes × OJson) (before after : FileMembers) → i < length all → m ≡ get_or all i m
     → after ≡ file_and before m.0 (json_of m.1)

@@ -5,3 +5,4 @@ pub mod ShapeLemmas
 pub mod ListLemmas
 pub mod RuleLemmas
 pub mod FileLemmas
+pub mod WellFormedLemmas

@@ -42,7 +42,7 @@ tree_found (member name value ms) = by (bytes_eq name (codes "content")) (tree_f
     by true rest = refl
     by false rest = rest
 
-trees_found : (ms : Members) → rules_of ms ≡ trees_of_members (find (codes "members") ms)
+pub trees_found : (ms : Members) → rules_of ms ≡ trees_of_members (find (codes "members") ms)
 trees_found no_members = refl
 trees_found (member name value ms) = by (bytes_eq name (codes "members")) (trees_found ms)
   where
@@ -66,17 +66,17 @@ first_of_own (one ∷ own) inner fault is = is
 is_shape : (ms : Members) (t : RuleType) (shape : Shape) → type_of (find (codes "type") ms) ≡ Ok t → HasShape t (looked ms) shape → IsShape ms shape
 is_shape ms t shape is has = record {
   faults =
-    ap (λ (r : Result RuleType GFault). typed_faults r (looked ms) (faults_at_content ms) (faults_at_members ms)) is
-    ∙ ap (λ (own : List GFault). own ++ inner_faults t (faults_at_content ms) (faults_at_members ms)) has.own
-    ∙ ap (λ (content : List GFault). inner_faults t content (faults_at_members ms)) (content_found ms)
-    ∙ ap (λ (members : List GFault). inner_faults t (faults_of_content (find (codes "content") ms)) members) (members_found ms)
-    ∙ has.inner;
+      ap (λ (r : Result RuleType GFault). typed_faults r (looked ms) (faults_at_content ms) (faults_at_members ms)) is
+      ∙ ap (λ (own : List GFault). own ++ inner_faults t (faults_at_content ms) (faults_at_members ms)) has.own
+      ∙ ap (λ (content : List GFault). inner_faults t content (faults_at_members ms)) (content_found ms)
+      ∙ ap (λ (members : List GFault). inner_faults t (faults_of_content (find (codes "content") ms)) members) (members_found ms)
+      ∙ has.inner;
   tree =
-    ap (λ (r : Result RuleType GFault). typed_tree r (looked ms) (content_of ms) (rules_of ms)) is
-    ∙ ap (λ (content : Rule). tree_of t (looked ms) content (rules_of ms)) (tree_found ms)
-    ∙ ap (λ (members : List Rule). tree_of t (looked ms) (tree_of_content (find (codes "content") ms)) members) (trees_found ms)
-    ∙ has.tree;
-  lower = let low = has.lower in let content = depth_found (codes "content") ms in let members = depth_found (codes "members") ms in omega arith
+      ap (λ (r : Result RuleType GFault). typed_tree r (looked ms) (content_of ms) (rules_of ms)) is
+      ∙ ap (λ (content : Rule). tree_of t (looked ms) content (rules_of ms)) (tree_found ms)
+      ∙ ap (λ (members : List Rule). tree_of t (looked ms) (tree_of_content (find (codes "content") ms)) members) (trees_found ms)
+      ∙ has.tree;
+  lower = let low = has.lower in let content = depth_found (codes "content") ms in let members = depth_found (codes "members") ms in omega arith;
 }
 
 pub gives_is_shape : (ms : Members) (t : RuleType) (m : Looked) (r : Result Shape GFault) → m ≡ looked ms → type_of m.kind ≡ Ok t → GivesShape t m r → GivesIsShape ms r

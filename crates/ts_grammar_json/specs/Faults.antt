@@ -1,4 +1,5 @@
--- Faults of a grammar file, listed in the order in which they count. Each pointer begins at the value that is judged.
+-- Faults of a grammar file, listed in the order in which they count. Each pointer begins at the
+-- value that is judged.
 use Rattle.std.specs.Prelude.{◌≡◌, ℕ, suc, List, [], ◌∷◌, ◌++◌, map, Option, Some, None}
 use Rattle.ts_base.specs.Bytes.{Bytes}
 use Rattle.ts_ojson.specs.Json.{Json, null, boolean, number, string, array, object, Items, no_items, item}

@@ -162,7 +162,7 @@ file_members ms = record {
   externals = find (codes "externals") ms;
   reserved = find (codes "reserved") ms;
   inline = find (codes "inline") ms;
-  supertypes = find (codes "supertypes") ms
+  supertypes = find (codes "supertypes") ms;
 }
 
 -- their faults, in the order in which the format has the members
@@ -199,7 +199,7 @@ members_grammar m = record {
   conflicts = list_in (list_of text_at) m.conflicts;
   precedences = list_in (list_of ranked_of) m.precedences;
   inline = list_in text_at m.inline;
-  supertypes = list_in text_at m.supertypes
+  supertypes = list_in text_at m.supertypes;
 }
 
 abbrev pub grammar_of : Json → Grammar
@@ -211,6 +211,7 @@ pub record IsGrammar (value : Json) (grammar : Grammar) : Type 0 where
   pub faultless : file_faults value ≡ []
   pub stands : grammar ≡ grammar_of value
 
--- The value is no grammar file, and this is its first fault. Running out of memory is no fault of a value.
+-- The value is no grammar file, and this is its first fault. Running out of memory is no fault of
+-- a value.
 abbrev pub IsFault : GFault → Json → Type 0
 IsFault fault value = fault ≢ Memory → first (file_faults value) ≡ Some fault

@@ -1,6 +1,8 @@
--- What the reader's private parts answer: a value or the first of some faults, and the members that it found.
+-- What the reader's private parts answer: a value or the first of some faults, and the members
+-- that it found.
 use Rattle.std.specs.Prelude.{◌≡◌, ◌≢◌, Bool, true, false, List, [], Option, Some, None, option_map, option_and_then, Result, Ok, Err, codes, if◌then◌else◌}
 use Rattle.std.specs.Option.{option_copied}
+use Rattle.std.specs.Borrow.{Bor}
 use Rattle.std.specs.Str.{bytes_eq}
 use Rattle.ts_base.specs.Bytes.{Bytes}
 use Rattle.ts_ojson.specs.declared.value.OJson.{OJson}
@@ -18,8 +20,9 @@ abbrev pub Gives : {X : Type 0} → List GFault → X → Result X GFault → Ty
 Gives faults value (Ok x) = (faults ≡ []) × (x ≡ value)
 Gives faults value (Err fault) = fault ≢ Memory → first faults ≡ Some fault
 
-abbrev pub seen : Option OJson → Option Json
-seen value = option_map json_of value
+-- the value that a reference stands for, where there is one
+abbrev pub json_at : Option (Bor OJson) → Option Json
+json_at value = option_map json_of (option_copied value)
 
 -- a member that was found before, or else this one where its name is the one that is wanted
 abbrev pub noted : Option Json → Bytes → Bytes → Json → Option Json
@@ -28,13 +31,13 @@ noted None wanted name value = if bytes_eq name wanted then Some value else None
 
 abbrev pub looked_of : Found → Looked
 looked_of found = record {
-  kind = seen (option_copied found.kind);
-  value = seen (option_copied found.value);
-  flags = seen (option_copied found.flags);
-  name = seen (option_copied found.name);
-  members = seen (option_copied found.members);
-  content = seen (option_copied found.content);
-  named = seen (option_copied found.named)
+  kind = json_at found.kind;
+  value = json_at found.value;
+  flags = json_at found.flags;
+  name = json_at found.name;
+  members = json_at found.members;
+  content = json_at found.content;
+  named = json_at found.named;
 }
 
 -- the members that were found, and one more
@@ -46,21 +49,21 @@ looked_and before name value = record {
   name = noted before.name (codes "name") name value;
   members = noted before.members (codes "members") name value;
   content = noted before.content (codes "content") name value;
-  named = noted before.named (codes "named") name value
+  named = noted before.named (codes "named") name value;
 }
 
 abbrev pub file_of : FileFound → FileMembers
 file_of found = record {
-  name = seen (option_copied found.name);
-  rules = seen (option_copied found.rules);
-  word = seen (option_copied found.word);
-  extras = seen (option_copied found.extras);
-  conflicts = seen (option_copied found.conflicts);
-  precedences = seen (option_copied found.precedences);
-  externals = seen (option_copied found.externals);
-  reserved = seen (option_copied found.reserved);
-  inline = seen (option_copied found.inline);
-  supertypes = seen (option_copied found.supertypes)
+  name = json_at found.name;
+  rules = json_at found.rules;
+  word = json_at found.word;
+  extras = json_at found.extras;
+  conflicts = json_at found.conflicts;
+  precedences = json_at found.precedences;
+  externals = json_at found.externals;
+  reserved = json_at found.reserved;
+  inline = json_at found.inline;
+  supertypes = json_at found.supertypes;
 }
 
 abbrev pub file_and : FileMembers → Bytes → Json → FileMembers
@@ -74,7 +77,7 @@ file_and before key value = record {
   externals = noted before.externals (codes "externals") key value;
   reserved = noted before.reserved (codes "reserved") key value;
   inline = noted before.inline (codes "inline") key value;
-  supertypes = noted before.supertypes (codes "supertypes") key value
+  supertypes = noted before.supertypes (codes "supertypes") key value;
 }
 
 -- whether an array or an object has nothing in it

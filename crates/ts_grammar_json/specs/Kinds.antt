@@ -1,4 +1,5 @@
--- The kinds of values in a grammar file: what a value of the kind is read as, and `None` for every other value.
+-- The kinds of values in a grammar file: what a value of the kind is read as, and `None` for every
+-- other value.
 use Rattle.std.specs.Prelude.{ℕ, ◌+◌, ◌^◌, Bool, true, false, ◌&&◌, ◌||◌, ◌==◌, nat_lt, nat_le, if◌then◌else◌, [], ◌∷◌, drop, length, slice_index, Option, Some, None, option_map, option_and_then, unwrap_or, ℤ, pos, neg_ℤ}
 use Rattle.std.specs.Str.{all_ascii_digits}
 use Rattle.std.specs.Str.Parse.{digits_value}
@@ -52,20 +53,25 @@ flags_in text = if list_all is_flag text then Some (list_any is_i text) else Non
 abbrev pub flags_of : Json → Option Bool
 flags_of value = option_and_then flags_in (text_of value)
 
--- ---- whole numbers: digits, after a minus or none, without fraction and exponent, that fit 32 bits with a sign
+-- ---- whole numbers: digits, after a minus or none, without fraction and exponent, that fit 32
+-- bits with a sign
 
 -- one digit or more and nothing else, whose number is below the bound
 abbrev pub is_numeral_below : ℕ → Bytes → Bool
-is_numeral_below bound digits = nat_lt 0 (length digits) && all_ascii_digits digits && nat_lt (digits_value 10 digits) bound
+is_numeral_below bound digits =
+    nat_lt 0 (length digits) && all_ascii_digits digits && nat_lt (digits_value 10 digits) bound
 
 abbrev pub positive_of : Bytes → Option ℤ
-positive_of digits = if is_numeral_below (2 ^ 31) digits then Some (pos (digits_value 10 digits)) else None
+positive_of digits =
+    if is_numeral_below (2 ^ 31) digits then Some (pos (digits_value 10 digits)) else None
 
 abbrev pub negative_of : Bytes → Option ℤ
-negative_of digits = if is_numeral_below (2 ^ 31 + 1) digits then Some (neg_ℤ (pos (digits_value 10 digits))) else None
+negative_of digits =
+    if is_numeral_below (2 ^ 31 + 1) digits then Some (neg_ℤ (pos (digits_value 10 digits))) else None
 
 abbrev pub integer_of : Bytes → Option ℤ
-integer_of spelling = if slice_index spelling 0 == 45 then negative_of (drop 1 spelling) else positive_of spelling
+integer_of spelling =
+    if slice_index spelling 0 == 45 then negative_of (drop 1 spelling) else positive_of spelling
 
 abbrev pub whole_of : Json → Option ℤ
 whole_of (number spelling) = integer_of spelling

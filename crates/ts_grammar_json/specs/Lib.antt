@@ -6,3 +6,4 @@ pub mod Rules
 pub mod File
 pub mod Found
 pub mod Shape
+pub mod WellFormed

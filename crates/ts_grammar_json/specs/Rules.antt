@@ -44,7 +44,8 @@ known_type (Some t) = Ok t
 known_type None = Err (UnknownType (step (codes "type")))
 
 abbrev pub type_of_word : Bytes → Result RuleType GFault
-type_of_word word = if bytes_eq word (codes "RESERVED") then Err Reserved else known_type (type_named word)
+type_of_word word =
+    if bytes_eq word (codes "RESERVED") then Err Reserved else known_type (type_named word)
 
 abbrev pub type_of_text : Option Bytes → Result RuleType GFault
 type_of_text None = Err (Wrong (step (codes "type")))
@@ -75,7 +76,7 @@ looked ms = record {
   name = find (codes "name") ms;
   members = find (codes "members") ms;
   content = find (codes "content") ms;
-  named = find (codes "named") ms
+  named = find (codes "named") ms;
 }
 
 abbrev pub content_faults : Looked → List GFault
@@ -85,7 +86,8 @@ content_faults m = must (codes "content") (be object_of) m.content
 abbrev pub own_faults : RuleType → Looked → List GFault
 own_faults Blank m = []
 own_faults Literal m = must (codes "value") (be text_of) m.value
-own_faults Pattern m = must (codes "value") (be text_of) m.value ++ may (codes "flags") (be flags_of) m.flags
+own_faults Pattern m =
+    must (codes "value") (be text_of) m.value ++ may (codes "flags") (be flags_of) m.flags
 own_faults Symbol m = must (codes "name") (be text_of) m.name
 own_faults Seq m = must (codes "members") (be array_of) m.members
 own_faults Choice m = must (codes "members") (be some_items_of) m.members
@@ -94,7 +96,9 @@ own_faults Repeat1 m = content_faults m
 own_faults Token m = content_faults m
 own_faults ImmediateToken m = content_faults m
 own_faults Field m = must (codes "name") (be text_of) m.name ++ content_faults m
-own_faults Alias m = content_faults m ++ (must (codes "named") (be truth_of) m.named ++ must (codes "value") (be text_of) m.value)
+own_faults Alias m =
+    content_faults m
+    ++ (must (codes "named") (be truth_of) m.named ++ must (codes "value") (be text_of) m.value)
 own_faults Prec m = must (codes "value") (be precedence_of) m.value ++ content_faults m
 own_faults PrecLeft m = must (codes "value") (be precedence_of) m.value ++ content_faults m
 own_faults PrecRight m = must (codes "value") (be precedence_of) m.value ++ content_faults m
@@ -127,20 +131,24 @@ typed_faults (Ok t) m content members = own_faults t m ++ inner_faults t content
 abbrev mutual
   -- the faults of a value as a rule
   pub rule_faults : Json → List GFault
-  rule_faults (object ms) = typed_faults (type_of (find (codes "type") ms)) (looked ms) (faults_at_content ms) (faults_at_members ms)
+  rule_faults (object ms) =
+      typed_faults (type_of (find (codes "type") ms)) (looked ms)
+      (faults_at_content ms) (faults_at_members ms)
   rule_faults _ = wrong
 
   -- those of the rule at the member `content`
   pub faults_at_content : Members → List GFault
   faults_at_content no_members = []
   faults_at_content (member name value ms) =
-      if bytes_eq name (codes "content") then under (step (codes "content")) (rule_faults value) else faults_at_content ms
+      if bytes_eq name (codes "content") then under (step (codes "content")) (rule_faults value)
+      else faults_at_content ms
 
   -- those of the rules in the array at the member `members`
   pub faults_at_members : Members → List GFault
   faults_at_members no_members = []
   faults_at_members (member name value ms) =
-      if bytes_eq name (codes "members") then under (step (codes "members")) (array_faults value) else faults_at_members ms
+      if bytes_eq name (codes "members") then under (step (codes "members")) (array_faults value)
+      else faults_at_members ms
 
   pub array_faults : Json → List GFault
   array_faults (array js) = item_faults 0 js
@@ -169,7 +177,8 @@ tree_of Repeat1 m content members = rule.Repeat1 content
 tree_of Token m content members = rule.Token content
 tree_of ImmediateToken m content members = rule.ImmediateToken content
 tree_of Field m content members = rule.Field (text_in m.name) content
-tree_of Alias m content members = rule.Alias content (read_or false truth_of m.named) (text_in m.value)
+tree_of Alias m content members =
+    rule.Alias content (read_or false truth_of m.named) (text_in m.value)
 tree_of Prec m content members = rule.Prec (precedence_in m) content
 tree_of PrecLeft m content members = rule.PrecLeft (precedence_in m) content
 tree_of PrecRight m content members = rule.PrecRight (precedence_in m) content
@@ -182,18 +191,21 @@ typed_tree (Ok t) m content members = tree_of t m content members
 abbrev mutual
   -- the tree of a value that has no faults as a rule; of others nothing is meant
   pub rule_of : Json → Rule
-  rule_of (object ms) = typed_tree (type_of (find (codes "type") ms)) (looked ms) (content_of ms) (rules_of ms)
+  rule_of (object ms) =
+      typed_tree (type_of (find (codes "type") ms)) (looked ms) (content_of ms) (rules_of ms)
   rule_of _ = rule.Blank
 
   -- the tree of the rule at the member `content`
   pub content_of : Members → Rule
   content_of no_members = rule.Blank
-  content_of (member name value ms) = if bytes_eq name (codes "content") then rule_of value else content_of ms
+  content_of (member name value ms) =
+      if bytes_eq name (codes "content") then rule_of value else content_of ms
 
   -- the trees of the rules in the array at the member `members`
   pub rules_of : Members → List Rule
   rules_of no_members = []
-  rules_of (member name value ms) = if bytes_eq name (codes "members") then array_rules value else rules_of ms
+  rules_of (member name value ms) =
+      if bytes_eq name (codes "members") then array_rules value else rules_of ms
 
   pub array_rules : Json → List Rule
   array_rules (array js) = item_rules js

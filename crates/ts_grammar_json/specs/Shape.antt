@@ -71,7 +71,8 @@ depth_of (Some value) = depth value
 -- a rule of this type with these members has this shape
 pub record HasShape (t : RuleType) (m : Looked) (shape : Shape) : Type 0 where
   pub own : own_faults t m ≡ []
-  pub inner : inner_faults t (faults_of_content m.content) (faults_of_members m.members) ≡ faults_in shape
+  pub inner :
+      inner_faults t (faults_of_content m.content) (faults_of_members m.members) ≡ faults_in shape
   pub tree : tree_of t m (tree_of_content m.content) (trees_of_members m.members) ≡ tree_in shape
   pub lower : height shape ≤ max (depth_of m.content) (depth_of m.members)
 

@@ -1,6 +1,5 @@
 //! The whole file: from a JSON value to the grammar that it stands for.
 ghost use Rattle.std.specs.Prelude.{◌≡◌, ◌≢◌, ◌⊎◌, Some, IfOk, IfErr, IsErrAnd};
-ghost use Rattle.std.specs.Option.{option_copied};
 ghost use Rattle.ts_ojson.specs.Json.{json_of, array as array_json, object as object_json};
 ghost use Rattle.ts_core.specs.declared.rule.Grammar.{Grammar as AnyGrammar};
 ghost use Rattle.ts_grammar_json.specs.declared.fault.GFault.{GFault as AnyFault};
@@ -9,7 +8,7 @@ ghost use Rattle.ts_grammar_json.specs.Members.{items_json, members_json};
 ghost use Rattle.ts_grammar_json.specs.Faults.{must, may, under};
 ghost use Rattle.ts_grammar_json.specs.Rules.{array_faults, array_rules, rule_faults, rule_of};
 ghost use Rattle.ts_grammar_json.specs.File.{rules_faults, rules_in, external_faults, reserved_faults, extras_in, member_faults, members_grammar, are_named as named_all, have_names as have_names_in, named_rules, each_rule, file_faults, grammar_of, IsGrammar, IsFault};
-ghost use Rattle.ts_grammar_json.specs.Found.{Gives, seen, file_of, emptiness};
+ghost use Rattle.ts_grammar_json.specs.Found.{Gives, json_at, file_of, emptiness};
 
 use crate::fault::GFault;
 use crate::found::FileFound;
@@ -25,9 +24,10 @@ use ts_ojson::{OJson, OText};
 /// The most rules that a grammar file has.
 const MOST_RULES: usize = 4_096;
 
-/// Reads a grammar file in the form of Tree-sitter's grammar.json from its JSON value. Members and rules are judged
-/// in the order of the format: `name`, `rules`, `word`, `extras`, `conflicts`, `precedences`, `externals`,
-/// `reserved`, `inline`, `supertypes`, and of a rule its own members before the rules inside it.
+/// Reads a grammar file in the form of Tree-sitter's grammar.json from its JSON value. Members are
+/// judged in the order `name`, `rules`, `word`, `extras`, `conflicts`, `precedences`, `externals`,
+/// `reserved`, `inline`, `supertypes`, each with all that is inside it, and of a rule its own members
+/// come before the rules inside it.
 ///
 /// # Errors
 ///
@@ -37,8 +37,8 @@ pub fn grammar(alloc: Global, json: &OJson) -> Result<Grammar, GFault>
     ensures refused { IfErr result (λ e. IsFault e (json_of json.now)) }
     ensures complete { IfErr result
         (λ e. e ≢ GFault.Memory → (g : AnyGrammar) → IsGrammar (json_of json.now) g → ⊥) }
-    ensures exact { (f : AnyFault) → f ≢ GFault.Memory → IsFault f (json_of json.now) → IsErrAnd result
-        (λ e. (e ≡ f) ⊎ (e ≡ GFault.Memory)) }
+    ensures exact { (f : AnyFault) → f ≢ GFault.Memory → IsFault f (json_of json.now)
+        → IsErrAnd result (λ e. (e ≡ f) ⊎ (e ≡ GFault.Memory)) }
 {
     file(alloc, json)
 }
@@ -54,7 +54,8 @@ fn file(alloc: Global, json: &OJson) -> Result<Grammar, GFault>
 
 /// The grammar of the file with these members.
 fn read(alloc: Global, found: &FileFound<'_>) -> Result<Grammar, GFault>
-    ensures { Gives (member_faults (file_of found.now)) (members_grammar (file_of found.now)) result }
+    ensures { Gives (member_faults (file_of found.now)) (members_grammar (file_of found.now))
+        result }
 {
     let name = member::text(alloc, "name", found.name)?;
     let rules = rules_member(alloc, "rules", found.rules)?;
@@ -84,14 +85,16 @@ fn rules_member(
     name: &str,
     value: Option<&OJson>,
 ) -> Result<List<(Str, Rule)>, GFault>
-    ensures { Gives (must name.now rules_faults (seen (option_copied value.entry))) (rules_in (seen (option_copied value.entry))) result }
+    ensures { Gives (must name.now rules_faults (json_at value.entry))
+        (rules_in (json_at value.entry)) result }
 {
     let value = member::there(alloc, name, value)?;
     in_member(alloc, name, rules_object(alloc, value))
 }
 
 fn rules_object(alloc: Global, value: &OJson) -> Result<List<(Str, Rule)>, GFault>
-    ensures { Gives (rules_faults (json_of value.now)) (rules_in (Some (json_of value.now))) result }
+    ensures { Gives (rules_faults (json_of value.now)) (rules_in (Some (json_of value.now)))
+        result }
 {
     match kinds::object(value) {
         Some(members) => counted_rules(alloc, members),
@@ -101,7 +104,8 @@ fn rules_object(alloc: Global, value: &OJson) -> Result<List<(Str, Rule)>, GFaul
 
 /// The rules of an object, whose form and number are judged before them.
 fn counted_rules(alloc: Global, members: &[(OText, OJson)]) -> Result<List<(Str, Rule)>, GFault>
-    ensures { Gives (rules_faults (object_json (members_json members.now))) (named_rules (members_json members.now)) result }
+    ensures { Gives (rules_faults (object_json (members_json members.now)))
+        (named_rules (members_json members.now)) result }
 {
     if !are_named(members) {
         return Err(wrong(alloc));
@@ -132,7 +136,8 @@ fn have_names(members: &[(OText, OJson)]) -> bool
 
 /// Each rule with its name, in file order.
 fn named(alloc: Global, members: &[(OText, OJson)]) -> Result<List<(Str, Rule)>, GFault>
-    ensures { Gives (each_rule (members_json members.now)) (named_rules (members_json members.now)) result }
+    ensures { Gives (each_rule (members_json members.now))
+        (named_rules (members_json members.now)) result }
 {
     let mut rules = List::new(alloc);
     for member in members {
@@ -142,7 +147,8 @@ fn named(alloc: Global, members: &[(OText, OJson)]) -> Result<List<(Str, Rule)>,
 }
 
 fn named_rule(alloc: Global, name: &Str, value: &OJson) -> Result<(Str, Rule), GFault>
-    ensures { Gives (under (step name.now) (rule_faults (json_of value.now))) (name.now, rule_of (json_of value.now)) result }
+    ensures { Gives (under (step name.now) (rule_faults (json_of value.now)))
+        (name.now, rule_of (json_of value.now)) result }
 {
     let tree = in_member(alloc, name.text(), rule(alloc, value))?;
     Ok((Str::from_text(alloc, name.text())?, tree))
@@ -150,7 +156,8 @@ fn named_rule(alloc: Global, name: &Str, value: &OJson) -> Result<(Str, Rule), G
 
 /// The rules at a member that may be absent.
 fn extras(alloc: Global, name: &str, value: Option<&OJson>) -> Result<List<Rule>, GFault>
-    ensures { Gives (may name.now array_faults (seen (option_copied value.entry))) (extras_in (seen (option_copied value.entry))) result }
+    ensures { Gives (may name.now array_faults (json_at value.entry))
+        (extras_in (json_at value.entry)) result }
 {
     match value {
         Some(value) => in_member(alloc, name, rule_array(alloc, value)),
@@ -168,7 +175,7 @@ fn rule_array(alloc: Global, value: &OJson) -> Result<List<Rule>, GFault>
 }
 
 fn no_externals(alloc: Global, name: &str, value: Option<&OJson>) -> Result<(), GFault>
-    ensures { Gives (may name.now external_faults (seen (option_copied value.entry))) tt result }
+    ensures { Gives (may name.now external_faults (json_at value.entry)) tt result }
 {
     match value {
         Some(value) => in_member(alloc, name, external(alloc, value)),
@@ -196,7 +203,7 @@ fn no_items(items: &[OJson]) -> Result<(), GFault>
 }
 
 fn no_reserved(alloc: Global, name: &str, value: Option<&OJson>) -> Result<(), GFault>
-    ensures { Gives (may name.now reserved_faults (seen (option_copied value.entry))) tt result }
+    ensures { Gives (may name.now reserved_faults (json_at value.entry)) tt result }
 {
     match value {
         Some(value) => in_member(alloc, name, reserved(alloc, value)),

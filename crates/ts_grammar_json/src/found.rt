@@ -1,11 +1,10 @@
 //! The members of an object that the format names, found in one pass over the object.
 ghost use Rattle.std.specs.Prelude.{◌≡◌, option_map};
-ghost use Rattle.std.specs.Option.{option_copied};
 ghost use Rattle.ts_ojson.specs.Json.{json_of};
 ghost use Rattle.ts_grammar_json.specs.Members.{members_json, find};
 ghost use Rattle.ts_grammar_json.specs.Rules.{looked};
 ghost use Rattle.ts_grammar_json.specs.File.{file_members};
-ghost use Rattle.ts_grammar_json.specs.Found.{seen, noted as noted_of, looked_of, looked_and, file_of, file_and};
+ghost use Rattle.ts_grammar_json.specs.Found.{json_at, noted as noted_of, looked_of, looked_and, file_of, file_and};
 
 use ts_ojson::{OJson, OText};
 
@@ -21,14 +20,15 @@ pub(crate) struct Found<'a> {
     pub named: Option<&'a OJson>,
 }
 
-/// The member that was found before, or this one where none was and its name is the one that is wanted.
+/// The member that was found before, or else this one where its name is the one that is wanted.
 fn noted<'a>(
     before: Option<&'a OJson>,
     wanted: &str,
     name: &str,
     value: &'a OJson,
 ) -> Option<&'a OJson>
-    ensures { seen (option_copied result) ≡ noted_of (seen (option_copied before.entry)) wanted.now name.now (json_of value.now) }
+    ensures { json_at result
+        ≡ noted_of (json_at before.entry) wanted.now name.now (json_of value.now) }
 {
     if before.is_none() && name == wanted {
         Some(value)
@@ -58,7 +58,8 @@ impl<'a> Found<'a> {
     }
 
     fn and(self, name: &str, value: &'a OJson) -> Found<'a>
-        ensures { looked_of result ≡ looked_and (looked_of self.entry) name.now (json_of value.now) }
+        ensures { looked_of result
+            ≡ looked_and (looked_of self.entry) name.now (json_of value.now) }
     {
         Found {
             kind: noted(self.kind, "type", name, value),

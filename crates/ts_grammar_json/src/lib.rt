@@ -1,5 +1,5 @@
-//! Grammar files in Tree-sitter's grammar.json form: from a JSON value to the grammar that it stands for, or to
-//! its first fault with a pointer to it.
+//! Grammar files in Tree-sitter's grammar.json form: from a JSON value to the grammar that it stands
+//! for, or to its first fault with a pointer to it.
 #![tactic(auto)]
 
 mod fault;
@@ -18,4 +18,4 @@ mod tests;
 
 pub use fault::GFault;
 pub use file::grammar;
-pub use laws::{one_fault, one_grammar, refused_is_no_grammar};
+pub use laws::{grammars_are_well_formed, one_fault, one_grammar, refused_is_no_grammar};

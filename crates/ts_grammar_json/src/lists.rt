@@ -1,11 +1,10 @@
 //! Lists of a grammar file: names, lists of names, and orderings of precedences.
 ghost use Rattle.std.specs.Prelude.{◌≡◌, ◌≢◌, IfOk, IfErr, Ok, Err};
-ghost use Rattle.std.specs.Option.{option_copied};
 ghost use Rattle.ts_ojson.specs.Json.{json_of};
 ghost use Rattle.ts_grammar_json.specs.Members.{items_json, members_json};
 ghost use Rattle.ts_grammar_json.specs.Faults.{may, list, each_from};
 ghost use Rattle.ts_grammar_json.specs.File.{is_text, text_at, each_read, list_of, list_in, ranked_faults, ranked_of, entry_faults, ranked_by, entry_of, entry_of_word};
-ghost use Rattle.ts_grammar_json.specs.Found.{Gives, seen, looked_of};
+ghost use Rattle.ts_grammar_json.specs.Found.{Gives, json_at, looked_of};
 
 use crate::fault::GFault;
 use crate::found::Found;
@@ -27,7 +26,8 @@ fn text(alloc: Global, value: &OJson) -> Result<Str, GFault>
 }
 
 fn texts_in(alloc: Global, items: &[OJson]) -> Result<List<Str>, GFault>
-    ensures { Gives (each_from 0 is_text (items_json items.now)) (each_read text_at (items_json items.now)) result }
+    ensures { Gives (each_from 0 is_text (items_json items.now))
+        (each_read text_at (items_json items.now)) result }
 {
     let mut texts = List::new(alloc);
     for (at, item) in items.iter().enumerate() {
@@ -38,7 +38,8 @@ fn texts_in(alloc: Global, items: &[OJson]) -> Result<List<Str>, GFault>
 
 /// The texts of an array.
 fn texts(alloc: Global, value: &OJson) -> Result<List<Str>, GFault>
-    ensures { Gives (list is_text (json_of value.now)) (list_of text_at (json_of value.now)) result }
+    ensures { Gives (list is_text (json_of value.now)) (list_of text_at (json_of value.now))
+        result }
 {
     match kinds::array(value) {
         Some(items) => texts_in(alloc, items),
@@ -47,7 +48,8 @@ fn texts(alloc: Global, value: &OJson) -> Result<List<Str>, GFault>
 }
 
 fn groups_in(alloc: Global, items: &[OJson]) -> Result<List<List<Str>>, GFault>
-    ensures { Gives (each_from 0 (list is_text) (items_json items.now)) (each_read (list_of text_at) (items_json items.now)) result }
+    ensures { Gives (each_from 0 (list is_text) (items_json items.now))
+        (each_read (list_of text_at) (items_json items.now)) result }
 {
     let mut groups = List::new(alloc);
     for (at, item) in items.iter().enumerate() {
@@ -58,7 +60,8 @@ fn groups_in(alloc: Global, items: &[OJson]) -> Result<List<List<Str>>, GFault>
 
 /// The arrays of texts of an array.
 fn groups(alloc: Global, value: &OJson) -> Result<List<List<Str>>, GFault>
-    ensures { Gives (list (list is_text) (json_of value.now)) (list_of (list_of text_at) (json_of value.now)) result }
+    ensures { Gives (list (list is_text) (json_of value.now))
+        (list_of (list_of text_at) (json_of value.now)) result }
 {
     match kinds::array(value) {
         Some(items) => groups_in(alloc, items),
@@ -77,7 +80,8 @@ fn ranked(alloc: Global, value: &OJson) -> Result<Ranked, GFault>
 }
 
 fn entry(alloc: Global, found: &Found<'_>) -> Result<Ranked, GFault>
-    ensures { Gives (entry_faults (entry_of (looked_of found.now).kind) (looked_of found.now)) (ranked_by (entry_of (looked_of found.now).kind) (looked_of found.now)) result }
+    ensures { Gives (entry_faults (entry_of (looked_of found.now).kind) (looked_of found.now))
+        (ranked_by (entry_of (looked_of found.now).kind) (looked_of found.now)) result }
 {
     let kind = member::there(alloc, "type", found.kind)?;
     match kinds::text(kind) {
@@ -89,7 +93,8 @@ fn entry(alloc: Global, found: &Found<'_>) -> Result<Ranked, GFault>
 }
 
 fn ordering_in(alloc: Global, items: &[OJson]) -> Result<List<Ranked>, GFault>
-    ensures { Gives (each_from 0 ranked_faults (items_json items.now)) (each_read ranked_of (items_json items.now)) result }
+    ensures { Gives (each_from 0 ranked_faults (items_json items.now))
+        (each_read ranked_of (items_json items.now)) result }
 {
     let mut ordering = List::new(alloc);
     for (at, item) in items.iter().enumerate() {
@@ -100,7 +105,8 @@ fn ordering_in(alloc: Global, items: &[OJson]) -> Result<List<Ranked>, GFault>
 
 /// An ordering of precedences.
 fn ordering(alloc: Global, value: &OJson) -> Result<List<Ranked>, GFault>
-    ensures { Gives (list ranked_faults (json_of value.now)) (list_of ranked_of (json_of value.now)) result }
+    ensures { Gives (list ranked_faults (json_of value.now))
+        (list_of ranked_of (json_of value.now)) result }
 {
     match kinds::array(value) {
         Some(items) => ordering_in(alloc, items),
@@ -109,7 +115,8 @@ fn ordering(alloc: Global, value: &OJson) -> Result<List<Ranked>, GFault>
 }
 
 fn orderings_in(alloc: Global, items: &[OJson]) -> Result<List<List<Ranked>>, GFault>
-    ensures { Gives (each_from 0 (list ranked_faults) (items_json items.now)) (each_read (list_of ranked_of) (items_json items.now)) result }
+    ensures { Gives (each_from 0 (list ranked_faults) (items_json items.now))
+        (each_read (list_of ranked_of) (items_json items.now)) result }
 {
     let mut orderings = List::new(alloc);
     for (at, item) in items.iter().enumerate() {
@@ -120,7 +127,8 @@ fn orderings_in(alloc: Global, items: &[OJson]) -> Result<List<List<Ranked>>, GF
 
 /// The orderings of an array.
 fn orderings(alloc: Global, value: &OJson) -> Result<List<List<Ranked>>, GFault>
-    ensures { Gives (list (list ranked_faults) (json_of value.now)) (list_of (list_of ranked_of) (json_of value.now)) result }
+    ensures { Gives (list (list ranked_faults) (json_of value.now))
+        (list_of (list_of ranked_of) (json_of value.now)) result }
 {
     match kinds::array(value) {
         Some(items) => orderings_in(alloc, items),
@@ -130,7 +138,8 @@ fn orderings(alloc: Global, value: &OJson) -> Result<List<List<Ranked>>, GFault>
 
 /// The names at a member that may be absent.
 pub(crate) fn names(alloc: Global, name: &str, value: Option<&OJson>) -> Result<List<Str>, GFault>
-    ensures { Gives (may name.now (list is_text) (seen (option_copied value.entry))) (list_in text_at (seen (option_copied value.entry))) result }
+    ensures { Gives (may name.now (list is_text) (json_at value.entry))
+        (list_in text_at (json_at value.entry)) result }
 {
     match value {
         Some(value) => in_member(alloc, name, texts(alloc, value)),
@@ -144,7 +153,8 @@ pub(crate) fn conflicts(
     name: &str,
     value: Option<&OJson>,
 ) -> Result<List<List<Str>>, GFault>
-    ensures { Gives (may name.now (list (list is_text)) (seen (option_copied value.entry))) (list_in (list_of text_at) (seen (option_copied value.entry))) result }
+    ensures { Gives (may name.now (list (list is_text)) (json_at value.entry))
+        (list_in (list_of text_at) (json_at value.entry)) result }
 {
     match value {
         Some(value) => in_member(alloc, name, groups(alloc, value)),
@@ -158,7 +168,8 @@ pub(crate) fn precedences(
     name: &str,
     value: Option<&OJson>,
 ) -> Result<List<List<Ranked>>, GFault>
-    ensures { Gives (may name.now (list (list ranked_faults)) (seen (option_copied value.entry))) (list_in (list_of ranked_of) (seen (option_copied value.entry))) result }
+    ensures { Gives (may name.now (list (list ranked_faults)) (json_at value.entry))
+        (list_in (list_of ranked_of) (json_at value.entry)) result }
 {
     match value {
         Some(value) => in_member(alloc, name, orderings(alloc, value)),

@@ -1,5 +1,5 @@
-//! Rules: from a JSON value to the rule tree that it stands for. A rule's own members are read before the rules
-//! inside it.
+//! Rules: from a JSON value to the rule tree that it stands for. A rule's own members are read before
+//! the rules inside it.
 ghost use Rattle.std.specs.Prelude.{◌≡◌, codes};
 ghost use Rattle.ts_ojson.specs.Json.{json_of};
 ghost use Rattle.ts_grammar_json.specs.Pointer.{step};
@@ -45,7 +45,8 @@ fn inside(alloc: Global, shape: Shape<'_>) -> Result<Rule, GFault>
 /// The rule tree of the value at `content`.
 #[cycle(rule)]
 fn content_rule(alloc: Global, content: &OJson) -> Result<Rule, GFault>
-    ensures { Gives (under (step (codes "content")) (rule_faults (json_of content.now))) (rule_of (json_of content.now)) result }
+    ensures { Gives (under (step (codes "content")) (rule_faults (json_of content.now)))
+        (rule_of (json_of content.now)) result }
 {
     in_member(alloc, "content", rule(alloc, content))
 }
@@ -53,7 +54,8 @@ fn content_rule(alloc: Global, content: &OJson) -> Result<Rule, GFault>
 /// The rule trees of the array at `members`.
 #[cycle(rule)]
 fn member_rules(alloc: Global, items: &[OJson]) -> Result<List<Rule>, GFault>
-    ensures { Gives (under (step (codes "members")) (item_faults 0 (items_json items.now))) (item_rules (items_json items.now)) result }
+    ensures { Gives (under (step (codes "members")) (item_faults 0 (items_json items.now)))
+        (item_rules (items_json items.now)) result }
 {
     in_member(alloc, "members", rules(alloc, items))
 }
@@ -61,7 +63,8 @@ fn member_rules(alloc: Global, items: &[OJson]) -> Result<List<Rule>, GFault>
 /// The rule trees of an array.
 #[cycle(rule)]
 pub(crate) fn rules(alloc: Global, items: &[OJson]) -> Result<List<Rule>, GFault>
-    ensures { Gives (item_faults 0 (items_json items.now)) (item_rules (items_json items.now)) result }
+    ensures { Gives (item_faults 0 (items_json items.now)) (item_rules (items_json items.now))
+        result }
 {
     let mut trees = List::new(alloc);
     for (at, item) in items.iter().enumerate() {

@@ -1,13 +1,11 @@
 //! The types of rules, by their words.
 ghost use Rattle.std.specs.Prelude.{◌≡◌, ◌≢◌, IfOk, IfErr};
-ghost use Rattle.std.specs.Option.{option_copied};
 ghost use Rattle.ts_grammar_json.specs.Rules.{type_named, known_type, type_of};
-ghost use Rattle.ts_grammar_json.specs.Found.{seen};
+ghost use Rattle.ts_grammar_json.specs.Found.{json_at};
 
 use crate::fault::GFault;
-use crate::kinds;
-use crate::member;
 use crate::pointer::{unknown_member, wrong_member};
+use crate::{kinds, member};
 use std::alloc::Global;
 use ts_ojson::OJson;
 
@@ -61,8 +59,8 @@ impl RuleType {
 
 /// The type of a rule, from the value at its member `type`.
 pub(crate) fn rule_type(alloc: Global, value: Option<&OJson>) -> Result<RuleType, GFault>
-    ensures ok { IfOk result (λ t. type_of (seen (option_copied value.entry)) ≡ Ok t) }
-    ensures fault { IfErr result (λ e. e ≢ GFault.Memory → type_of (seen (option_copied value.entry)) ≡ Err e) }
+    ensures ok { IfOk result (λ t. type_of (json_at value.entry) ≡ Ok t) }
+    ensures fault { IfErr result (λ e. e ≢ GFault.Memory → type_of (json_at value.entry) ≡ Err e) }
 {
     let value = member::there(alloc, "type", value)?;
     match kinds::text(value) {
@@ -74,7 +72,8 @@ pub(crate) fn rule_type(alloc: Global, value: Option<&OJson>) -> Result<RuleType
 
 fn known(alloc: Global, word: &str) -> Result<RuleType, GFault>
     ensures ok { IfOk result (λ t. known_type (type_named word.now) ≡ Ok t) }
-    ensures fault { IfErr result (λ e. e ≢ GFault.Memory → known_type (type_named word.now) ≡ Err e) }
+    ensures fault { IfErr result
+        (λ e. e ≢ GFault.Memory → known_type (type_named word.now) ≡ Err e) }
 {
     match RuleType::named(word) {
         Some(kind) => Ok(kind),

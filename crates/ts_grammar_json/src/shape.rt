@@ -1,11 +1,11 @@
-//! The first half of reading a rule: from an object to its type and its own members, with the rules inside it
-//! still unread.
+//! The first half of reading a rule: from an object to its type and its own members, with the rules
+//! inside it still unread.
 ghost use Rattle.std.specs.Prelude.{◌≡◌, ◌≢◌, [], IfOk, IfErr, Some, codes};
 ghost use Rattle.ts_ojson.specs.Json.{json_of};
 ghost use Rattle.ts_grammar_json.specs.Members.{members_json};
 ghost use Rattle.ts_grammar_json.specs.Faults.{first};
 ghost use Rattle.ts_grammar_json.specs.Rules.{content_faults, type_of};
-ghost use Rattle.ts_grammar_json.specs.Found.{looked_of, seen};
+ghost use Rattle.ts_grammar_json.specs.Found.{looked_of};
 ghost use Rattle.ts_grammar_json.specs.Shape.{wrapped as wrapped_of, GivesShape, GivesIsShape};
 
 use crate::fault::GFault;
@@ -56,7 +56,11 @@ impl Wrap {
             Wrap::Token => Rule::Token(content),
             Wrap::ImmediateToken => Rule::ImmediateToken(content),
             Wrap::Field(name) => Rule::Field { name, content },
-            Wrap::Alias { named, value } => Rule::Alias { content, named, value },
+            Wrap::Alias { named, value } => Rule::Alias {
+                content,
+                named,
+                value,
+            },
             Wrap::Prec(value) => Rule::Prec { value, content },
             Wrap::PrecLeft(value) => Rule::PrecLeft { value, content },
             Wrap::PrecRight(value) => Rule::PrecRight { value, content },
@@ -135,7 +139,8 @@ fn choice<'a>(alloc: Global, found: &Found<'a>) -> Result<Shape<'a>, GFault>
 fn content<'a>(alloc: Global, found: &Found<'a>) -> Result<&'a OJson, GFault>
     ensures ok { IfOk result (λ j. content_faults (looked_of found.now) ≡ []) }
     ensures value { IfOk result (λ j. (looked_of found.now).content ≡ Some (json_of j.now)) }
-    ensures fault { IfErr result (λ e. e ≢ GFault.Memory → first (content_faults (looked_of found.now)) ≡ Some e) }
+    ensures fault { IfErr result
+        (λ e. e ≢ GFault.Memory → first (content_faults (looked_of found.now)) ≡ Some e) }
 {
     member::object(alloc, "content", found.content)
 }

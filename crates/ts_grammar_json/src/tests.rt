@@ -1,7 +1,7 @@
 use crate::{GFault, grammar};
 use std::alloc::{AllocError, Global};
 use std::test::Fail;
-use ts_core::{Boxed, Grammar, Limited, List, PrecValue, Ranked, Rule, Str};
+use ts_core::{Grammar, Limited, List, Str};
 use ts_ojson::{OJson, read};
 
 /// What a text of JSON is read as.
@@ -44,8 +44,14 @@ const FILES: [(&str, (&str, &str)); 24] = [
         r#"{"word":1,"name":"g","rules":{"s":{"type":"BLANK"}}}"#,
         ("wrong", "/word"),
     ),
-    (r#"{"word":1,"name":"g","rules":{"s":{}}}"#, ("missing", "/rules/s/type")),
-    (r#"{"name":"g","word":null,"rules":{"s":{"type":"BLANK"}}}"#, ("none", "g")),
+    (
+        r#"{"word":1,"name":"g","rules":{"s":{}}}"#,
+        ("missing", "/rules/s/type"),
+    ),
+    (
+        r#"{"name":"g","word":null,"rules":{"s":{"type":"BLANK"}}}"#,
+        ("none", "g"),
+    ),
     (
         r#"{"name":"g","rules":{"s":{"type":"BLANK"}},"extras":null}"#,
         ("wrong", "/extras"),
@@ -116,7 +122,10 @@ const RULES: [(&str, (&str, &str)); 27] = [
     (r#"{"type":7}"#, ("wrong", "/rules/s/type")),
     (r#"{"type":"string"}"#, ("unknown type", "/rules/s/type")),
     (r#"{"type":"RESERVED"}"#, ("reserved", "")),
-    (r#"{"type":"PATTERN","value":"a","flags":"iu"}"#, ("none", "g")),
+    (
+        r#"{"type":"PATTERN","value":"a","flags":"iu"}"#,
+        ("none", "g"),
+    ),
     (
         r#"{"type":"PATTERN","value":"a","flags":"g"}"#,
         ("wrong", "/rules/s/flags"),
@@ -125,15 +134,27 @@ const RULES: [(&str, (&str, &str)); 27] = [
         r#"{"type":"PATTERN","value":"a","flags":null}"#,
         ("wrong", "/rules/s/flags"),
     ),
-    (r#"{"type":"SYMBOL","name":["a"]}"#, ("wrong", "/rules/s/name")),
+    (
+        r#"{"type":"SYMBOL","name":["a"]}"#,
+        ("wrong", "/rules/s/name"),
+    ),
     (r#"{"type":"SEQ","members":[]}"#, ("none", "g")),
-    (r#"{"type":"SEQ","members":{}}"#, ("wrong", "/rules/s/members")),
-    (r#"{"type":"CHOICE","members":[]}"#, ("wrong", "/rules/s/members")),
+    (
+        r#"{"type":"SEQ","members":{}}"#,
+        ("wrong", "/rules/s/members"),
+    ),
+    (
+        r#"{"type":"CHOICE","members":[]}"#,
+        ("wrong", "/rules/s/members"),
+    ),
     (
         r#"{"type":"SEQ","members":[{"type":"BLANK"},{"type":"TOKEN","content":{"type":"CHOICE","members":[]}}]}"#,
         ("wrong", "/rules/s/members/1/content/members"),
     ),
-    (r#"{"type":"FIELD","content":0}"#, ("missing", "/rules/s/name")),
+    (
+        r#"{"type":"FIELD","content":0}"#,
+        ("missing", "/rules/s/name"),
+    ),
     (
         r#"{"type":"FIELD","name":"f","content":"a"}"#,
         ("wrong", "/rules/s/content"),
@@ -178,7 +199,10 @@ const RULES: [(&str, (&str, &str)); 27] = [
         r#"{"type":"PREC_DYNAMIC","value":2147483647,"content":{"type":"BLANK"}}"#,
         ("none", "g"),
     ),
-    (r#"{"type":"BLANK"},"a~b/c":{"type":"SYMBOL"}"#, ("missing", "/rules/a~0b~1c/name")),
+    (
+        r#"{"type":"BLANK"},"a~b/c":{"type":"SYMBOL"}"#,
+        ("missing", "/rules/a~0b~1c/name"),
+    ),
 ];
 
 #[test]
@@ -196,110 +220,115 @@ fn answers_the_first_fault(rt: HostRuntime) -> Result<(), Fail> {
     Ok(())
 }
 
-fn text(alloc: Global, text: &str) -> Result<Str, AllocError> {
-    Str::from_text(alloc, text)
-}
+/// Rules, one of each type in the order of the format, and the trees that they stand for.
+const TREES: [(&str, &str); 18] = [
+    (r#"{"type":"BLANK"}"#, "Blank"),
+    (r#"{"value":"a","type":"STRING","x":0}"#, r#"Literal(Str { text: "a" })"#),
+    (
+        r#"{"type":"PATTERN","value":"[b]","flags":"ui"}"#,
+        r#"Pattern { value: Str { text: "[b]" }, ignore_case: true }"#,
+    ),
+    (
+        r#"{"type":"PATTERN","value":"c","flags":"u"}"#,
+        r#"Pattern { value: Str { text: "c" }, ignore_case: false }"#,
+    ),
+    (
+        r#"{"type":"PATTERN","value":"c"}"#,
+        r#"Pattern { value: Str { text: "c" }, ignore_case: false }"#,
+    ),
+    (r#"{"type":"SYMBOL","name":"s"}"#, r#"Symbol(Str { text: "s" })"#),
+    (
+        r#"{"type":"SEQ","members":[{"type":"BLANK"},{"type":"SEQ","members":[]}]}"#,
+        "Seq(List { items: [Blank, Seq(List { items: [] })] })",
+    ),
+    (
+        r#"{"type":"CHOICE","members":[{"type":"BLANK"}]}"#,
+        "Choice(List { items: [Blank] })",
+    ),
+    (
+        r#"{"type":"REPEAT","content":{"type":"REPEAT1","content":{"type":"BLANK"}}}"#,
+        "Repeat(Boxed { inner: Repeat1(Boxed { inner: Blank }) })",
+    ),
+    (
+        r#"{"type":"TOKEN","content":{"type":"BLANK"}}"#,
+        "Token(Boxed { inner: Blank })",
+    ),
+    (
+        r#"{"type":"IMMEDIATE_TOKEN","content":{"type":"BLANK"}}"#,
+        "ImmediateToken(Boxed { inner: Blank })",
+    ),
+    (
+        r#"{"type":"FIELD","name":"f","content":{"type":"BLANK"}}"#,
+        r#"Field { name: Str { text: "f" }, content: Boxed { inner: Blank } }"#,
+    ),
+    (
+        r#"{"type":"ALIAS","content":{"type":"BLANK"},"named":true,"value":"v"}"#,
+        r#"Alias { content: Boxed { inner: Blank }, named: true, value: Str { text: "v" } }"#,
+    ),
+    (
+        r#"{"type":"PREC","value":"p","content":{"type":"BLANK"}}"#,
+        r#"Prec { value: Name(Str { text: "p" }), content: Boxed { inner: Blank } }"#,
+    ),
+    (
+        r#"{"type":"PREC_LEFT","value":-3,"content":{"type":"BLANK"}}"#,
+        "PrecLeft { value: Number(-3), content: Boxed { inner: Blank } }",
+    ),
+    (
+        r#"{"type":"PREC_RIGHT","value":10,"content":{"type":"BLANK"}}"#,
+        "PrecRight { value: Number(10), content: Boxed { inner: Blank } }",
+    ),
+    (
+        r#"{"type":"PREC_RIGHT","value":-0,"content":{"type":"BLANK"}}"#,
+        "PrecRight { value: Number(0), content: Boxed { inner: Blank } }",
+    ),
+    (
+        r#"{"type":"PREC_DYNAMIC","value":-2147483648,"content":{"type":"BLANK"}}"#,
+        "PrecDynamic { value: -2147483648, content: Boxed { inner: Blank } }",
+    ),
+];
 
-fn literal(alloc: Global) -> Result<Boxed<Rule>, AllocError> {
-    Boxed::new(alloc, Rule::Literal(text(alloc, "a")?))
-}
-
-/// A rule of each type, in the order of the format.
-fn each_type(alloc: Global) -> Result<List<Rule>, AllocError> {
-    let mut choice = List::new(alloc);
-    choice.push(Rule::Blank)?;
-    let mut rules = List::new(alloc);
-    rules.push(Rule::Blank)?;
-    rules.push(Rule::Literal(text(alloc, "a")?))?;
-    rules.push(Rule::Pattern {
-        value: text(alloc, "[b]")?,
-        ignore_case: true,
-    })?;
-    rules.push(Rule::Symbol(text(alloc, "s")?))?;
-    rules.push(Rule::Seq(List::new(alloc)))?;
-    rules.push(Rule::Choice(choice))?;
-    rules.push(Rule::Repeat(literal(alloc)?))?;
-    rules.push(Rule::Repeat1(literal(alloc)?))?;
-    rules.push(Rule::Token(literal(alloc)?))?;
-    rules.push(Rule::ImmediateToken(literal(alloc)?))?;
-    rules.push(Rule::Field {
-        name: text(alloc, "f")?,
-        content: literal(alloc)?,
-    })?;
-    rules.push(Rule::Alias {
-        content: literal(alloc)?,
-        named: true,
-        value: text(alloc, "v")?,
-    })?;
-    rules.push(Rule::Prec {
-        value: PrecValue::Name(text(alloc, "p")?),
-        content: literal(alloc)?,
-    })?;
-    rules.push(Rule::PrecLeft {
-        value: PrecValue::Number(-3),
-        content: literal(alloc)?,
-    })?;
-    rules.push(Rule::PrecRight {
-        value: PrecValue::Number(10),
-        content: literal(alloc)?,
-    })?;
-    rules.push(Rule::PrecDynamic {
-        value: -1,
-        content: literal(alloc)?,
-    })?;
-    Ok(rules)
-}
-
-const EACH_TYPE: &str = r#"{"$schema":1,"name":"g","word":"w","rules":{"s":{"type":"SEQ","x":0,"members":[
-    {"type":"BLANK"},{"value":"a","type":"STRING"},{"type":"PATTERN","value":"[b]","flags":"ui"},{"type":"SYMBOL","name":"s"},
-    {"type":"SEQ","members":[]},{"type":"CHOICE","members":[{"type":"BLANK"}]},
-    {"type":"REPEAT","content":{"type":"STRING","value":"a"}},{"type":"REPEAT1","content":{"type":"STRING","value":"a"}},
-    {"type":"TOKEN","content":{"type":"STRING","value":"a"}},{"type":"IMMEDIATE_TOKEN","content":{"type":"STRING","value":"a"}},
-    {"type":"FIELD","name":"f","content":{"type":"STRING","value":"a"}},
-    {"type":"ALIAS","content":{"type":"STRING","value":"a"},"named":true,"value":"v"},
-    {"type":"PREC","value":"p","content":{"type":"STRING","value":"a"}},
-    {"type":"PREC_LEFT","value":-3,"content":{"type":"STRING","value":"a"}},
-    {"type":"PREC_RIGHT","value":10,"content":{"type":"STRING","value":"a"}},
-    {"type":"PREC_DYNAMIC","value":-1,"content":{"type":"STRING","value":"a"}}]},"t":{"type":"BLANK"}},
+/// A file with all members, and the grammar that it stands for.
+const WHOLE: &str = r#"{"$schema":1,"supertypes":["u"],"name":"g","word":"w",
+    "rules":{"s":{"type":"BLANK"},"t":{"type":"BLANK"}},
     "extras":[{"type":"BLANK"}],"conflicts":[["s","t"],[]],
     "precedences":[[{"type":"STRING","value":"p"},{"type":"SYMBOL","name":"s"}]],
-    "externals":[],"reserved":[],"inline":["i"],"supertypes":["u"]}"#;
+    "externals":[],"reserved":[],"inline":["i"]}"#;
+
+const WHOLE_GRAMMAR: &str = r#"Grammar { name: Str { text: "g" }, rules: List { items: [(Str { text: "s" }, Blank), (Str { text: "t" }, Blank)] }, word: Some(Str { text: "w" }), extras: List { items: [Blank] }, conflicts: List { items: [List { items: [Str { text: "s" }, Str { text: "t" }] }, List { items: [] }] }, precedences: List { items: [List { items: [Name(Str { text: "p" }), Rule(Str { text: "s" })] }] }, inline: List { items: [Str { text: "i" }] }, supertypes: List { items: [Str { text: "u" }] } }"#;
+
+/// The first rule's tree, as it is printed.
+fn tree(alloc: Global, read: &Result<Grammar, GFault>) -> Result<String, AllocError> {
+    match read {
+        Ok(grammar) if !grammar.rules.is_empty() => {
+            format!(in alloc; "{:?}", grammar.rules.get(0).1)
+        }
+        _ => format!(in alloc; ""),
+    }
+}
 
 #[test]
-fn reads_each_type_and_member(rt: HostRuntime) -> Result<(), Fail> {
+fn reads_each_type(rt: HostRuntime) -> Result<(), Fail> {
     let alloc = rt.alloc();
-    let mut rules = List::new(alloc);
-    rules.push((text(alloc, "s")?, Rule::Seq(each_type(alloc)?)))?;
-    rules.push((text(alloc, "t")?, Rule::Blank))?;
-    let mut extras = List::new(alloc);
-    extras.push(Rule::Blank)?;
-    let mut conflict = List::new(alloc);
-    conflict.push(text(alloc, "s")?)?;
-    conflict.push(text(alloc, "t")?)?;
-    let mut conflicts = List::new(alloc);
-    conflicts.push(conflict)?;
-    conflicts.push(List::new(alloc))?;
-    let mut ordering = List::new(alloc);
-    ordering.push(Ranked::Name(text(alloc, "p")?))?;
-    ordering.push(Ranked::Rule(text(alloc, "s")?))?;
-    let mut precedences = List::new(alloc);
-    precedences.push(ordering)?;
-    let mut inline = List::new(alloc);
-    inline.push(text(alloc, "i")?)?;
-    let mut supertypes = List::new(alloc);
-    supertypes.push(text(alloc, "u")?)?;
-    let wanted = Grammar {
-        name: text(alloc, "g")?,
-        rules,
-        word: Some(text(alloc, "w")?),
-        extras,
-        conflicts,
-        precedences,
-        inline,
-        supertypes,
-    };
-    assert_eq!(rt; reading(alloc, EACH_TYPE), Ok(wanted));
+    for (rule, wanted) in TREES {
+        let text = format!(in alloc; "{{\"name\":\"g\",\"rules\":{{\"s\":{rule}}}}}")?;
+        let read = reading(alloc, text.as_str());
+        assert_eq!(rt; tree(alloc, &read)?.as_str(), wanted);
+    }
     Ok(())
+}
+
+#[test]
+fn reads_each_member(rt: HostRuntime) -> Result<(), Fail> {
+    let alloc = rt.alloc();
+    let read = reading(alloc, WHOLE);
+    let printed = format!(in alloc; "{read:?}")?;
+    let wanted = format!(in alloc; "Ok({WHOLE_GRAMMAR})")?;
+    assert_eq!(rt; printed.as_str(), wanted.as_str());
+    Ok(())
+}
+
+fn text(alloc: Global, text: &str) -> Result<Str, AllocError> {
+    Str::from_text(alloc, text)
 }
 
 /// A grammar file with so many rules.

@@ -8,4 +8,4 @@ pub returns-in-Some : goal.returns-in-Some
 returns-in-Some c =
     let j = json_of c.in-Some.value.now in
     may_gives c.args.name.now array_faults extras_in _ j c.in_member.result (seen_some c.args.value c.in-Some.value c.in-Some.is)
-        (c.in_member.ensures (array_faults j) (array_rules j) c.rule_array.ensures)
+    (c.in_member.ensures (array_faults j) (array_rules j) c.rule_array.ensures)

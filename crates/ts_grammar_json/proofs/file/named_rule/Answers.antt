@@ -17,6 +17,7 @@ returns-in_err-tree c =
 pub returns : goal.returns
 returns c =
     let j = json_of c.args.value.now in
-    let read = c.in_ok-tree.ensures (rule_faults j) (rule_of j) c.rule.ensures in
-    ( ap (λ (n : Bytes). under (step n) (rule_faults j)) (sym c.text.ensures) ∙ read.0
-    , rule_named c.in_ok-from_text.field-0 c.args.name.now c.in_ok-tree.tree (rule_of j) (c.in_ok-from_text.ensures ∙ c.text-2.ensures) read.1 )
+    let read = c.in_ok-tree.ensures (rule_faults j) (rule_of j) c.rule.ensures in (
+      ap (λ (n : Bytes). under (step n) (rule_faults j)) (sym c.text.ensures) ∙ read.0,
+      rule_named c.in_ok-from_text.field-0 c.args.name.now c.in_ok-tree.tree (rule_of j) (c.in_ok-from_text.ensures ∙ c.text-2.ensures) read.1,
+    )

@@ -7,4 +7,4 @@ pub returns-in-Some : goal.returns-in-Some
 returns-in-Some c =
     let j = json_of c.in-Some.value.now in
     may_gives c.args.name.now external_faults (λ o. tt) _ j c.in_member.result (seen_some c.args.value c.in-Some.value c.in-Some.is)
-        (c.in_member.ensures (external_faults j) tt c.external.ensures)
+    (c.in_member.ensures (external_faults j) tt c.external.ensures)

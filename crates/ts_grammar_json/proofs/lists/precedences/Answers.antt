@@ -8,4 +8,4 @@ pub returns-in-Some : goal.returns-in-Some
 returns-in-Some c =
     let j = json_of c.in-Some.value.now in
     may_gives c.args.name.now (list (list ranked_faults)) (list_in (list_of ranked_of)) _ j c.in_member.result (seen_some c.args.value c.in-Some.value c.in-Some.is)
-        (c.in_member.ensures ((list (list ranked_faults)) j) (list_of (list_of ranked_of) j) c.orderings.ensures)
+    (c.in_member.ensures ((list (list ranked_faults)) j) (list_of (list_of ranked_of) j) c.orderings.ensures)

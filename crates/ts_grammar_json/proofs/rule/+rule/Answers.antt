@@ -36,11 +36,11 @@ pub rules-returns-in_err-in_item : goal.rules-returns-in_err-in_item
 rules-returns-in_err-in_item t c =
     let p = err_from_is_err_and c.from_residual.result c.from_residual.ensures.1 in
     rw (p.1, p.2) (λ other. stops item_faults item_rules rule_faults rule_of (λ k j js. refl) (λ j js. refl) c.args.items.now c.loop-at.at c.index-items-at.result c.loop-at.trees c.in_err-in_item.field-0.0
-        c.loop-at-test.true c.index-items-at.is (c.in_err-in_item.ensures (rule_faults (json_of c.index-items-at.result)) (rule_of (json_of c.index-items-at.result)) c.rule.ensures other) c.loop-at.invariant)
+    c.loop-at-test.true c.index-items-at.is (c.in_err-in_item.ensures (rule_faults (json_of c.index-items-at.result)) (rule_of (json_of c.index-items-at.result)) c.rule.ensures other) c.loop-at.invariant)
 
 pub rules-loop-at-preserved : goal.rules-loop-at-preserved
 rules-loop-at-preserved t c =
     let read = c.in_ok-in_item.ensures (rule_faults (json_of c.index-items-at.result)) (rule_of (json_of c.index-items-at.result)) c.rule.ensures in
     rw c.in_ok-push.ensures.ok
     (next item_faults item_rules rule_faults rule_of (λ k j js. refl) (λ j js. refl) c.args.items.now c.loop-at.at c.index-items-at.result c.loop-at.trees c.in_ok-in_item.field-0
-        c.loop-at-test.true c.index-items-at.is read.0 read.1 c.loop-at.invariant)
+    c.loop-at-test.true c.index-items-at.is read.0 read.1 c.loop-at.invariant)
