@@ -2,7 +2,7 @@
 use Rattle.std.proofs.Common.{◌≡◌, ◌≢◌, ◌∙◌, sym, ap, refl, subst, ℕ, suc, ◌+◌, ◌<◌, ◌≤◌, ◌↔◌, ◌⊎◌, inl, inr, Bool, true, false, cond, ◌==◌, nat_lt, arith, List, [], ◌∷◌, ◌++◌, append_assoc, length, get_or, drop, Option, Some, None, Result, Ok, Err}
 use Rattle.ts_base.specs.Bytes.{Bytes}
 use Rattle.ts_ojson.specs.declared.value.OJson.{OJson}
-use Rattle.ts_ojson.specs.Json.{Json, json_of, null, boolean, number, string, array, object, Items, Members, no_members, member, names}
+use Rattle.ts_ojson.specs.Json.{Json, json_of, null, boolean, number, string, array, object, Items, Members, member, names}
 use Rattle.std.specs.Bool.{IsTrue}
 use Rattle.std.specs.Result.{IfOk, IfErr, IsErrAnd}
 use Rattle.std.proofs.lemmas.Bool.Decides.{nat_tests}

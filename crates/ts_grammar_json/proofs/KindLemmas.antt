@@ -1,5 +1,5 @@
 -- Kinds of values: whole numbers as `parse` reads them.
-use Rattle.std.proofs.Common.{◌≡◌, ◌∙◌, sym, ap, refl, ℕ, ◌+◌, ◌^◌, ◌<◌, ◌≤◌, Bool, true, false, cond, ◌==◌, ◌≢◌, nat_lt, List, [], ◌∷◌, length, get_or, drop, Option, Some, None, Result, Ok, Err, ℤ, pos, neg_ℤ, w32, arith, ◌&&◌}
+use Rattle.std.proofs.Common.{◌≡◌, ◌∙◌, sym, ap, refl, ℕ, ◌+◌, ◌^◌, ◌<◌, ◌≤◌, Bool, true, false, cond, ◌==◌, ◌≢◌, nat_lt, List, [], ◌∷◌, length, get_or, drop, Some, None, Result, Ok, Err, ℤ, pos, neg_ℤ, w32, arith, ◌&&◌}
 use Rattle.std.specs.Str.{all_ascii_digits}
 use Rattle.std.specs.Str.Parse.{digits_value, ParsesSigned}
 use Rattle.std.specs.Result.{result_ok, OkIff}

@@ -1,8 +1,8 @@
 -- Lists whose items are read one after another: what holds when those before a place are read without fault.
-use Rattle.std.proofs.Common.{◌≡◌, ◌≢◌, ◌∙◌, sym, ap, refl, ℕ, zero, suc, ◌+◌, ◌<◌, add-one, List, [], ◌∷◌, ◌++◌, append_assoc, length, get_or, drop, drop-cons, Option, Some, None, Result, Ok, Err, Bor, subst}
+use Rattle.std.proofs.Common.{◌≡◌, ◌∙◌, sym, ap, ℕ, suc, ◌+◌, ◌<◌, add-one, List, [], ◌∷◌, ◌++◌, append_assoc, length, get_or, drop, drop-cons, Option, Some, None, Result, Bor, subst}
 use Rattle.ts_base.specs.Bytes.{Bytes}
 use Rattle.ts_ojson.specs.declared.value.OJson.{OJson}
-use Rattle.ts_ojson.specs.Json.{Json, json_of, Items, no_items, item}
+use Rattle.ts_ojson.specs.Json.{Json, json_of, Items, item}
 use Rattle.ts_grammar_json.specs.declared.fault.GFault.{GFault}
 use Rattle.ts_grammar_json.specs.Pointer.{step, place}
 use Rattle.ts_grammar_json.specs.Members.{items_json}

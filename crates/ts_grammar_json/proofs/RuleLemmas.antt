@@ -1,5 +1,5 @@
 -- A rule from its shape, and how deep what stands inside it nests.
-use Rattle.std.proofs.Common.{◌≡◌, ◌≢◌, ◌∙◌, sym, ap, refl, subst, ℕ, zero, suc, ◌≤◌, ◌<◌, max, List, [], ◌∷◌, length, get_or, Option, Some, None, Result, Ok, Err, arith}
+use Rattle.std.proofs.Common.{◌≡◌, ◌≢◌, ◌∙◌, sym, ap, subst, ℕ, zero, suc, ◌≤◌, ◌<◌, List, [], ◌∷◌, length, get_or, Some, Result, arith}
 use Rattle.ts_ojson.specs.declared.value.OJson.{OJson}
 use Rattle.ts_ojson.specs.Json.{Json, json_of, null, boolean, number, string, array, object, Members, depth, members_depth, items_depth}
 use Rattle.ts_core.specs.declared.rule.Rule.{Rule}

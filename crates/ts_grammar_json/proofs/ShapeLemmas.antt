@@ -1,19 +1,17 @@
 -- From the members of an object to the shape of its rule: what stands inside, found by name.
-use Rattle.std.proofs.Common.{◌≡◌, ◌≢◌, ◌∙◌, sym, ap, refl, subst, ℕ, suc, ◌≤◌, max, Bool, true, false, cond, List, [], ◌∷◌, ◌++◌, Option, Some, None, Result, Ok, Err, codes, arith}
+use Rattle.std.proofs.Common.{◌≡◌, ◌∙◌, sym, ap, refl, subst, ◌≤◌, max, Bool, true, false, cond, List, [], ◌∷◌, ◌++◌, Some, None, Result, Ok, Err, codes, arith}
 use Rattle.std.specs.Str.{bytes_eq}
 use Rattle.ts_base.specs.Bytes.{Bytes}
-use Rattle.ts_ojson.specs.Json.{Json, object, Members, no_members, member, depth, members_depth}
+use Rattle.ts_ojson.specs.Json.{Members, no_members, member, depth, members_depth}
 use Rattle.ts_core.specs.declared.rule.Rule.{Rule}
-use Rattle.ts_core.specs.declared.rule.Rule.TheVariants as rule
 use Rattle.ts_grammar_json.specs.declared.fault.GFault.{GFault}
-use Rattle.ts_grammar_json.specs.declared.fault.GFault.TheVariants.{Memory}
 use Rattle.ts_grammar_json.specs.declared.rule_type.RuleType.{RuleType}
 use Rattle.ts_grammar_json.specs.declared.shape.Shape.{Shape}
 use Rattle.ts_grammar_json.specs.Pointer.{step}
 use Rattle.ts_grammar_json.specs.Members.{find}
 use Rattle.ts_grammar_json.specs.Faults.{under, first}
 use Rattle.ts_grammar_json.specs.Rules.{Looked, looked, type_of, typed_faults, typed_tree, tree_of, own_faults, inner_faults, rule_faults, rule_of, array_faults, array_rules, faults_at_content, faults_at_members, content_of, rules_of}
-use Rattle.ts_grammar_json.specs.Shape.{HasShape, IsShape, GivesShape, GivesIsShape, faults_in, height, faults_of_content, faults_of_members, tree_of_content, trees_of_members, depth_of}
+use Rattle.ts_grammar_json.specs.Shape.{HasShape, IsShape, GivesShape, GivesIsShape, faults_of_content, faults_of_members, tree_of_content, trees_of_members, depth_of}
 
 content_found : (ms : Members) → faults_at_content ms ≡ faults_of_content (find (codes "content") ms)
 content_found no_members = refl

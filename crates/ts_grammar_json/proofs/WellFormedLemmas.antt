@@ -1,5 +1,5 @@
 -- A file without faults gives a well-formed grammar.
-use Rattle.std.proofs.Common.{◌≡◌, ◌≢◌, ◌∙◌, sym, ap, refl, subst, ℕ, zero, suc, ◌<◌, ◌≤◌, Bool, true, false, cond, ◌&&◌, nat_lt, List, [], ◌∷◌, ◌++◌, length, map, slice_get, Option, Some, None, Result, Ok, Err, codes, ℤ, arith}
+use Rattle.std.proofs.Common.{◌≡◌, ◌≢◌, ◌∙◌, sym, ap, refl, subst, ℕ, zero, suc, ◌≤◌, Bool, true, false, cond, ◌&&◌, nat_lt, List, [], ◌∷◌, ◌++◌, length, map, slice_get, Option, Some, None, Result, Ok, Err, codes, ℤ, arith}
 use Rattle.std.specs.Str.{bytes_eq}
 use Rattle.std.specs.List.{list_all}
 use Rattle.std.proofs.lemmas.Bool.Decides.{nat_tests}
@@ -16,13 +16,13 @@ use Rattle.ts_core.specs.declared.limits.Limited.TheVariants.{Rules}
 use Rattle.ts_grammar_json.specs.declared.rule_type.RuleType.{RuleType}
 use Rattle.ts_grammar_json.specs.declared.rule_type.RuleType.TheVariants.{Blank, Literal, Pattern, Symbol, Seq, Choice, Repeat, Repeat1, Token, ImmediateToken, Field, Alias, Prec, PrecLeft, PrecRight, PrecDynamic}
 use Rattle.ts_grammar_json.specs.declared.fault.GFault.{GFault}
-use Rattle.ts_grammar_json.specs.declared.fault.GFault.TheVariants.{Wrong, Limit}
+use Rattle.ts_grammar_json.specs.declared.fault.GFault.TheVariants.{Limit}
 use Rattle.ts_grammar_json.specs.Pointer.{step, place}
 use Rattle.ts_grammar_json.specs.Members.{find}
 use Rattle.ts_grammar_json.specs.Kinds.{some_items_of}
-use Rattle.ts_grammar_json.specs.Faults.{from_above, under, wrong, be, must, may, list}
+use Rattle.ts_grammar_json.specs.Faults.{from_above, under, wrong, be, must, may}
 use Rattle.ts_grammar_json.specs.Rules.{Looked, looked, type_of, own_faults, inner_faults, typed_faults, typed_tree, tree_of, rule_faults, rule_of, faults_at_content, faults_at_members, content_of, rules_of, array_faults, array_rules, item_faults, item_rules}
-use Rattle.ts_grammar_json.specs.File.{have_names, are_named, wrong_if_not, limit_faults, each_rule, rules_faults, named_rules, rules_in, extras_in, file_members, member_faults, file_faults, grammar_of, IsGrammar}
+use Rattle.ts_grammar_json.specs.File.{have_names, are_named, wrong_if_not, limit_faults, each_rule, rules_faults, named_rules, rules_in, extras_in, file_members, member_faults, grammar_of, IsGrammar}
 use Rattle.ts_grammar_json.specs.Shape.{trees_of_members}
 use Rattle.ts_grammar_json.specs.WellFormed.{is_true, choices_step, has_choices, IsWellFormed}
 use Rattle.ts_grammar_json.proofs.ShapeLemmas.{trees_found}

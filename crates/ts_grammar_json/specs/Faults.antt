@@ -1,8 +1,8 @@
 -- Faults of a grammar file, listed in the order in which they count. Each pointer begins at the
 -- value that is judged.
-use Rattle.std.specs.Prelude.{◌≡◌, ℕ, suc, List, [], ◌∷◌, ◌++◌, map, Option, Some, None}
+use Rattle.std.specs.Prelude.{ℕ, suc, List, [], ◌∷◌, ◌++◌, map, Option, Some, None}
 use Rattle.ts_base.specs.Bytes.{Bytes}
-use Rattle.ts_ojson.specs.Json.{Json, null, boolean, number, string, array, object, Items, no_items, item}
+use Rattle.ts_ojson.specs.Json.{Json, array, Items, no_items, item}
 use Rattle.ts_grammar_json.specs.declared.fault.GFault.{GFault}
 use Rattle.ts_grammar_json.specs.declared.fault.GFault.TheVariants.{Missing, Wrong, UnknownType, External, Reserved, Limit, Memory}
 use Rattle.ts_grammar_json.specs.Pointer.{step, place}

@@ -1,9 +1,8 @@
 -- Grammar files: the grammar that a JSON value stands for, and its first fault.
 use Rattle.std.specs.Prelude.{◌≡◌, ◌≢◌, ℕ, Bool, true, false, if◌then◌else◌, nat_lt, List, [], ◌∷◌, ◌++◌, length, Option, Some, None, Result, Ok, Err, codes}
 use Rattle.std.specs.Str.{bytes_eq}
-use Rattle.std.specs.List.{list_any}
 use Rattle.ts_base.specs.Bytes.{Bytes}
-use Rattle.ts_ojson.specs.Json.{Json, null, boolean, number, string, array, object, Items, no_items, item, Members, no_members, member, names}
+use Rattle.ts_ojson.specs.Json.{Json, array, object, Items, no_items, item, Members, no_members, member, names}
 use Rattle.ts_core.specs.declared.rule.Rule.{Rule}
 use Rattle.ts_core.specs.declared.rule.Ranked.{Ranked}
 use Rattle.ts_core.specs.declared.rule.Ranked.TheVariants as ranked

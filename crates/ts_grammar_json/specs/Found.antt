@@ -1,12 +1,12 @@
 -- What the reader's private parts answer: a value or the first of some faults, and the members
 -- that it found.
-use Rattle.std.specs.Prelude.{◌≡◌, ◌≢◌, Bool, true, false, List, [], Option, Some, None, option_map, option_and_then, Result, Ok, Err, codes, if◌then◌else◌}
+use Rattle.std.specs.Prelude.{◌≡◌, ◌≢◌, Bool, true, false, List, [], Option, Some, None, option_map, Result, Ok, Err, codes, if◌then◌else◌}
 use Rattle.std.specs.Option.{option_copied}
 use Rattle.std.specs.Borrow.{Bor}
 use Rattle.std.specs.Str.{bytes_eq}
 use Rattle.ts_base.specs.Bytes.{Bytes}
 use Rattle.ts_ojson.specs.declared.value.OJson.{OJson}
-use Rattle.ts_ojson.specs.Json.{Json, json_of, null, boolean, number, string, array, object, no_items, item, no_members, member}
+use Rattle.ts_ojson.specs.Json.{Json, json_of, array, object, no_items, item, no_members, member}
 use Rattle.ts_grammar_json.specs.declared.fault.GFault.{GFault}
 use Rattle.ts_grammar_json.specs.declared.fault.GFault.TheVariants.{Memory}
 use Rattle.ts_grammar_json.specs.declared.found.Found.{Found}

@@ -1,6 +1,6 @@
 -- The kinds of values in a grammar file: what a value of the kind is read as, and `None` for every
 -- other value.
-use Rattle.std.specs.Prelude.{ℕ, ◌+◌, ◌^◌, Bool, true, false, ◌&&◌, ◌||◌, ◌==◌, nat_lt, nat_le, if◌then◌else◌, [], ◌∷◌, drop, length, slice_index, Option, Some, None, option_map, option_and_then, unwrap_or, ℤ, pos, neg_ℤ}
+use Rattle.std.specs.Prelude.{ℕ, ◌+◌, ◌^◌, Bool, ◌&&◌, ◌||◌, ◌==◌, nat_lt, if◌then◌else◌, [], drop, length, slice_index, Option, Some, None, option_map, option_and_then, unwrap_or, ℤ, pos, neg_ℤ}
 use Rattle.std.specs.Str.{all_ascii_digits}
 use Rattle.std.specs.Str.Parse.{digits_value}
 use Rattle.std.specs.List.{list_all, list_any}

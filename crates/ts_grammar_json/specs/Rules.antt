@@ -1,8 +1,8 @@
 -- Rule trees: what an object of a grammar file stands for as a rule, and its faults.
-use Rattle.std.specs.Prelude.{◌≡◌, ℕ, suc, Bool, true, false, if◌then◌else◌, List, [], ◌∷◌, ◌++◌, Option, Some, None, Result, Ok, Err, codes, ℤ, pos}
+use Rattle.std.specs.Prelude.{ℕ, suc, false, if◌then◌else◌, List, [], ◌∷◌, ◌++◌, Option, Some, None, Result, Ok, Err, codes, pos}
 use Rattle.std.specs.Str.{bytes_eq}
 use Rattle.ts_base.specs.Bytes.{Bytes}
-use Rattle.ts_ojson.specs.Json.{Json, null, boolean, number, string, array, object, Items, no_items, item, Members, no_members, member}
+use Rattle.ts_ojson.specs.Json.{Json, array, object, Items, no_items, item, Members, no_members, member}
 use Rattle.ts_core.specs.declared.rule.Rule.{Rule}
 use Rattle.ts_core.specs.declared.rule.Rule.TheVariants as rule
 use Rattle.ts_core.specs.declared.rule.PrecValue.{PrecValue}

@@ -1,6 +1,6 @@
 -- Rules whose own members are read, and what is left to read inside them.
-use Rattle.std.specs.Prelude.{◌≡◌, ◌≢◌, ℕ, suc, ◌≤◌, max, List, [], ◌∷◌, ◌++◌, Option, Some, None, Result, Ok, Err, codes}
-use Rattle.ts_ojson.specs.Json.{Json, json_of, array, object, Members, items_depth, depth, members_depth}
+use Rattle.std.specs.Prelude.{◌≡◌, ◌≢◌, ℕ, suc, ◌≤◌, max, List, [], Option, Some, None, Result, Ok, Err, codes}
+use Rattle.ts_ojson.specs.Json.{Json, json_of, object, Members, items_depth, depth, members_depth}
 use Rattle.ts_core.specs.declared.rule.Rule.{Rule}
 use Rattle.ts_core.specs.declared.rule.Rule.TheVariants as rule
 use Rattle.ts_grammar_json.specs.declared.fault.GFault.{GFault}

@@ -1,6 +1,6 @@
 -- What holds of every grammar that a file stands for, where no object of the file has two members
 -- of one name.
-use Rattle.std.specs.Prelude.{◌≡◌, ◌≢◌, ℕ, ◌<◌, ◌≤◌, Bool, true, false, List, [], ◌∷◌, length, slice_get, Some}
+use Rattle.std.specs.Prelude.{◌≡◌, ◌≢◌, ℕ, ◌≤◌, Bool, true, false, [], ◌∷◌, length, slice_get, Some}
 use Rattle.std.specs.List.{list_all}
 use Rattle.ts_base.specs.Bytes.{Bytes}
 use Rattle.ts_core.specs.declared.rule.Rule.{Rule}

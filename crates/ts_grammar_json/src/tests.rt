@@ -223,7 +223,10 @@ fn answers_the_first_fault(rt: HostRuntime) -> Result<(), Fail> {
 /// Rules, one of each type in the order of the format, and the trees that they stand for.
 const TREES: [(&str, &str); 18] = [
     (r#"{"type":"BLANK"}"#, "Blank"),
-    (r#"{"value":"a","type":"STRING","x":0}"#, r#"Literal(Str { text: "a" })"#),
+    (
+        r#"{"value":"a","type":"STRING","x":0}"#,
+        r#"Literal(Str { text: "a" })"#,
+    ),
     (
         r#"{"type":"PATTERN","value":"[b]","flags":"ui"}"#,
         r#"Pattern { value: Str { text: "[b]" }, ignore_case: true }"#,
@@ -236,7 +239,10 @@ const TREES: [(&str, &str); 18] = [
         r#"{"type":"PATTERN","value":"c"}"#,
         r#"Pattern { value: Str { text: "c" }, ignore_case: false }"#,
     ),
-    (r#"{"type":"SYMBOL","name":"s"}"#, r#"Symbol(Str { text: "s" })"#),
+    (
+        r#"{"type":"SYMBOL","name":"s"}"#,
+        r#"Symbol(Str { text: "s" })"#,
+    ),
     (
         r#"{"type":"SEQ","members":[{"type":"BLANK"},{"type":"SEQ","members":[]}]}"#,
         "Seq(List { items: [Blank, Seq(List { items: [] })] })",
@@ -294,7 +300,8 @@ const WHOLE: &str = r#"{"$schema":1,"supertypes":["u"],"name":"g","word":"w",
     "precedences":[[{"type":"STRING","value":"p"},{"type":"SYMBOL","name":"s"}]],
     "externals":[],"reserved":[],"inline":["i"]}"#;
 
-const WHOLE_GRAMMAR: &str = r#"Grammar { name: Str { text: "g" }, rules: List { items: [(Str { text: "s" }, Blank), (Str { text: "t" }, Blank)] }, word: Some(Str { text: "w" }), extras: List { items: [Blank] }, conflicts: List { items: [List { items: [Str { text: "s" }, Str { text: "t" }] }, List { items: [] }] }, precedences: List { items: [List { items: [Name(Str { text: "p" }), Rule(Str { text: "s" })] }] }, inline: List { items: [Str { text: "i" }] }, supertypes: List { items: [Str { text: "u" }] } }"#;
+const WHOLE_GRAMMAR: &str =
+    r#"Grammar { name: Str { text: "g" }, rules: List { items: [(Str { text: "s" }, Blank), (Str { text: "t" }, Blank)] }, word: Some(Str { text: "w" }), extras: List { items: [Blank] }, conflicts: List { items: [List { items: [Str { text: "s" }, Str { text: "t" }] }, List { items: [] }] }, precedences: List { items: [List { items: [Name(Str { text: "p" }), Rule(Str { text: "s" })] }] }, inline: List { items: [Str { text: "i" }] }, supertypes: List { items: [Str { text: "u" }] } }"#;
 
 /// The first rule's tree, as it is printed.
 fn tree(alloc: Global, read: &Result<Grammar, GFault>) -> Result<String, AllocError> {

@@ -2,7 +2,6 @@ use Rattle.std.proofs.Common.{◌∙◌, ap, ◌∷◌}
 use Rattle.std.proofs.lemmas.Iterator.{YieldsList-from_chars}
 use Rattle.std.proofs.lemmas.Iterator.Consumers.{YieldsList-end}
 use Rattle.ts_base.specs.Bytes.{Bytes}
-use Rattle.ts_grammar_json.specs.Pointer.{step}
 use Rattle.ts_grammar_json.proofs.PointerLemmas.{escaped_push, escaped_all}
 use Rattle.ts_grammar_json.specs.Pointer.{escaped}
 use Rattle.std.specs.String.{string_bytes}

@@ -1,4 +1,3 @@
-use Rattle.std.proofs.Common.{sym}
 use Rattle.ts_grammar_json.specs.Members.{members_json}
 use Rattle.ts_grammar_json.specs.Found.{looked_of}
 use Rattle.ts_grammar_json.proofs.ShapeLemmas.{gives_is_shape}

@@ -1,7 +1,6 @@
-use Rattle.std.proofs.Common.{◌≡◌, ◌∙◌, ap}
+use Rattle.std.proofs.Common.{◌∙◌, ap}
 use Rattle.std.proofs.lemmas.List.{drop_all}
 use Rattle.ts_ojson.specs.Json.{json_of}
-use Rattle.ts_ojson.specs.Json.{Json}
 use Rattle.ts_base.specs.Bytes.{Bytes}
 use Rattle.ts_grammar_json.specs.Found.{looked_of, looked_and}
 use Rattle.ts_grammar_json.proofs.FoundLemmas.{found_step, found_end}
