@@ -1,0 +1,8 @@
+use Rattle.std.proofs.Common.{rules, tests}
+use Rattle.std.proofs.lemmas.Iterator.{YieldsList-from_slice}
+use Rattle.std.proofs.lemmas.Iterator.Search.{all_from_yields_List}
+use Rattle.ts_grammar_json.specs.Kinds.{is_flag}
+use Rattle.ts_grammar_json.proofs.kinds.are_flags.Goals as goal
+
+pub returns : goal.returns
+returns c = all_from_yields_List is_flag _ _ _ c.all.ensures.ran (YieldsList-from_slice c.args.bytes.now cc) (λ x b q k. search (rules, tests))

@@ -1,0 +1,7 @@
+use Rattle.ts_grammar_json.specs.Faults.{each_from, list}
+use Rattle.ts_grammar_json.specs.File.{is_text, text_at, list_of, each_read}
+use Rattle.ts_grammar_json.proofs.ListLemmas.{SoFar}
+use Rattle.ts_grammar_json.proofs.lists.groups_in.Given as goal
+
+abbrev pub invariant-loop-at : goal.invariant-loop-at
+invariant-loop-at l = SoFar (λ k js. each_from k (list is_text) js) (each_read (list_of text_at)) l.items l.at l.groups
