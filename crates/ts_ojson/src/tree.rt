@@ -11,7 +11,7 @@ ghost use Rattle.ts_ojson.specs.Places.{byte_there, Reaches, Starts, Named, Ends
 use crate::byte::{blanks_end, class_in};
 use crate::class::Class;
 use crate::escape::Escape;
-use crate::gathered::Gathered;
+use crate::gathered::{Claimed, Gathered};
 use crate::number::number;
 use crate::part::Part;
 use crate::stop::Stop;
@@ -19,7 +19,7 @@ use crate::string::string;
 use crate::value::OJson;
 use crate::word::Word;
 use std::alloc::Global;
-use ts_base::{List, Str};
+use ts_base::List;
 
 /// The string whose quote stands at a place, and the place behind it.
 fn text_value(alloc: Global, text: &str, at: usize) -> Result<(OJson, usize), Stop>
@@ -36,32 +36,33 @@ fn text_value(alloc: Global, text: &str, at: usize) -> Result<(OJson, usize), St
     Ok((OJson::Text(text), end + 1))
 }
 
-/// The name that begins at `at`, and the place where its value begins.
+/// The members with the name that begins at `at` claimed, and the place where its value begins.
 fn name(
     alloc: Global,
     text: &str,
     at: usize,
-    members: &Gathered<OJson>,
-) -> Result<(Str, usize), Stop>
+    members: Gathered<OJson>,
+) -> Result<(Claimed<OJson>, usize), Stop>
     requires { at ≤ length text.now }
     ensures later { IfOk result (λ r. (at < r.1) × (r.1 ≤ length text.now)) }
-    ensures ok { IfOk result (λ r. (k : Frames) → Named text.now at members.now k
-        → Starts text.now r.1 (frame.object members.now r.0 ∷ k)) }
-    ensures err { IfErr result (λ e. (k : Frames) → Named text.now at members.now k
+    ensures ok { IfOk result (λ r. (k : Frames) → Named text.now at members k
+        → Starts text.now r.1 (frame.object r.0.0 r.0.1 ∷ k)) }
+    ensures err { IfErr result (λ e. (k : Frames) → Named text.now at members k
         → Refused e text.now) }
 {
     if class_in(text, at) != Some(Class::Quote) {
         return Err(Stop::Syntax(at));
     }
     let (name, end) = string(alloc, text, at + 1)?;
-    if members.has(&name) {
-        return Err(Stop::Duplicate(at));
-    }
+    let claimed = match members.claim(alloc, name)? {
+        Some(claimed) => claimed,
+        None => return Err(Stop::Duplicate(at)),
+    };
     let colon = blanks_end(text, end + 1);
     if class_in(text, colon) != Some(Class::Colon) {
         return Err(Stop::Syntax(colon));
     }
-    Ok((name, blanks_end(text, colon + 1)))
+    Ok((claimed, blanks_end(text, colon + 1)))
 }
 
 /// The value that begins at `at`, and the place behind it. So many more arrays and objects may be open.
@@ -152,9 +153,9 @@ fn object(alloc: Global, text: &str, from: usize, room: usize) -> Result<(OJson,
         return Ok((OJson::Object(members.into_list()), at + 1));
     }
     loop {
-        let (name, start) = name(alloc, text, at, &members)?;
+        let (claimed, start) = name(alloc, text, at, members)?;
         let (value, end) = value(alloc, text, start, room)?;
-        members = members.with(alloc, name, value)?;
+        members = claimed.with(value)?;
         let after = blanks_end(text, end);
         let class = class_in(text, after);
         if class == Some(Class::CloseObject) {

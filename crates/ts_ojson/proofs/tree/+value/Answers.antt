@@ -70,8 +70,8 @@ object-returns-then-eq-clause-ok t c k e h =
     let is : class_there w b.result ≡ Some class.CloseObject = grind arith in
     rw (c.into_list.ensures, c.new-members.ensures) (object_none w b.result k (pass_first w c.args.from b.result k b.ensures.within.0 b.ensures.blanks h) is)
 
-pub object-loop-members-init : goal.object-loop-members-init
-object-loop-members-init t c =
+pub object-loop-claimed-init : goal.object-loop-claimed-init
+object-loop-claimed-init t c =
     let w = c.args.text.now in
     let b = c.blanks_end-at in
     let differ : class_there w b.result ≡ Some class.CloseObject → ⊥ = grind arith in
@@ -85,10 +85,10 @@ object-returns-then-eq-2-clause-ok t c k e h =
     let w = c.args.text.now in
     let b = c.blanks_end-after in
     let is : class_there w b.result ≡ Some class.CloseObject = grind arith in
-    let ms = c.loop-members.members in
-    let around = frame.object ms c.in_ok-name.name ∷ k in
-    let ends = c.in_ok-value.ensures.ok around e (c.in_ok-name.ensures.ok k (c.loop-members.invariant.named k e h)) in
-    rw (c.into_list-then-eq-2.ensures, c.in_ok-members.ensures) (object_close w b.result ms c.in_ok-name.name c.in_ok-value.value k (pass_end w c.in_ok-value.end b.result c.in_ok-value.value around b.ensures.within.0 b.ensures.blanks ends) is)
+    let ms = c.in_ok-claimed.claimed.0 in
+    let around = frame.object ms c.in_ok-claimed.claimed.1 ∷ k in
+    let ends = c.in_ok-value.ensures.ok around e (c.in_ok-claimed.ensures.ok k (c.loop-claimed.invariant.named k e h)) in
+    rw (c.into_list-then-eq-2.ensures, c.in_ok-members.ensures) (object_close w b.result ms c.in_ok-claimed.claimed.1 c.in_ok-value.value k (pass_end w c.in_ok-value.end b.result c.in_ok-value.value around b.ensures.within.0 b.ensures.blanks ends) is)
 
 pub object-returns-then-ne-clause-err : goal.object-returns-then-ne-clause-err
 object-returns-then-ne-clause-err t c k e h =
@@ -96,25 +96,25 @@ object-returns-then-ne-clause-err t c k e h =
     let b = c.blanks_end-after in
     let no_close : class_there w b.result ≡ Some class.CloseObject → ⊥ = grind arith in
     let no_comma : class_there w b.result ≡ Some class.Comma → ⊥ = grind arith in
-    let ms = c.loop-members.members in
-    let around = frame.object ms c.in_ok-name.name ∷ k in
-    let ends = c.in_ok-value.ensures.ok around e (c.in_ok-name.ensures.ok k (c.loop-members.invariant.named k e h)) in
-    object_stuck w b.result ms c.in_ok-name.name c.in_ok-value.value k (pass_end w c.in_ok-value.end b.result c.in_ok-value.value around b.ensures.within.0 b.ensures.blanks ends) b.ensures.stop no_close no_comma
+    let ms = c.in_ok-claimed.claimed.0 in
+    let around = frame.object ms c.in_ok-claimed.claimed.1 ∷ k in
+    let ends = c.in_ok-value.ensures.ok around e (c.in_ok-claimed.ensures.ok k (c.loop-claimed.invariant.named k e h)) in
+    object_stuck w b.result ms c.in_ok-claimed.claimed.1 c.in_ok-value.value k (pass_end w c.in_ok-value.end b.result c.in_ok-value.value around b.ensures.within.0 b.ensures.blanks ends) b.ensures.stop no_close no_comma
 
-pub object-loop-members-preserved : goal.object-loop-members-preserved
-object-loop-members-preserved t c =
+pub object-loop-claimed-preserved : goal.object-loop-claimed-preserved
+object-loop-claimed-preserved t c =
     let w = c.args.text.now in
     let b = c.blanks_end-after in
-    let m = c.blanks_end-at-in-loop-members in
+    let m = c.blanks_end-at-in-loop-claimed in
     let is : class_there w b.result ≡ Some class.Comma = grind arith in
-    let ms = c.loop-members.members in
-    let n = c.in_ok-name.name in
+    let ms = c.in_ok-claimed.claimed.0 in
+    let n = c.in_ok-claimed.claimed.1 in
     let v = c.in_ok-value.value in
     record {
-      within = (omega (arith, c.loop-members.invariant.within.0, c.in_ok-name.ensures.later.0, c.in_ok-value.ensures.later.0, b.ensures.within.0, m.ensures.within.0), m.ensures.within.1);
+      within = (omega (arith, c.loop-claimed.invariant.within.0, c.in_ok-claimed.ensures.later.0, c.in_ok-value.ensures.later.0, b.ensures.within.0, m.ensures.within.0), m.ensures.within.1);
       named = λ k e h.
           let around = frame.object ms n ∷ k in
-          let ends = c.in_ok-value.ensures.ok around e (c.in_ok-name.ensures.ok k (c.loop-members.invariant.named k e h)) in
+          let ends = c.in_ok-value.ensures.ok around e (c.in_ok-claimed.ensures.ok k (c.loop-claimed.invariant.named k e h)) in
           let more = object_more w b.result ms n v k (pass_end w c.in_ok-value.end b.result v around b.ensures.within.0 b.ensures.blanks ends) is in
           rw c.in_ok-members.ensures (named_next w m.result (ms ++ (n, v) ∷ []) k m.ensures.stop (pass_name w (b.result + 1) m.result (ms ++ (n, v) ∷ []) k m.ensures.within.0 m.ensures.blanks more));
     }

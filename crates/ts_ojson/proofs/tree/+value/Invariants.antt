@@ -24,11 +24,11 @@ invariant-array-loop-items l = record {
 abbrev pub decreases-array-loop-items : goal.decreases-array-loop-items
 decreases-array-loop-items l = length l.text - l.at
 
-abbrev pub invariant-object-loop-members : goal.invariant-object-loop-members
-invariant-object-loop-members l = record {
+abbrev pub invariant-object-loop-claimed : goal.invariant-object-loop-claimed
+invariant-object-loop-claimed l = record {
   within : (l.from ≤ l.at) × (l.at ≤ length l.text);
   named : (k : Frames) → suc (length k) + l.room ≡ most_deep → Reaches l.text l.from state.first_name k → Named l.text l.at l.members k;
 }
 
-abbrev pub decreases-object-loop-members : goal.decreases-object-loop-members
-decreases-object-loop-members l = length l.text - l.at
+abbrev pub decreases-object-loop-claimed : goal.decreases-object-loop-claimed
+decreases-object-loop-claimed l = length l.text - l.at
