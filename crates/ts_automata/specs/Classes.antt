@@ -42,4 +42,3 @@ pub record OfNodes (T : List Node) (range : ℕ × ℕ) : Type 0 where
   pub node : Node
   pub at : slice_get T place ≡ Some node
   pub of_node : OfNode node range
-

@@ -8,7 +8,6 @@ ghost use Rattle.ts_automata.specs.Sets.{Adds, Closure, Moves};
 
 use crate::node::Node;
 use indexmap::IndexSet;
-
 use std::alloc::{AllocError, Global};
 
 /// Adds one node at the end, where it is new.

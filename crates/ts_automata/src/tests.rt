@@ -29,11 +29,7 @@ fn grammar(alloc: Global) -> Result<FlatGrammar, AllocError> {
     let word = Re::Repeat(Boxed::new(alloc, set(alloc, &[(97, 122)])?)?, 1, Some(2));
     tokens.push(token(alloc, word)?)?;
     let mut branches = List::new(alloc);
-    branches.push(Re::Repeat(
-        Boxed::new(alloc, set(alloc, &[(233, 233)])?)?,
-        0,
-        None,
-    ))?;
+    branches.push(Re::Repeat(Boxed::new(alloc, set(alloc, &[(233, 233)])?)?, 0, None))?;
     branches.push(set(alloc, &[(98, 98)])?)?;
     tokens.push(token(alloc, Re::Alt(branches))?)?;
     let mut separators = List::new(alloc);

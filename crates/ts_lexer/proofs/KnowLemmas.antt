@@ -1,0 +1,101 @@
+-- What the nodes of a set say of the characters that led to them.
+use Rattle.std.proofs.Common.{◌≡◌, ◌∙◌, sym, ap, refl, subst, ℕ, zero, suc, ◌≤◌, ◌<◌, Bool, true, false, List, [], ◌∷◌, length, slice_get, Option, Some, None, ◌↔◌, IsTrue, arith}
+use Rattle.std.specs.List.{Contains}
+use Rattle.std.proofs.lemmas.Option.{slice_get_within, slice_get-get_or, get_or_from_slice_get}
+use Rattle.ts_core.specs.declared.flat.FlatGrammar.{FlatGrammar}
+use Rattle.ts_core.specs.declared.symbol.Symbol.{Symbol}
+use Rattle.spec_lexing.specs.Words.{Regular}
+use Rattle.spec_lexing.specs.Seen.{CanBegin, a_token, the_word, a_separator}
+use Rattle.ts_automata.specs.declared.machine.Machine.{Machine}
+use Rattle.ts_automata.specs.Sets.{sets_of}
+use Rattle.ts_automata.specs.Parts.{IsPart}
+use Rattle.ts_automata.specs.Automata.{parts_of, IsAutomaton}
+use Rattle.ts_automata.specs.Machine.{HasRead}
+use Rattle.ts_lexer.specs.declared.verdict.Verdict.{Verdict}
+use Rattle.ts_lexer.specs.Judged.{IsPick, Judges, JudgesNodes, Knows, PartWord, PartFront, EndsIn, LivesIn, Wanted, valid_token, word_token, a_separator as a_separator_part}
+
+find : {X : Type 0} (xs : List X) (k : ℕ) → k < length xs → (x : X) × (slice_get xs k ≡ Some x)
+find [] k lt = absurd (omega arith)
+find (x ∷ xs) zero lt = (x, refl)
+find (x ∷ xs) (suc k) lt = find xs k (omega arith)
+
+module _ (g : FlatGrammar) (m : Machine) (is : IsAutomaton g m.automaton) (w : List ℕ) (n : ℕ) (read : HasRead m w n) (members : List ℕ) (at : slice_get (sets_of m.sets.keys) n ≡ Some members) where
+  same_set : read.set ≡ members
+  same_set = let e : Some read.set ≡ Some members = sym read.at ∙ at in cc
+
+  -- a node of the set belongs to a part that can begin so
+  record From (t : ℕ) : Type 0 where
+    part : ℕ
+    expression : Regular
+    there : slice_get (parts_of g) part ≡ Some expression
+    entry : ℕ
+    of_part : IsPart m.automaton.nodes.items (λ t. slice_get m.automaton.owners.items t ≡ Some part) expression entry
+    leads : Rattle.ts_automata.specs.Reads.Leads m.automaton.nodes.items entry w t
+
+  from : (t : ℕ) → Contains members t → From t
+  from t h =
+      let c = (read.holds t).0 (subst (λ (l : List ℕ). Contains l t) (sym same_set) h) in
+      let k = c.1.0 in
+      let entry_at : slice_get m.automaton.entries.items k ≡ Some c.0 = slice_get-get_or m.automaton.entries.items k c.0 c.1.1 ∙ ap (λ (x : ℕ). Some x) c.1.2 in
+      let count = is.count in
+      let lt = c.1.1 in
+      let p = find (parts_of g) k (omega arith) in
+      record { part = k; expression = p.0; there = p.1; entry = c.0; of_part = is.part k c.0 p.0 entry_at p.1; leads = c.2 }
+
+  -- where a part leads, the set has the node
+  into : (k : ℕ) (p : Regular) → slice_get (parts_of g) k ≡ Some p → (e : ℕ) × (slice_get m.automaton.entries.items k ≡ Some e) × IsPart m.automaton.nodes.items (λ t. slice_get m.automaton.owners.items t ≡ Some k) p e
+  into k p there =
+      let lt = slice_get_within (parts_of g) k p there in
+      let count = is.count in
+      let e = find m.automaton.entries.items k (omega arith) in
+      (e.0, e.1, is.part k e.0 p e.1 there)
+
+  has : (e k t : ℕ) → slice_get m.automaton.entries.items k ≡ Some e → Rattle.ts_automata.specs.Reads.Leads m.automaton.nodes.items e w t → Contains members t
+  has e k t entry leads =
+      subst (λ (l : List ℕ). Contains l t) same_set ((read.holds t).1 (e, (k, slice_get_within m.automaton.entries.items k e entry, get_or_from_slice_get m.automaton.entries.items k e e entry), leads))
+
+  owner_is : (t k j : ℕ) → slice_get m.automaton.owners.items t ≡ Some k → slice_get m.automaton.owners.items t ≡ Some j → j ≡ k
+  owner_is t k j a b = let e : Some j ≡ Some k = sym b ∙ a in cc
+
+  ends_same : (k : ℕ) → EndsIn m.automaton.nodes.items m.automaton.owners.items members k ↔ PartWord g w k
+  ends_same k = (
+    (λ x.
+    let f = from x.node x.there in
+    let same = owner_is x.node k f.part x.owner (f.of_part.own w x.node f.leads) in
+    record { expression = f.expression; at = ap (λ (i : ℕ). slice_get (parts_of g) i) (sym same) ∙ f.there; word = f.of_part.ends w x.node f.leads x.end }),
+    (λ x.
+    let i = into k x.expression x.at in
+    let t = i.2.word w x.word in
+    record { node = t.0; there = has i.0 k t.0 i.1 t.1; owner = i.2.own w t.0 t.1; end = t.2 }),
+  )
+
+  lives_same : (k : ℕ) → LivesIn m.automaton.owners.items members k ↔ PartFront g w k
+  lives_same k = (
+    (λ x.
+    let f = from x.node x.there in
+    let same = owner_is x.node k f.part x.owner (f.of_part.own w x.node f.leads) in
+    record { expression = f.expression; at = ap (λ (i : ℕ). slice_get (parts_of g) i) (sym same) ∙ f.there; front = f.of_part.leads w x.node f.leads }),
+    (λ x.
+    let i = into k x.expression x.at in
+    let t = i.2.front w x.front in
+    record { node = t.0; there = has i.0 k t.0 i.1 t.1; owner = i.2.own w t.0 t.1 }),
+  )
+
+  pub knows : (valid : List Symbol) (first : Bool) (v : Verdict) → JudgesNodes g valid first m.automaton members v → Knows g valid first w v
+  knows valid first v j = record {
+    plain = same_pick false v.plain j.plain;
+    keyword = same_pick true v.keyword j.keyword;
+    word = ((λ x. let y = j.word.0 x in (y.0, y.1, (ends_same y.0).0 y.2)), (λ y. j.word.1 (y.0, y.1, (ends_same y.0).1 y.2)));
+    separator = ((λ x. let y = j.separator.0 x in (y.0, y.1, (ends_same y.0).0 y.2)), (λ y. j.separator.1 (y.0, y.1, (ends_same y.0).1 y.2)));
+    lives = ((λ x. let y = j.lives.0 x in (y.0, y.1, (lives_same y.0).0 y.2)), (λ y. j.lives.1 (y.0, y.1, (lives_same y.0).1 y.2)));
+  }
+    where
+      same_pick : (keyword : Bool) (pick : Option Symbol) → IsPick g valid first keyword (EndsIn m.automaton.nodes.items m.automaton.owners.items members) pick → IsPick g valid first keyword (PartWord g w) pick
+      same_pick keyword None h = λ k s t o e. h k s t o ((ends_same k).1 e)
+      same_pick keyword (Some s) h = record {
+        part = h.part;
+        token = h.token;
+        offered = h.offered;
+        ends = (ends_same h.part).0 h.ends;
+        best = λ k s t o e. h.best k s t o ((ends_same k).1 e);
+      }

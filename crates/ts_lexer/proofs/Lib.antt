@@ -1,0 +1,14 @@
+pub mod ChooseLemmas
+pub mod FrontLemmas
+pub mod GapLemmas
+pub mod InsideLemmas
+pub mod JudgeLemmas
+pub mod KindLemmas
+pub mod KnowLemmas
+pub mod MarkLemmas
+pub mod OverLemmas
+pub mod PassLemmas
+pub mod RoleLemmas
+pub mod RunLemmas
+pub mod ScannedLemmas
+pub mod SofarLemmas

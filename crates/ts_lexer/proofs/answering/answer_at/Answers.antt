@@ -1,0 +1,23 @@
+use Rattle.std.proofs.Common.{◌≡◌, ◌∙◌, sym, ap, subst, ℕ, drop}
+use Rattle.ts_base.specs.Bytes.{Bytes}
+use Rattle.spec_lexing.specs.Lexing.{Lex}
+use Rattle.spec_lexing.specs.Seen.{Seen}
+use Rattle.ts_lexer.specs.Passed.{found_by}
+use Rattle.ts_lexer.proofs.answering.answer_at.Goals as goal
+
+pub returns-clause-known : goal.returns-clause-known
+returns-clause-known c g known =
+    let p = c.pass-passed.ensures.passed g known.rules known.automaton known.marks in
+    record { rules = known.rules; automaton = known.automaton; marks = p.size }
+
+pub returns-clause-answer : goal.returns-clause-answer
+returns-clause-answer c g known =
+    let p = c.pass-passed.ensures.passed g known.rules known.automaton known.marks in
+    let rest : c.split_at.result.1.now ≡ drop c.args.place c.args.text.now = c.split_at.ensures.back ∙ ap (λ (l : Bytes). drop c.args.place l) c.as_str.ensures.whole in
+    record {
+      found = found_by c.pass-passed.result.found c.pass-passed.result.pad;
+      lex = subst (λ (l : Bytes). Lex g c.args.valid.now l (found_by c.pass-passed.result.found c.pass-passed.result.pad)) rest p.lex;
+      says = c.told.ensures.says;
+      seen = subst (λ (n : ℕ). Seen g c.args.valid.now (drop c.args.place c.args.text.now) n) (sym c.told.ensures.extent)
+          (subst (λ (l : Bytes). Seen g c.args.valid.now l c.pass-passed.result.extent) rest p.seen);
+    }

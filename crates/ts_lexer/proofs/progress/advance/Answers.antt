@@ -1,0 +1,15 @@
+use Rattle.ts_lexer.specs.Judged.{PartWord, PartFront}
+use Rattle.ts_lexer.specs.Scanned.{PartMatches}
+use Rattle.ts_lexer.proofs.SofarLemmas.{sofar_next}
+use Rattle.ts_lexer.proofs.progress.advance.Goals as goal
+
+pub returns : goal.returns
+returns c g valid first rest bound w rules step knows sofar =
+    let l = c.longer-plain.ensures in
+    let s = c.size_of-word.ensures in
+    let k = c.keyword_of-keyword.ensures in
+    let p = c.size_of-separator.ensures in
+    sofar_next g valid first (PartMatches g rest) (PartWord g w) bound c.args.size step.rises step.from step.now (PartFront g w) c.args.verdict.now c.args.old.now
+    c.longer-plain.result c.size_of-word.result c.keyword_of-keyword.result c.size_of-separator.result knows
+    (record { none = l.none; first = l.first; more = λ j n m t a b e f x y. l.more g j n m t a b e f rules x y })
+    (record { yes = s.yes; no = s.no }) (record { yes = k.yes; no = k.no }) (record { yes = p.yes; no = p.no }) sofar

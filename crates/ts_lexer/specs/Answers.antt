@@ -1,0 +1,26 @@
+-- What is answered at a place of a text.
+use Rattle.std.specs.Prelude.{◌≡◌, ℕ, ◌+◌, List, drop}
+use Rattle.ts_base.specs.Bytes.{Bytes}
+use Rattle.ts_core.specs.declared.flat.FlatGrammar.{FlatGrammar}
+use Rattle.ts_core.specs.declared.symbol.Symbol.{Symbol}
+use Rattle.spec_lexing.specs.Lexing.{Found, token, absent, Lex}
+use Rattle.spec_lexing.specs.Seen.{Seen}
+use Rattle.ts_lexer.specs.declared.lexed.Lexed.{Lexed}
+use Rattle.ts_lexer.specs.declared.lexed.Lexed.TheVariants.{Token, Absent}
+
+-- the answer says this of a lexing that began at the place
+abbrev pub Says : ℕ → Lexed → Found → Type 0
+Says start (Token symbol pad size extent) found = found ≡ token symbol pad size
+Says start (Absent place extent) found = (n : ℕ) × (place ≡ start + n) × (found ≡ absent n)
+
+-- how many bytes were looked at
+abbrev pub extent_of : Lexed → ℕ
+extent_of (Token symbol pad size extent) = extent
+extent_of (Absent place extent) = extent
+
+-- the answer is what lexing comes to, and how far it looked
+pub record IsAnswer (g : FlatGrammar) (valid : List Symbol) (text : Bytes) (place : ℕ) (lexed : Lexed) : Type 0 where
+  pub found : Found
+  pub lex : Lex g valid (drop place text) found
+  pub says : Says place lexed found
+  pub seen : Seen g valid (drop place text) (extent_of lexed)

@@ -1,0 +1,112 @@
+//! What is answered at a place of a text.
+ghost use Rattle.std.specs.Prelude.{◌≡◌, ◌+◌, ◌≤◌, ◌<◌, ◌^◌, ℕ, length};
+ghost use Rattle.ts_core.specs.declared.flat.FlatGrammar.{FlatGrammar as AnyGrammar};
+ghost use Rattle.std.specs.Prelude.{List, drop, IsTrue, ◌↔◌, true};
+ghost use Rattle.std.specs.List.{prefix_len};
+ghost use Rattle.std.specs.Str.{IsCharBoundary};
+ghost use Rattle.ts_core.specs.declared.symbol.Symbol.{Symbol as AnySymbol};
+ghost use Rattle.ts_automata.specs.Machine.{IsMachine};
+ghost use Rattle.spec_lexing.specs.Seen.{is_inner as inner_byte};
+ghost use Rattle.ts_lexer.specs.Passed.{IsKnown, IsWithin, found_by};
+ghost use Rattle.ts_lexer.specs.Answers.{IsAnswer, Says, extent_of};
+
+use crate::lexed::Lexed;
+use crate::passing::{Passed, pass};
+use crate::rules::Rules;
+use crate::view::View;
+use ts_automata::Machine;
+use ts_core::Symbol;
+use ts_text::Text;
+
+/// How many bytes were looked at.
+pub(crate) fn extent(lexed: &Lexed) -> u32
+    ensures { result ≡ extent_of lexed.now }
+{
+    match lexed {
+        Lexed::Token { extent, .. } => *extent,
+        Lexed::Absent { extent, .. } => *extent,
+    }
+}
+
+/// Whether a byte goes on with a character.
+fn goes_on(byte: u8) -> bool
+    ensures { result ≡ inner_byte byte }
+{
+    128 <= byte && byte < 192
+}
+
+/// How many bytes there are up to the next that begins a character.
+fn inner_bytes(rest: &[u8]) -> u32
+    requires { length rest.now < 2 ^ 32 }
+    ensures { result ≡ prefix_len inner_byte rest.now }
+{
+    let mut count: u32 = 0;
+    for byte in rest {
+        if !goes_on(*byte) {
+            return count;
+        }
+        count += 1;
+    }
+    count
+}
+
+/// The answer that says what was found behind the separators.
+fn told(passed: &Passed, place: u32, size: u32) -> Lexed
+    requires within { IsWithin size passed.now }
+    requires small { place + size ≤ 2 ^ 31 }
+    ensures says { Says place result (found_by passed.now.found passed.now.pad) }
+    ensures extent { extent_of result ≡ passed.now.extent }
+{
+    let extent = passed.extent as u32;
+    let pad = passed.pad as u32;
+    match passed.found {
+        Some(found) => Lexed::Token {
+            token: found.symbol,
+            pad,
+            size: found.size as u32,
+            extent,
+        },
+        None => Lexed::Absent {
+            place: place + pad,
+            extent,
+        },
+    }
+}
+
+/// The answer at a place inside a character.
+fn inside(text: &Text, place: u32) -> Lexed
+    requires within { place ≤ length text.now }
+    requires inner { IsCharBoundary text.now place → ⊥ }
+    ensures { (g : AnyGrammar) (valid : List AnySymbol) → IsAnswer g valid text.now place result }
+{
+    let (_, rest) = text.as_bytes().split_at(place as usize);
+    Lexed::Absent {
+        place,
+        extent: inner_bytes(rest),
+    }
+}
+
+/// The answer at a place.
+pub(crate) fn answer_at(
+    machine: &Machine,
+    rules: &Rules,
+    view: &mut View,
+    text: &Text,
+    place: u32,
+    valid: &[Symbol],
+) -> Lexed
+    requires made { IsMachine machine.now }
+    requires within { place ≤ length text.now }
+    requires known { (g : AnyGrammar) × IsKnown g machine.now rules.now view.old }
+    ensures known { (g : AnyGrammar) → IsKnown g machine.now rules.now view.old
+        → IsKnown g machine.now rules.now view.new }
+    ensures answer { (g : AnyGrammar) → IsKnown g machine.now rules.now view.old
+        → IsAnswer g valid.now text.now place result }
+{
+    if !text.is_boundary(place) {
+        return inside(text, place);
+    }
+    let (_, rest) = text.as_str().split_at(place as usize);
+    let passed = pass(machine, rules, view, rest, valid);
+    told(&passed, place, text.len() - place)
+}

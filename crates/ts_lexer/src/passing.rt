@@ -1,0 +1,122 @@
+//! The places of a text that are tried: the text from a place on goes in, and the token behind its
+//! separators comes out.
+ghost use Rattle.std.specs.Prelude.{◌≡◌, ◌≤◌, ◌<◌, ◌+◌, ◌^◌, ◌↔◌, ℕ, true, Some, None, max, length, IsTrue};
+ghost use Rattle.std.specs.List.{Contains};
+ghost use Rattle.ts_core.specs.declared.flat.FlatGrammar.{FlatGrammar as AnyGrammar};
+ghost use Rattle.spec_lexing.specs.Lexing.{end_symbol};
+ghost use Rattle.ts_automata.specs.Automata.{IsAutomaton};
+ghost use Rattle.ts_automata.specs.Machine.{IsMachine};
+ghost use Rattle.ts_lexer.specs.Rules.{IsRules};
+ghost use Rattle.ts_lexer.specs.Views.{IsView};
+ghost use Rattle.ts_lexer.specs.Passed.{IsKnown, IsPassed, IsWithin};
+
+use crate::marking::{has_keyword, mark};
+use crate::rules::Rules;
+use crate::scanned::Match;
+use crate::scanning::scan;
+use crate::view::View;
+use ts_automata::Machine;
+use ts_core::Symbol;
+
+/// What stands behind the separators.
+#[derive(Clone, Copy, Debug)]
+pub(crate) struct Passed {
+    pub found: Option<Match>,
+    /// How many bytes of separators were passed.
+    pub pad: usize,
+    /// How many bytes were looked at, where the end of the text counts as one.
+    pub extent: usize,
+}
+
+/// Whether the end of the text is among the valid tokens.
+fn has_end(valid: &[Symbol]) -> bool
+    ensures { IsTrue result ↔ Contains valid.now end_symbol }
+{
+    valid.iter().any(|symbol| symbol.0 == 0)
+}
+
+/// Whether the text ends here, and its end is valid.
+fn at_end(rest: &str, valid: &[Symbol]) -> bool
+    ensures { IsTrue result ↔ ((length rest.now ≡ 0) × Contains valid.now end_symbol) }
+{
+    if rest.is_empty() {
+        return has_end(valid);
+    }
+    false
+}
+
+/// The farther of two ends.
+fn farther(extent: usize, pad: usize, reach: usize) -> usize
+    ensures { pad + reach < 2 ^ 64 → result ≡ max extent (pad + reach) }
+{
+    extent.max(pad.saturating_add(reach))
+}
+
+/// Marks the valid tokens, for the first place.
+fn look(rules: &Rules, view: &mut View, valid: &[Symbol])
+    ensures { (g : AnyGrammar) → IsRules g rules.now → length view.old.marks.items ≡ length g.tokens
+        → IsView g valid.now true view.new }
+{
+    mark(&mut view.marks, valid);
+    view.keyworded = has_keyword(rules, view.marks.as_slice());
+    view.first = true;
+}
+
+/// Passes separators until a valid token stands at a place, or none is left.
+pub(crate) fn pass(
+    machine: &Machine,
+    rules: &Rules,
+    view: &mut View,
+    text: &str,
+    valid: &[Symbol],
+) -> Passed
+    requires made { IsMachine machine.now }
+    requires size { length text.now < 2 ^ 32 }
+    requires known { (g : AnyGrammar) × IsKnown g machine.now rules.now view.old }
+    ensures within { IsWithin (length text.now) result }
+    ensures passed { (g : AnyGrammar) → IsRules g rules.now → IsAutomaton g machine.now.automaton
+        → length view.old.marks.items ≡ length g.tokens
+        → IsPassed g valid.now text.now view.new.marks.items result }
+{
+    look(rules, view, valid);
+    let mut rest = text;
+    let mut pad: usize = 0;
+    let mut extent: usize = 0;
+    'passing: loop {
+        let here = scan(machine, rules, view, rest);
+        extent = farther(extent, pad, here.reach);
+        match here.best {
+            Some(found) => {
+                return Passed {
+                    found: Some(found),
+                    pad,
+                    extent,
+                };
+            }
+            None => {}
+        }
+        let ended = at_end(rest, valid);
+        if ended {
+            let end = Match {
+                symbol: Symbol(0),
+                size: 0,
+            };
+            return Passed {
+                found: Some(end),
+                pad,
+                extent,
+            };
+        }
+        if here.separator == 0 {
+            return Passed {
+                found: None,
+                pad,
+                extent,
+            };
+        }
+        let (_, tail) = rest.split_at(here.separator);
+        rest = tail;
+        pad += here.separator;
+        view.first = false;
+    }
+}

@@ -1,0 +1,31 @@
+use ts_core::Symbol;
+
+/// A token that matches, with its size in bytes.
+#[derive(Clone, Copy, Debug)]
+pub(crate) struct Match {
+    pub symbol: Symbol,
+    pub size: usize,
+}
+
+/// What was found at a place so far.
+#[derive(Clone, Copy, Debug)]
+pub(crate) struct Progress {
+    /// The token that is taken among those that are no keywords.
+    pub plain: Option<Match>,
+    /// The size of the word token's longest match, or 0.
+    pub word: usize,
+    /// The keyword that is taken at that size.
+    pub keyword: Option<Symbol>,
+    /// The size of the longest separator, or 0.
+    pub separator: usize,
+}
+
+/// What was found at a place.
+#[derive(Clone, Copy, Debug)]
+pub(crate) struct Scanned {
+    pub best: Option<Match>,
+    /// The size of the longest separator, or 0.
+    pub separator: usize,
+    /// How many bytes were looked at, where the end of the text counts as one.
+    pub reach: usize,
+}
