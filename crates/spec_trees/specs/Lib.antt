@@ -1,0 +1,4 @@
+pub mod Trees
+pub mod Made
+pub mod Choice
+pub mod Shown
