@@ -1,0 +1,3 @@
+//! What the tables of a parser are: the items that are valid after a list of symbols, the actions that stay on a
+//! token, and the conflicts that a grammar declares. Definitions alone: no value goes in or out.
+#![tactic(auto)]
