@@ -1,6 +1,5 @@
 -- The token that is taken at a place, of what was found there.
-use Rattle.std.proofs.Common.{◌≡◌, ◌∙◌, sym, ap, refl, subst, ℕ, zero, suc, ◌≤◌, ◌<◌, ◌⊎◌, inl, inr, ⊎_elim, Bool, true, false, List, length, map, slice_get, Option, Some, None, ℤ, ◌<ℤ◌, arith}
-use Rattle.std.specs.List.{Contains}
+use Rattle.std.proofs.Common.{◌≡◌, ◌∙◌, sym, ap, refl, subst, ℕ, suc, ◌≤◌, ◌<◌, ◌⊎◌, inl, inr, Bool, true, false, List, map, slice_get, Option, Some, None, ℤ, ◌<ℤ◌, arith}
 use Rattle.std.specs.Option.{option_map, MatchOption}
 use Rattle.std.specs.Cmp.{int_chain}
 use Rattle.std.specs.Int.Signed.{<ℤ_irrefl}
@@ -14,7 +13,7 @@ use Rattle.ts_core.specs.declared.flat.FlatGrammar.{FlatGrammar}
 use Rattle.ts_core.specs.declared.flat.TokenDef.{TokenDef}
 use Rattle.ts_core.specs.declared.symbol.Symbol.{Symbol}
 use Rattle.spec_lexing.specs.Words.{Regular, regular_of}
-use Rattle.spec_lexing.specs.Matching.{MatchesRe, IsLongestMatch, IsTokenOf, IsWordToken, MatchesToken, plainly, as_keyword}
+use Rattle.spec_lexing.specs.Matching.{MatchesRe, IsTokenOf, MatchesToken, plainly, as_keyword}
 use Rattle.spec_lexing.specs.Lexing.{Candidate, Beats, IsBest}
 use Rattle.spec_lexing.specs.Seen.{HasKeyword}
 use Rattle.ts_automata.specs.Automata.{parts_of}

@@ -1,12 +1,12 @@
 -- Past a separator.
-use Rattle.std.proofs.Common.{◌≡◌, ◌∙◌, sym, ap, subst, ℕ, ◌+◌, ◌<◌, ◌≤◌, List, [], ◌∷◌, ◌++◌, length, drop, append_assoc, length-append, arith}
+use Rattle.std.proofs.Common.{◌≡◌, ◌∙◌, sym, ap, subst, ℕ, ◌+◌, List, [], ◌∷◌, ◌++◌, length, drop, append_assoc, length-append, arith}
 use Rattle.std.specs.Str.{IsUtf8, IsCharBoundary}
 use Rattle.std.proofs.Math.Utf8.{encode, encodes}
 use Rattle.std.proofs.Math.Seq.{drop-append_seam}
 use Rattle.std.proofs.lemmas.Str.{IsCharBoundary-at_seam, IsUtf8-past_char}
 use Rattle.ts_base.specs.Bytes.{Bytes}
 use Rattle.ts_core.specs.declared.flat.FlatGrammar.{FlatGrammar}
-use Rattle.spec_lexing.specs.Matching.{Begins, MatchesSeparator}
+use Rattle.spec_lexing.specs.Matching.{MatchesSeparator}
 
 tail_utf8 : (w rest tail : List ℕ) → IsUtf8 rest → rest ≡ encodes w ++ tail → IsUtf8 tail
 tail_utf8 [] rest tail utf8 is = subst IsUtf8 is utf8

@@ -1,11 +1,10 @@
 -- A place inside a character: nothing is there.
-use Rattle.std.proofs.Common.{◌≡◌, ◌∙◌, sym, ap, refl, subst, ℕ, suc, ◌+◌, ◌≤◌, ◌<◌, ◌⊎◌, inl, inr, cond, Bool, true, false, List, [], ◌∷◌, ◌++◌, length, get_or, drop, append_assoc, arith}
-use Rattle.std.specs.List.{Contains, prefix_len}
+use Rattle.std.proofs.Common.{◌≡◌, ◌∙◌, ap, refl, subst, ℕ, suc, ◌+◌, ◌≤◌, ◌<◌, ◌⊎◌, inl, inr, cond, Bool, true, false, List, [], ◌∷◌, ◌++◌, length, get_or, drop, append_assoc, arith}
+use Rattle.std.specs.List.{prefix_len}
 use Rattle.std.specs.Char.{IsScalar}
 use Rattle.std.specs.Str.{IsCharBoundary}
 use Rattle.std.proofs.Math.Dec.{leb}
 use Rattle.std.proofs.lemmas.Bool.Decides.{leb_tells}
-
 use Rattle.std.proofs.lemmas.List.Sums.{prefix_len-drop_yes, prefix_len-drop_no, prefix_len-drop_all}
 use Rattle.std.proofs.Math.Seq.{drop-cons}
 use Rattle.std.proofs.Math.Utf8.{encode, encodes}
@@ -17,8 +16,8 @@ use Rattle.ts_core.specs.declared.flat.TokenDef.{TokenDef}
 use Rattle.ts_core.specs.declared.symbol.Symbol.{Symbol}
 use Rattle.spec_lexing.specs.Words.{Regular, regular_of}
 use Rattle.spec_lexing.specs.Matching.{Begins, MatchesRe, MatchesToken, plainly, as_keyword, MatchesSeparator}
-use Rattle.spec_lexing.specs.Lexing.{Candidate, NoneMatches, absent, Lex, stops}
-use Rattle.spec_lexing.specs.Seen.{HasFront, is_inner, one_character, IsReach, Seen, last}
+use Rattle.spec_lexing.specs.Lexing.{NoneMatches, absent, Lex, stops}
+use Rattle.spec_lexing.specs.Seen.{is_inner, Seen, last}
 
 not_inner : (b : ℕ) → is_inner b ≡ false → 128 ≤ b → 192 ≤ b
 not_inner b is low = grind arith

@@ -1,8 +1,8 @@
 -- What one node more says.
-use Rattle.std.proofs.Common.{◌≡◌, ◌∙◌, sym, ap, refl, subst, ℕ, suc, ◌-◌, ◌^◌, ◌≤◌, ◌<◌, ◌⊎◌, inl, inr, ⊎_elim, ◌&&◌, ◌||◌, Bool, true, false, List, [], ◌∷◌, ◌++◌, length, slice_get, Option, Some, None, ◌↔◌, IsTrue, arith}
+use Rattle.std.proofs.Common.{◌≡◌, ◌∙◌, sym, ap, refl, subst, ℕ, suc, ◌-◌, ◌^◌, ◌<◌, ◌⊎◌, inl, inr, ⊎_elim, ◌&&◌, ◌||◌, Bool, true, false, List, [], ◌∷◌, ◌++◌, length, slice_get, Option, Some, None, ◌↔◌, IsTrue, arith}
 use Rattle.std.specs.List.{Contains}
 use Rattle.std.proofs.lemmas.List.Elements.{Contains-append_left, Contains-push, Contains-push_cases}
-use Rattle.std.proofs.lemmas.Option.{slice_get_within, slice_get_past}
+use Rattle.std.proofs.lemmas.Option.{slice_get_within}
 use Rattle.ts_core.specs.declared.flat.FlatGrammar.{FlatGrammar}
 use Rattle.ts_core.specs.declared.flat.TokenDef.{TokenDef}
 use Rattle.ts_core.specs.declared.symbol.Symbol.{Symbol}
@@ -165,12 +165,12 @@ pub judges_more : (g : FlatGrammar) (valid : List Symbol) (first : Bool) (T : Li
     → Picks g old.plain (role.plain && ends) part plain → Picks g old.keyword (role.keyword && ends) part keyword
     → Judges g valid first (EndsIn T owners seen) (LivesIn owners seen) old
     → Judges g valid first (EndsIn T owners (seen ++ node ∷ [])) (LivesIn owners (seen ++ node ∷ [])) (record {
-        plain = plain;
-        keyword = keyword;
-        word = old.word || (role.word && ends);
-        separator = old.separator || (role.separator && ends);
-        lives = old.lives || role.wanted;
-      })
+      plain = plain;
+      keyword = keyword;
+      word = old.word || (role.word && ends);
+      separator = old.separator || (role.separator && ends);
+      lives = old.lives || role.wanted;
+    })
 judges_more g valid first T owners seen node part ends role old plain keyword few is owner end picks picks_keyword h = record {
   plain = pick_next g valid first false (EndsIn T owners seen) (EndsIn T owners (seen ++ node ∷ [])) part (IsEnd T node) keep only add old.plain plain role.plain ends is.plain end few picks h.plain;
   keyword = pick_next g valid first true (EndsIn T owners seen) (EndsIn T owners (seen ++ node ∷ [])) part (IsEnd T node) keep only add old.keyword keyword role.keyword ends is.keyword end few picks_keyword h.keyword;

@@ -1,18 +1,17 @@
 -- What the nodes of a set say of the characters that led to them.
-use Rattle.std.proofs.Common.{◌≡◌, ◌∙◌, sym, ap, refl, subst, ℕ, zero, suc, ◌≤◌, ◌<◌, Bool, true, false, List, [], ◌∷◌, length, slice_get, Option, Some, None, ◌↔◌, IsTrue, arith}
+use Rattle.std.proofs.Common.{◌≡◌, ◌∙◌, sym, ap, refl, subst, ℕ, zero, suc, ◌<◌, Bool, true, false, List, [], ◌∷◌, length, slice_get, Option, Some, None, ◌↔◌, arith}
 use Rattle.std.specs.List.{Contains}
 use Rattle.std.proofs.lemmas.Option.{slice_get_within, slice_get-get_or, get_or_from_slice_get}
 use Rattle.ts_core.specs.declared.flat.FlatGrammar.{FlatGrammar}
 use Rattle.ts_core.specs.declared.symbol.Symbol.{Symbol}
 use Rattle.spec_lexing.specs.Words.{Regular}
-use Rattle.spec_lexing.specs.Seen.{CanBegin, a_token, the_word, a_separator}
 use Rattle.ts_automata.specs.declared.machine.Machine.{Machine}
 use Rattle.ts_automata.specs.Sets.{sets_of}
 use Rattle.ts_automata.specs.Parts.{IsPart}
 use Rattle.ts_automata.specs.Automata.{parts_of, IsAutomaton}
 use Rattle.ts_automata.specs.Machine.{HasRead}
 use Rattle.ts_lexer.specs.declared.verdict.Verdict.{Verdict}
-use Rattle.ts_lexer.specs.Judged.{IsPick, Judges, JudgesNodes, Knows, PartWord, PartFront, EndsIn, LivesIn, Wanted, valid_token, word_token, a_separator as a_separator_part}
+use Rattle.ts_lexer.specs.Judged.{IsPick, JudgesNodes, Knows, PartWord, PartFront, EndsIn, LivesIn}
 
 find : {X : Type 0} (xs : List X) (k : ℕ) → k < length xs → (x : X) × (slice_get xs k ≡ Some x)
 find [] k lt = absurd (omega arith)
@@ -60,25 +59,25 @@ module _ (g : FlatGrammar) (m : Machine) (is : IsAutomaton g m.automaton) (w : L
   ends_same : (k : ℕ) → EndsIn m.automaton.nodes.items m.automaton.owners.items members k ↔ PartWord g w k
   ends_same k = (
     (λ x.
-    let f = from x.node x.there in
-    let same = owner_is x.node k f.part x.owner (f.of_part.own w x.node f.leads) in
-    record { expression = f.expression; at = ap (λ (i : ℕ). slice_get (parts_of g) i) (sym same) ∙ f.there; word = f.of_part.ends w x.node f.leads x.end }),
+        let f = from x.node x.there in
+        let same = owner_is x.node k f.part x.owner (f.of_part.own w x.node f.leads) in
+        record { expression = f.expression; at = ap (λ (i : ℕ). slice_get (parts_of g) i) (sym same) ∙ f.there; word = f.of_part.ends w x.node f.leads x.end }),
     (λ x.
-    let i = into k x.expression x.at in
-    let t = i.2.word w x.word in
-    record { node = t.0; there = has i.0 k t.0 i.1 t.1; owner = i.2.own w t.0 t.1; end = t.2 }),
+        let i = into k x.expression x.at in
+        let t = i.2.word w x.word in
+        record { node = t.0; there = has i.0 k t.0 i.1 t.1; owner = i.2.own w t.0 t.1; end = t.2 }),
   )
 
   lives_same : (k : ℕ) → LivesIn m.automaton.owners.items members k ↔ PartFront g w k
   lives_same k = (
     (λ x.
-    let f = from x.node x.there in
-    let same = owner_is x.node k f.part x.owner (f.of_part.own w x.node f.leads) in
-    record { expression = f.expression; at = ap (λ (i : ℕ). slice_get (parts_of g) i) (sym same) ∙ f.there; front = f.of_part.leads w x.node f.leads }),
+        let f = from x.node x.there in
+        let same = owner_is x.node k f.part x.owner (f.of_part.own w x.node f.leads) in
+        record { expression = f.expression; at = ap (λ (i : ℕ). slice_get (parts_of g) i) (sym same) ∙ f.there; front = f.of_part.leads w x.node f.leads }),
     (λ x.
-    let i = into k x.expression x.at in
-    let t = i.2.front w x.front in
-    record { node = t.0; there = has i.0 k t.0 i.1 t.1; owner = i.2.own w t.0 t.1 }),
+        let i = into k x.expression x.at in
+        let t = i.2.front w x.front in
+        record { node = t.0; there = has i.0 k t.0 i.1 t.1; owner = i.2.own w t.0 t.1 }),
   )
 
   pub knows : (valid : List Symbol) (first : Bool) (v : Verdict) → JudgesNodes g valid first m.automaton members v → Knows g valid first w v

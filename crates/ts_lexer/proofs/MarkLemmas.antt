@@ -1,5 +1,5 @@
 -- Marks for valid tokens.
-use Rattle.std.proofs.Common.{◌≡◌, ◌∙◌, sym, ap, refl, subst, ℕ, zero, suc, ◌+◌, ◌≤◌, ◌<◌, ◌⊎◌, inl, inr, ⊎_elim, ◌&&◌, IsTrue, Bool, true, false, List, [], ◌∷◌, ◌++◌, length, set, get_or, take, slice_get, Option, Some, None, ◌↔◌, arith}
+use Rattle.std.proofs.Common.{◌≡◌, ◌∙◌, sym, ap, refl, subst, ℕ, suc, ◌+◌, ◌≤◌, ◌<◌, ◌⊎◌, inl, inr, ⊎_elim, ◌&&◌, IsTrue, Bool, true, false, List, [], ◌∷◌, ◌++◌, length, set, get_or, take, slice_get, Some, ◌↔◌, arith}
 use Rattle.std.specs.List.{Contains}
 use Rattle.std.proofs.lemmas.List.{length-set, take_more, take_all}
 use Rattle.std.proofs.lemmas.List.Elements.{Contains-append_left, Contains-push, Contains-push_cases}

@@ -1,5 +1,5 @@
 -- Which of two tokens is taken at one length.
-use Rattle.std.proofs.Common.{◌≡◌, ◌∙◌, sym, ap, refl, subst, ℕ, ◌≤◌, ◌<◌, ◌⊎◌, inl, inr, Bool, true, false, ℤ, ◌<ℤ◌, arith}
+use Rattle.std.proofs.Common.{◌≡◌, ◌∙◌, sym, refl, subst, ℕ, ◌≤◌, ◌<◌, ◌⊎◌, inl, inr, Bool, true, false, ℤ, ◌<ℤ◌, arith}
 use Rattle.std.specs.Cmp.{int_chain, int_ranks}
 use Rattle.std.specs.Ordering.{MatchOrdering, int_cmp}
 use Rattle.std.specs.declared.cmp.Ordering.{Ordering}

@@ -1,5 +1,5 @@
 -- The places that are tried, one after another.
-use Rattle.std.proofs.Common.{◌≡◌, ◌∙◌, sym, ap, refl, subst, ℕ, zero, suc, ◌+◌, ◌≤◌, ◌<◌, max, Bool, true, false, List, [], ◌∷◌, length, drop, encode_utf8_all, Option, Some, None, ◌⊎◌, inl, inr, length-drop, length-append, arith}
+use Rattle.std.proofs.Common.{◌≡◌, sym, ap, refl, subst, ℕ, ◌+◌, ◌≤◌, ◌<◌, max, Bool, true, false, List, [], ◌∷◌, length, drop, encode_utf8_all, Option, Some, None, ◌⊎◌, inl, inr, length-drop, length-append, arith}
 use Rattle.std.proofs.lemmas.List.Sums.{prefix_len-le-length}
 use Rattle.std.specs.List.{Contains}
 use Rattle.std.specs.Option.{MatchOption}
@@ -101,7 +101,7 @@ module _ (g : FlatGrammar) (valid : List Symbol) (text rest : Bytes) (first : Bo
   end_lex none is =
       let e : pad + 0 ≡ pad = omega arith in
       subst (λ (n : ℕ). Lexes g valid true text (token end_symbol n 0)) e
-          (p.lex (token end_symbol 0 0) (subst (λ (l : Bytes). Lexes g valid first l (token end_symbol 0 0)) (sym none) (ends first is)))
+      (p.lex (token end_symbol 0 0) (subst (λ (l : Bytes). Lexes g valid first l (token end_symbol 0 0)) (sym none) (ends first is)))
 
   pub end_seen : rest ≡ [] → Contains valid end_symbol → IsSeen g valid true text (max extent (pad + s.reach))
   end_seen none is = no_pass (λ n q. q.none.end none is)

@@ -1,21 +1,19 @@
 -- What a part is for the valid tokens.
-use Rattle.std.proofs.Common.{◌≡◌, ◌∙◌, sym, ap, refl, subst, ℕ, zero, suc, ◌+◌, ◌-◌, ◌≤◌, ◌<◌, ◌⊎◌, inl, inr, ◌&&◌, ◌||◌, not, Bool, true, false, List, [], ◌∷◌, length, map, get_or, slice_get, Option, Some, None, ◌↔◌, IsTrue, arith}
+use Rattle.std.proofs.Common.{◌≡◌, ◌∙◌, sym, ap, refl, subst, ℕ, zero, suc, ◌+◌, ◌-◌, ◌≤◌, ◌<◌, ◌⊎◌, inl, inr, ◌&&◌, ◌||◌, not, Bool, true, false, List, [], ◌∷◌, length, get_or, slice_get, Option, Some, None, ◌↔◌, IsTrue, arith}
 use Rattle.std.specs.List.{Contains}
 use Rattle.std.specs.Option.{option_map}
 use Rattle.std.proofs.lemmas.List.{length-map}
-use Rattle.std.proofs.lemmas.Option.{slice_get_within, slice_get-map, slice_get-get_or, slice_get_read}
+use Rattle.std.proofs.lemmas.Option.{slice_get_within, slice_get-map, slice_get_read}
 use Rattle.ts_core.specs.declared.flat.FlatGrammar.{FlatGrammar}
 use Rattle.ts_core.specs.declared.flat.TokenDef.{TokenDef}
 use Rattle.ts_core.specs.declared.re.Re.{Re}
 use Rattle.ts_core.specs.declared.symbol.Symbol.{Symbol}
-use Rattle.spec_lexing.specs.Seen.{HasKeyword}
 use Rattle.ts_lexer.specs.declared.rules.Kind.{Kind}
 use Rattle.ts_lexer.specs.declared.rules.Rules.{Rules}
 use Rattle.ts_lexer.specs.declared.view.View.{View}
-use Rattle.ts_lexer.specs.declared.view.Role.{Role}
 use Rattle.ts_lexer.specs.Rules.{kind_of, IsRules}
 use Rattle.ts_lexer.specs.Views.{IsView, MayTake, IsRole}
-use Rattle.ts_lexer.specs.Judged.{IsTokenPart, Offered, Wanted, valid_token, word_token, a_separator, IsWordPart, IsSeparatorPart}
+use Rattle.ts_lexer.specs.Judged.{IsTokenPart, Wanted, valid_token, word_token, a_separator, IsSeparatorPart}
 
 abbrev symbol_at : ℕ → Symbol
 symbol_at k = record { 0 = suc k }
@@ -137,20 +135,26 @@ module _ (g : FlatGrammar) (valid : List Symbol) (first : Bool) (r : Rules) (v :
   token_role_of : (part : ℕ) (kind : Kind) (b w : Bool) (t : TokenDef) → slice_get g.tokens part ≡ Some t → kind ≡ kind_of t → IsTrue b ↔ (slice_get v.marks.items part ≡ Some true)
       → IsTrue w ↔ ((s : Symbol) × (r.word ≡ Some s) × (s.0 ≡ suc part))
       → IsRole g valid first part (record {
-          wanted = b || (v.keyworded && w);
-          plain = (b && (v.first || not kind.immediate)) && not kind.keyword;
-          keyword = (b && (v.first || not kind.immediate)) && kind.keyword;
-          word = w;
-          separator = false;
-        })
+        wanted = b || (v.keyworded && w);
+        plain = (b && (v.first || not kind.immediate)) && not kind.keyword;
+        keyword = (b && (v.first || not kind.immediate)) && kind.keyword;
+        word = w;
+        separator = false;
+      })
   token_role_of part kind b w t at kind_is marked named = record {
     wanted = ((λ x. wanted (or_and_from b v.keyworded w x)), (λ x. or_and_to b v.keyworded w (counted x)));
-    plain = ((λ x. taken false (not kind.keyword) (may_from b v.first kind.immediate (not kind.keyword) x) (λ e. sym kw ∙ no_of kind.keyword e)),
-        (λ m. may_to b v.first kind.immediate (not kind.keyword) (offered false (not kind.keyword) m (λ e. of_no kind.keyword (kw ∙ e)))));
-    keyword = ((λ x. taken true kind.keyword (may_from b v.first kind.immediate kind.keyword x) (λ e. sym kw ∙ e)),
-        (λ m. may_to b v.first kind.immediate kind.keyword (offered true kind.keyword m (λ e. kw ∙ e))));
-    word = ((λ x. let n = named.0 x in record { symbol = n.0; token = t; word = sym is.word ∙ n.1; is_token = record { number = n.2; at = at } }),
-        (λ x. named.1 (x.symbol, is.word ∙ x.word, x.is_token.number)));
+    plain = (
+      (λ x. taken false (not kind.keyword) (may_from b v.first kind.immediate (not kind.keyword) x) (λ e. sym kw ∙ no_of kind.keyword e)),
+      (λ m. may_to b v.first kind.immediate (not kind.keyword) (offered false (not kind.keyword) m (λ e. of_no kind.keyword (kw ∙ e)))),
+    );
+    keyword = (
+      (λ x. taken true kind.keyword (may_from b v.first kind.immediate kind.keyword x) (λ e. sym kw ∙ e)),
+      (λ m. may_to b v.first kind.immediate kind.keyword (offered true kind.keyword m (λ e. kw ∙ e))),
+    );
+    word = (
+      (λ x. let n = named.0 x in record { symbol = n.0; token = t; word = sym is.word ∙ n.1; is_token = record { number = n.2; at = at } }),
+      (λ x. named.1 (x.symbol, is.word ∙ x.word, x.is_token.number)),
+    );
     separator = ((λ x. absurd (let e : false ≡ true = x in cc)), (λ x. absurd (let w = slice_get_within g.tokens part t at in let n = x.number in omega arith)));
   }
     where
@@ -182,12 +186,16 @@ module _ (g : FlatGrammar) (valid : List Symbol) (first : Bool) (r : Rules) (v :
       counted (a_separator place separator number _) = absurd (let lt = below in omega arith)
 
       taken : (keyword x : Bool) → May b v.first kind.immediate x → (x ≡ true → t.keyword ≡ keyword) → MayTake g valid first keyword part
-      taken keyword x m is_kind = (symbol_at part, t, record {
-        is_valid = in_valid.0 m.valid;
-        is_token = here;
-        immediate = λ e. sym view.at_first ∙ m.stands (imm ∙ e);
-        kind = is_kind m.kind;
-      })
+      taken keyword x m is_kind = (
+        symbol_at part,
+        t,
+        record {
+          is_valid = in_valid.0 m.valid;
+          is_token = here;
+          immediate = λ e. sym view.at_first ∙ m.stands (imm ∙ e);
+          kind = is_kind m.kind;
+        },
+      )
 
       offered : (keyword x : Bool) → MayTake g valid first keyword part → (t.keyword ≡ keyword → x ≡ true) → May b v.first kind.immediate x
       offered keyword x (s, u, o) is_kind =
@@ -202,10 +210,10 @@ module _ (g : FlatGrammar) (valid : List Symbol) (first : Bool) (r : Rules) (v :
   pub token_role : (part : ℕ) (kind : Kind) (b w : Bool) → slice_get r.kinds.items part ≡ Some kind → IsTrue b ↔ (slice_get v.marks.items part ≡ Some true)
       → IsTrue w ↔ ((s : Symbol) × (r.word ≡ Some s) × (s.0 ≡ suc part))
       → IsRole g valid first part (record {
-          wanted = b || (v.keyworded && w);
-          plain = (b && (v.first || not kind.immediate)) && not kind.keyword;
-          keyword = (b && (v.first || not kind.immediate)) && kind.keyword;
-          word = w;
-          separator = false;
-        })
+        wanted = b || (v.keyworded && w);
+        plain = (b && (v.first || not kind.immediate)) && not kind.keyword;
+        keyword = (b && (v.first || not kind.immediate)) && kind.keyword;
+        word = w;
+        separator = false;
+      })
   token_role part kind b w there marked named = let t = token_at g r part kind is there in token_role_of part kind b w t.0 t.1 t.2 marked named

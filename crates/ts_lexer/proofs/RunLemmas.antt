@@ -1,30 +1,25 @@
 -- The pass over the characters at one place.
-use Rattle.std.proofs.Common.{◌≡◌, ◌∙◌, sym, ap, refl, subst, ℕ, zero, suc, ◌+◌, ◌≤◌, ◌<◌, ◌⊎◌, inl, inr, ⊎_elim, Bool, true, false, List, [], ◌∷◌, ◌++◌, length, drop, encode_utf8, encode_utf8_all, slice_get, Option, Some, None, IsTrue, append_assoc, length-append, length-drop, arith}
+use Rattle.std.proofs.Common.{◌≡◌, ◌∙◌, sym, ap, refl, subst, ℕ, ◌+◌, ◌≤◌, ◌<◌, ◌⊎◌, inl, inr, Bool, true, false, List, [], ◌∷◌, ◌++◌, length, drop, encode_utf8, encode_utf8_all, append_assoc, length-drop, arith}
 use Rattle.std.specs.Char.{IsScalar, len_utf8}
 use Rattle.std.specs.Str.{IsUtf8}
 use Rattle.std.proofs.lemmas.List.{append-nil, drop-drop}
 use Rattle.std.proofs.Math.Seq.{drop-append_seam}
-use Rattle.std.proofs.lemmas.Str.{length-encode, len_utf8_bounds}
+use Rattle.std.proofs.lemmas.Str.{length-encode}
 use Rattle.std.proofs.Math.Dec.{leb}
 use Rattle.std.proofs.lemmas.Bool.Decides.{leb_tells}
-use Rattle.std.specs.Option.{MatchOption}
 use Rattle.ts_base.specs.Bytes.{Bytes}
 use Rattle.ts_core.specs.declared.flat.FlatGrammar.{FlatGrammar}
-use Rattle.ts_core.specs.declared.flat.TokenDef.{TokenDef}
 use Rattle.ts_core.specs.declared.symbol.Symbol.{Symbol}
 use Rattle.spec_lexing.specs.Words.{Regular, Word, Front}
-use Rattle.spec_lexing.specs.Matching.{Begins, MatchesRe, MatchesSeparator}
-use Rattle.spec_lexing.specs.Lexing.{Candidate, IsBest}
-use Rattle.spec_lexing.specs.Seen.{CanBegin, a_token, the_word, a_separator, HasFront, one_character, IsReach}
+use Rattle.spec_lexing.specs.Matching.{Begins}
+use Rattle.spec_lexing.specs.Seen.{CanBegin, HasFront, one_character, IsReach}
 use Rattle.ts_automata.specs.declared.machine.Machine.{Machine}
 use Rattle.ts_automata.specs.Machine.{HasRead}
-use Rattle.ts_lexer.specs.declared.scanned.Match.{Match}
 use Rattle.ts_lexer.specs.declared.scanned.Progress.{Progress}
-use Rattle.ts_lexer.specs.declared.scanned.Scanned.{Scanned}
 use Rattle.ts_lexer.specs.declared.verdict.Verdict.{Verdict}
-use Rattle.ts_lexer.specs.Judged.{Wanted, Knows, PartWord, PartFront}
-use Rattle.ts_lexer.specs.Scanned.{PartMatches, IsStep, Sofar, IsScanned}
-use Rattle.ts_lexer.proofs.FrontLemmas.{can_begin, begin_part, part_of_separator}
+use Rattle.ts_lexer.specs.Judged.{Wanted, Knows, PartWord}
+use Rattle.ts_lexer.specs.Scanned.{PartMatches, IsStep, Sofar}
+use Rattle.ts_lexer.proofs.FrontLemmas.{can_begin, begin_part}
 
 -- the laws of words and characters
 pub record Laws : Type 0 where
@@ -139,8 +134,10 @@ module _ (laws : Laws) (g : FlatGrammar) (valid : List Symbol) (first : Bool) (r
               exact : (v : List ℕ) → x.matches.characters ≡ w ++ v → (n ≤ size) ⊎ ((n ≡ next) × PartWord g w k)
               exact [] e =
                   let f = e ∙ append-nil w in
-                  inr (same_size x.matches.characters w n next x.matches.begins begins_next f,
-                      record { expression = x.expression; at = x.at; word = subst (λ (l : List ℕ). Word x.expression l) f x.matches.word })
+                  inr (
+                    same_size x.matches.characters w n next x.matches.begins begins_next f,
+                    record { expression = x.expression; at = x.at; word = subst (λ (l : List ℕ). Word x.expression l) f x.matches.word },
+                  )
               exact (d ∷ v) e = absurd (let l = laws.longer rest w v d next n begins_next (subst (λ (y : List ℕ). Begins rest y n) e x.matches.begins) in omega arith)
 
               by : Other x.matches.characters n → (n ≤ size) ⊎ ((n ≡ next) × PartWord g w k)

@@ -54,21 +54,21 @@ module _ (laws : Laws) (g : FlatGrammar) (valid : List Symbol) (first : Bool) (r
   best_is : (best : Option Match) (plain : Option Match) (keyword : Option Symbol) → Chosen g p best → p.plain ≡ plain → p.keyword ≡ keyword → MatchOption best ((t : TokenDef) (s : Symbol) (n : ℕ) → Candidate g valid first rest t s n → ⊥) (λ b. IsBest g valid first rest b.symbol b.size)
   best_is best None None c e f =
       subst (λ (o : Option Match). MatchOption o ((t : TokenDef) (s : Symbol) (n : ℕ) → Candidate g valid first rest t s n → ⊥) (λ b. IsBest g valid first rest b.symbol b.size)) (sym (c.plain f ∙ e))
-          (none_chosen g valid first rest size p run.sofar all e f)
+      (none_chosen g valid first rest size p run.sofar all e f)
   best_is best (Some b) None c e f =
       let x = subst (λ (o : Option Match). MatchOption o ((k n : ℕ) (s : Symbol) (t : TokenDef) → Offered g valid first false k s t → PartMatches g rest k n → n ≤ size → ⊥) (IsFirstPlain g valid first (PartMatches g rest) size)) e run.sofar.plain in
       subst (λ (o : Option Match). MatchOption o ((t : TokenDef) (s : Symbol) (n : ℕ) → Candidate g valid first rest t s n → ⊥) (λ b. IsBest g valid first rest b.symbol b.size)) (sym (c.plain f ∙ e))
-          (plain_best g valid first rest size p run.sofar all b x f)
+      (plain_best g valid first rest size p run.sofar all b x f)
   best_is best None (Some s) c e f =
       let y = subst (λ (o : Option Symbol). IsPick g valid first true (λ k. (0 < p.word) × PartMatches g rest k p.word) o) f run.sofar.keyword in
       subst (λ (o : Option Match). MatchOption o ((t : TokenDef) (s : Symbol) (n : ℕ) → Candidate g valid first rest t s n → ⊥) (λ b. IsBest g valid first rest b.symbol b.size)) (sym (c.keyword s f e))
-          (keyword_best g valid first rest size p run.sofar all s y e)
+      (keyword_best g valid first rest size p run.sofar all s y e)
   best_is best (Some b) (Some s) c e f =
       let x = subst (λ (o : Option Match). MatchOption o ((k n : ℕ) (s : Symbol) (t : TokenDef) → Offered g valid first false k s t → PartMatches g rest k n → n ≤ size → ⊥) (IsFirstPlain g valid first (PartMatches g rest) size)) e run.sofar.plain in
       let y = subst (λ (o : Option Symbol). IsPick g valid first true (λ k. (0 < p.word) × PartMatches g rest k p.word) o) f run.sofar.keyword in
       let r = c.both x.part y.part b s x.token y.token f e x.offered.is_token y.offered.is_token in
       subst (λ (o : Option Match). MatchOption o ((t : TokenDef) (s : Symbol) (n : ℕ) → Candidate g valid first rest t s n → ⊥) (λ b. IsBest g valid first rest b.symbol b.size)) (sym r.1)
-          (both_best g valid first rest size p run.sofar all s y b r.0 x r.2)
+      (both_best g valid first rest size p run.sofar all s y b r.0 x r.2)
 
   pub scanned : (best : Option Match) (far : ℕ) → Chosen g p best → far ≡ one_character tail → IsScanned g valid first rest (record { best = best; separator = p.separator; reach = size + far })
   scanned best far c is = record {
@@ -123,5 +123,5 @@ module _ (laws : Laws) (g : FlatGrammar) (valid : List Symbol) (first : Bool) (r
         → Running m g valid first rest later (size + len) to after
     more_at v to after knows alive reads sofar =
         subst (λ (n : ℕ). Running m g valid first rest later n to after) next_is
-            (run_more laws g valid first rest m tail size state p run c later is both_of.0 both_of.1 v to after knows alive reads
-            (subst (λ (n : ℕ). Sofar g valid first (PartMatches g rest) n after) (sym next_is) sofar))
+        (run_more laws g valid first rest m tail size state p run c later is both_of.0 both_of.1 v to after knows alive reads
+        (subst (λ (n : ℕ). Sofar g valid first (PartMatches g rest) n after) (sym next_is) sofar))

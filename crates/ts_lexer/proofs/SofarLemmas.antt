@@ -1,5 +1,5 @@
 -- What was found so far, with one character more.
-use Rattle.std.proofs.Common.{◌≡◌, ◌∙◌, sym, ap, refl, subst, ℕ, ◌≤◌, ◌<◌, ◌⊎◌, inl, inr, ⊎_elim, Bool, true, false, List, Option, Some, None, ◌↔◌, IsTrue, ℤ, ◌<ℤ◌, arith}
+use Rattle.std.proofs.Common.{◌≡◌, sym, refl, subst, ℕ, ◌≤◌, ◌<◌, ◌⊎◌, inl, inr, ⊎_elim, Bool, true, false, List, Option, Some, None, ◌↔◌, IsTrue, ℤ, ◌<ℤ◌, arith}
 use Rattle.std.specs.Option.{MatchOption}
 use Rattle.std.specs.Cmp.{int_chain}
 use Rattle.std.specs.Int.Signed.{<ℤ_irrefl}
@@ -153,12 +153,12 @@ module _ (g : FlatGrammar) (valid : List Symbol) (first : Bool) (M : ℕ → ℕ
       → IsPick g valid first true E fresh → IsPick g valid first true (λ k. (0 < word) × M k word) old → IsPick g valid first true (λ k. (0 < size) × M k size) result
   keyword_next true fresh old result word size kept sized p h =
       subst (λ (o : Option Symbol). IsPick g valid first true (λ k. (0 < size) × M k size) o) (sym (kept.yes refl))
-          (subst (λ (n : ℕ). IsPick g valid first true (λ k. (0 < n) × M k n) fresh) (sym (sized.yes refl))
-          (pick_by E (λ k. (0 < next) × M k next) fresh (λ k e. ((omega arith), now k e))
-              (λ k w. ⊎_elim (λ low. absurd (omega arith)) (λ e. e.1) (from k next (omega arith) w.1)) p))
+      (subst (λ (n : ℕ). IsPick g valid first true (λ k. (0 < n) × M k n) fresh) (sym (sized.yes refl))
+      (pick_by E (λ k. (0 < next) × M k next) fresh (λ k e. ((omega arith), now k e))
+      (λ k w. ⊎_elim (λ low. absurd (omega arith)) (λ e. e.1) (from k next (omega arith) w.1)) p))
   keyword_next false fresh old result word size kept sized p h =
       subst (λ (o : Option Symbol). IsPick g valid first true (λ k. (0 < size) × M k size) o) (sym (kept.no refl))
-          (subst (λ (n : ℕ). IsPick g valid first true (λ k. (0 < n) × M k n) old) (sym (sized.no refl)) h)
+      (subst (λ (n : ℕ). IsPick g valid first true (λ k. (0 < n) × M k n) old) (sym (sized.no refl)) h)
 
   pub sofar_next : (L : ℕ → Type 0) (v : Verdict) (old : Progress) (plain : Option Match) (word : ℕ) (keyword : Option Symbol) (separator : ℕ)
       → Judges g valid first E L v → Longer g old.plain v.plain next plain → Sized v.word old.word word → Kept v.word v.keyword old.keyword keyword → Sized v.separator old.separator separator

@@ -1,6 +1,6 @@
 -- What is known once some characters have been read. The parts of a grammar are its tokens and then its
 -- separators, by number.
-use Rattle.std.specs.Prelude.{◌≡◌, ℕ, ◌+◌, ◌<◌, suc, Bool, true, false, List, length, slice_get, Option, Some, MatchOption, IsTrue, ◌↔◌}
+use Rattle.std.specs.Prelude.{◌≡◌, ℕ, ◌+◌, suc, Bool, true, false, List, length, slice_get, Option, Some, MatchOption, IsTrue, ◌↔◌}
 use Rattle.std.specs.List.{Contains}
 use Rattle.ts_core.specs.declared.flat.FlatGrammar.{FlatGrammar}
 use Rattle.ts_core.specs.declared.flat.TokenDef.{TokenDef}
@@ -63,8 +63,8 @@ pub record IsPicked (g : FlatGrammar) (valid : List Symbol) (first keyword : Boo
 abbrev pub IsPick : FlatGrammar → List Symbol → Bool → Bool → (ℕ → Type 0) → Option Symbol → Type 0
 IsPick g valid first keyword Ends pick =
     MatchOption pick
-        ((k : ℕ) (s : Symbol) (token : TokenDef) → Offered g valid first keyword k s token → Ends k → ⊥)
-        (IsPicked g valid first keyword Ends)
+    ((k : ℕ) (s : Symbol) (token : TokenDef) → Offered g valid first keyword k s token → Ends k → ⊥)
+    (IsPicked g valid first keyword Ends)
 
 -- what is known where these parts end, and these are alive
 pub record Judges (g : FlatGrammar) (valid : List Symbol) (first : Bool) (Ends Lives : ℕ → Type 0) (v : Verdict) : Type 0 where

@@ -1,5 +1,5 @@
 -- What a lexer stands for.
-use Rattle.std.specs.Prelude.{◌≡◌, ℕ, length}
+use Rattle.std.specs.Prelude.{ℕ}
 use Rattle.ts_core.specs.declared.flat.FlatGrammar.{FlatGrammar}
 use Rattle.ts_automata.specs.Machine.{IsMachine}
 use Rattle.ts_lexer.specs.declared.lexer.Lexer.{Lexer}

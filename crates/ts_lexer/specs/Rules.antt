@@ -1,5 +1,5 @@
 -- What a grammar says of its tokens beside what they match.
-use Rattle.std.specs.Prelude.{◌≡◌, ℕ, ◌+◌, ◌-◌, ◌^◌, ◌≤◌, ◌<◌, ◌<ℤ◌, ◌⊎◌, true, false, length, map}
+use Rattle.std.specs.Prelude.{◌≡◌, ◌+◌, ◌-◌, ◌^◌, ◌≤◌, ◌<◌, ◌<ℤ◌, ◌⊎◌, true, false, length, map}
 use Rattle.ts_core.specs.declared.flat.FlatGrammar.{FlatGrammar}
 use Rattle.ts_core.specs.declared.flat.TokenDef.{TokenDef}
 use Rattle.ts_core.specs.declared.symbol.Symbol.{Symbol}
@@ -32,7 +32,7 @@ abbrev pub Over : Kind → Symbol → Kind → Symbol → Type 0
 Over a s b t =
     (b.prec <ℤ a.prec)
     ⊎ ((a.prec ≡ b.prec)
-        × (((a.literal ≡ true) × (b.literal ≡ false)) ⊎ ((a.literal ≡ b.literal) × (s.0 ≤ t.0))))
+    × (((a.literal ≡ true) × (b.literal ≡ false)) ⊎ ((a.literal ≡ b.literal) × (s.0 ≤ t.0))))
 
 -- of two tokens, this is the one that is taken
 pub record IsBetter (a : Kind) (s : Symbol) (b : Kind) (t : Symbol) (taken : Symbol) : Type 0 where

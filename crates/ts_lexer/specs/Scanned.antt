@@ -71,9 +71,9 @@ abbrev pub BeatsBy : Kind → Symbol → ℕ → Kind → Symbol → ℕ → Typ
 BeatsBy a s m b t n =
     (b.prec <ℤ a.prec)
     ⊎ ((a.prec ≡ b.prec)
-        × ((n < m)
-            ⊎ ((m ≡ n)
-                × (((a.literal ≡ true) × (b.literal ≡ false)) ⊎ ((a.literal ≡ b.literal) × (s.0 ≤ t.0))))))
+    × ((n < m)
+    ⊎ ((m ≡ n)
+    × (((a.literal ≡ true) × (b.literal ≡ false)) ⊎ ((a.literal ≡ b.literal) × (s.0 ≤ t.0))))))
 
 -- of two matches, this one is taken
 pub record IsBetterMatch (a : Kind) (m : Match) (b : Kind) (n taken : Match) : Type 0 where

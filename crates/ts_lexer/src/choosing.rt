@@ -46,7 +46,7 @@ pub(crate) fn chosen(rules: &Rules, progress: &Progress) -> Option<Match>
         → progress.now.keyword ≡ Some s → progress.now.plain ≡ Some m → IsRules g rules.now
         → IsTokenPart g j m.symbol a → IsTokenPart g k s b
         → (n : AnyMatch) × (result ≡ Some n)
-            × IsBetterMatch (kind_of a) m (kind_of b) (record { symbol = s; size = progress.now.word }) n }
+        × IsBetterMatch (kind_of a) m (kind_of b) (record { symbol = s; size = progress.now.word }) n }
 {
     let Some(symbol) = progress.keyword else {
         return progress.plain;

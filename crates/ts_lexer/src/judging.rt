@@ -140,12 +140,7 @@ fn with_node(
 }
 
 /// What is known of a set of nodes.
-pub(crate) fn judge(
-    rules: &Rules,
-    view: &View,
-    automaton: &Automaton,
-    members: &[usize],
-) -> Verdict
+pub(crate) fn judge(rules: &Rules, view: &View, automaton: &Automaton, members: &[usize]) -> Verdict
     ensures { (g : AnyGrammar) (valid : List AnySymbol) (first : Bool)
         → IsRules g rules.now → IsView g valid first view.now
         → JudgesNodes g valid first automaton.now members.now result }

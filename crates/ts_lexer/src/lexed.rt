@@ -12,5 +12,8 @@ pub enum Lexed {
         extent: u32,
     },
     /// No valid token, with the place after the separators.
-    Absent { place: u32, extent: u32 },
+    Absent {
+        place: u32,
+        extent: u32,
+    },
 }

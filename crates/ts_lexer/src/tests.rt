@@ -124,12 +124,27 @@ fn tokens_are_found(rt: HostRuntime) -> Result<(), Fail> {
     let alloc = rt.alloc();
     let plain = grammar(alloc, 0, false)?;
     let ranked = grammar(alloc, 1, true)?;
-    assert_eq!(rt; lexed(alloc, &plain, "a==b", 1, &[1, 2])?, found(2, 0, 2, 3));
-    assert_eq!(rt; lexed(alloc, &ranked, "a==b", 1, &[1, 2])?, found(1, 0, 1, 3));
+    assert_eq!(rt;
+        lexed(alloc, &plain, "a==b", 1, &[1, 2])?,
+        found(2, 0, 2, 3)
+    );
+    assert_eq!(rt;
+        lexed(alloc, &ranked, "a==b", 1, &[1, 2])?,
+        found(1, 0, 1, 3)
+    );
     assert_eq!(rt; lexed(alloc, &ranked, "a==b", 1, &[2])?, found(2, 0, 2, 3));
-    assert_eq!(rt; lexed(alloc, &plain, "a instanceofx", 1, &[4])?, found(4, 1, 10, 12));
-    assert_eq!(rt; lexed(alloc, &ranked, "a instanceofx", 1, &[4])?, absent(2, 13));
-    assert_eq!(rt; lexed(alloc, &ranked, "instanceof", 0, &[3, 4])?, found(4, 0, 10, 11));
+    assert_eq!(rt;
+        lexed(alloc, &plain, "a instanceofx", 1, &[4])?,
+        found(4, 1, 10, 12)
+    );
+    assert_eq!(rt;
+        lexed(alloc, &ranked, "a instanceofx", 1, &[4])?,
+        absent(2, 13)
+    );
+    assert_eq!(rt;
+        lexed(alloc, &ranked, "instanceof", 0, &[3, 4])?,
+        found(4, 0, 10, 11)
+    );
     assert_eq!(rt; lexed(alloc, &plain, "#", 0, &[5])?, found(5, 0, 1, 2));
     assert_eq!(rt; lexed(alloc, &plain, " #", 0, &[5])?, absent(1, 3));
     assert_eq!(rt; lexed(alloc, &plain, "abbbb", 0, &[6])?, found(6, 0, 1, 6));

@@ -10,7 +10,7 @@ loop-node-init c g valid first rules view = judges_none g valid first _ _
 pub loop-node-preserved : goal.loop-node-preserved
 loop-node-preserved c g valid first rules view =
     rw (take_more c.args.members.now c.loop-node.node-index 0 c.loop-node-test.true)
-        (c.with_node-verdict.ensures g valid first _ rules view (c.loop-node.invariant g valid first rules view))
+    (c.with_node-verdict.ensures g valid first _ rules view (c.loop-node.invariant g valid first rules view))
 
 pub returns : goal.returns
 returns c g valid first rules view =

@@ -1,4 +1,4 @@
-use Rattle.std.proofs.Common.{◌<◌, length, arith}
+use Rattle.std.proofs.Common.{arith}
 use Rattle.ts_lexer.proofs.RoleLemmas.{kind_within, kind_read}
 use Rattle.ts_lexer.proofs.judging.kind_at.Goals as goal
 

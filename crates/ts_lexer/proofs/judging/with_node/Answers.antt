@@ -1,4 +1,4 @@
-use Rattle.std.proofs.Common.{◌≤◌, ◌<◌, length, refl, arith}
+use Rattle.std.proofs.Common.{◌<◌, length, refl, arith}
 use Rattle.std.proofs.lemmas.Option.{slice_get_past, slice_get_read}
 use Rattle.ts_lexer.proofs.JudgeLemmas.{judges_same}
 use Rattle.ts_lexer.proofs.judging.with_node.Goals as goal

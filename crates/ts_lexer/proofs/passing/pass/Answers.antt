@@ -1,7 +1,6 @@
-use Rattle.std.proofs.Common.{◌≡◌, ◌∙◌, sym, ap, refl, subst, ℕ, ◌+◌, ◌^◌, ◌≤◌, ◌<◌, max, true, false, length, drop, arith}
+use Rattle.std.proofs.Common.{◌∙◌, sym, ap, refl, subst, ℕ, ◌+◌, ◌<◌, false, length, drop, arith}
 use Rattle.std.proofs.lemmas.Bool.{false≢true}
 use Rattle.ts_base.specs.Bytes.{Bytes}
-use Rattle.ts_core.specs.declared.flat.FlatGrammar.{FlatGrammar}
 use Rattle.spec_lexing.specs.Seen.{Seen}
 use Rattle.ts_lexer.proofs.PassLemmas.{Passing, passing_begins, best_at, best_within, none_at, empty_of, reach_within, take_lex, take_seen, end_lex, end_seen, stop_lex, stop_seen, passing_more}
 use Rattle.ts_lexer.proofs.GapLemmas.{gap}
@@ -80,19 +79,18 @@ passing-preserved c =
       whole = (let a = w.within in let b = c.passing.invariant.whole in omega arith);
       utf8 = w.utf8;
       near = (
-        let reach = reach_within c.requires.known.0 c.args.valid.now c.passing.rest.now c.scan-here.result.reach seen.reach in
-        let whole = c.passing.invariant.whole in
-        let near = c.passing.invariant.near in
-        let far = c.farther-extent.ensures (let s = c.requires.size in omega arith) in
-        omega arith
-      );
+          let reach = reach_within c.requires.known.0 c.args.valid.now c.passing.rest.now c.scan-here.result.reach seen.reach in
+          let whole = c.passing.invariant.whole in
+          let near = c.passing.invariant.near in
+          let far = c.farther-extent.ensures (let s = c.requires.size in omega arith) in
+          omega arith
+          );
       passing = λ g rules automaton marks.
           let k = c.passing.invariant.passing g rules automaton marks in
           let x = c.scan-here.ensures g c.args.valid.now c.passing.view.first rules k.0 automaton in
           let tokens = none_at g c.args.valid.now c.passing.view.first c.passing.rest.now c.scan-here.result.best c.in-None.is x.best in
           let within = reach_within g c.args.valid.now c.passing.rest.now c.scan-here.result.reach x.reach in
-          let far = c.farther-extent.ensures (let v = c.passing.invariant.whole in let s = c.requires.size in omega arith) in
-          (
+          let far = c.farther-extent.ensures (let v = c.passing.invariant.whole in let s = c.requires.size in omega arith) in (
             record { size = k.0.size; marks = k.0.marks; keyworded = k.0.keyworded; at_first = refl },
             subst (λ (n : ℕ). Passing g c.args.valid.now c.args.text.now (drop c.scan-here.result.separator c.passing.rest.now) false (c.passing.pad + c.scan-here.result.separator) n) (sym far)
                 (passing_more g c.args.valid.now c.args.text.now c.passing.rest.now c.passing.view.first c.passing.pad c.passing.extent k.1 c.scan-here.result x tokens

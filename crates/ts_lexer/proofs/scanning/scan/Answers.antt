@@ -1,4 +1,4 @@
-use Rattle.std.proofs.Common.{◌≡◌, ◌∙◌, sym, ap, ◌+◌, ◌++◌, length, length-append, arith, ℕ, List}
+use Rattle.std.proofs.Common.{ap, length, length-append, arith, ℕ, List}
 use Rattle.std.specs.Str.Iter.{chars_rest}
 use Rattle.std.proofs.Math.Utf8.{encode}
 use Rattle.std.proofs.lemmas.Str.{length-encode}
@@ -35,13 +35,13 @@ loop-c-preserved c =
     record {
       within = c.next-to.ensures.within;
       fits = (
-        let e = ap (λ (l : List ℕ). length l) c.in-Some.ensures.steps.0 in
-        let f = length-append (encode c.in-Some.c) (chars_rest c.next.new.self) in
-        let h = length-encode c.in-Some.c in
-        let k = c.len_utf8-size.ensures.value in
-        let n = inv.fits in
-        omega arith
-      );
+          let e = ap (λ (l : List ℕ). length l) c.in-Some.ensures.steps.0 in
+          let f = length-append (encode c.in-Some.c) (chars_rest c.next.new.self) in
+          let h = length-encode c.in-Some.c in
+          let k = c.len_utf8-size.ensures.value in
+          let n = inv.fits in
+          omega arith
+          );
       running = λ g valid first rules view automaton.
           let laws : Laws = record {
             front_prefix = c.a_front_has_fronts.ensures;

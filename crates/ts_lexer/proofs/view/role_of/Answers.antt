@@ -14,4 +14,4 @@ returns c g valid first rules view =
     let there = slice_get_read c.args.rules.now.kinds.items (length c.args.rules.now.kinds.items) c.args.part c.index-kind.result.now refl below c.index-kind.ensures in
     let marked = rw c.as_slice.ensures.value at c.is_marked-valid.ensures in
     rw (c.either_holds-wanted.ensures, c.both_hold-by_word.ensures, c.both_hold-plain.ensures, c.both_hold-keyword.ensures, c.both_hold-stands.ensures, c.either_holds-allowed.ensures, c.fails-later.ensures, c.fails-no_keyword.ensures)
-        (token_role g valid first c.args.rules.now c.args.view.now rules view c.args.part c.index-kind.result.now c.is_marked-valid.result c.is_word-word.result there marked c.is_word-word.ensures)
+    (token_role g valid first c.args.rules.now c.args.view.now rules view c.args.part c.index-kind.result.now c.is_marked-valid.result c.is_word-word.result there marked c.is_word-word.ensures)
