@@ -1,6 +1,6 @@
 -- The nodes that a parser makes: leaves, nodes of productions, flat nodes of repetitions, the accepted root; and what an edit
 -- leaves of a node.
-use Rattle.std.specs.Prelude.{◌≡◌, ℕ, suc, ◌+◌, ◌-◌, ◌*◌, ◌<◌, ◌≤◌, ◌^◌, Bool, true, false, nat_lt, if◌then◌else◌, List, [], ◌∷◌, ◌++◌, length, map, take, drop, set, slice_get, Option, Some, None, option_map, unwrap_or, All}
+use Rattle.std.specs.Prelude.{◌≡◌, ℕ, suc, ◌+◌, ◌-◌, ◌*◌, ◌<◌, ◌≤◌, ◌^◌, true, false, nat_lt, if◌then◌else◌, List, [], ◌∷◌, ◌++◌, length, map, take, drop, set, Option, Some, None, option_map, unwrap_or, All}
 use Rattle.std.specs.Int.RustNames.{unsigned_abs}
 use lib.IntN.{ℤ, pos, ◌+ℤ◌}
 use Rattle.ts_core.specs.declared.flat.FlatGrammar.{FlatGrammar}
@@ -9,7 +9,7 @@ use Rattle.spec_grammar.specs.Symbols.{production_at, first_production, alternat
 use Rattle.spec_trees.specs.declared.tree.Tree.{Tree}
 use Rattle.spec_trees.specs.declared.tree.Element.{Element}
 use Rattle.spec_trees.specs.declared.tree.Tree.TheViews.{roll-Tree, out-Tree}
-use Rattle.spec_trees.specs.Trees.{symbol_of, production_of, pad_of, size_of, extent_of, is_settled, is_extra_node, elements_of, children_of, total_of, all_totals, span_of, all_spans, first_pad, nodes_of, depth_of}
+use Rattle.spec_trees.specs.Trees.{symbol_of, production_of, extent_of, is_settled, is_extra_node, elements_of, children_of, total_of, all_totals, span_of, all_spans, first_pad, nodes_of, depth_of}
 
 -- ---- leaves
 

@@ -1,5 +1,5 @@
 -- The visible tree: the nodes that show, in preorder, with their depths, names, fields, ranges and points.
-use Rattle.std.specs.Prelude.{ℕ, suc, ◌+◌, ◌-◌, Bool, true, false, ◌||◌, not, nat_eq, if◌then◌else◌, List, [], ◌∷◌, ◌++◌, length, map, take, drop, slice_get, Option, Some, None, option_map, option_and_then, unwrap_or}
+use Rattle.std.specs.Prelude.{ℕ, suc, ◌+◌, Bool, true, ◌||◌, not, nat_eq, if◌then◌else◌, List, [], ◌∷◌, ◌++◌, map, take, drop, slice_get, Option, Some, None, option_map, unwrap_or}
 use Rattle.std.specs.List.{list_any}
 use Rattle.std.proofs.Common.{is_some}
 use Rattle.ts_base.specs.Bytes.{Bytes}
@@ -14,7 +14,7 @@ use Rattle.spec_trees.specs.declared.tree.Element.{Element}
 use Rattle.spec_trees.specs.declared.tree.Tree.TheOpen.{Tree-F}
 use Rattle.spec_trees.specs.declared.tree.Tree.TheFolds.{para-Tree}
 use Rattle.spec_trees.specs.Trees.{symbol_of, span_of}
-use Rattle.spec_trees.specs.Made.{fills_by, fills_from}
+use Rattle.spec_trees.specs.Made.{fills_from}
 
 -- ---- the marks under which a node stands
 
@@ -117,11 +117,11 @@ abbrev pub showing_step : FlatGrammar → Bytes → Tree-F (Tree × Showing) →
 showing_step g text t depth place fields marks =
     if is_shown g t.symbol.0 marks.alias
     then shown g text depth
-        (shown_name g t.symbol.0 marks.alias)
-        (shown_named g t.symbol.0 marks.alias)
-        (with_field fields marks.field)
-        (place + t.pad) t.size
-        ∷ shown_children g t (suc depth) place []
+    (shown_name g t.symbol.0 marks.alias)
+    (shown_named g t.symbol.0 marks.alias)
+    (with_field fields marks.field)
+    (place + t.pad) t.size
+    ∷ shown_children g t (suc depth) place []
     else shown_children g t depth place (with_field fields marks.field)
 
 abbrev pub showing : FlatGrammar → Bytes → Tree → Showing

@@ -1,5 +1,5 @@
 -- A parse tree, and what is added up over it.
-use Rattle.std.specs.Prelude.{◌≡◌, ℕ, ◌+◌, max, Bool, true, false, List, [], ◌∷◌, length, map, Option, Some, None}
+use Rattle.std.specs.Prelude.{ℕ, ◌+◌, max, Bool, false, List, [], ◌∷◌, length, map, Option, None}
 use lib.IntN.{ℤ, pos, ◌+ℤ◌}
 use Rattle.spec_trees.specs.declared.tree.Tree.{Tree}
 use Rattle.spec_trees.specs.declared.tree.Tree.TheOpen.{Tree-F}
@@ -99,9 +99,9 @@ greatest_depth ts = greatest (map depth_of ts)
 -- ---- the tree that outcomes compare
 
 abbrev pub bare_step : Tree-F Tree → Tree
-bare_step t = roll-Tree (record t { extent = 0; state = None; settled = false; extra = false })
+bare_step t = roll-Tree (record t { extent = 0; state = None; settled = false })
 
--- The tree without extents, states, marks of edits and places as extras. Two nodes are the same node of a
--- parse tree where their bare trees are equal.
+-- The tree without extents, states and marks of edits. Two nodes are the same node of a parse tree where
+-- their bare trees are equal.
 abbrev pub bare : Tree → Tree
 bare = fold-Tree Tree bare_step

@@ -1,0 +1,92 @@
+use Rattle.std.proofs.Common.{arith, ◌≡◌, ◌<◌, ◌+◌, ◌∙◌, ap, sym, length, subst, [], List, Some}
+use Rattle.spec_trees.specs.declared.tree.Tree.{Tree}
+use Rattle.spec_trees.specs.Trees.{all_nodes, greatest_depth, children_of}
+use Rattle.spec_trees.specs.Made.{replaced}
+use Rattle.ts_node.specs.Held.{IsSum}
+use Rattle.ts_node.proofs.BodyLemmas.{children_are, few_children}
+use Rattle.ts_node.proofs.RemakeLemmas.{HasRoomStill, IsRemade, room_still, all_within, length-replaced, kept_with, is_with}
+use Rattle.ts_node.proofs.node.RuleNode.remake.Goals as goal
+
+pub with_changes-requires : goal.with_changes-requires
+with_changes-requires c =
+    let b : c.as_slice.result.now ≡ c.self.inside.children = c.as_slice.ensures in
+    let e : children_of c.args.self.now ≡ c.as_slice.result.now = children_are c.self.inside.summary _ _ _ _ c.self.view_is ∙ sym b in
+    all_within _ _ _ (ap (λ (ts : List Tree). length ts) e) c.requires.within
+
+pub sums-requires : goal.sums-requires
+sums-requires c =
+    let b : c.as_slice.result.now ≡ c.self.inside.children = c.as_slice.ensures in
+    let m : c.in_ok-children.children ≡ replaced c.args.changed.now c.as_slice.result.now = c.in_ok-children.ensures in
+    let new : c.in_ok-children.children ≡ replaced c.args.changed.now c.self.inside.children = m ∙ ap (λ (ts : List Tree). replaced c.args.changed.now ts) b in
+    let a : c.as_slice-2.result.now ≡ c.in_ok-children.children = c.as_slice-2.ensures in
+    let e : length c.as_slice-2.result.now ≡ length c.self.inside.children = ap (λ (ts : List Tree). length ts) (a ∙ new) ∙ length-replaced c.args.changed.now c.self.inside.children in
+    let f : length (children_of c.args.self.now) ≡ length c.self.inside.children = ap (λ (ts : List Tree). length ts) (children_are c.self.inside.summary _ _ _ _ c.self.view_is) in
+    let g : length c.as_slice-2.result.now < 4294967296 = omega (arith, e, f, few_children c.self.inside.summary _ _ _ _ c.self.view_is c.self.invariant) in
+    g
+
+pub remade-summary-requires : goal.remade-summary-requires
+remade-summary-requires c =
+    let b : c.as_slice.result.now ≡ c.self.inside.children = c.as_slice.ensures in
+    let m : c.in_ok-children.children ≡ replaced c.args.changed.now c.as_slice.result.now = c.in_ok-children.ensures in
+    let new : c.in_ok-children.children ≡ replaced c.args.changed.now c.self.inside.children = m ∙ ap (λ (ts : List Tree). replaced c.args.changed.now ts) b in
+    let a : c.as_slice-2.result.now ≡ c.in_ok-children.children = c.as_slice-2.ensures in
+    let q0 : IsSum c.sums.result c.as_slice-2.result.now = c.sums.ensures in
+    let q : IsSum c.sums.result c.in_ok-children.children = subst (λ (ts : List Tree). IsSum c.sums.result ts) a q0 in
+    let r0 : HasRoomStill [] (replaced c.args.changed.now c.self.inside.children) = room_still c.self.inside.summary (Some c.self.inside.production) [] c.self.inside.children c.args.self.now c.args.pad c.args.size c.args.changed.now c.self.view_is c.requires.node in
+    let r : HasRoomStill [] c.in_ok-children.children = subst (λ (ts : List Tree). HasRoomStill [] ts) (sym new) r0 in
+    let few : 1 + (0 + c.sums.result.nodes) < 4294967296 = omega (arith, r.few, q.nodes) in
+    let shallow : 1 + c.sums.result.depth < 65536 = omega (arith, r.shallow, q.depth) in
+    record { few = few; shallow = shallow }
+
+pub invariant_of-new : goal.invariant_of-new
+invariant_of-new c =
+    let b : c.as_slice.result.now ≡ c.self.inside.children = c.as_slice.ensures in
+    let m : c.in_ok-children.children ≡ replaced c.args.changed.now c.as_slice.result.now = c.in_ok-children.ensures in
+    let new : c.in_ok-children.children ≡ replaced c.args.changed.now c.self.inside.children = m ∙ ap (λ (ts : List Tree). replaced c.args.changed.now ts) b in
+    let a : c.as_slice-2.result.now ≡ c.in_ok-children.children = c.as_slice-2.ensures in
+    let q0 : IsSum c.sums.result c.as_slice-2.result.now = c.sums.ensures in
+    let q : IsSum c.sums.result c.in_ok-children.children = subst (λ (ts : List Tree). IsSum c.sums.result ts) a q0 in
+    let d : c.remade-summary.result.depth ≡ 1 + c.sums.result.depth = c.remade-summary.ensures.depth in
+    let n : c.remade-summary.result.nodes ≡ 1 + (0 + c.sums.result.nodes) = c.remade-summary.ensures.nodes in
+    let d' : c.remade-summary.result.depth ≡ 1 + greatest_depth c.in_ok-children.children = omega (arith, d, q.depth) in
+    let n' : c.remade-summary.result.nodes ≡ 1 + (0 + all_nodes c.in_ok-children.children) = omega (arith, n, q.nodes) in
+    let o : IsRemade c.remade-summary.result c.self.inside.summary c.args.pad c.args.size [] c.in_ok-children.children =
+    record {
+      symbol = c.remade-summary.ensures.symbol;
+      depth = d';
+      nodes = n';
+      pad = c.remade-summary.ensures.pad;
+      size = c.remade-summary.ensures.size;
+      extent = c.remade-summary.ensures.extent;
+      state = c.remade-summary.ensures.state;
+      settled = c.remade-summary.ensures.settled;
+      dynamic = c.remade-summary.ensures.dynamic;
+    } in
+    kept_with c.remade-summary.result c.self.inside.summary (Some c.self.inside.production) [] c.self.inside.children c.in_ok-children.children c.args.self.now c.args.pad c.args.size c.args.changed.now c.self.view_is new o c.requires.node
+
+pub returns : goal.returns
+returns c =
+    let b : c.as_slice.result.now ≡ c.self.inside.children = c.as_slice.ensures in
+    let m : c.in_ok-children.children ≡ replaced c.args.changed.now c.as_slice.result.now = c.in_ok-children.ensures in
+    let new : c.in_ok-children.children ≡ replaced c.args.changed.now c.self.inside.children = m ∙ ap (λ (ts : List Tree). replaced c.args.changed.now ts) b in
+    let a : c.as_slice-2.result.now ≡ c.in_ok-children.children = c.as_slice-2.ensures in
+    let q0 : IsSum c.sums.result c.as_slice-2.result.now = c.sums.ensures in
+    let q : IsSum c.sums.result c.in_ok-children.children = subst (λ (ts : List Tree). IsSum c.sums.result ts) a q0 in
+    let d : c.remade-summary.result.depth ≡ 1 + c.sums.result.depth = c.remade-summary.ensures.depth in
+    let n : c.remade-summary.result.nodes ≡ 1 + (0 + c.sums.result.nodes) = c.remade-summary.ensures.nodes in
+    let d' : c.remade-summary.result.depth ≡ 1 + greatest_depth c.in_ok-children.children = omega (arith, d, q.depth) in
+    let n' : c.remade-summary.result.nodes ≡ 1 + (0 + all_nodes c.in_ok-children.children) = omega (arith, n, q.nodes) in
+    let o : IsRemade c.remade-summary.result c.self.inside.summary c.args.pad c.args.size [] c.in_ok-children.children =
+    record {
+      symbol = c.remade-summary.ensures.symbol;
+      depth = d';
+      nodes = n';
+      pad = c.remade-summary.ensures.pad;
+      size = c.remade-summary.ensures.size;
+      extent = c.remade-summary.ensures.extent;
+      state = c.remade-summary.ensures.state;
+      settled = c.remade-summary.ensures.settled;
+      dynamic = c.remade-summary.ensures.dynamic;
+    } in
+    let e : c.in_ok-body.body ≡ _ = c.in_ok-body.ensures in
+    e ∙ is_with c.remade-summary.result c.self.inside.summary (Some c.self.inside.production) [] c.self.inside.children c.in_ok-children.children c.args.self.now c.args.pad c.args.size c.args.changed.now c.self.view_is new o

@@ -1,0 +1,133 @@
+-- What the parts of a node hold.
+use Rattle.std.specs.Prelude.{◌≡◌, ◌++◌, ◌*◌, ◌≤◌, ◌<◌, ℕ, List, [], length, set, Option, None, true, false}
+use lib.IntN.{pos}
+use Rattle.spec_trees.specs.declared.tree.Tree.{Tree}
+use Rattle.spec_trees.specs.declared.tree.Element.{Element}
+use Rattle.spec_trees.specs.declared.tree.Stretch.{Stretch}
+use Rattle.spec_trees.specs.declared.tree.Tree.TheViews.{roll-Tree}
+use Rattle.spec_trees.specs.Trees.{nodes_of, depth_of, all_nodes, all_spans, greatest_depth, symbol_of, pad_of, size_of, extent_of, state_of, is_settled, total_of}
+use Rattle.spec_trees.specs.Made.{IsNode, children_count, most_span, node_limit}
+use Rattle.ts_node.specs.declared.node.Leaf.{Leaf}
+use Rattle.ts_node.specs.declared.node.Summary.{Summary}
+use Rattle.ts_node.specs.declared.node.Counts.{Counts}
+use Rattle.ts_node.specs.declared.node.Sums.{Sums}
+use Rattle.ts_node.specs.declared.node.Kind.{Kind}
+use Rattle.ts_node.specs.declared.node.Kind.TheVariants as kind
+use Rattle.ts_node.specs.declared.node.Shape.{Shape}
+use Rattle.ts_node.specs.declared.node.Shape.TheVariants as shape
+
+-- the tree that a leaf stands for
+abbrev pub leaf_tree : Leaf → Tree
+leaf_tree l = roll-Tree (record {
+  symbol = l.symbol;
+  production = None;
+  pad = l.pad;
+  size = l.size;
+  dynamic = pos 0;
+  extent = l.extent;
+  state = l.state;
+  settled = l.settled;
+  extra = l.extra;
+  elements = [];
+  children = [];
+})
+
+-- the leaf, standing as an extra
+abbrev pub extra_leaf : Leaf → Leaf
+extra_leaf l = record { pad = l.pad; size = l.size; extent = l.extent; symbol = l.symbol; settled = l.settled; extra = true; state = l.state }
+
+-- the leaf as an edit leaves it
+abbrev pub remade_leaf : ℕ → ℕ → Leaf → Leaf
+remade_leaf pad size l = record { pad = pad; size = size; extent = l.extent; symbol = l.symbol; settled = false; extra = l.extra; state = l.state }
+
+-- the tree of a node with these children
+abbrev pub body_tree : Summary → Option ℕ → List Element → List Tree → Tree
+body_tree s production elements children = roll-Tree (record {
+  symbol = s.symbol;
+  production = production;
+  pad = s.pad;
+  size = s.size;
+  dynamic = s.dynamic;
+  extent = s.extent;
+  state = s.state;
+  settled = s.settled;
+  extra = false;
+  elements = elements;
+  children = children;
+})
+
+-- the tree that a node stands for
+abbrev pub tree_of : Kind → Tree
+tree_of (kind.Leaf leaf) = leaf_tree leaf
+tree_of (kind.Rule body) = body
+tree_of (kind.Repetition body) = body
+
+-- a leaf keeps this itself, the others by their types
+abbrev pub IsKeptLeaf : Kind → Type 0
+IsKeptLeaf (kind.Leaf leaf) = IsNode (leaf_tree leaf)
+IsKeptLeaf (kind.Rule body) = Unit {0}
+IsKeptLeaf (kind.Repetition body) = Unit {0}
+
+-- A summary agrees with its tree, which is a node.
+pub record IsKept (s : Summary) (t : Tree) : Type 0 where
+  pub counted : s.nodes ≡ nodes_of t
+  pub deep : s.depth ≡ depth_of t
+  pub node : IsNode t
+
+-- a summary tells all this of a tree, which is a node
+pub record Tells (s : Summary) (t : Tree) : Type 0 where
+  pub symbol : s.symbol.0 ≡ symbol_of t
+  pub pad : s.pad ≡ pad_of t
+  pub size : s.size ≡ size_of t
+  pub extent : s.extent ≡ extent_of t
+  pub state : s.state ≡ state_of t
+  pub settled : s.settled ≡ is_settled t
+  pub dynamic : s.dynamic ≡ total_of t
+  pub nodes : s.nodes ≡ nodes_of t
+  pub depth : s.depth ≡ depth_of t
+  pub node : IsNode t
+
+-- ---- runs
+
+-- two stretches one after the other
+abbrev pub joined : Stretch → Stretch → Stretch
+joined s t = record { elements = s.elements ++ t.elements; children = s.children ++ t.children }
+
+-- a stretch of these elements and children
+abbrev pub stretch : List Element → List Tree → Stretch
+stretch elements children = record { elements = elements; children = children }
+
+-- a stretch with one child replaced
+abbrev pub changed : Stretch → ℕ → Tree → Stretch
+changed s k t = record { elements = s.elements; children = set s.children k t }
+
+-- what a run holds
+abbrev pub stretch_of : Shape → Stretch
+stretch_of (shape.Leaf elements children) = stretch elements children
+stretch_of (shape.Branch left right) = joined left right
+
+-- no part of a run is without elements
+abbrev pub AreHeld : Shape → Type 0
+AreHeld (shape.Leaf elements children) = 0 < length elements
+AreHeld (shape.Branch left right) = (0 < length left.elements) × (0 < length right.elements)
+
+-- what is added up over children, each of which is a node
+pub record IsSum (s : Sums) (ts : List Tree) : Type 0 where
+  pub nodes : s.nodes ≡ all_nodes ts
+  pub spans : s.spans ≡ all_spans ts
+  pub depth : s.depth ≡ greatest_depth ts
+  pub few : all_nodes ts ≤ node_limit * length ts
+  pub short : all_spans ts ≤ most_span * length ts
+
+-- what is counted of a stretch, whose elements have just its children
+pub record IsCount (c : Counts) (s : Stretch) : Type 0 where
+  pub elements : c.elements ≡ length s.elements
+  pub children : c.children ≡ length s.children
+  pub sums : IsSum c.sums s.children
+  pub own : children_count s.elements ≡ length s.children
+  pub some : 0 < length s.elements
+
+-- what a run keeps
+pub record IsWhole (c : Counts) (s : Shape) : Type 0 where
+  pub counted : IsCount c (stretch_of s)
+  pub held : AreHeld s

@@ -1,0 +1,150 @@
+//! What an edit leaves of a node: a node, its new pad and size and its changed children go in, and the node with
+//! these, not settled, comes out.
+ghost use Rattle.std.specs.Prelude.{◌≡◌, ◌+◌, ◌<◌, ◌^◌, false, All, IfOk, length};
+ghost use Rattle.spec_trees.specs.Trees.{children_of};
+ghost use Rattle.spec_trees.specs.Made.{remade, replaced, IsNode};
+ghost use Rattle.ts_node.specs.Held.{stretch};
+
+use crate::node::{Kind, Node, Repetition, RuleNode, Run, Summary, Sums};
+use crate::sums::{copy, sums};
+use std::alloc::{AllocError, Global};
+use ts_base::{List, Shared};
+
+/// The node with another pad and size, its children of these numbers replaced, and not settled. It shares all other
+/// children.
+///
+/// # Errors
+///
+/// `AllocError` where memory runs out.
+#[tactic(auto, using(crate::proofs::RemakeLemmas::remade_leaf_is, crate::proofs::RemakeLemmas::remade_leaf_node))]
+pub fn remake(
+    alloc: Global,
+    node: &Node,
+    pad: u32,
+    size: u32,
+    changed: &[(u32, Node)],
+) -> Result<Node, AllocError>
+    requires within { All (λ change. change.0 < length (children_of node.now)) changed.now }
+    requires node { IsNode (remade node.now pad size changed.now) }
+    ensures { IfOk result (λ new. new ≡ remade node.now pad size changed.now) }
+{
+    match &node.kind {
+        Kind::Leaf(leaf) => Ok(Node {
+            kind: Kind::Leaf(leaf.remade(pad, size)),
+        }),
+        Kind::Rule(rule) => rule.get().remake(alloc, pad, size, changed),
+        Kind::Repetition(repetition) => repetition.get().remake(alloc, pad, size, changed),
+    }
+}
+
+impl Summary {
+    fn remade(&self, pad: u32, size: u32, elements: u32, sums: Sums) -> Summary
+        requires few { 1 + (elements + sums.nodes) < 2 ^ 32 }
+        requires shallow { 1 + sums.depth < 2 ^ 16 }
+        ensures symbol { result.symbol ≡ self.now.symbol }
+        ensures depth { result.depth ≡ 1 + sums.depth }
+        ensures nodes { result.nodes ≡ 1 + (elements + sums.nodes) }
+        ensures pad { result.pad ≡ pad }
+        ensures size { result.size ≡ size }
+        ensures extent { result.extent ≡ self.now.extent }
+        ensures state { result.state ≡ self.now.state }
+        ensures settled { result.settled ≡ false }
+        ensures dynamic { result.dynamic ≡ self.now.dynamic }
+    {
+        Summary {
+            symbol: self.symbol,
+            depth: 1 + sums.depth,
+            nodes: 1 + (elements + sums.nodes as u32),
+            pad,
+            size,
+            extent: self.extent,
+            state: self.state,
+            settled: false,
+            dynamic: self.dynamic,
+        }
+    }
+}
+
+impl RuleNode {
+    fn remake(
+        &self,
+        alloc: Global,
+        pad: u32,
+        size: u32,
+        changed: &[(u32, Node)],
+    ) -> Result<Node, AllocError>
+        requires within { All (λ change. change.0 < length (children_of self.now)) changed.now }
+        requires node { IsNode (remade self.now pad size changed.now) }
+        ensures { IfOk result (λ new. new ≡ remade self.now pad size changed.now) }
+    {
+        let children = with_changes(alloc, self.children.as_slice(), changed)?;
+        let summary = self.summary.remade(pad, size, 0, sums(children.as_slice()));
+        let body = Shared::new(
+            alloc,
+            RuleNode {
+                summary,
+                production: self.production,
+                children,
+            },
+        )?;
+        Ok(Node {
+            kind: Kind::Rule(body),
+        })
+    }
+}
+
+impl Repetition {
+    fn remake(
+        &self,
+        alloc: Global,
+        pad: u32,
+        size: u32,
+        changed: &[(u32, Node)],
+    ) -> Result<Node, AllocError>
+        requires within { All (λ change. change.0 < length (children_of self.now)) changed.now }
+        requires node { IsNode (remade self.now pad size changed.now) }
+        ensures { IfOk result (λ new. new ≡ remade self.now pad size changed.now) }
+    {
+        let run = run_with_changes(alloc, &self.run, changed)?;
+        let counts = run.get().counts();
+        let summary = self.summary.remade(pad, size, counts.elements, counts.sums);
+        let body = Shared::new(alloc, Repetition { summary, run })?;
+        Ok(Node {
+            kind: Kind::Repetition(body),
+        })
+    }
+}
+
+/// The nodes, shared, with those of these numbers replaced.
+fn with_changes(
+    alloc: Global,
+    nodes: &[Node],
+    changed: &[(u32, Node)],
+) -> Result<List<Node>, AllocError>
+    requires { All (λ change. change.0 < length nodes.now) changed.now }
+    ensures { IfOk result (λ new. new ≡ replaced changed.now nodes.now) }
+{
+    let mut kept = List::with_capacity(alloc, nodes.len())?;
+    copy(nodes, &mut kept)?;
+    let mut kept = kept.into_vec();
+    for (k, node) in changed {
+        kept[*k as usize] = node.try_clone()?;
+    }
+    Ok(List::from_vec(kept))
+}
+
+/// The run with those of its children replaced.
+fn run_with_changes(
+    alloc: Global,
+    run: &Shared<Run>,
+    changed: &[(u32, Node)],
+) -> Result<Shared<Run>, AllocError>
+    requires { All (λ change. change.0 < length run.now.children) changed.now }
+    ensures { IfOk result (λ new. new ≡ stretch run.now.elements (replaced changed.now run.now.children)) }
+{
+    let mut run = run.try_clone()?;
+    for (k, node) in changed {
+        run = Run::with_child(alloc, &run, *k, node.try_clone()?)?;
+    }
+    Ok(run)
+}

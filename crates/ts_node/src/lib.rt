@@ -1,0 +1,18 @@
+//! Nodes of parse trees: tokens, productions and children go in, nodes come out that share their parts. A leaf lies
+//! in its parent's list and takes no memory of its own.
+#![tactic(auto)]
+
+mod change;
+mod fills;
+mod make;
+mod node;
+mod productions;
+mod run;
+mod sums;
+#[cfg(test)]
+mod tests;
+
+pub use change::remake;
+pub use make::{accept, reduce};
+pub use node::Node;
+pub use productions::Productions;

@@ -1,0 +1,347 @@
+//! The makers of nodes: tokens and children go in, a leaf, a node over children, the accepted root, or a node as an
+//! edit leaves it comes out.
+ghost use Rattle.std.specs.Prelude.{◌≡◌, ◌+◌, ◌<◌, ◌≤◌, ◌++◌, ◌^◌, ◌-◌, ◌∷◌, [], true, IfOk, Some, None, length, IsTrue};
+ghost use Rattle.std.proofs.Common.{is_some};
+ghost use Rattle.spec_trees.specs.Trees.{children_of, elements_of, production_of};
+ghost use Rattle.spec_trees.specs.Made.{leaf_of, node_over, rule_node, first_element, next_element, accepted, reduced, made_by, most_span, IsNode, IsLeaf, Lengthens, FitsProduction};
+ghost use Rattle.spec_trees.specs.Made as made;
+ghost use Rattle.ts_node.specs.Entries.{form_is};
+
+use crate::node::{Kind, Leaf, Node, Repetition, RuleNode, Run, Summary, Sums};
+use crate::productions::{Entry, Form, Productions};
+use crate::sums::{copy, pad_of_first, plus, sums, totals, with_value};
+use std::alloc::{AllocError, Global};
+use ts_base::{List, Shared};
+use ts_core::Symbol;
+
+/// What a node is given beside its children.
+#[derive(Clone, Copy)]
+struct Head {
+    symbol: Symbol,
+    dynamic: i64,
+    extent: u32,
+    state: Option<u16>,
+}
+
+impl Node {
+    /// A leaf over a token. It takes no memory.
+    #[tactic(auto, using(crate::proofs::LeafLemmas::is_leaf))]
+    pub fn leaf(token: Symbol, pad: u32, size: u32, extent: u32, state: Option<u16>) -> Node
+        requires past { pad + size < extent }
+        requires short { pad + size ≤ most_span }
+        ensures node { result ≡ leaf_of token.0 pad size extent state }
+        ensures leaf { IsLeaf result }
+    {
+        Node {
+            kind: Kind::Leaf(Leaf {
+                pad,
+                size,
+                extent,
+                symbol: token,
+                settled: true,
+                extra: false,
+                state,
+            }),
+        }
+    }
+
+    /// The same leaf, standing as an extra. It takes no memory.
+    #[tactic(auto, using(crate::proofs::LeafLemmas::extra_leaf_node, crate::proofs::LeafLemmas::as_extra_is))]
+    pub fn as_extra(&self) -> Node
+        requires { IsLeaf self.now }
+        ensures { result ≡ made.as_extra self.now }
+    {
+        match &self.kind {
+            Kind::Leaf(leaf) => Node {
+                kind: Kind::Leaf(leaf.as_extra()),
+            },
+            Kind::Rule(rule) => {
+                let _ = rule.get().production();
+                unreachable!()
+            }
+            Kind::Repetition(repetition) => {
+                let _ = repetition.get().run().get().counts();
+                unreachable!()
+            }
+        }
+    }
+}
+
+/// What a node with these children says of itself.
+fn summary(head: Head, pad: u32, elements: u32, sums: Sums) -> Summary
+    requires pad { pad ≤ sums.spans }
+    requires short { sums.spans < 2 ^ 32 }
+    requires few { 1 + (elements + sums.nodes) < 2 ^ 32 }
+    requires shallow { 1 + sums.depth < 2 ^ 16 }
+    ensures symbol { result.symbol ≡ head.symbol }
+    ensures depth { result.depth ≡ 1 + sums.depth }
+    ensures nodes { result.nodes ≡ 1 + (elements + sums.nodes) }
+    ensures pad { result.pad ≡ pad }
+    ensures size { result.size ≡ sums.spans - pad }
+    ensures extent { result.extent ≡ head.extent }
+    ensures state { result.state ≡ head.state }
+    ensures settled { result.settled ≡ true }
+    ensures dynamic { result.dynamic ≡ head.dynamic }
+{
+    Summary {
+        symbol: head.symbol,
+        depth: 1 + sums.depth,
+        nodes: 1 + (elements + sums.nodes as u32),
+        pad,
+        size: sums.spans as u32 - pad,
+        extent: head.extent,
+        state: head.state,
+        settled: true,
+        dynamic: head.dynamic,
+    }
+}
+
+/// A node of a rule's production over these children.
+fn over(alloc: Global, head: Head, number: u32, children: List<Node>) -> Result<Node, AllocError>
+    requires { IsNode (node_over head.symbol.0 (Some number) head.dynamic head.extent head.state [] children) }
+    ensures { IfOk result (λ node. node ≡ node_over head.symbol.0 (Some number) head.dynamic head.extent head.state [] children) }
+{
+    let pad = pad_of_first(children.as_slice());
+    let sums = sums(children.as_slice());
+    let summary = summary(head, pad, 0, sums);
+    let body = Shared::new(
+        alloc,
+        RuleNode {
+            summary,
+            production: number,
+            children,
+        },
+    )?;
+    Ok(Node {
+        kind: Kind::Rule(body),
+    })
+}
+
+/// A repetition of these elements.
+fn over_run(alloc: Global, head: Head, run: Shared<Run>) -> Result<Node, AllocError>
+    requires { IsNode (node_over head.symbol.0 None head.dynamic head.extent head.state run.elements run.children) }
+    ensures { IfOk result (λ node. node ≡ node_over head.symbol.0 None head.dynamic head.extent head.state run.elements run.children) }
+{
+    let counts = run.get().counts();
+    let pad = run.get().pad_of_first();
+    let summary = summary(head, pad, counts.elements, counts.sums);
+    let body = Shared::new(alloc, Repetition { summary, run })?;
+    Ok(Node {
+        kind: Kind::Repetition(body),
+    })
+}
+
+/// A node of a rule's production, whose value is added to the totals of its children.
+fn rule(
+    alloc: Global,
+    entry: Entry,
+    number: u32,
+    children: List<Node>,
+    extent: u32,
+    state: Option<u16>,
+) -> Result<Node, AllocError>
+    requires { IsNode (rule_node entry.symbol.0 number entry.dynamic extent state children) }
+    ensures { IfOk result (λ node. node ≡ rule_node entry.symbol.0 number entry.dynamic extent state children) }
+{
+    let total = totals(children.as_slice());
+    let dynamic = with_value(entry.dynamic, total);
+    let head = Head {
+        symbol: entry.symbol,
+        dynamic,
+        extent,
+        state,
+    };
+    over(alloc, head, number, children)
+}
+
+/// A repetition of one element.
+fn first(
+    alloc: Global,
+    entry: Entry,
+    alternative: u32,
+    children: List<Node>,
+    extent: u32,
+    state: Option<u16>,
+) -> Result<Node, AllocError>
+    requires { IsNode (first_element entry.symbol.0 alternative entry.dynamic extent state children) }
+    ensures { IfOk result (λ node. node ≡ first_element entry.symbol.0 alternative entry.dynamic extent state children) }
+{
+    let total = totals(children.as_slice());
+    let dynamic = with_value(entry.dynamic, total);
+    let head = Head {
+        symbol: entry.symbol,
+        dynamic,
+        extent,
+        state,
+    };
+    let run = Run::single(alloc, alternative, children)?;
+    over_run(alloc, head, run)
+}
+
+/// A repetition with one more element, where the first child is the repetition so far.
+fn next(
+    alloc: Global,
+    entry: Entry,
+    alternative: u32,
+    children: List<Node>,
+    extent: u32,
+    state: Option<u16>,
+) -> Result<Node, AllocError>
+    requires longer { Lengthens (made.of_next alternative) children }
+    requires node { IsNode (next_element entry.symbol.0 alternative entry.dynamic extent state children) }
+    ensures { IfOk result (λ node. node ≡ next_element entry.symbol.0 alternative entry.dynamic extent state children) }
+{
+    let (before, more) = parted(children);
+    longer(alloc, entry, alternative, &before, more, extent, state)
+}
+
+/// The repetition `before` with one more element of these children. It shares the parts of the repetition so far.
+fn longer(
+    alloc: Global,
+    entry: Entry,
+    alternative: u32,
+    before: &Node,
+    more: List<Node>,
+    extent: u32,
+    state: Option<u16>,
+) -> Result<Node, AllocError>
+    requires repetition { 0 < length (elements_of before.now) }
+    requires node { IsNode (next_element entry.symbol.0 alternative entry.dynamic extent state (before.now ∷ more)) }
+    ensures { IfOk result (λ node. node ≡ next_element entry.symbol.0 alternative entry.dynamic extent state (before.now ∷ more)) }
+{
+    let summary = before.summary();
+    let others = totals(more.as_slice());
+    let total = plus(summary.dynamic, others);
+    let dynamic = with_value(entry.dynamic, total);
+    let head = Head {
+        symbol: entry.symbol,
+        dynamic,
+        extent,
+        state,
+    };
+    let run = lengthened(alloc, before, alternative, more)?;
+    over_run(alloc, head, run)
+}
+
+/// The first child, and the others.
+fn parted(children: List<Node>) -> (Node, List<Node>)
+    requires { 0 < length children }
+    ensures { children ≡ result.0 ∷ result.1 }
+{
+    let mut more = children.into_vec();
+    let before = more.remove(0);
+    (before, List::from_vec(more))
+}
+
+/// The run of a repetition with one more element of these children.
+#[tactic(auto, using(crate::proofs::BodyLemmas::leaf_elements))]
+fn lengthened(
+    alloc: Global,
+    before: &Node,
+    alternative: u32,
+    more: List<Node>,
+) -> Result<Shared<Run>, AllocError>
+    requires repetition { 0 < length (elements_of before.now) }
+    requires wide { length (children_of before.now) + length more < 2 ^ 32 }
+    requires fits { length (elements_of before.now) + 1 < 2 ^ 32 }
+    ensures elements { IfOk result (λ run. run.elements ≡ elements_of before.now ++ made.element alternative (length more) ∷ []) }
+    ensures children { IfOk result (λ run. run.children ≡ children_of before.now ++ more) }
+{
+    match &before.kind {
+        Kind::Leaf(_) => unreachable!(),
+        Kind::Rule(rule) => {
+            let _ = rule.get().children();
+            unreachable!()
+        }
+        Kind::Repetition(repetition) => {
+            let last = Run::single(alloc, alternative, more)?;
+            Run::join(alloc, repetition.get().run(), &last)
+        }
+    }
+}
+
+/// The node that a reduction by the production of this number makes of its children. A production that lengthens a
+/// repetition shares the repetition so far, and takes time by the logarithm of its length.
+///
+/// # Errors
+///
+/// `AllocError` where memory runs out.
+pub fn reduce(
+    alloc: Global,
+    productions: &Productions,
+    number: u32,
+    children: List<Node>,
+    extent: u32,
+    state: Option<u16>,
+) -> Result<Node, AllocError>
+    requires fits { FitsProduction productions.now number children }
+    requires node { IsNode (reduced productions.now number extent state children) }
+    ensures { IfOk result (λ node. node ≡ reduced productions.now number extent state children) }
+{
+    made(
+        alloc,
+        productions.entry(number),
+        number,
+        children,
+        extent,
+        state,
+    )
+}
+
+fn made(
+    alloc: Global,
+    entry: Entry,
+    number: u32,
+    children: List<Node>,
+    extent: u32,
+    state: Option<u16>,
+) -> Result<Node, AllocError>
+    requires longer { Lengthens (form_is entry.form) children }
+    requires node { IsNode (made_by (form_is entry.form) entry.symbol.0 number entry.dynamic extent state children) }
+    ensures { IfOk result (λ node. node ≡ made_by (form_is entry.form) entry.symbol.0 number entry.dynamic extent state children) }
+{
+    match entry.form {
+        Form::Rule => rule(alloc, entry, number, children, extent, state),
+        Form::First(alternative) => first(alloc, entry, alternative, children, extent, state),
+        Form::Next(alternative) => next(alloc, entry, alternative, children, extent, state),
+    }
+}
+
+/// The root that acceptance gives: the extras before and after it are its children too.
+///
+/// # Errors
+///
+/// `AllocError` where memory runs out.
+#[tactic(auto, using(crate::proofs::BodyLemmas::leaf_production))]
+pub fn accept(
+    alloc: Global,
+    root: &Node,
+    before: &[Node],
+    after: &[Node],
+    extent: u32,
+) -> Result<Node, AllocError>
+    requires rule { IsTrue (is_some (production_of root.now)) }
+    requires node { IsNode (accepted root.now before.now after.now extent) }
+    ensures { IfOk result (λ node. node ≡ accepted root.now before.now after.now extent) }
+{
+    match &root.kind {
+        Kind::Leaf(_) => unreachable!(),
+        Kind::Repetition(repetition) => {
+            let _ = repetition.get().run();
+            unreachable!()
+        }
+        Kind::Rule(rule) => {
+            let head = Head {
+                symbol: root.symbol(),
+                dynamic: root.dynamic(),
+                extent,
+                state: None,
+            };
+            let mut children = List::new(alloc);
+            copy(before, &mut children)?;
+            copy(rule.get().children().as_slice(), &mut children)?;
+            copy(after, &mut children)?;
+            over(alloc, head, rule.get().production(), children)
+        }
+    }
+}

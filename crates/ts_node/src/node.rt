@@ -1,0 +1,479 @@
+//! The node itself, and what it says of itself.
+ghost use Rattle.std.specs.Prelude.{◌≡◌, ◌<◌, ◌^◌, IfOk, false, length, slice_get, Some, None};
+ghost use Rattle.spec_trees.specs.Trees.{symbol_of, production_of, pad_of, size_of, extent_of, state_of, total_of, is_settled, is_extra_node, children_of, elements_of, nodes_of, depth_of};
+ghost use Rattle.spec_trees.specs.Made.{IsNode};
+ghost use Rattle.ts_node.specs.Held.{leaf_tree, extra_leaf, remade_leaf, Tells};
+
+use spec_trees::Element;
+use std::alloc::AllocError;
+use std::marker::Model;
+use ts_base::{List, Shared};
+use ts_core::Symbol;
+
+/// A node of a parse tree, which contracts see as a `Tree`: a leaf, or one more owner of a node with children.
+#[cycle(node)]
+#[derive(Drop)]
+pub struct Node {
+    pub(crate) kind: Kind,
+}
+
+#[cycle(node)]
+#[derive(Drop)]
+pub(crate) enum Kind {
+    Leaf(Leaf),
+    Rule(Shared<RuleNode>),
+    Repetition(Shared<Repetition>),
+}
+
+/// A node over a token.
+#[derive(Clone, Copy)]
+pub(crate) struct Leaf {
+    pub pad: u32,
+    pub size: u32,
+    pub extent: u32,
+    pub symbol: Symbol,
+    pub settled: bool,
+    pub extra: bool,
+    pub state: Option<u16>,
+}
+
+/// What a node with children says of itself beside them.
+#[derive(Clone, Copy)]
+pub(crate) struct Summary {
+    pub symbol: Symbol,
+    pub depth: u16,
+    pub nodes: u32,
+    pub pad: u32,
+    pub size: u32,
+    pub extent: u32,
+    pub state: Option<u16>,
+    pub settled: bool,
+    pub dynamic: i64,
+}
+
+/// A node of a rule's production.
+#[cycle(node)]
+#[derive(Drop)]
+pub(crate) struct RuleNode {
+    pub summary: Summary,
+    pub production: u32,
+    pub children: List<Node>,
+}
+
+/// A node of a repetition, with its elements one after another.
+#[cycle(node)]
+#[derive(Drop)]
+pub(crate) struct Repetition {
+    pub summary: Summary,
+    pub run: Shared<Run>,
+}
+
+/// Elements of a repetition one after another, with their children, in a balanced tree of shared parts.
+#[cycle(node)]
+#[derive(Drop)]
+pub(crate) struct Run {
+    pub(crate) counts: Counts,
+    pub(crate) height: u8,
+    pub(crate) shape: Shape,
+}
+
+/// What is counted of elements and their children.
+#[derive(Clone, Copy)]
+pub(crate) struct Counts {
+    pub elements: u32,
+    pub children: u32,
+    pub sums: Sums,
+}
+
+/// What is added up over children.
+#[derive(Clone, Copy)]
+pub(crate) struct Sums {
+    /// The nodes of all children together.
+    pub nodes: u64,
+    /// The bytes of all children together, their pads among them.
+    pub spans: u64,
+    /// The depth of the deepest child, 0 without one.
+    pub depth: u16,
+}
+
+#[cycle(node)]
+#[derive(Drop)]
+pub(crate) enum Shape {
+    Leaf(List<Element>, List<Node>),
+    Branch(Shared<Run>, Shared<Run>),
+}
+
+impl Model for Node {
+    ghost use Rattle.std.specs.Prelude.{◌+◌, ◌*◌};
+    ghost use Rattle.spec_trees.specs.declared.tree.Tree.{Tree};
+    ghost use Rattle.spec_trees.specs.contracts.tree.Tree as tree;
+    ghost use Rattle.std.specs.Coded.{codes};
+
+    ghost Value = { Tree };
+
+    ghost coded = { Prim.hlevel (codes, tree.the_row.coded) };
+
+    ghost use Rattle.spec_trees.specs.Trees.{nodes_of};
+    ghost use Rattle.ts_node.specs.Held.{tree_of, IsKeptLeaf};
+
+    ghost view = { λ a. tree_of a.kind };
+
+    ghost invariant = { λ a. IsKeptLeaf a.kind };
+
+    ghost size = { λ t. 4 * nodes_of t + 1 };
+
+    ghost use Rattle.ts_node.specs.Falls.{kind_falls};
+
+    ghost size_decreases = { λ a h. kind_falls a.kind };
+}
+
+impl Model for RuleNode {
+    ghost use Rattle.std.specs.Prelude.{◌+◌, ◌*◌, Some, []};
+    ghost use Rattle.spec_trees.specs.declared.tree.Tree.{Tree};
+    ghost use Rattle.spec_trees.specs.contracts.tree.Tree as tree;
+    ghost use Rattle.std.specs.Coded.{codes};
+
+    ghost Value = { Tree };
+
+    ghost coded = { Prim.hlevel (codes, tree.the_row.coded) };
+
+    ghost use Rattle.spec_trees.specs.Trees.{nodes_of};
+    ghost use Rattle.ts_node.specs.Held.{body_tree, IsKept};
+
+    ghost view = { λ a. body_tree a.summary (Some a.production) [] a.children };
+
+    ghost invariant = { λ a. IsKept a.summary (body_tree a.summary (Some a.production) [] a.children) };
+
+    ghost size = { λ t. 4 * nodes_of t };
+
+    ghost use Rattle.ts_node.specs.Falls.{children_fall};
+
+    ghost size_decreases = { λ a h. children_fall a.summary a.production a.children };
+}
+
+impl Model for Repetition {
+    ghost use Rattle.std.specs.Prelude.{◌+◌, ◌*◌, ◌<◌, None, length};
+    ghost use Rattle.spec_trees.specs.declared.tree.Tree.{Tree};
+    ghost use Rattle.spec_trees.specs.contracts.tree.Tree as tree;
+    ghost use Rattle.std.specs.Coded.{codes};
+
+    ghost Value = { Tree };
+
+    ghost coded = { Prim.hlevel (codes, tree.the_row.coded) };
+
+    ghost use Rattle.spec_trees.specs.Trees.{nodes_of};
+    ghost use Rattle.ts_node.specs.Held.{body_tree, IsKept};
+
+    ghost view = { λ a. body_tree a.summary None a.run.elements a.run.children };
+
+    ghost invariant = { λ a. IsKept a.summary (body_tree a.summary None a.run.elements a.run.children) × (0 < length a.run.elements) };
+
+    ghost size = { λ t. 4 * nodes_of t };
+
+    ghost use Rattle.ts_node.specs.Falls.{run_falls};
+
+    ghost size_decreases = { λ a h. run_falls a.summary a.run };
+}
+
+impl Model for Run {
+    ghost use Rattle.std.specs.Prelude.{◌+◌, ◌*◌, length};
+    ghost use Rattle.spec_trees.specs.declared.tree.Stretch.{Stretch};
+    ghost use Rattle.spec_trees.specs.contracts.tree.Stretch as stretch;
+    ghost use Rattle.std.specs.Coded.{codes};
+
+    ghost Value = { Stretch };
+
+    ghost coded = { Prim.hlevel (codes, stretch.the_row.coded) };
+
+    ghost use Rattle.spec_trees.specs.Trees.{all_nodes};
+    ghost use Rattle.ts_node.specs.Held.{stretch_of, IsWhole};
+
+    ghost view = { λ a. stretch_of a.shape };
+
+    ghost invariant = { λ a. IsWhole a.counts a.shape };
+
+    ghost size = { λ s. 4 * (length s.elements + all_nodes s.children) + 2 };
+
+    ghost use Rattle.ts_node.specs.Falls.{shape_falls};
+
+    ghost size_decreases = { λ a h. shape_falls a.shape h.held };
+}
+
+impl RuleNode {
+    #[tactic(auto, using(crate::proofs::BodyLemmas::tells, crate::proofs::BodyLemmas::extra_is))]
+    fn summary(&self) -> Summary
+        ensures tells { Tells result self.now }
+        ensures extra { is_extra_node self.now ≡ false }
+    {
+        self.summary
+    }
+
+    #[tactic(auto, using(crate::proofs::BodyLemmas::production_is))]
+    pub(crate) fn production(&self) -> u32
+        ensures { production_of self.now ≡ Some result }
+    {
+        self.production
+    }
+
+    #[tactic(auto, using(crate::proofs::BodyLemmas::children_are, crate::proofs::BodyLemmas::elements_are, crate::proofs::BodyLemmas::few_children))]
+    pub(crate) fn children(&self) -> &List<Node>
+        ensures children { result.now ≡ children_of self.now }
+        ensures few { length (children_of self.now) < 2 ^ 31 }
+        ensures elements { length (elements_of self.now) ≡ 0 }
+    {
+        &self.children
+    }
+}
+
+impl Repetition {
+    #[tactic(auto, using(crate::proofs::BodyLemmas::tells, crate::proofs::BodyLemmas::extra_is))]
+    fn summary(&self) -> Summary
+        ensures tells { Tells result self.now }
+        ensures extra { is_extra_node self.now ≡ false }
+    {
+        self.summary
+    }
+
+    #[tactic(auto, using(crate::proofs::BodyLemmas::children_are, crate::proofs::BodyLemmas::elements_are, crate::proofs::BodyLemmas::production_is))]
+    pub(crate) fn run(&self) -> &Shared<Run>
+        ensures elements { result.now.elements ≡ elements_of self.now }
+        ensures children { result.now.children ≡ children_of self.now }
+        ensures production { production_of self.now ≡ None }
+    {
+        &self.run
+    }
+}
+
+impl Leaf {
+    #[tactic(auto, using(crate::proofs::LeafLemmas::tells_leaf))]
+    fn summary(&self) -> Summary
+        requires { IsNode (leaf_tree self.now) }
+        ensures { Tells result (leaf_tree self.now) }
+    {
+        Summary {
+            symbol: self.symbol,
+            depth: 1,
+            nodes: 1,
+            pad: self.pad,
+            size: self.size,
+            extent: self.extent,
+            state: self.state,
+            settled: self.settled,
+            dynamic: 0,
+        }
+    }
+}
+
+impl Leaf {
+    /// The leaf, standing as an extra.
+    pub(crate) fn as_extra(&self) -> Leaf
+        ensures { result ≡ extra_leaf self.now }
+    {
+        Leaf {
+            pad: self.pad,
+            size: self.size,
+            extent: self.extent,
+            symbol: self.symbol,
+            settled: self.settled,
+            extra: true,
+            state: self.state,
+        }
+    }
+
+    /// The leaf as an edit leaves it.
+    pub(crate) fn remade(&self, pad: u32, size: u32) -> Leaf
+        ensures { result ≡ remade_leaf pad size self.now }
+    {
+        Leaf {
+            pad,
+            size,
+            extent: self.extent,
+            symbol: self.symbol,
+            settled: false,
+            extra: self.extra,
+            state: self.state,
+        }
+    }
+}
+
+impl Node {
+    /// What a node says of itself.
+    pub(crate) fn summary(&self) -> Summary
+        ensures { Tells result self.now }
+    {
+        match &self.kind {
+            Kind::Leaf(leaf) => leaf.summary(),
+            Kind::Rule(rule) => rule.get().summary(),
+            Kind::Repetition(repetition) => repetition.get().summary(),
+        }
+    }
+
+    /// One more owner of the same node. It takes no memory.
+    ///
+    /// # Errors
+    ///
+    /// `AllocError` where the count of owners is full.
+    pub fn try_clone(&self) -> Result<Node, AllocError>
+        ensures { IfOk result (λ node. node ≡ self.now) }
+    {
+        let kind = match &self.kind {
+            Kind::Leaf(leaf) => Kind::Leaf(*leaf),
+            Kind::Rule(rule) => Kind::Rule(rule.try_clone()?),
+            Kind::Repetition(repetition) => Kind::Repetition(repetition.try_clone()?),
+        };
+        Ok(Node { kind })
+    }
+
+    /// The token or rule that it is a node of.
+    pub fn symbol(&self) -> Symbol
+        ensures { result.0 ≡ symbol_of self.now }
+    {
+        self.summary().symbol
+    }
+
+    /// The number of its production. None for a leaf and for a repetition.
+    #[tactic(auto, using(crate::proofs::BodyLemmas::leaf_production))]
+    pub fn production(&self) -> Option<u32>
+        ensures { result ≡ production_of self.now }
+    {
+        match &self.kind {
+            Kind::Leaf(_) => None,
+            Kind::Rule(rule) => Some(rule.get().production()),
+            Kind::Repetition(repetition) => {
+                let _ = repetition.get().run();
+                None
+            }
+        }
+    }
+
+    /// How many bytes stand before its own.
+    pub fn pad(&self) -> u32
+        ensures { result ≡ pad_of self.now }
+    {
+        self.summary().pad
+    }
+
+    /// How many bytes are its own.
+    pub fn size(&self) -> u32
+        ensures { result ≡ size_of self.now }
+    {
+        self.summary().size
+    }
+
+    /// 1 for a node without children, else one more than its deepest child.
+    pub fn depth(&self) -> u32
+        ensures { result ≡ depth_of self.now }
+    {
+        self.summary().depth as u32
+    }
+
+    /// The sum of the dynamic values of all productions in it.
+    pub fn dynamic(&self) -> i64
+        ensures { result ≡ total_of self.now }
+    {
+        self.summary().dynamic
+    }
+
+    /// How many bytes were examined to make it, from its first byte on. The end of the text counts as one.
+    pub fn extent(&self) -> u32
+        ensures { result ≡ extent_of self.now }
+    {
+        self.summary().extent
+    }
+
+    /// The state below it, where one was fixed.
+    pub fn state(&self) -> Option<u16>
+        ensures { result ≡ state_of self.now }
+    {
+        self.summary().state
+    }
+
+    /// Whether no edit has reached it.
+    pub fn settled(&self) -> bool
+        ensures { result ≡ is_settled self.now }
+    {
+        self.summary().settled
+    }
+
+    /// How many nodes its tree has, and one more for each element of a repetition in it.
+    pub fn nodes(&self) -> u32
+        ensures count { result ≡ nodes_of self.now }
+        ensures node { IsNode self.now }
+    {
+        self.summary().nodes
+    }
+
+    /// Whether it stands as an extra.
+    #[tactic(auto, using(crate::proofs::BodyLemmas::leaf_extra))]
+    pub fn extra(&self) -> bool
+        ensures { result ≡ is_extra_node self.now }
+    {
+        match &self.kind {
+            Kind::Leaf(leaf) => leaf.extra,
+            Kind::Rule(rule) => {
+                let _ = rule.get().summary();
+                false
+            }
+            Kind::Repetition(repetition) => {
+                let _ = repetition.get().summary();
+                false
+            }
+        }
+    }
+
+    /// How many children it has.
+    #[tactic(auto, using(crate::proofs::BodyLemmas::leaf_children))]
+    pub fn children(&self) -> u32
+        ensures { result ≡ length (children_of self.now) }
+    {
+        match &self.kind {
+            Kind::Leaf(_) => 0,
+            Kind::Rule(rule) => rule.get().children().len() as u32,
+            Kind::Repetition(repetition) => repetition.get().run().get().counts().children,
+        }
+    }
+
+    /// The child at `k`, counted from 0.
+    #[tactic(auto, using(crate::proofs::BodyLemmas::leaf_children))]
+    pub fn child(&self, k: u32) -> &Node
+        requires { k < length (children_of self.now) }
+        ensures { slice_get (children_of self.now) k ≡ Some result.now }
+    {
+        match &self.kind {
+            Kind::Leaf(_) => unreachable!(),
+            Kind::Rule(rule) => rule.get().children().get(k as usize),
+            Kind::Repetition(repetition) => repetition.get().run().get().child(k),
+        }
+    }
+
+    /// How many elements it has as a repetition, and 0 for all other nodes.
+    #[tactic(auto, using(crate::proofs::BodyLemmas::leaf_elements))]
+    pub fn elements(&self) -> u32
+        ensures { result ≡ length (elements_of self.now) }
+    {
+        match &self.kind {
+            Kind::Leaf(_) => 0,
+            Kind::Rule(rule) => {
+                let _ = rule.get().children();
+                0
+            }
+            Kind::Repetition(repetition) => repetition.get().run().get().counts().elements,
+        }
+    }
+
+    /// The element at `k`, counted from 0.
+    #[tactic(auto, using(crate::proofs::BodyLemmas::leaf_elements))]
+    pub fn element(&self, k: u32) -> Element
+        requires { k < length (elements_of self.now) }
+        ensures { slice_get (elements_of self.now) k ≡ Some result }
+    {
+        match &self.kind {
+            Kind::Leaf(_) => unreachable!(),
+            Kind::Rule(rule) => {
+                let _ = rule.get().children();
+                unreachable!()
+            }
+            Kind::Repetition(repetition) => repetition.get().run().get().element(k),
+        }
+    }
+}

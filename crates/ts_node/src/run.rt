@@ -1,0 +1,372 @@
+//! Runs: the elements of a repetition with their children, in a tree of shared parts that is balanced as an AVL
+//! tree is. Heights and balance are no part of what a run means.
+ghost use Rattle.std.specs.Prelude.{◌≡◌, ◌+◌, ◌<◌, ◌^◌, ◌++◌, ◌∷◌, [], IfOk, OnOk, length, set, slice_get, Some};
+ghost use Rattle.spec_trees.specs.Trees.{first_pad};
+ghost use Rattle.spec_trees.specs.Made.{children_count, element};
+ghost use Rattle.ts_node.specs.Held.{joined, stretch, changed, IsCount};
+
+use crate::node::{Counts, Node, Run, Shape, Sums};
+use crate::sums::{copy, sums};
+use spec_trees::Element;
+use std::alloc::{AllocError, Global};
+use ts_base::{List, Shared};
+
+/// The most elements and children together in a leaf, but for a leaf of one long element.
+const MOST_IN_LEAF: u64 = 48;
+
+impl Run {
+    /// What is counted of it.
+    pub(crate) fn counts(&self) -> Counts
+        ensures { IsCount result self.now }
+    {
+        self.counts
+    }
+
+    /// How many levels stand above the leaves.
+    fn height(&self) -> u8 {
+        self.height
+    }
+
+    /// The child at `k`, counted from 0.
+    pub(crate) fn child(&self, k: u32) -> &Node
+        requires { k < length self.now.children }
+        ensures { slice_get self.now.children k ≡ Some result.now }
+    {
+        match &self.shape {
+            Shape::Leaf(_, children) => children.get(k as usize),
+            Shape::Branch(left, right) => {
+                let middle = left.get().counts().children;
+                if k < middle {
+                    left.get().child(k)
+                } else {
+                    right.get().child(k - middle)
+                }
+            }
+        }
+    }
+
+    /// The element at `k`, counted from 0.
+    pub(crate) fn element(&self, k: u32) -> Element
+        requires { k < length self.now.elements }
+        ensures { slice_get self.now.elements k ≡ Some result }
+    {
+        match &self.shape {
+            Shape::Leaf(elements, _) => *elements.get(k as usize),
+            Shape::Branch(left, right) => {
+                let middle = left.get().counts().elements;
+                if k < middle {
+                    left.get().element(k)
+                } else {
+                    right.get().element(k - middle)
+                }
+            }
+        }
+    }
+
+    /// The pad of the first child.
+    #[tactic(auto, using(crate::proofs::RunLemmas::first_pad_is, crate::proofs::RunLemmas::no_first_pad))]
+    pub(crate) fn pad_of_first(&self) -> u32
+        ensures { result ≡ first_pad self.now.children }
+    {
+        if self.counts().children == 0 {
+            0
+        } else {
+            self.child(0).pad()
+        }
+    }
+
+    /// A run of one leaf.
+    fn leaf(
+        alloc: Global,
+        elements: List<Element>,
+        children: List<Node>,
+    ) -> Result<Shared<Run>, AllocError>
+        requires some { 0 < length elements }
+        requires own { children_count elements ≡ length children }
+        requires fits { length elements < 2 ^ 32 }
+        requires wide { length children < 2 ^ 32 }
+        ensures { IfOk result (λ run. run ≡ stretch elements children) }
+    {
+        let counts = Counts {
+            elements: elements.len() as u32,
+            children: children.len() as u32,
+            sums: sums(children.as_slice()),
+        };
+        Shared::new(
+            alloc,
+            Run {
+                counts,
+                height: 0,
+                shape: Shape::Leaf(elements, children),
+            },
+        )
+    }
+
+    /// A run over these two.
+    fn branch(
+        alloc: Global,
+        left: Shared<Run>,
+        right: Shared<Run>,
+    ) -> Result<Shared<Run>, AllocError>
+        requires fits { length left.elements + length right.elements < 2 ^ 32 }
+        requires wide { length left.children + length right.children < 2 ^ 32 }
+        ensures { IfOk result (λ run. run ≡ joined left right) }
+    {
+        let height = left
+            .get()
+            .height()
+            .max(right.get().height())
+            .saturating_add(1);
+        let counts = both(left.get(), right.get());
+        Shared::new(
+            alloc,
+            Run {
+                counts,
+                height,
+                shape: Shape::Branch(left, right),
+            },
+        )
+    }
+
+    /// A run over `left` and `right`, of which the right one may be two levels higher.
+    fn lean_right(
+        alloc: Global,
+        left: Shared<Run>,
+        right: &Shared<Run>,
+    ) -> Result<Shared<Run>, AllocError>
+        requires fits { length left.elements + length right.now.elements < 2 ^ 32 }
+        requires wide { length left.children + length right.now.children < 2 ^ 32 }
+        ensures { IfOk result (λ run. run ≡ joined left right.now) }
+    {
+        match &right.get().shape {
+            Shape::Branch(inner, outer) if is_two_higher(right.get(), left.get()) => {
+                match &inner.get().shape {
+                    Shape::Branch(first, second) if is_higher(inner.get(), outer.get()) => {
+                        let low = Run::branch(alloc, left, first.try_clone()?)?;
+                        let high = Run::branch(alloc, second.try_clone()?, outer.try_clone()?)?;
+                        Run::branch(alloc, low, high)
+                    }
+                    Shape::Leaf(_, _) | Shape::Branch(_, _) => {
+                        let low = Run::branch(alloc, left, inner.try_clone()?)?;
+                        Run::branch(alloc, low, outer.try_clone()?)
+                    }
+                }
+            }
+            Shape::Leaf(_, _) | Shape::Branch(_, _) => Run::branch(alloc, left, right.try_clone()?),
+        }
+    }
+
+    /// A run over `left` and `right`, of which the left one may be two levels higher.
+    fn lean_left(
+        alloc: Global,
+        left: &Shared<Run>,
+        right: Shared<Run>,
+    ) -> Result<Shared<Run>, AllocError>
+        requires fits { length left.now.elements + length right.elements < 2 ^ 32 }
+        requires wide { length left.now.children + length right.children < 2 ^ 32 }
+        ensures { IfOk result (λ run. run ≡ joined left.now right) }
+    {
+        match &left.get().shape {
+            Shape::Branch(outer, inner) if is_two_higher(left.get(), right.get()) => {
+                match &inner.get().shape {
+                    Shape::Branch(first, second) if is_higher(inner.get(), outer.get()) => {
+                        let high = Run::branch(alloc, second.try_clone()?, right)?;
+                        let low = Run::branch(alloc, outer.try_clone()?, first.try_clone()?)?;
+                        Run::branch(alloc, low, high)
+                    }
+                    Shape::Leaf(_, _) | Shape::Branch(_, _) => {
+                        let high = Run::branch(alloc, inner.try_clone()?, right)?;
+                        Run::branch(alloc, outer.try_clone()?, high)
+                    }
+                }
+            }
+            Shape::Leaf(_, _) | Shape::Branch(_, _) => Run::branch(alloc, left.try_clone()?, right),
+        }
+    }
+
+    /// The elements of two leaves, with their children, in one.
+    fn merge(
+        alloc: Global,
+        low: &[Element],
+        low_children: &[Node],
+        high: &[Element],
+        high_children: &[Node],
+    ) -> Result<Shared<Run>, AllocError>
+        requires some { 0 < length low.now }
+        requires low { children_count low.now ≡ length low_children.now }
+        requires high { children_count high.now ≡ length high_children.now }
+        requires fits { length low.now + length high.now < 2 ^ 32 }
+        requires wide { length low_children.now + length high_children.now < 2 ^ 32 }
+        ensures { IfOk result (λ run. run ≡ stretch (low.now ++ high.now) (low_children.now ++ high_children.now)) }
+    {
+        let mut elements = List::with_capacity(alloc, low.len() + high.len())?;
+        copy_elements(low, &mut elements)?;
+        copy_elements(high, &mut elements)?;
+        let mut children = List::with_capacity(alloc, low_children.len() + high_children.len())?;
+        copy(low_children, &mut children)?;
+        copy(high_children, &mut children)?;
+        Run::leaf(alloc, elements, children)
+    }
+
+    /// Both, one after the other.
+    pub(crate) fn join(
+        alloc: Global,
+        left: &Shared<Run>,
+        right: &Shared<Run>,
+    ) -> Result<Shared<Run>, AllocError>
+        requires fits { length left.now.elements + length right.now.elements < 2 ^ 32 }
+        requires wide { length left.now.children + length right.now.children < 2 ^ 32 }
+        ensures { IfOk result (λ run. run ≡ joined left.now right.now) }
+    {
+        let (first, second) = (left.get(), right.get());
+        match (&first.shape, &second.shape) {
+            (Shape::Branch(outer, inner), _) if is_deeper(first.height, second.height) => {
+                let high = Run::join(alloc, inner, right)?;
+                Run::lean_right(alloc, outer.try_clone()?, &high)
+            }
+            (_, Shape::Branch(inner, outer)) if is_deeper(second.height, first.height) => {
+                let low = Run::join(alloc, left, inner)?;
+                Run::lean_left(alloc, &low, outer.try_clone()?)
+            }
+            (Shape::Leaf(low, low_children), Shape::Leaf(high, high_children))
+                if fit_one_leaf(first, second) => {
+                Run::merge(
+                    alloc,
+                    low.as_slice(),
+                    low_children.as_slice(),
+                    high.as_slice(),
+                    high_children.as_slice(),
+                )
+            }
+            (Shape::Leaf(_, _) | Shape::Branch(_, _), _) => {
+                Run::branch(alloc, left.try_clone()?, right.try_clone()?)
+            }
+        }
+    }
+
+    /// A run of one element.
+    pub(crate) fn single(
+        alloc: Global,
+        alternative: u32,
+        children: List<Node>,
+    ) -> Result<Shared<Run>, AllocError>
+        requires wide { length children < 2 ^ 32 }
+        ensures { IfOk result (λ run. run ≡ stretch (element alternative (length children) ∷ []) children) }
+    {
+        let mut elements = List::with_capacity(alloc, 1)?;
+        elements.push(Element {
+            alternative,
+            children: children.len() as u32,
+        })?;
+        Run::leaf(alloc, elements, children)
+    }
+
+    /// The run with another child at `k`. It shares all parts but those on the way to that child.
+    pub(crate) fn with_child(
+        alloc: Global,
+        run: &Shared<Run>,
+        k: u32,
+        child: Node,
+    ) -> Result<Shared<Run>, AllocError>
+        requires { k < length run.now.children }
+        ensures { IfOk result (λ new. new ≡ changed run.now k child) }
+    {
+        let _ = run.get().counts();
+        match &run.get().shape {
+            Shape::Leaf(elements, children) => {
+                Run::leaf_with(alloc, elements.as_slice(), children.as_slice(), k, child)
+            }
+            Shape::Branch(left, right) => {
+                let middle = left.get().counts().children;
+                if k < middle {
+                    let low = Run::with_child(alloc, left, k, child)?;
+                    Run::branch(alloc, low, right.try_clone()?)
+                } else {
+                    let high = Run::with_child(alloc, right, k - middle, child)?;
+                    Run::branch(alloc, left.try_clone()?, high)
+                }
+            }
+        }
+    }
+
+    /// A leaf of these, with another child at `k`.
+    fn leaf_with(
+        alloc: Global,
+        elements: &[Element],
+        children: &[Node],
+        k: u32,
+        child: Node,
+    ) -> Result<Shared<Run>, AllocError>
+        requires within { k < length children.now }
+        requires some { 0 < length elements.now }
+        requires own { children_count elements.now ≡ length children.now }
+        requires fits { length elements.now < 2 ^ 32 }
+        requires wide { length children.now < 2 ^ 32 }
+        ensures { IfOk result (λ run. run ≡ stretch elements.now (set children.now k child)) }
+    {
+        let mut kept = List::with_capacity(alloc, elements.len())?;
+        copy_elements(elements, &mut kept)?;
+        let mut nodes = List::with_capacity(alloc, children.len())?;
+        copy(children, &mut nodes)?;
+        let mut nodes = nodes.into_vec();
+        nodes[k as usize] = child;
+        Run::leaf(alloc, kept, List::from_vec(nodes))
+    }
+}
+
+/// What is counted of both, one after the other.
+fn both(left: &Run, right: &Run) -> Counts
+    requires fits { length left.now.elements + length right.now.elements < 2 ^ 32 }
+    requires wide { length left.now.children + length right.now.children < 2 ^ 32 }
+    ensures both { IsCount result (joined left.now right.now) }
+    ensures left { 0 < length left.now.elements }
+    ensures right { 0 < length right.now.elements }
+{
+    let (low, high) = (left.counts(), right.counts());
+    Counts {
+        elements: low.elements + high.elements,
+        children: low.children + high.children,
+        sums: Sums {
+            nodes: low.sums.nodes + high.sums.nodes,
+            spans: low.sums.spans + high.sums.spans,
+            depth: low.sums.depth.max(high.sums.depth),
+        },
+    }
+}
+
+/// Whether both are small enough to be one leaf.
+fn fit_one_leaf(left: &Run, right: &Run) -> bool {
+    size(left) + size(right) <= MOST_IN_LEAF
+}
+
+/// How many elements and children there are.
+fn size(run: &Run) -> u64
+    ensures { result < 2 ^ 33 }
+{
+    run.counts.elements as u64 + run.counts.children as u64
+}
+
+fn is_higher(run: &Run, other: &Run) -> bool {
+    run.height > other.height
+}
+
+/// Whether a run is higher than the other by two levels or more, so that it is turned.
+fn is_two_higher(run: &Run, other: &Run) -> bool {
+    run.height > other.height.saturating_add(1)
+}
+
+/// Whether a run of that height is opened where it is joined with one of the other height: where it is two levels
+/// higher, or where the other is a leaf.
+fn is_deeper(high: u8, low: u8) -> bool {
+    high > low.saturating_add(1) || (low == 0 && high > 0)
+}
+
+/// Puts the elements at the end of the list.
+fn copy_elements(elements: &[Element], to: &mut List<Element>) -> Result<(), AllocError>
+    ensures { OnOk result (to.new ≡ to.old ++ elements.now) }
+{
+    for element in elements {
+        to.push(*element)?;
+    }
+    Ok(())
+}

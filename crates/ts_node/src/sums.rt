@@ -1,0 +1,85 @@
+//! Sums over children: a list of nodes goes in, and what a node over them has to know comes out.
+ghost use Rattle.std.specs.Prelude.{◌≡◌, ◌+◌, ◌*◌, ◌<◌, ◌≤◌, ◌^◌, ◌++◌, length, OnOk};
+ghost use Rattle.std.specs.Int.RustNames.{unsigned_abs};
+ghost use lib.IntN.{◌+ℤ◌};
+ghost use Rattle.spec_trees.specs.Trees.{all_nodes, all_totals, first_pad};
+ghost use Rattle.spec_trees.specs.Made.{node_limit};
+ghost use Rattle.ts_node.specs.Held.{IsSum};
+
+use crate::node::{Node, Sums};
+use std::alloc::AllocError;
+use ts_base::List;
+
+/// The nodes and bytes of all children together, and the greatest depth.
+pub(crate) fn sums(children: &[Node]) -> Sums
+    requires { length children.now < 2 ^ 32 }
+    ensures { IsSum result children.now }
+{
+    let mut nodes = 0u64;
+    let mut spans = 0u64;
+    let mut depth = 0u16;
+    for child in children {
+        let summary = child.summary();
+        nodes += summary.nodes as u64;
+        spans += summary.pad as u64 + summary.size as u64;
+        depth = depth.max(summary.depth);
+    }
+    Sums {
+        nodes,
+        spans,
+        depth,
+    }
+}
+
+/// The dynamic totals of all children together.
+pub(crate) fn totals(children: &[Node]) -> i64
+    requires { all_nodes children.now < node_limit }
+    ensures total { result ≡ all_totals children.now }
+    ensures modest { unsigned_abs result ≤ 2 ^ 31 * all_nodes children.now }
+{
+    let mut total = 0i64;
+    for child in children {
+        let summary = child.summary();
+        total = plus(total, summary.dynamic);
+    }
+    total
+}
+
+/// The sum of two totals.
+#[tactic(auto, using(crate::proofs::TotalLemmas::sum_fits, crate::proofs::TotalLemmas::abs_sum))]
+pub(crate) fn plus(first: i64, second: i64) -> i64
+    requires { unsigned_abs first + unsigned_abs second < 2 ^ 63 }
+    ensures sum { result ≡ first +ℤ second }
+    ensures modest { unsigned_abs result ≤ unsigned_abs first + unsigned_abs second }
+{
+    first + second
+}
+
+/// A total and the value of one more production.
+#[tactic(auto, using(crate::proofs::TotalLemmas::value_fits))]
+pub(crate) fn with_value(value: i32, total: i64) -> i64
+    requires { unsigned_abs total + 2 ^ 31 < 2 ^ 63 }
+    ensures { result ≡ value +ℤ total }
+{
+    value as i64 + total
+}
+
+/// The pad of the first child.
+pub(crate) fn pad_of_first(children: &[Node]) -> u32
+    ensures { result ≡ first_pad children.now }
+{
+    match children {
+        [] => 0,
+        [first, ..] => first.pad(),
+    }
+}
+
+/// Puts the nodes at the end of the list, shared.
+pub(crate) fn copy(nodes: &[Node], to: &mut List<Node>) -> Result<(), AllocError>
+    ensures { OnOk result (to.new ≡ to.old ++ nodes.now) }
+{
+    for node in nodes {
+        to.push(node.try_clone()?)?;
+    }
+    Ok(())
+}
