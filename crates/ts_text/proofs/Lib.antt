@@ -1,3 +1,4 @@
 pub mod EditLemmas
+pub mod PartLemmas
 pub mod PointLemmas
 pub mod TextLemmas

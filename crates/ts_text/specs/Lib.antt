@@ -1,3 +1,4 @@
 pub mod Edit
+pub mod Parts
 pub mod Point
 pub mod Text

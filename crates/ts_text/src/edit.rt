@@ -1,16 +1,16 @@
 //! Edits of texts: a text and an edit come in, and the text after it or a refusal comes out.
-ghost use Rattle.std.specs.Prelude.{◌≡◌, ◌↔◌, ◌++◌, ◌+◌, ◌≤◌, ℕ, length, string_bytes};
+ghost use Rattle.std.specs.Prelude.{◌≡◌, ◌↔◌, ℕ, All, length, string_bytes};
 ghost use Rattle.std.specs.Prelude.{IsErrOf, IfOk, IsOkUnless, IsTrue};
-ghost use Rattle.ts_text.specs.Edit.{InRange, apply_of, Fits, IsOver};
-ghost use Rattle.ts_text.specs.Text.{most_bytes};
+ghost use Rattle.ts_text.specs.Edit.{AreApart, IsPartOf, InRange, apply_of, replaced_from, Fits, IsOver};
 
 use crate::text::{MOST_BYTES, Text};
 use std::alloc::{AllocError, Global};
 use thiserror::Error;
+use ts_base::List;
 
-/// One change of a text: the bytes from `start` up to `end` give way to `new`.
+/// One replacement in a text: the bytes from `start` up to `end` give way to `new`.
 #[derive(Debug, PartialEq, Eq, Drop)]
-pub struct Edit {
+pub struct Part {
     /// Where the bytes begin that go.
     pub start: u32,
 
@@ -21,10 +21,19 @@ pub struct Edit {
     pub new: Text,
 }
 
+/// One change of a text: one or more replacements at once. All places are those of the text before
+/// it, and no text with a part of them alone is ever there.
+#[derive(Debug, PartialEq, Eq, Drop)]
+pub struct Edit {
+    /// The replacements, rising and apart: each ends below the start of the next.
+    pub parts: List<Part>,
+}
+
 /// Why an edit of a text was not made.
 #[derive(Debug, PartialEq, Eq, Drop, Error)]
 pub enum EditFault {
-    /// The start is above the end, the end is past the text, or one of them is inside a character.
+    /// There is no part; the start of one is above its end, its end is past the text, or one of them
+    /// is inside a character; or a part does not end below the start of the next.
     #[error("the edit's range is not one of the text")]
     Range,
 
@@ -37,16 +46,15 @@ pub enum EditFault {
     Memory,
 }
 
-/// The text after an edit: what stands before `start`, then `new`, then what stands from `end` on.
+/// The text after an edit, all its parts replaced at once.
 ///
 /// Each byte is copied once, into one allocation of the new text's size.
 ///
 /// # Errors
 ///
-/// `Range` where the edit's places do not lie in the text, in their order and on characters; else
-/// `Size` where the new text would have more than `MOST_BYTES` bytes; else `Memory`, where memory
-/// runs out.
-#[tactic(auto, using(crate::proofs::TextLemmas::start_is_boundary, crate::proofs::TextLemmas::end_is_boundary))]
+/// `Range` where there is no part, or the parts do not lie in the text, in order, apart and on
+/// characters; else `Size` where the new text would have more than `MOST_BYTES` bytes; else
+/// `Memory`, where memory runs out.
 pub fn apply(alloc: Global, text: &Text, edit: &Edit) -> Result<Text, EditFault>
     ensures ok { IfOk result (λ after. after ≡ apply_of text.now edit.now) }
     ensures range { IsErrOf result EditFault.Range ↔ ¬ (InRange text.now edit.now) }
@@ -54,38 +62,90 @@ pub fn apply(alloc: Global, text: &Text, edit: &Edit) -> Result<Text, EditFault>
     ensures accepts { IsOkUnless result EditFault.Memory ↔
         InRange text.now edit.now × Fits text.now edit.now }
 {
+    let parts = edit.parts.as_slice();
     if !is_in_range(text, edit) {
         return Err(EditFault::Range);
     }
-    let length = text.len();
-    let size = edit.start + edit.new.len() + (length - edit.end);
-    if size > MOST_BYTES {
-        return Err(EditFault::Size(u64::from(size)));
+    let size = size_after(text, parts);
+    if size > u64::from(MOST_BYTES) {
+        return Err(EditFault::Size(size));
     }
-    let before = text.slice(0, edit.start);
-    let after = text.slice(edit.end, length);
-    match joined(alloc, before, edit.new.as_str(), after) {
+    match rewritten(alloc, text, parts, size as usize) {
         Ok(content) => Ok(Text::from_string(content)),
         Err(_) => Err(EditFault::Memory),
     }
 }
 
-/// Whether the edit's places lie in the text, in their order and on characters.
+/// Whether the parts lie in the text, in order, apart and on characters, and there is one.
 fn is_in_range(text: &Text, edit: &Edit) -> bool
     ensures { IsTrue result ↔ InRange text.now edit.now }
 {
-    edit.start <= edit.end && text.is_boundary(edit.start) && text.is_boundary(edit.end)
+    let parts = edit.parts.as_slice();
+    !parts.is_empty() && are_within(text, parts) && are_apart(parts)
 }
 
-/// The three pieces, one after another. No push takes memory, since the string has room for all
-/// from the start.
-fn joined(alloc: Global, before: &str, new: &str, after: &str) -> Result<String, AllocError>
-    requires { length before.now + length new.now + length after.now ≤ most_bytes }
-    ensures { IfOk result (λ whole. string_bytes whole ≡ before.now ++ new.now ++ after.now) }
+/// Whether each part lies in the text, its places in order and on characters.
+fn are_within(text: &Text, parts: &[Part]) -> bool
+    ensures { IsTrue result ↔ All (IsPartOf text.now) parts.now }
 {
-    let mut whole = String::with_capacity(alloc, before.len() + new.len() + after.len())?;
-    whole.push_str(before).unwrap();
-    whole.push_str(new).unwrap();
-    whole.push_str(after).unwrap();
+    for part in parts {
+        if !is_part_of(text, part) {
+            return false;
+        }
+    }
+    true
+}
+
+fn is_part_of(text: &Text, part: &Part) -> bool
+    ensures { IsTrue result ↔ IsPartOf text.now part.now }
+{
+    part.start <= part.end && text.is_boundary(part.start) && text.is_boundary(part.end)
+}
+
+/// Whether each part ends below the start of the next.
+fn are_apart(parts: &[Part]) -> bool
+    ensures { IsTrue result ↔ AreApart parts.now }
+{
+    let mut next = 1;
+    while next < parts.len() {
+        if parts[next - 1].end >= parts[next].start {
+            return false;
+        }
+        next += 1;
+    }
+    true
+}
+
+/// How many bytes the text has after the edit.
+fn size_after(text: &Text, parts: &[Part]) -> u64
+    requires within { All (IsPartOf text.now) parts.now }
+    requires apart { AreApart parts.now }
+    ensures { result ≡ length (replaced_from text.now 0 parts.now) }
+{
+    let length = text.len();
+    let mut size = 0;
+    let mut place = 0;
+    for part in parts {
+        size += u64::from(part.start - place) + u64::from(part.new.len());
+        place = part.end;
+    }
+    size + u64::from(length - place)
+}
+
+/// The text after the edit, in a string that has room for so many bytes from the start.
+fn rewritten(alloc: Global, text: &Text, parts: &[Part], size: usize) -> Result<String, AllocError>
+    requires within { All (IsPartOf text.now) parts.now }
+    requires apart { AreApart parts.now }
+    ensures { IfOk result (λ whole. string_bytes whole ≡ replaced_from text.now 0 parts.now) }
+{
+    let length = text.len();
+    let mut whole = String::with_capacity(alloc, size)?;
+    let mut place = 0;
+    for part in parts {
+        whole.push_str(text.slice(place, part.start))?;
+        whole.push_str(part.new.as_str())?;
+        place = part.end;
+    }
+    whole.push_str(text.slice(place, length))?;
     Ok(whole)
 }

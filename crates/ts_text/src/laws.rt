@@ -2,7 +2,7 @@
 //! Each is a function that does nothing.
 ghost use Rattle.std.specs.Prelude.{◌≡◌, ℕ};
 ghost use Rattle.ts_base.specs.Bytes.{Bytes};
-ghost use Rattle.ts_text.specs.Edit.{InRange, apply_of, Fits};
+ghost use Rattle.ts_text.specs.Edit.{InRange, apply_of, Fits, HasTexts};
 ghost use Rattle.ts_text.specs.Text.{IsText, BreaksAt};
 ghost use Rattle.ts_text.specs.declared.edit.Edit.{Edit as AnyEdit};
 
@@ -14,6 +14,6 @@ pub fn breaks_once()
 
 /// What an edit in range leaves is a text, where it fits.
 pub fn edited_is_text()
-    ensures { (text : Bytes) (edit : AnyEdit) → IsText text → IsText edit.new
+    ensures { (text : Bytes) (edit : AnyEdit) → IsText text → HasTexts edit
         → InRange text edit → Fits text edit → IsText (apply_of text edit) }
 {}

@@ -10,7 +10,7 @@ mod point;
 mod tests;
 mod text;
 
-pub use edit::{Edit, EditFault, apply};
+pub use edit::{Edit, EditFault, Part, apply};
 pub use laws::{breaks_once, edited_is_text};
 pub use point::PointWalk;
 pub use text::{MOST_BYTES, Text, TextFault};

@@ -1,8 +1,9 @@
 //! Texts, edits and points by examples: those of RFC 3629, and some worked out by hand.
-use crate::{Edit, EditFault, MOST_BYTES, PointWalk, Text, TextFault, apply};
+use crate::{Edit, EditFault, MOST_BYTES, Part, PointWalk, Text, TextFault, apply};
 use std::alloc::Global;
 use std::process::Abort;
 use std::test::Fail;
+use ts_base::List;
 
 /// Takes what several threads may share.
 fn takes_shared<T: Send + Sync>(_value: &T) {}
@@ -12,6 +13,15 @@ fn breaks_at(alloc: Global, bytes: &[u8]) -> Option<u32> {
     match Text::from_bytes(alloc, bytes) {
         Err(TextFault::Utf8(place)) => Some(place),
         Ok(_) | Err(TextFault::Size(_) | TextFault::Memory) => None,
+    }
+}
+
+/// The edit of one part.
+fn one_part(alloc: Global, start: u32, end: u32, new: Text) -> Result<Edit, TextFault> {
+    let mut parts = List::new(alloc);
+    match parts.push(Part { start, end, new }) {
+        Ok(()) => Ok(Edit { parts }),
+        Err(_) => Err(TextFault::Memory),
     }
 }
 
@@ -25,7 +35,7 @@ fn edited(
 ) -> Result<Result<Text, EditFault>, TextFault> {
     let text = Text::from_bytes(alloc, old.as_bytes())?;
     let new = Text::from_bytes(alloc, new.as_bytes())?;
-    Ok(apply(alloc, &text, &Edit { start, end, new }))
+    Ok(apply(alloc, &text, &one_part(alloc, start, end, new)?))
 }
 
 #[test]
@@ -95,40 +105,16 @@ fn takes_a_mebibyte_and_no_more(rt: HostRuntime) -> Result<(), Fail> {
 
     let end = nearly.len();
     let one = Text::from_bytes(alloc, b"b".as_slice())?;
-    let grown = apply(
-        alloc,
-        &nearly,
-        &Edit {
-            start: end,
-            end,
-            new: one,
-        },
-    )?;
+    let grown = apply(alloc, &nearly, &one_part(alloc, end, end, one)?)?;
     assert!(rt; grown == full);
     let end = grown.len();
     let one = Text::from_bytes(alloc, b"c".as_slice())?;
     assert_eq!(rt;
-        apply(
-            alloc,
-            &grown,
-            &Edit {
-                start: end,
-                end,
-                new: one
-            }
-        ),
+        apply(alloc, &grown, &one_part(alloc, end, end, one)?),
         Err(EditFault::Size(1_048_577))
     );
     let two = Text::from_bytes(alloc, b"cd".as_slice())?;
-    let swapped = apply(
-        alloc,
-        &grown,
-        &Edit {
-            start: 0,
-            end: 2,
-            new: two,
-        },
-    )?;
+    let swapped = apply(alloc, &grown, &one_part(alloc, 0, 2, two)?)?;
     assert_eq!(rt; swapped.len(), MOST_BYTES);
     Ok(())
 }
@@ -150,6 +136,46 @@ fn applies_edits(rt: HostRuntime) -> Result<(), Fail> {
         let after = edited(alloc, old, start, end, new)??;
         assert_eq!(rt; after.as_str(), want, "{old:?} {start}..{end} {new:?}");
     }
+    Ok(())
+}
+
+/// The text after an edit of several parts.
+fn edited_in_parts(
+    alloc: Global,
+    old: &str,
+    parts: &[(u32, u32, &str)],
+) -> Result<Result<Text, EditFault>, TextFault> {
+    let text = Text::from_bytes(alloc, old.as_bytes())?;
+    let mut edit = Edit {
+        parts: List::new(alloc),
+    };
+    for (start, end, new) in parts {
+        let new = Text::from_bytes(alloc, new.as_bytes())?;
+        if edit
+            .parts
+            .push(Part {
+                start: *start,
+                end: *end,
+                new,
+            })
+            .is_err()
+        {
+            return Err(TextFault::Memory);
+        }
+    }
+    Ok(apply(alloc, &text, &edit))
+}
+
+// All places are those of the text before the edit. Parts that meet are out of range.
+#[test]
+fn applies_several_parts_at_once(rt: HostRuntime) -> Result<(), Fail> {
+    let alloc = rt.alloc();
+    let both = edited_in_parts(alloc, "[1,2]", &[(1, 2, "33"), (3, 4, "null")])??;
+    assert_eq!(rt; both.as_str(), "[33,null]");
+    let meeting = edited_in_parts(alloc, "[1,2]", &[(1, 2, "33"), (2, 3, "")])?;
+    assert_eq!(rt; meeting, Err(EditFault::Range));
+    let none = edited_in_parts(alloc, "[1,2]", &[])?;
+    assert_eq!(rt; none, Err(EditFault::Range));
     Ok(())
 }
 
