@@ -12,9 +12,9 @@ use Rattle.ts_core.specs.declared.flat.FlatGrammar.{FlatGrammar}
 -- ---- symbols: 0 is the end of the text, then come the tokens, then the rules
 
 -- the token that a symbol is
-abbrev pub token_at : FlatGrammar → ℕ → Option TokenDef
-token_at g zero = None
-token_at g (suc number) = slice_get g.tokens number
+abbrev pub symbol_token : FlatGrammar → ℕ → Option TokenDef
+symbol_token g zero = None
+symbol_token g (suc number) = slice_get g.tokens number
 
 -- the symbol of the start rule, which is the first
 abbrev pub start_symbol : FlatGrammar → ℕ
@@ -25,8 +25,8 @@ abbrev pub symbol_count : FlatGrammar → ℕ
 symbol_count g = start_symbol g + length g.rules
 
 -- the rule or repetition that a symbol is
-abbrev pub rule_at : FlatGrammar → ℕ → Option FlatRule
-rule_at g symbol =
+abbrev pub symbol_rule : FlatGrammar → ℕ → Option FlatRule
+symbol_rule g symbol =
     if nat_le (start_symbol g) symbol then slice_get g.rules (symbol - start_symbol g) else None
 
 -- whether a rule, under its own symbol, is a repetition: another symbol owns it
@@ -35,13 +35,14 @@ is_owned symbol rule = not (nat_eq rule.owner.0 symbol)
 
 -- whether a symbol is a repetition
 abbrev pub is_repetition : FlatGrammar → ℕ → Bool
-is_repetition g symbol = unwrap_or (option_map (is_owned symbol) (rule_at g symbol)) false
+is_repetition g symbol = unwrap_or (option_map (is_owned symbol) (symbol_rule g symbol)) false
 
--- whether a token is one of the extras
+-- whether a symbol stands in a list
 abbrev pub is_among : ℕ → List Symbol → Bool
 is_among symbol [] = false
 is_among symbol (s ∷ ss) = if nat_eq s.0 symbol then true else is_among symbol ss
 
+-- whether a token is one of the extras
 abbrev pub is_extra : FlatGrammar → ℕ → Bool
 is_extra g symbol = is_among symbol g.extras
 
@@ -79,28 +80,35 @@ half (suc (suc n)) = suc (half n)
 -- after the repetition.
 abbrev pub alternative_count : FlatGrammar → ℕ → ℕ
 alternative_count g symbol =
-    unwrap_or (option_map (λ rule. half (length rule.productions)) (rule_at g symbol)) 0
+    unwrap_or (option_map (λ rule. half (length rule.productions)) (symbol_rule g symbol)) 0
 
 -- ---- how nodes of a symbol show by themselves
 
--- the name of a symbol's nodes
-abbrev pub name_of : FlatGrammar → ℕ → Bytes
-name_of g symbol =
-    unwrap_or (option_map (λ token. token.name) (token_at g symbol))
-    (unwrap_or (option_map (λ rule. rule.name) (rule_at g symbol)) [])
+-- the name of the end of the text: end
+abbrev pub end_name : Bytes
+end_name = 101 ∷ 110 ∷ 100 ∷ []
 
--- the kind of a symbol's nodes
-abbrev pub kind_of : FlatGrammar → ℕ → Kind
-kind_of g symbol =
-    unwrap_or (option_map (λ token. token.kind) (token_at g symbol))
-    (unwrap_or (option_map (λ rule. rule.kind) (rule_at g symbol)) Hidden)
+-- the name of a symbol's nodes, and of the end
+abbrev pub node_name : FlatGrammar → ℕ → Bytes
+node_name g zero = end_name
+node_name g (suc number) =
+    unwrap_or (option_map (λ token. token.name) (symbol_token g (suc number)))
+    (unwrap_or (option_map (λ rule. rule.name) (symbol_rule g (suc number))) [])
 
-abbrev pub is_hidden : Kind → Bool
-is_hidden Hidden = true
-is_hidden Named = false
-is_hidden Anonymous = false
+-- the kind of a symbol's nodes; the end has none and does not show
+abbrev pub node_kind : FlatGrammar → ℕ → Kind
+node_kind g symbol =
+    unwrap_or (option_map (λ token. token.kind) (symbol_token g symbol))
+    (unwrap_or (option_map (λ rule. rule.kind) (symbol_rule g symbol)) Hidden)
 
-abbrev pub is_named : Kind → Bool
-is_named Named = true
-is_named Anonymous = false
-is_named Hidden = false
+-- nodes of this kind do not show by themselves
+abbrev pub is_hidden_kind : Kind → Bool
+is_hidden_kind Hidden = true
+is_hidden_kind Named = false
+is_hidden_kind Anonymous = false
+
+-- nodes of this kind show under a rule's name
+abbrev pub is_named_kind : Kind → Bool
+is_named_kind Named = true
+is_named_kind Anonymous = false
+is_named_kind Hidden = false

@@ -4,7 +4,8 @@ use Rattle.std.proofs.lemmas.List.{append-nil}
 use Rattle.spec_lexing.specs.Words.{Regular, empty, never, one_of, both, either, repeat, Times, Below, Word, Front}
 use Rattle.spec_lexing.proofs.WordLemmas.{word_front}
 
--- one list in two parts in two ways: the first part of one ends inside the first part of the other, or not
+-- one list in two parts in two ways: the first part of one ends inside the first part of the other,
+-- or not
 pub data Cut (u v a b : List ℕ) : Type 0 where
   inside : (c : List ℕ) → a ≡ u ++ c → Cut u v a b
   past : (c : List ℕ) → u ≡ a ++ c → b ≡ c ++ v → Cut u v a b

@@ -1,5 +1,5 @@
--- What matches at the beginning of a text, which is a list of bytes: the text from a place on. Where the
--- place is inside a character, nothing does.
+-- What matches at the beginning of a text, which is a list of bytes: the text from a place on.
+-- Where the place is inside a character, nothing does.
 use Rattle.std.specs.Prelude.{◌≡◌, ℕ, ◌≤◌, ◌<◌, suc, true, false, List, ◌++◌, length, slice_get}
 use Rattle.std.specs.Prelude.{Some, encode_utf8_all}
 use Rattle.std.specs.List.{Contains}
@@ -18,7 +18,8 @@ pub record Begins (rest : Bytes) (w : List ℕ) (n : ℕ) : Type 0 where
   pub is : rest ≡ encode_utf8_all w ++ tail
   pub size : n ≡ length (encode_utf8_all w)
 
--- the first so many bytes are a word of the expression. The empty word is no match: no token has it.
+-- the first so many bytes are a word of the expression. The empty word is no match: no token has
+-- it.
 pub record MatchesRe (p : Regular) (rest : Bytes) (n : ℕ) : Type 0 where
   pub some : 0 < n
   pub characters : List ℕ
@@ -42,8 +43,8 @@ pub record IsWordToken (g : FlatGrammar) (token : TokenDef) : Type 0 where
   pub word : g.word ≡ Some symbol
   pub is_token : IsTokenOf g symbol token
 
--- The token matches with so many bytes. A keyword does so exactly where the longest match of the word
--- token is a word of the keyword, and with that length alone.
+-- The token matches with so many bytes. A keyword does so exactly where the longest match of the
+-- word token is a word of the keyword, and with that length alone.
 pub data MatchesToken (g : FlatGrammar) (token : TokenDef) (rest : Bytes) (n : ℕ) : Type 0 where
   plainly : token.keyword ≡ false → MatchesRe (regular_of token.re) rest n
       → MatchesToken g token rest n

@@ -19,8 +19,8 @@ pub record HasKeyword (g : FlatGrammar) (valid : List Symbol) : Type 0 where
   pub is_token : IsTokenOf g symbol token
   pub keyword : token.keyword ≡ true
 
--- the characters can begin what is looked for: a valid token, the word token where a keyword is valid, or
--- a separator
+-- the characters can begin what is looked for: a valid token, the word token where a keyword is
+-- valid, or a separator
 pub data CanBegin (g : FlatGrammar) (valid : List Symbol) (w : List ℕ) : Type 0 where
   a_token : (symbol : Symbol) (token : TokenDef) → Contains valid symbol → IsTokenOf g symbol token
       → Front (regular_of token.re) w → CanBegin g valid w
@@ -39,19 +39,22 @@ pub record HasFront (g : FlatGrammar) (valid : List Symbol) (rest : Bytes) (n : 
 abbrev pub is_inner : ℕ → Bool
 is_inner byte = nat_le 128 byte && nat_lt byte 192
 
--- how many bytes the next character has, or what is left of it inside one; the end counts as one byte
+-- how many bytes the next character has, or what is left of it inside one; the end counts as one
+-- byte
 abbrev pub one_character : Bytes → ℕ
 one_character [] = 1
 one_character (byte ∷ bytes) = suc (prefix_len is_inner bytes)
 
--- at one place, the end of the one character after the longest front. The empty list is always a front.
+-- at one place, the end of the one character after the longest front. The empty list is always a
+-- front.
 pub record IsReach (g : FlatGrammar) (valid : List Symbol) (rest : Bytes) (reach : ℕ) : Type 0 where
   pub size : ℕ
   pub front : (size ≡ 0) ⊎ HasFront g valid rest size
   pub longest : (n : ℕ) → HasFront g valid rest n → n ≤ size
   pub is : reach ≡ size + one_character (drop size rest)
 
--- the greatest reach over the places that are tried: this one, and the one after each separator passed
+-- the greatest reach over the places that are tried: this one, and the one after each separator
+-- passed
 pub data IsSeen (g : FlatGrammar) (valid : List Symbol) : Bool → Bytes → ℕ → Type 0 where
   last : (first : Bool) (rest : Bytes) (reach : ℕ) → ((n : ℕ) → Passes g valid first rest n → ⊥)
       → IsReach g valid rest reach → IsSeen g valid first rest reach

@@ -1,13 +1,14 @@
--- Regular expressions in a small form, where a list of parts is made of two at a time; their words, and
--- the fronts of their words. A word is a list of characters, each by its number.
+-- Regular expressions in a small form, where a list of parts is made of two at a time; their words,
+-- and the fronts of their words. A word is a list of characters, each by its number.
 use Rattle.std.specs.Prelude.{◌≡◌, ℕ, ◌≤◌, ◌<◌, zero, suc, ◌⊎◌, List, [], ◌∷◌, ◌++◌}
 use Rattle.std.specs.Prelude.{Option, Some, None, Any}
 use Rattle.ts_core.specs.declared.re.Re.{Re}
 use Rattle.ts_core.specs.declared.re.Re.TheOpen.{Re-F}
 use Rattle.ts_core.specs.declared.re.Re.TheFolds.{fold-Re}
 
--- a regular expression: the empty list, nothing at all, one character of some ranges, two expressions one
--- after the other, either of two, or one from the least to the most times, or without end
+-- a regular expression: the empty list, nothing at all, one character of some ranges, two
+-- expressions one after the other, either of two, or one from the least to the most times, or
+-- without end
 pub data Regular : Type 0 where
   empty : Regular
   never : Regular
@@ -66,9 +67,9 @@ Word (both p q) w = (u : List ℕ) × (v : List ℕ) × (w ≡ u ++ v) × Word p
 Word (either p q) w = Word p w ⊎ Word q w
 Word (repeat p least most) w = (k : ℕ) × (least ≤ k) × AtMost k most × Times (Word p) k w
 
--- the list of characters can be read as the beginning of a word, also where no word comes of it: the
--- empty list, a member, words of the parts before and a front of the next, or fewer words than the most
--- and a front of one more
+-- the list of characters can be read as the beginning of a word, also where no word comes of it:
+-- the empty list, a member, words of the parts before and a front of the next, or fewer words than
+-- the most and a front of one more
 abbrev pub Front : Regular → List ℕ → Type 0
 Front empty w = w ≡ []
 Front never w = w ≡ []

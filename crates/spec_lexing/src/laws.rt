@@ -1,3 +1,5 @@
+//! Laws of the definitions, each a function without a body: what other crates may use of them.
+
 ghost use Rattle.std.specs.Prelude.{◌≡◌, ℕ, ◌+◌, ◌<◌, ◌≤◌, List, [], ◌∷◌, ◌++◌, length, drop, encode_utf8, Option, map};
 ghost use Rattle.std.specs.List.{Contains};
 ghost use Rattle.std.specs.Char.{IsScalar};
@@ -34,16 +36,18 @@ pub fn a_front_has_fronts()
     ensures { (p : Regular) (u v : List ℕ) → Front p (u ++ v) → Front p u }
 {}
 
-/// What begins a text: of two beginnings the shorter begins the longer, and one goes on with the character
-/// that follows it.
+/// What begins a text: of two beginnings the shorter begins the longer, and one goes on with the
+/// character that follows it.
 pub fn beginnings()
     ensures nothing { (rest : Bytes) → Begins rest [] 0 }
-    ensures prefix { (rest : Bytes) (u w : List ℕ) (n m : ℕ) → Begins rest u n → Begins rest w m → n ≤ m
+    ensures prefix { (rest : Bytes) (u w : List ℕ) (n m : ℕ) → Begins rest u n → Begins rest w m
+        → n ≤ m
         → (v : List ℕ) × (w ≡ u ++ v) }
     ensures longer { (rest : Bytes) (u v : List ℕ) (c n m : ℕ) → Begins rest u n
         → Begins rest (u ++ c ∷ v) m → n < m }
     ensures more { (rest tail : Bytes) (u : List ℕ) (c n : ℕ) → IsScalar c → Begins rest u n
-        → drop n rest ≡ encode_utf8 c ++ tail → Begins rest (u ++ c ∷ []) (n + length (encode_utf8 c)) }
+        → drop n rest ≡ encode_utf8 c ++ tail
+        → Begins rest (u ++ c ∷ []) (n + length (encode_utf8 c)) }
     ensures follows { (rest tail : Bytes) (u v : List ℕ) (c d n m : ℕ) → Begins rest u n
         → drop n rest ≡ encode_utf8 c ++ tail → Begins rest (u ++ d ∷ v) m → d ≡ c }
     ensures within { (rest : Bytes) (u : List ℕ) (n : ℕ) → Begins rest u n → n ≤ length rest }
@@ -63,10 +67,11 @@ pub fn one_answer()
         → Seen g valid rest n → Seen g valid rest m → n ≡ m }
 {}
 
-/// A text that has the same bytes where lexing looks is lexed the same: at any place of it, which may be
-/// inside a character, and also where it is no UTF-8.
+/// A text that has the same bytes where lexing looks is lexed the same: at any place of it, which
+/// may be inside a character, and also where it is no UTF-8.
 pub fn seen_decides()
-    ensures { (g : FlatGrammars) (valid : List Symbols) (text other : Bytes) (place at n : ℕ) (f : Found)
+    ensures { (g : FlatGrammars) (valid : List Symbols) (text other : Bytes) (place at n : ℕ)
+        (f : Found)
         → IsUtf8 text → Seen g valid (drop place text) n
         → Agree n (drop place text) (drop at other)
         → Lex g valid (drop place text) f → Lex g valid (drop at other) f }
@@ -74,9 +79,11 @@ pub fn seen_decides()
 
 /// A token and its pad end before what was looked at does, and inside the text.
 pub fn token_within()
-    ensures seen { (g : FlatGrammars) (valid : List Symbols) (rest : Bytes) (s : Symbols) (pad size n : ℕ)
+    ensures seen { (g : FlatGrammars) (valid : List Symbols) (rest : Bytes) (s : Symbols)
+        (pad size n : ℕ)
         → Lex g valid rest (token s pad size) → Seen g valid rest n → pad + size < n }
-    ensures text { (g : FlatGrammars) (valid : List Symbols) (rest : Bytes) (s : Symbols) (pad size : ℕ)
+    ensures text { (g : FlatGrammars) (valid : List Symbols) (rest : Bytes) (s : Symbols)
+        (pad size : ℕ)
         → Lex g valid rest (token s pad size) → pad + size ≤ length rest }
     ensures absent { (g : FlatGrammars) (valid : List Symbols) (rest : Bytes) (place : ℕ)
         → Lex g valid rest (absent place) → place ≤ length rest }
@@ -84,7 +91,8 @@ pub fn token_within()
 
 /// A token that is taken is taken too where fewer tokens are valid, if it is one of them.
 pub fn fewer_tokens()
-    ensures { (g : FlatGrammars) (valid fewer : List Symbols) (rest : Bytes) (s : Symbols) (pad size : ℕ)
+    ensures { (g : FlatGrammars) (valid fewer : List Symbols) (rest : Bytes) (s : Symbols)
+        (pad size : ℕ)
         → ((t : Symbols) → Contains fewer t → Contains valid t) → Contains fewer s
         → Lex g valid rest (token s pad size) → Lex g fewer rest (token s pad size) }
 {}

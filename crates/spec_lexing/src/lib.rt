@@ -1,6 +1,6 @@
-//! What tokens are and how texts are split into them: words of regular expressions, matching of a token at
-//! a place, lexing for a set of valid tokens, and what was looked at. Definitions with their laws alone: no
-//! value goes in or out.
+//! What tokens are and how texts are split into them: words of regular expressions, matching of a
+//! token at a place, lexing for a set of valid tokens, and what was looked at. Definitions with
+//! their laws alone: no value goes in or out.
 #![tactic(auto)]
 
 mod laws;

@@ -24,7 +24,8 @@ abbrev pub item_prec : FlatGrammar → Item → Prec
 item_prec g i = unwrap_or (option_map (λ step. step.prec) (step_before g i.line i.dot)) prec.Absent
 
 abbrev pub item_assoc : FlatGrammar → Item → Assoc
-item_assoc g i = unwrap_or (option_map (λ step. step.assoc) (step_before g i.line i.dot)) assoc.Absent
+item_assoc g i =
+    unwrap_or (option_map (λ step. step.assoc) (step_before g i.line i.dot)) assoc.Absent
 
 -- the symbol of the rule or repetition of an item; the start item's is the start rule
 abbrev pub rule_in : FlatGrammar → Line → ℕ
@@ -33,8 +34,8 @@ rule_in g (Some number) = unwrap_or (option_map (λ p. p.0) (production_at g num
 
 -- ---- comparing
 
--- What stands for an item in an ordering of precedences: its name, or without a precedence its rule. An item
--- with a number has nothing there.
+-- What stands for an item in an ordering of precedences: its name, or without a precedence its
+-- rule. An item with a number has nothing there.
 abbrev pub key_by : Prec → ℕ → Option Entry
 key_by prec.Absent rule = Some (entry.Rule (record { 0 = rule }))
 key_by (prec.Number value) rule = None
@@ -99,7 +100,8 @@ IsEarlier g None b = ⊥
 abbrev pub Higher : FlatGrammar → Item → Item → Type 0
 Higher g i j =
     IsEarlier g (key_of g i) (key_of g j)
-    ⊎ ((AreOrdered g (key_of g i) (key_of g j) → ⊥) × IsGreater (prec_number (item_prec g i)) (prec_number (item_prec g j)))
+    ⊎ ((AreOrdered g (key_of g i) (key_of g j) → ⊥)
+    × IsGreater (prec_number (item_prec g i)) (prec_number (item_prec g j)))
 
 -- ---- reductions and shifts on a token
 

@@ -3,7 +3,7 @@ use Rattle.std.specs.Prelude.{◌≡◌, ℕ, ◌<◌, ◌≤◌, ◌⊎◌, ◌
 use Rattle.std.specs.List.{Contains}
 use Rattle.ts_core.specs.declared.symbol.Symbol.{Symbol}
 use Rattle.ts_core.specs.declared.flat.FlatGrammar.{FlatGrammar}
-use Rattle.spec_grammar.specs.Symbols.{rule_at}
+use Rattle.spec_grammar.specs.Symbols.{symbol_rule}
 use Rattle.spec_tables.specs.Items.{Item}
 use Rattle.spec_tables.specs.Actions.{Move, shift, reduce, Act, Remains, ShiftItem, rule_in}
 
@@ -17,9 +17,10 @@ pub record Conflicts (g : FlatGrammar) (read : List ℕ) (token : ℕ) : Type 0 
 
 -- the owner of a symbol's productions: a repetition's is the rule in which it stands
 abbrev pub owner_of : FlatGrammar → ℕ → ℕ
-owner_of g symbol = unwrap_or (option_map (λ rule. rule.owner.0) (rule_at g symbol)) symbol
+owner_of g symbol = unwrap_or (option_map (λ rule. rule.owner.0) (symbol_rule g symbol)) symbol
 
--- The rule has a part in the conflict: it owns a reduction that stays, or a shift item where the shift stays.
+-- The rule has a part in the conflict: it owns a reduction that stays, or a shift item where the
+-- shift stays.
 pub data TakesPart (g : FlatGrammar) (read : List ℕ) (token : ℕ) : ℕ → Type 0 where
   by_reduction : (i : Item) (number : ℕ) → Remains g read token i → i.line ≡ Some number
       → Act g read token (reduce number)

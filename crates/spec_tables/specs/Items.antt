@@ -1,4 +1,5 @@
--- Valid LR(1) items, with no state numbers (Knuth). A viable prefix is a list of symbols, the last one first.
+-- Valid LR(1) items, with no state numbers (Knuth). A viable prefix is a list of symbols, the last
+-- one first.
 use Rattle.std.specs.Prelude.{◌≡◌, ℕ, suc, ◌<◌, ◌≤◌, List, [], ◌∷◌, length, slice_get, Option, Some, None, option_map, unwrap_or}
 use Rattle.ts_core.specs.declared.flat.FlatGrammar.{FlatGrammar}
 use Rattle.ts_core.specs.declared.flat.Production.{Production}
@@ -7,7 +8,8 @@ use Rattle.ts_core.specs.declared.flat.Prec.TheVariants as prec
 use Rattle.ts_core.specs.declared.flat.Assoc.TheVariants as assoc
 use Rattle.spec_grammar.specs.Symbols.{production_at, start_symbol}
 
--- the production of an item: of the start item, whose only step is the start rule, or of the grammar
+-- the production of an item: of the start item, whose only step is the start rule, or of the
+-- grammar
 abbrev pub Line : Type 0
 Line = Option ℕ
 
@@ -53,8 +55,8 @@ IsComplete g i = i.dot ≡ length (line_steps g i.line)
 abbrev pub IsToken : FlatGrammar → ℕ → Type 0
 IsToken g symbol = (0 < symbol) × (symbol ≤ length g.tokens)
 
--- The token can begin what the symbol derives: the least relation. Only the start rule may be empty, and
--- no step names it then, so no step derives the empty list.
+-- The token can begin what the symbol derives: the least relation. Only the start rule may be
+-- empty, and no step names it then, so no step derives the empty list.
 pub data CanBeginWith (g : FlatGrammar) : ℕ → ℕ → Type 0 where
   itself : (token : ℕ) → IsToken g token → CanBeginWith g token token
   by_first : (symbol number token : ℕ) (step : Step) → IsProductionOf g symbol number
@@ -70,7 +72,8 @@ MayStandBehind g (Some step) behind token = CanBeginWith g step.symbol.0 token
 abbrev pub MayFollow : FlatGrammar → Item → ℕ → Type 0
 MayFollow g i token = MayStandBehind g (slice_get (line_steps g i.line) (suc i.dot)) i.token token
 
--- the item before whose symbol the dot stands asks for this one, which begins a production of the symbol
+-- the item before whose symbol the dot stands asks for this one, which begins a production of the
+-- symbol
 pub record AsksFor (g : FlatGrammar) (i j : Item) : Type 0 where
   pub step : Step
   pub before : IsBefore g i step

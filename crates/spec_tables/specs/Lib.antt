@@ -1,3 +1,4 @@
+pub mod Fit
 pub mod Items
 pub mod Actions
 pub mod Conflicts

@@ -1,5 +1,5 @@
--- The nodes that a parser makes: leaves, nodes of productions, flat nodes of repetitions, the accepted root; and what an edit
--- leaves of a node.
+-- The nodes that a parser makes: leaves, nodes of productions, flat nodes of repetitions, the
+-- accepted root; and what an edit leaves of a node.
 use Rattle.std.specs.Prelude.{◌≡◌, ℕ, suc, ◌+◌, ◌-◌, ◌*◌, ◌<◌, ◌≤◌, ◌^◌, true, false, nat_lt, if◌then◌else◌, List, [], ◌∷◌, ◌++◌, length, map, take, drop, set, Option, Some, None, option_map, unwrap_or, All}
 use Rattle.std.specs.Int.RustNames.{unsigned_abs}
 use lib.IntN.{ℤ, pos, ◌+ℤ◌}
@@ -9,10 +9,11 @@ use Rattle.spec_grammar.specs.Symbols.{production_at, first_production, alternat
 use Rattle.spec_trees.specs.declared.tree.Tree.{Tree}
 use Rattle.spec_trees.specs.declared.tree.Element.{Element}
 use Rattle.spec_trees.specs.declared.tree.Tree.TheViews.{roll-Tree, out-Tree}
-use Rattle.spec_trees.specs.Trees.{symbol_of, production_of, extent_of, is_settled, is_extra_node, elements_of, children_of, total_of, all_totals, span_of, all_spans, first_pad, nodes_of, depth_of}
+use Rattle.spec_trees.specs.Trees.{symbol_of, production_of, node_extent, is_settled, is_extra_node, elements_of, children_of, total_of, all_totals, span_of, all_spans, first_pad, node_count, tree_depth}
 
 -- ---- leaves
 
+-- the node over a token, with this pad and size
 abbrev pub leaf_of : ℕ → ℕ → ℕ → ℕ → Option ℕ → Tree
 leaf_of token pad size extent state = roll-Tree (record {
   symbol = record { 0 = token };
@@ -55,6 +56,7 @@ node_over symbol production dynamic extent state elements children = roll-Tree (
   children = children;
 })
 
+-- an element of this alternative with so many children
 abbrev pub element : ℕ → ℕ → Element
 element alternative children = record { alternative = alternative; children = children }
 
@@ -69,8 +71,8 @@ first_element symbol alternative value extent state children =
     node_over symbol None (value +ℤ all_totals children) extent state
     (element alternative (length children) ∷ []) children
 
--- A repetition with one more element: the first child is the repetition so far, whose elements are taken
--- over, and the others are those of the new element.
+-- A repetition with one more element: the first child is the repetition so far, whose elements are
+-- taken over, and the others are those of the new element.
 abbrev pub next_element : ℕ → ℕ → ℤ → ℕ → Option ℕ → List Tree → Tree
 next_element symbol alternative value extent state [] =
     node_over symbol None value extent state [] []
@@ -88,8 +90,8 @@ pub data Form : Type 0 where
   -- a repetition and one more element, of this alternative
   of_next : ℕ → Form
 
--- A repetition's productions are those of its alternatives alone, and then those of the repetition and one
--- more alternative.
+-- A repetition's productions are those of its alternatives alone, and then those of the repetition
+-- and one more alternative.
 abbrev pub repetition_form : ℕ → ℕ → Form
 repetition_form count place = if nat_lt place count then of_first place else of_next (place - count)
 
@@ -100,8 +102,10 @@ form_of g symbol number =
     then repetition_form (alternative_count g symbol) (number - first_production g symbol)
     else of_rule
 
+-- the node of this form over these children, of a production with this value
 abbrev pub made_by : Form → ℕ → ℕ → ℤ → ℕ → Option ℕ → List Tree → Tree
-made_by of_rule symbol number value extent state children = rule_node symbol number value extent state children
+made_by of_rule symbol number value extent state children =
+    rule_node symbol number value extent state children
 made_by (of_first alternative) symbol number value extent state children =
     first_element symbol alternative value extent state children
 made_by (of_next alternative) symbol number value extent state children =
@@ -118,7 +122,8 @@ value_of g number = unwrap_or (option_map (λ p. p.1.dynamic) (production_at g n
 -- the node that a reduction by the production of this number makes of its children
 abbrev pub reduced : FlatGrammar → ℕ → ℕ → Option ℕ → List Tree → Tree
 reduced g number extent state children =
-    made_by (form_of g (left_of g number) number) (left_of g number) number (value_of g number) extent state children
+    made_by (form_of g (left_of g number) number) (left_of g number) number (value_of g number)
+    extent state children
 
 -- the root that acceptance gives: the extras before and after it are its children too
 abbrev pub accepted : Tree → List Tree → List Tree → ℕ → Tree
@@ -144,7 +149,8 @@ BeginsFilled (t ∷ ts) = is_extra_node t ≡ false
 
 -- a list is empty, or ends with a node that fills a step
 abbrev pub EndsFilled : List Tree → Type 0
-EndsFilled ts = (before : List Tree) (last : Tree) → ts ≡ before ++ last ∷ [] → is_extra_node last ≡ false
+EndsFilled ts =
+    (before : List Tree) (last : Tree) → ts ≡ before ++ last ∷ [] → is_extra_node last ≡ false
 
 -- a production that lengthens a repetition has one as its first child
 abbrev pub Lengthens : Form → List Tree → Type 0
@@ -153,7 +159,8 @@ Lengthens (of_first alternative) ts = Unit {0}
 Lengthens (of_next alternative) [] = ⊥
 Lengthens (of_next alternative) (t ∷ ts) = 0 < length (elements_of t)
 
--- The children are the steps of the production of this number, in order, with extras between them alone.
+-- The children are the steps of the production of this number, in order, with extras between them
+-- alone.
 pub record FitsProduction (g : FlatGrammar) (number : ℕ) (children : List Tree) : Type 0 where
   pub left : ℕ
   pub production : Production
@@ -182,6 +189,7 @@ abbrev pub fills_by : List Element → List Tree → List (Option ℕ)
 fills_by [] ts = fills_from 0 ts
 fills_by (e ∷ es) ts = fills_in (e ∷ es) ts
 
+-- the same of a node
 abbrev pub fills_of : Tree → List (Option ℕ)
 fills_of t = fills_by (elements_of t) (children_of t)
 
@@ -191,6 +199,7 @@ fills_of t = fills_by (elements_of t) (children_of t)
 abbrev pub most_span : ℕ
 most_span = 1048576
 
+-- the greatest depth of a node
 abbrev pub most_depth : ℕ
 most_depth = 1000
 
@@ -200,26 +209,26 @@ node_limit = 2 ^ 31
 
 -- Its nodes are few, it fits a text, its children fit it, and it is not too deep.
 pub record IsSized (t : Tree) : Type 0 where
-  pub few : nodes_of t < node_limit
+  pub few : node_count t < node_limit
   pub short : span_of t ≤ most_span
   pub within : all_spans (children_of t) ≤ span_of t
-  pub shallow : depth_of t ≤ most_depth
+  pub shallow : tree_depth t ≤ most_depth
 
 -- the examined ranges of nodes that stand one after another from a place on end by another
 abbrev pub EndBy : ℕ → ℕ → List Tree → Type 0
 EndBy end place [] = Unit {0}
-EndBy end place (t ∷ ts) = (place + extent_of t ≤ end) × EndBy end (place + span_of t) ts
+EndBy end place (t ∷ ts) = (place + node_extent t ≤ end) × EndBy end (place + span_of t) ts
 
--- A settled node examined more than its own bytes, its children are settled, and no child's examined
--- range ends past its own.
+-- A settled node examined more than its own bytes, its children are settled, and no child's
+-- examined range ends past its own.
 pub record IsSettledWell (t : Tree) : Type 0 where
-  pub past : span_of t < extent_of t
+  pub past : span_of t < node_extent t
   pub inner : All (λ child. is_settled child ≡ true) (children_of t)
-  pub covers : EndBy (extent_of t) 0 (children_of t)
+  pub covers : EndBy (node_extent t) 0 (children_of t)
 
 -- Each production in a tree has a value of 32 bits, and each is a node or an element of it.
 abbrev pub IsModest : Tree → Type 0
-IsModest t = unsigned_abs (total_of t) ≤ 2 ^ 31 * nodes_of t
+IsModest t = unsigned_abs (total_of t) ≤ 2 ^ 31 * node_count t
 
 -- how many children elements have together
 abbrev pub children_count : List Element → ℕ

@@ -13,8 +13,8 @@ pub struct Element {
 
 /// A node of a parse tree: a leaf, a node of a production, or the flat node of a repetition.
 ///
-/// A node begins with `pad` bytes that belong to no token, and then has `size` bytes of its own. Its pad is that
-/// of its first child, and its children's bytes are its own, one after another.
+/// A node begins with `pad` bytes that belong to no token, and then has `size` bytes of its own.
+/// Its pad is that of its first child, and its children's bytes are its own, one after another.
 #[derive(Debug, PartialEq, Eq, Drop)]
 pub struct Tree {
     pub symbol: Symbol,
@@ -24,7 +24,8 @@ pub struct Tree {
     pub size: u32,
     /// The sum of the dynamic values of all productions in it.
     pub dynamic: i64,
-    /// How many bytes were examined to make it, from its first byte on. The end of the text counts as one.
+    /// How many bytes were examined to make it, from its first byte on. The end of the text counts
+    /// as one.
     pub extent: u32,
     /// The state below it, where one was fixed.
     pub state: Option<u16>,
@@ -37,7 +38,8 @@ pub struct Tree {
     pub children: List<Tree>,
 }
 
-/// Elements of a repetition one after another, with their children: a stretch of a repetition's node.
+/// Elements of a repetition one after another, with their children: a stretch of a repetition's
+/// node.
 #[derive(Debug, PartialEq, Eq, Drop)]
 pub struct Stretch {
     pub elements: List<Element>,

@@ -11,8 +11,8 @@ pub(crate) enum Content {
     Several(Vec<Piece>),
 }
 
-/// A text, bytes in hexadecimal, a text so many times, or a text once for each number from one to before another. In
-/// the last of these `#` stands for the number and `^` for the next one.
+/// A text, bytes in hexadecimal, a text so many times, or a text once for each number from one to
+/// before another. In the last of these `#` stands for the number and `^` for the next one.
 #[derive(Drop, Deserialize)]
 #[serde(untagged)]
 pub(crate) enum Piece {

@@ -1,6 +1,7 @@
-//! Whole runs of the program as rows of data. Its words name files of rows beside it; it makes each row's run over
-//! files and a sink in memory, prints each row whose answer differs from the one wanted, and then how many rows
-//! there were and how many differed. It ends with status 1 where one differs or a row cannot be read.
+//! Whole runs of the program as rows of data. Its words name files of rows beside it; it makes each
+//! row's run over files and a sink in memory, prints each row whose answer differs from the one
+//! wanted, and then how many rows there were and how many differed. It ends with status 1 where one
+//! differs or a row cannot be read.
 #![tactic(auto)]
 
 mod content;

@@ -1,9 +1,9 @@
 //! Rules in a short notation in; a grammar file out.
 use std::alloc::{AllocError, Global};
 
-/// The grammar file of these rules, with `;` between them. A rule is its name, `=` and words with blanks between
-/// them: `[` and `]` enclose a SEQ, `'..'` is a STRING and a name a SYMBOL. Names and texts are spelled as in JSON.
-/// The file's object has `members` before its name.
+/// The grammar file of these rules, with `;` between them. A rule is its name, `=` and words with
+/// blanks between them: `[` and `]` enclose a SEQ, `'..'` is a STRING and a name a SYMBOL. Names
+/// and texts are spelled as in JSON. The file's object has `members` before its name.
 pub(crate) fn grammar_of(alloc: Global, members: &str, rules: &str) -> Result<String, AllocError> {
     let mut file = String::from_str(alloc, "{")?;
     push_enclosed(&mut file, "", members, r#""name":"g","rules":{"#)?;

@@ -1,4 +1,5 @@
-//! A file of rows in, as JSON; its rows out, each the words and files of a run and the answer that is wanted.
+//! A file of rows in, as JSON; its rows out, each the words and files of a run and the answer that
+//! is wanted.
 use crate::content::Content;
 use crate::fault::DataFault;
 use crate::rules::Held;

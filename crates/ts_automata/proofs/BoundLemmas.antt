@@ -10,7 +10,7 @@ use Rattle.std.proofs.lemmas.List.Kept.{Contains-dedup}
 use Rattle.std.proofs.lemmas.Option.{slice_get_within}
 use Rattle.ts_automata.specs.declared.node.Node.{Node}
 use Rattle.ts_automata.specs.declared.node.Node.TheVariants.{Take}
-use Rattle.ts_automata.proofs.GrowsLemmas.{at_front}
+use Rattle.ts_base.proofs.PlaceLemmas.{in_prefix}
 use Rattle.ts_automata.proofs.SetLemmas.{at_last}
 use Rattle.ts_automata.proofs.NumberLemmas.{same_nat, nat_equiv}
 use Rattle.ts_automata.specs.Classes.{IsCut, Bounded, HasBounds, OfNode, OfNodes}
@@ -74,7 +74,7 @@ nodes_more T i node a b c below is before one =
 
     which : (r : ℕ × ℕ) → OfNodes (take i T ++ node ∷ []) r → OfNodes (take i T) r ⊎ OfNode node r
     which r h = ⊎_elim
-        (λ lt. inl (record { place = h.place; node = h.node; at = sym (at_front (take i T) (node ∷ []) h.place lt) ∙ h.at; of_node = h.of_node }))
+        (λ lt. inl (record { place = h.place; node = h.node; at = sym (in_prefix (take i T) (node ∷ []) h.place lt) ∙ h.at; of_node = h.of_node }))
         (λ past. let e = at_last (take i T) node h.node h.place past h.at in inr (subst (λ (x : Node). OfNode x r) e.1 h.of_node))
         (cases h.place (length (take i T)))
 

@@ -8,15 +8,7 @@ use Rattle.spec_lexing.specs.Words.{Regular, empty, never, one_of, both, either,
 use Rattle.ts_automata.specs.Grows.{IsInner, Stands, Agrees, Grows, more}
 use Rattle.ts_automata.proofs.RepeatLemmas.{Alike, none_is_empty, too_few_is_never, or_none}
 use Rattle.ts_automata.proofs.StandsLemmas.{alike, stands_empty, stands_set, stands_never, stands_both, stands_either, stands_star, stands_more, stands_wider}
-
-pub at_front : {X : Type 0} (xs ys : List X) (k : ℕ) → k < length xs → slice_get (xs ++ ys) k ≡ slice_get xs k
-at_front [] ys k h = absurd (omega arith)
-at_front (x ∷ xs) ys zero h = refl
-at_front (x ∷ xs) ys (suc k) h = at_front xs ys k (omega arith)
-
-pub at_end : {X : Type 0} (xs : List X) (y : X) → slice_get (xs ++ y ∷ []) (length xs) ≡ Some y
-at_end [] y = refl
-at_end (x ∷ xs) y = at_end xs y
+use Rattle.ts_base.proofs.PlaceLemmas.{in_prefix, at_end}
 
 at_set : {X : Type 0} (xs : List X) (k : ℕ) (y : X) → k < length xs → slice_get (set xs k y) k ≡ Some y
 at_set [] k y h = absurd (omega arith)
@@ -45,7 +37,7 @@ keeps_then a b c f g = let one = f.longer in let two = g.longer in record {
 }
 
 keeps_add : (a : List Node) (n : Node) → Keeps a (a ++ n ∷ [])
-keeps_add a n = record { longer = omega (arith, length-append a (n ∷ [])); kept = λ j h. at_front a (n ∷ []) j h }
+keeps_add a n = record { longer = omega (arith, length-append a (n ∷ [])); kept = λ j h. in_prefix a (n ∷ []) j h }
 
 -- what agrees with the whole agrees with a part
 inner : (a b c d : List Node) (T : List Node) → Keeps a b → Keeps c d → Agrees (length a) d T → Agrees (length b) c T
@@ -155,7 +147,7 @@ module _ (p : Regular) (a c : List Node) (next body : ℕ) where
       let size = length-append a (Split next next ∷ []) in
       record {
         longer = omega (arith, length-set c (length a) (Split body next));
-        kept = λ j h. at_other c (length a) j (Split body next) (λ e. omega arith) ∙ one.kept j (omega arith) ∙ at_front a (Split next next ∷ []) j h;
+        kept = λ j h. at_other c (length a) j (Split body next) (λ e. omega arith) ∙ one.kept j (omega arith) ∙ in_prefix a (Split next next ∷ []) j h;
       }
 
   star_stands : Grows p (length a) (a ++ Split next next ∷ []) c body → (T : List Node) → Agrees (length a) (set c (length a) (Split body next)) T

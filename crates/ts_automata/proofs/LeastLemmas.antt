@@ -3,7 +3,8 @@ use Rattle.std.proofs.Common.{◌≡◌, ◌∙◌, sym, ap, subst, ℕ, ◌+◌
 use Rattle.std.specs.List.{Contains}
 use Rattle.std.proofs.lemmas.List.Elements.{Contains-append_left, Contains-append_cases}
 use Rattle.ts_automata.specs.Sets.{Adds, Least, given, asked}
-use Rattle.ts_automata.proofs.ListLemmas.{cases_lt_or_eq, at_front, there, at_of}
+use Rattle.ts_automata.proofs.ListLemmas.{cases_lt_or_eq, there, at_of}
+use Rattle.ts_base.proofs.PlaceLemmas.{in_prefix}
 
 -- what the loop keeps
 pub record Closing {X : Type 0} (Asks : X → X → Type 0) (kernel found : List X) (next : ℕ) : Type 0 where
@@ -35,7 +36,7 @@ module _ {X : Type 0} (Asks : X → X → Type 0) where
       kept i h = subst (λ (l : List X). Contains l i) (sym adds.is) (Contains-append_left found adds.more i h)
 
       old : (k : ℕ) (i : X) → k < length found → slice_get new k ≡ Some i → slice_get found k ≡ Some i
-      old k i lt is = sym (at_front found adds.more k lt) ∙ ap (λ (l : List X). slice_get l k) (sym adds.is) ∙ is
+      old k i lt is = sym (in_prefix found adds.more k lt) ∙ ap (λ (l : List X). slice_get l k) (sym adds.is) ∙ is
 
       same : (i : X) → slice_get new next ≡ Some i → i ≡ from
       same i is = let e : Some i ≡ Some from = sym (old next i below is) ∙ at in cc

@@ -3,7 +3,7 @@ use Rattle.std.proofs.Common.{◌≡◌, ◌∙◌, sym, ap, refl, subst, ℕ, �
 use Rattle.std.proofs.Math.Dec.{leb}
 use Rattle.std.proofs.lemmas.Bool.Decides.{leb_tells}
 use Rattle.std.proofs.lemmas.List.{append-nil, take_more, map-append}
-use Rattle.ts_base.proofs.PlaceLemmas.{at_front, at_end, push_cases}
+use Rattle.ts_base.proofs.PlaceLemmas.{in_prefix, at_end, push_cases}
 use Rattle.spec_lexing.specs.Words.{Regular, Word, Front}
 use Rattle.ts_automata.specs.declared.node.Node.{Node}
 use Rattle.ts_automata.specs.declared.node.Node.TheVariants.{Take, Split, End}
@@ -49,7 +49,7 @@ module _ (T : List Node) (low high : ℕ) (p : Regular) (e a : ℕ) where
 pub has_part : (p : Regular) (a b c : List Node) (end e : ℕ) → end ≡ length a → b ≡ a ++ End ∷ [] → Grows p end b c e → HasPart a c p e
 has_part p a b c end e end_is is g = record {
   longer = (let l = g.longer in let s = size in omega arith);
-  kept = λ j h. g.kept j (let s = size in omega arith) ∙ ap (λ (l : List Node). slice_get l j) is ∙ at_front a (End ∷ []) j h;
+  kept = λ j h. g.kept j (let s = size in omega arith) ∙ ap (λ (l : List Node). slice_get l j) is ∙ in_prefix a (End ∷ []) j h;
   part = λ T h.
       let l = g.longer in
       let s = size in
@@ -128,7 +128,7 @@ fills_by old new n m part is f = subst (λ (k : ℕ). Fills old new k part) is f
 pub fills_more : (old new : List ℕ) (n part : ℕ) → length old ≤ n → Fills old new n part → Fills old (new ++ part ∷ []) (n + 1) part
 fills_more old new n part low f = record {
   size = omega (arith, length-append new (part ∷ []), f.size);
-  kept = λ j lt. at_front new (part ∷ []) j (let s = f.size in omega arith) ∙ f.kept j lt;
+  kept = λ j lt. in_prefix new (part ∷ []) j (let s = f.size in omega arith) ∙ f.kept j lt;
   filled = λ j from lt. by j from (leb_tells n j) lt;
 }
   where
@@ -136,7 +136,7 @@ fills_more old new n part low f = record {
     by j from (inl (_, le)) lt =
         let e : j ≡ length new = (let s = f.size in omega arith) in
         ap (λ (i : ℕ). slice_get (new ++ part ∷ []) i) e ∙ at_end new part
-    by j from (inr (_, less)) lt = at_front new (part ∷ []) j (let s = f.size in omega arith) ∙ f.filled j from less
+    by j from (inr (_, less)) lt = in_prefix new (part ∷ []) j (let s = f.size in omega arith) ∙ f.filled j from less
 
 -- ---- parts added one after another
 

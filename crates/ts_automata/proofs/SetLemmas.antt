@@ -10,7 +10,7 @@ use Rattle.ts_automata.specs.declared.node.Node.{Node}
 use Rattle.ts_automata.specs.Reads.{Takes}
 use Rattle.ts_automata.specs.Sets.{Adds, Moves, Numbers, Grew, IsNext, IsFirst, IsRow, IsSubset, Each, sets_of}
 use Rattle.ts_automata.proofs.AddsLemmas.{adds_none, adds_both}
-use Rattle.ts_automata.proofs.ListLemmas.{at_front}
+use Rattle.ts_base.proofs.PlaceLemmas.{in_prefix}
 
 -- ---- the nodes to which a character leads
 
@@ -46,7 +46,7 @@ cases_lt (suc m) (suc n) = ⊎_elim (λ h. inl (omega arith)) (λ h. inr (omega 
 
 pub each_more : {X : Type 0} (P : ℕ → X → Type 0) (xs : List X) (x : X) → Each P xs → P (length xs) x → Each P (xs ++ x ∷ [])
 each_more {X} P xs x all one k y at =
-    ⊎_elim (λ lt. all k y (sym (at_front xs (x ∷ []) k lt) ∙ at))
+    ⊎_elim (λ lt. all k y (sym (in_prefix xs (x ∷ []) k lt) ∙ at))
     (λ past. let r = at_last xs x y k past at in subst (λ (j : ℕ). P j y) (sym r.0) (subst (λ (z : X). P (length xs) z) (sym r.1) one))
     (cases_lt k (length xs))
 
@@ -60,10 +60,10 @@ pub grew_both : (a b c : List (List ℕ)) → Grew a b → Grew b c → Grew a c
 grew_both a b c (m, e) (n, f) = (m ++ n, f ∙ ap (λ (l : List (List ℕ)). l ++ n) e ∙ append_assoc a m n)
 
 pub at_grown : (a b : List (List ℕ)) (k : ℕ) (s : List ℕ) → Grew a b → slice_get a k ≡ Some s → slice_get b k ≡ Some s
-at_grown a b k s (m, e) at = ap (λ (l : List (List ℕ)). slice_get l k) e ∙ at_front a m k (slice_get_within a k s at) ∙ at
+at_grown a b k s (m, e) at = ap (λ (l : List (List ℕ)). slice_get l k) e ∙ in_prefix a m k (slice_get_within a k s at) ∙ at
 
 pub at_shrunk : (a b : List (List ℕ)) (k : ℕ) (s : List ℕ) → Grew a b → k < length a → slice_get b k ≡ Some s → slice_get a k ≡ Some s
-at_shrunk a b k s (m, e) lt at = sym (at_front a m k lt) ∙ ap (λ (l : List (List ℕ)). slice_get l k) (sym e) ∙ at
+at_shrunk a b k s (m, e) lt at = sym (in_prefix a m k lt) ∙ ap (λ (l : List (List ℕ)). slice_get l k) (sym e) ∙ at
 
 pub grown_longer : (a b : List (List ℕ)) → Grew a b → length a ≤ length b
 grown_longer a b (m, e) = omega (arith, ap (λ (l : List (List ℕ)). length l) e, length-append a m)

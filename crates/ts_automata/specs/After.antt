@@ -9,7 +9,8 @@ abbrev pub Comes : List Node → List ℕ → List ℕ → ℕ → Type 0
 Comes T kernel w t = (e : ℕ) × Contains kernel e × Leads T e w t
 
 -- after these characters the automaton is in the set of this number
-pub record After (T : List Node) (kernel : List ℕ) (sets : List (List ℕ)) (w : List ℕ) (n : ℕ) : Type 0 where
+pub record After (T : List Node) (kernel : List ℕ) (sets : List (List ℕ)) (w : List ℕ)
+    (n : ℕ) : Type 0 where
   pub set : List ℕ
   pub at : slice_get sets n ≡ Some set
   pub holds : (t : ℕ) → Contains set t ↔ Comes T kernel w t

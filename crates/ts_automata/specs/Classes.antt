@@ -17,12 +17,16 @@ pub record IsClass (bounds : List ℕ) (c k : ℕ) : Type 0 where
 pub record IsCut (T : List Node) (bounds : List ℕ) : Type 0 where
   pub sorted : IsStrictlySortedBy nat_cmp bounds
   pub zero_in : Contains bounds 0
-  pub low : (s a : ℕ) (ranges : List (ℕ × ℕ)) (range : ℕ × ℕ) → slice_get T s ≡ Some (Take ranges a) → Contains ranges range → Contains bounds range.0
-  pub high : (s a : ℕ) (ranges : List (ℕ × ℕ)) (range : ℕ × ℕ) → slice_get T s ≡ Some (Take ranges a) → Contains ranges range → range.1 < 2 ^ 32 - 1 → Contains bounds (range.1 + 1)
+  pub low : (s a : ℕ) (ranges : List (ℕ × ℕ)) (range : ℕ × ℕ) → slice_get T s ≡ Some (Take ranges a)
+      → Contains ranges range → Contains bounds range.0
+  pub high : (s a : ℕ) (ranges : List (ℕ × ℕ)) (range : ℕ × ℕ)
+      → slice_get T s ≡ Some (Take ranges a) → Contains ranges range → range.1 < 2 ^ 32 - 1
+      → Contains bounds (range.1 + 1)
 
 -- the list has the first character of the range and the one past its last
 abbrev pub Bounded : ℕ × ℕ → List ℕ → Type 0
-Bounded range bounds = Contains bounds range.0 × (range.1 < 2 ^ 32 - 1 → Contains bounds (range.1 + 1))
+Bounded range bounds =
+    Contains bounds range.0 × (range.1 < 2 ^ 32 - 1 → Contains bounds (range.1 + 1))
 
 -- the list keeps what it has, and then has the bounds of these ranges
 pub record HasBounds (Q : ℕ × ℕ → Type 0) (old new : List ℕ) : Type 0 where

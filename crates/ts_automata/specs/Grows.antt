@@ -1,4 +1,5 @@
--- A part of an automaton that reads the words of a regular expression, while the automaton is built.
+-- A part of an automaton that reads the words of a regular expression, while the automaton is
+-- built.
 use Rattle.std.specs.Prelude.{◌≡◌, ℕ, ◌+◌, ◌≤◌, ◌<◌, List, [], ◌∷◌, ◌++◌, suc, length, slice_get}
 use Rattle.std.specs.Prelude.{Option, None, Some}
 use Rattle.ts_automata.specs.declared.node.Node.{Node}
@@ -12,11 +13,13 @@ pub record IsInner (T : List Node) (low high t : ℕ) : Type 0 where
   pub goes_on : IsEnd T t → ⊥
 
 -- what was read either goes past a word of the expression, or stops at a node inside
-pub data Back (T : List Node) (I : ℕ → Type 0) (p : Regular) (next n : ℕ) (w : List ℕ) (t : ℕ) : Type 0 where
+pub data Back (T : List Node) (I : ℕ → Type 0) (p : Regular) (next n : ℕ) (w : List ℕ)
+    (t : ℕ) : Type 0 where
   leaves : (u v : List ℕ) → w ≡ u ++ v → Word p u → Reads T n next v t → Back T I p next n w t
   inside : Front p w → I t → Back T I p next n w t
 
--- from the node a word of the expression is read and then what the next node reads, and nothing else
+-- from the node a word of the expression is read and then what the next node reads, and nothing
+-- else
 pub record Stands (T : List Node) (I : ℕ → Type 0) (p : Regular) (s next : ℕ) : Type 0 where
   pub word : (n : ℕ) (u v : List ℕ) (t : ℕ) → Word p u → Reads T n next v t → Leads T s (u ++ v) t
   pub front : (w : List ℕ) → Front p w → (t : ℕ) × Leads T s w t

@@ -8,12 +8,14 @@ use Rattle.ts_automata.specs.After.{After}
 -- the tables stand for the sets of nodes of the automaton
 pub record IsMachine (m : Machine) : Type 0 where
   pub rows : Each (λ n row. (s : List ℕ) → slice_get (sets_of m.sets.keys) n ≡ Some s
-      → IsRow m.automaton.nodes.items (sets_of m.sets.keys) s m.bounds.items row) (rows_of m.rows.items)
+      → IsRow m.automaton.nodes.items (sets_of m.sets.keys) s m.bounds.items row)
+      (rows_of m.rows.items)
   pub row_count : length (rows_of m.rows.items) ≡ length (sets_of m.sets.keys)
   pub cut : IsCut m.automaton.nodes.items m.bounds.items
   pub ascii_count : length m.ascii.items ≡ 128
   pub ascii_class : Each (λ c k. IsClass m.bounds.items c k) m.ascii.items
-  pub first : IsFirst m.automaton.nodes.items (sets_of m.sets.keys) m.automaton.entries.items m.first
+  pub first : IsFirst m.automaton.nodes.items
+      (sets_of m.sets.keys) m.automaton.entries.items m.first
 
 -- how many sets there are
 abbrev pub state_count : Machine → ℕ

@@ -5,8 +5,8 @@ use Rattle.ts_automata.specs.declared.node.Node.{Node}
 use Rattle.ts_automata.specs.Reads.{Leads, IsEnd}
 use Rattle.ts_automata.specs.Grows.{Agrees}
 
--- From the node exactly the words of the expression lead to an end, and exactly its fronts lead anywhere.
--- All the nodes to which they lead are the expression's own.
+-- From the node exactly the words of the expression lead to an end, and exactly its fronts lead
+-- anywhere. All the nodes to which they lead are the expression's own.
 pub record IsPart (T : List Node) (Own : ℕ → Type 0) (p : Regular) (e : ℕ) : Type 0 where
   pub word : (w : List ℕ) → Word p w → (t : ℕ) × Leads T e w t × IsEnd T t
   pub ends : (w : List ℕ) (t : ℕ) → Leads T e w t → IsEnd T t → Word p w
@@ -22,14 +22,16 @@ pub record HasPart (old new : List Node) (p : Regular) (e : ℕ) : Type 0 where
       → IsPart T (λ t. (length old ≤ t) × (t < length new)) p e
 
 -- each part has its first node, and each node its part
-pub record AreParts (nodes : List Node) (owners entries : List ℕ) (parts : List Regular) : Type 0 where
+pub record AreParts (nodes : List Node) (owners entries : List ℕ)
+    (parts : List Regular) : Type 0 where
   pub count : length entries ≡ length parts
   pub owned : length owners ≡ length nodes
   pub part : (k e : ℕ) (p : Regular) → slice_get entries k ≡ Some e → slice_get parts k ≡ Some p
       → IsPart nodes (λ t. slice_get owners t ≡ Some k) p e
 
 -- the same of longer lists too, while nodes are added
-pub record HaveParts (nodes : List Node) (owners entries : List ℕ) (parts : List Regular) : Type 0 where
+pub record HaveParts (nodes : List Node) (owners entries : List ℕ)
+    (parts : List Regular) : Type 0 where
   pub count : length entries ≡ length parts
   pub owned : length owners ≡ length nodes
   pub part : (k e : ℕ) (p : Regular) → slice_get entries k ≡ Some e → slice_get parts k ≡ Some p

@@ -21,7 +21,8 @@ pub record Splits (T : List Node) (s a : ℕ) : Type 0 where
 pub data Reads (T : List Node) : ℕ → ℕ → List ℕ → ℕ → Type 0 where
   here : (n s : ℕ) → Reads T n s [] s
   goes : (n s a t : ℕ) (w : List ℕ) → Splits T s a → Reads T n a w t → Reads T (suc n) s w t
-  takes : (n s c a t : ℕ) (w : List ℕ) → Takes T s c a → Reads T n a w t → Reads T (suc n) s (c ∷ w) t
+  takes : (n s c a t : ℕ) (w : List ℕ) → Takes T s c a → Reads T n a w t
+      → Reads T (suc n) s (c ∷ w) t
 
 -- the characters lead from the first node to the other
 abbrev pub Leads : List Node → ℕ → List ℕ → ℕ → Type 0

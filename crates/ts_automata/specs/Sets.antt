@@ -55,7 +55,8 @@ pub record IsNext (T : List Node) (sets : List (List ℕ)) (s : List ℕ) (c m :
   pub closed : Same (Contains set) (Closure T kernel)
 
 -- the row has the number of the next set for each of the characters
-pub record IsRow (T : List Node) (sets : List (List ℕ)) (s : List ℕ) (bounds row : List ℕ) : Type 0 where
+pub record IsRow (T : List Node) (sets : List (List ℕ)) (s : List ℕ)
+    (bounds row : List ℕ) : Type 0 where
   pub size : length row ≡ length bounds
   pub next : Each (λ k m. (c : ℕ) → slice_get bounds k ≡ Some c → IsNext T sets s c m) row
 
@@ -69,8 +70,12 @@ abbrev pub rows_of : List (Vec ℕ) → List (List ℕ)
 rows_of = sets_of
 
 -- The numbered sets: one for each list of first nodes, and a row for each set.
-pub record IsSubset (T : List Node) (kernels : List (List ℕ)) (bounds : List ℕ) (begins : List ℕ) (sets table : List (List ℕ)) : Type 0 where
-  pub first : Each (λ v n. (kernel : List ℕ) → slice_get kernels v ≡ Some kernel → IsFirst T sets kernel n) begins
+pub record IsSubset (T : List Node) (kernels : List (List ℕ)) (bounds : List ℕ) (begins : List ℕ)
+    (sets table : List (List ℕ)) : Type 0 where
+  pub first : Each
+      (λ v n. (kernel : List ℕ) → slice_get kernels v ≡ Some kernel
+      → IsFirst T sets kernel n) begins
   pub each : length begins ≡ length kernels
-  pub rows : Each (λ n row. (s : List ℕ) → slice_get sets n ≡ Some s → IsRow T sets s bounds row) table
+  pub rows : Each
+      (λ n row. (s : List ℕ) → slice_get sets n ≡ Some s → IsRow T sets s bounds row) table
   pub all : length table ≡ length sets

@@ -8,8 +8,8 @@ use crate::part::{add_nodes, own};
 use std::alloc::{AllocError, Global};
 use ts_core::{FlatGrammar, Re, TokenDef};
 
-/// Nodes that read the tokens and the separators of a grammar. These are its parts, by their places: the
-/// tokens, so that the token of symbol k is part k - 1, and then the separators.
+/// Nodes that read the tokens and the separators of a grammar. These are its parts, by their
+/// places: the tokens, so that the token of symbol k is part k - 1, and then the separators.
 #[derive(Debug, Drop)]
 pub struct Automaton {
     pub nodes: Vec<Node>,
@@ -21,8 +21,9 @@ pub struct Automaton {
 
 /// Makes the automaton of a grammar.
 ///
-/// Its nodes are at most about twice as many as the pattern positions of the grammar, where a repetition
-/// counts the positions of its inner part as often as it may at least, and at most, be taken.
+/// Its nodes are at most about twice as many as the pattern positions of the grammar, where a
+/// repetition counts the positions of its inner part as often as it may at least, and at most, be
+/// taken.
 ///
 /// # Errors
 ///
@@ -58,7 +59,8 @@ fn add_tokens(
     automaton: &mut Automaton,
     tokens: &[TokenDef],
 ) -> Result<(), AllocError>
-    ensures { OnOk result (Gains automaton.old automaton.new (map (λ token. regular_of token.re) tokens.now)) }
+    ensures { OnOk result
+        (Gains automaton.old automaton.new (map (λ token. regular_of token.re) tokens.now)) }
 {
     for token in tokens {
         add_part(alloc, automaton, &token.re)?;

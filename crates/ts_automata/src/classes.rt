@@ -1,5 +1,5 @@
-//! Classes of characters: the nodes go in, and the first character of each class comes out. The characters
-//! of a class lead to the same nodes from everywhere.
+//! Classes of characters: the nodes go in, and the first character of each class comes out. The
+//! characters of a class lead to the same nodes from everywhere.
 ghost use Rattle.std.specs.Prelude.{◌≡◌, ℕ, ◌+◌, ◌-◌, ◌<◌, ◌^◌, List, length, slice_get, Some, IfOk, OnOk};
 ghost use Rattle.std.specs.List.{Contains};
 ghost use Rattle.ts_automata.specs.Sets.{Each};

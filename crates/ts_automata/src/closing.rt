@@ -1,5 +1,5 @@
-//! Closed sets of nodes: some nodes go in, and the set of those to which they go on without a character
-//! comes out, or those to which a character leads.
+//! Closed sets of nodes: some nodes go in, and the set of those to which they go on without a
+//! character comes out, or those to which a character leads.
 ghost use Rattle.std.specs.Prelude.{◌≡◌, ℕ, ◌<◌, ◌⊎◌, length, IfOk, OnOk, IsTrue, slice_get, Some, ◌↔◌};
 ghost use Rattle.std.specs.List.{Contains};
 ghost use Rattle.spec_lexing.specs.Words.{IsIn};

@@ -1,4 +1,5 @@
-//! Nodes for one regular expression: it goes in with the node to go on at, and its first node comes out.
+//! Nodes for one regular expression: it goes in with the node to go on at, and its first node comes
+//! out.
 ghost use Rattle.std.specs.Prelude.{◌≡◌, Some, None, map, IfOk};
 ghost use Rattle.spec_lexing.specs.Words.{regular_of, all_of, any_of, repeat};
 ghost use Rattle.ts_automata.specs.Grows.{Grows, Put, Repeats};
@@ -53,7 +54,8 @@ fn add_all(
     parts: &[Re],
     next: usize,
 ) -> Result<usize, AllocError>
-    ensures { IfOk result (Grows (all_of (map regular_of parts.now)) next nodes.old.items nodes.new.items) }
+    ensures { IfOk result
+        (Grows (all_of (map regular_of parts.now)) next nodes.old.items nodes.new.items) }
 {
     let mut to = next;
     for i in (0..parts.len()).rev() {
@@ -69,7 +71,8 @@ fn add_any(
     parts: &[Re],
     next: usize,
 ) -> Result<usize, AllocError>
-    ensures { IfOk result (Grows (any_of (map regular_of parts.now)) next nodes.old.items nodes.new.items) }
+    ensures { IfOk result
+        (Grows (any_of (map regular_of parts.now)) next nodes.old.items nodes.new.items) }
 {
     let mut to = put(nodes, Node::Take(List::new(alloc), next))?;
     for i in (0..parts.len()).rev() {
@@ -88,7 +91,8 @@ fn add_times(
     count: u32,
     to: usize,
 ) -> Result<usize, AllocError>
-    ensures { IfOk result (Repeats (regular_of inner.now) count nodes.old.items to nodes.new.items) }
+    ensures { IfOk result
+        (Repeats (regular_of inner.now) count nodes.old.items to nodes.new.items) }
 {
     let mut place = to;
     for _done in 0..count {
@@ -106,7 +110,9 @@ fn add_up_to(
     count: u32,
     next: usize,
 ) -> Result<usize, AllocError>
-    ensures { IfOk result (Grows (repeat (regular_of inner.now) 0 (Some count)) next nodes.old.items nodes.new.items) }
+    ensures { IfOk result
+        (Grows
+        (repeat (regular_of inner.now) 0 (Some count)) next nodes.old.items nodes.new.items) }
 {
     let mut place = next;
     for _done in 0..count {
@@ -125,7 +131,9 @@ fn add_between(
     most: u32,
     next: usize,
 ) -> Result<usize, AllocError>
-    ensures { IfOk result (Grows (repeat (regular_of inner.now) least (Some most)) next nodes.old.items nodes.new.items) }
+    ensures { IfOk result
+        (Grows
+        (repeat (regular_of inner.now) least (Some most)) next nodes.old.items nodes.new.items) }
 {
     if most < least {
         let never = put(nodes, Node::Take(List::new(alloc), next))?;
@@ -144,7 +152,8 @@ fn add_without_end(
     least: u32,
     next: usize,
 ) -> Result<usize, AllocError>
-    ensures { IfOk result (Grows (repeat (regular_of inner.now) least None) next nodes.old.items nodes.new.items) }
+    ensures { IfOk result
+        (Grows (repeat (regular_of inner.now) least None) next nodes.old.items nodes.new.items) }
 {
     let round = put(nodes, Node::Split(next, next))?;
     let body = add(alloc, nodes, inner, round)?;

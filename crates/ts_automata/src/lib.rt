@@ -1,5 +1,6 @@
-//! The automaton that reads the tokens and the separators of a grammar: a grammar in normal form goes in,
-//! and nodes come out, which lead on over characters, with a first node for each token and separator.
+//! The automaton that reads the tokens and the separators of a grammar: a grammar in normal form
+//! goes in, and nodes come out, which lead on over characters, with a first node for each token and
+//! separator.
 #![tactic(auto)]
 
 mod automaton;

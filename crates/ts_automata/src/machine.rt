@@ -1,5 +1,5 @@
-//! An automaton made deterministic: the automaton goes in, and tables come out, by which one set of nodes
-//! leads to the next over a character by one look-up.
+//! An automaton made deterministic: the automaton goes in, and tables come out, by which one set of
+//! nodes leads to the next over a character by one look-up.
 ghost use Rattle.std.specs.Prelude.{◌≡◌, ◌<◌, ◌++◌, ◌∷◌, [], ℕ, List, slice_get, Some, IfOk};
 ghost use Rattle.ts_automata.specs.Sets.{sets_of};
 ghost use Rattle.ts_automata.specs.Machine.{IsMachine, HasRead, state_count};
@@ -79,7 +79,8 @@ impl Machine {
         requires made { IsMachine self.now }
         requires within { state < state_count self.now }
         ensures within { result < state_count self.now }
-        ensures stands { (w : List ℕ) → HasRead self.now w state → HasRead self.now (w ++ c ∷ []) result }
+        ensures stands { (w : List ℕ) → HasRead self.now w state
+            → HasRead self.now (w ++ c ∷ []) result }
     {
         let class = class_of(self.bounds.as_slice(), self.ascii.as_slice(), c as u32);
         self.rows[state][class]

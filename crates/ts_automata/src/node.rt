@@ -1,3 +1,5 @@
+//! The nodes of an automaton: expressions are compiled to them, and sets of them are made of them.
+
 use ts_base::List;
 
 /// A node of an automaton. Each names the nodes that follow it by their places.

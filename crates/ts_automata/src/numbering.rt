@@ -1,5 +1,5 @@
-//! Numbers for sets of nodes: an automaton goes in, and the sets that it can be in come out, each with the
-//! number of the set to which it goes on over each class of characters.
+//! Numbers for sets of nodes: an automaton goes in, and the sets that it can be in come out, each
+//! with the number of the set to which it goes on over each class of characters.
 ghost use Rattle.std.specs.Prelude.{◌≡◌, ℕ, ◌<◌, List, [], length, OnOk, IfOk, slice_get, Some, map};
 ghost use Rattle.std.specs.List.{Contains};
 ghost use Rattle.ts_automata.specs.Sets.{sets_of, rows_of, Each, Numbers, Grew, IsNext, IsRow, IsFirst, IsSubset};
@@ -9,8 +9,8 @@ use crate::node::Node;
 use indexmap::IndexSet;
 use std::alloc::{AllocError, Global};
 
-/// The numbered sets, the number of the first set for each list of nodes, and for each set and class where
-/// it leads.
+/// The numbered sets, the number of the first set for each list of nodes, and for each set and
+/// class where it leads.
 #[derive(Drop)]
 pub(crate) struct Numbered {
     pub sets: IndexSet<Vec<usize>>,
@@ -20,7 +20,8 @@ pub(crate) struct Numbered {
 
 /// The number of a set, which is added at the end where it is new.
 fn number_of(sets: &mut IndexSet<Vec<usize>>, set: Vec<usize>) -> Result<usize, AllocError>
-    ensures { IfOk result (λ n. Numbers (sets_of sets.old.keys) (sets_of sets.new.keys) set.items n) }
+    ensures { IfOk result
+        (λ n. Numbers (sets_of sets.old.keys) (sets_of sets.new.keys) set.items n) }
 {
     let (number, _) = sets.insert_full(set)?;
     Ok(number)
@@ -61,7 +62,9 @@ fn next(
 ) -> Result<usize, AllocError>
     requires at { at < length sets.old.keys }
     ensures grows { OnOk result (Grew (sets_of sets.old.keys) (sets_of sets.new.keys)) }
-    ensures next { IfOk result (λ m. (s : List ℕ) → slice_get (sets_of sets.old.keys) at ≡ Some s → IsNext nodes.now (sets_of sets.new.keys) s c m) }
+    ensures next { IfOk result
+        (λ m. (s : List ℕ) → slice_get (sets_of sets.old.keys) at ≡ Some s
+        → IsNext nodes.now (sets_of sets.new.keys) s c m) }
 {
     let kernel = moved(alloc, nodes, set_at(sets, at), c)?;
     let set = set_of(alloc, nodes, kernel.as_slice())?;
@@ -79,7 +82,9 @@ fn row(
 ) -> Result<Vec<usize>, AllocError>
     requires at { at < length sets.old.keys }
     ensures grows { OnOk result (Grew (sets_of sets.old.keys) (sets_of sets.new.keys)) }
-    ensures row { IfOk result (λ r. (s : List ℕ) → slice_get (sets_of sets.old.keys) at ≡ Some s → IsRow nodes.now (sets_of sets.new.keys) s bounds.now r.items) }
+    ensures row { IfOk result
+        (λ r. (s : List ℕ) → slice_get (sets_of sets.old.keys) at ≡ Some s
+        → IsRow nodes.now (sets_of sets.new.keys) s bounds.now r.items) }
 {
     let mut row = Vec::new(alloc);
     for c in bounds {
@@ -98,7 +103,10 @@ fn firsts(
 ) -> Result<Vec<usize>, AllocError>
     ensures grows { OnOk result (Grew (sets_of sets.old.keys) (sets_of sets.new.keys)) }
     ensures size { IfOk result (λ r. length r.items ≡ length kernels.now) }
-    ensures first { IfOk result (λ r. Each (λ v n. (kernel : List ℕ) → slice_get (sets_of kernels.now) v ≡ Some kernel → IsFirst nodes.now (sets_of sets.new.keys) kernel n) r.items) }
+    ensures first { IfOk result
+        (λ r. Each
+        (λ v n. (kernel : List ℕ) → slice_get (sets_of kernels.now) v ≡ Some kernel
+        → IsFirst nodes.now (sets_of sets.new.keys) kernel n) r.items) }
 {
     let mut numbers = Vec::new(alloc);
     for kernel in kernels {
@@ -115,7 +123,9 @@ pub(crate) fn determinise(
     bounds: &[u32],
     kernels: &[Vec<usize>],
 ) -> Result<Numbered, AllocError>
-    ensures { IfOk result (λ m. IsSubset nodes.now (sets_of kernels.now) bounds.now m.firsts.items (sets_of m.sets.keys) (rows_of m.rows.items)) }
+    ensures { IfOk result
+        (λ m. IsSubset nodes.now (sets_of kernels.now) bounds.now m.firsts.items
+        (sets_of m.sets.keys) (rows_of m.rows.items)) }
 {
     let mut sets = IndexSet::new(alloc);
     let first_sets = firsts(alloc, nodes, &mut sets, kernels)?;

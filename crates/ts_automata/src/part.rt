@@ -1,5 +1,5 @@
-//! The nodes of one token or separator: its expression goes in, the nodes are added to those that are
-//! there, and its first node comes out.
+//! The nodes of one token or separator: its expression goes in, the nodes are added to those that
+//! are there, and its first node comes out.
 ghost use Rattle.std.specs.Prelude.{◌≤◌, length, IfOk, OnOk};
 ghost use Rattle.spec_lexing.specs.Words.{regular_of};
 ghost use Rattle.ts_automata.specs.Parts.{HasPart, Fills};
@@ -21,7 +21,8 @@ pub(crate) fn add_nodes(alloc: Global, nodes: &mut Vec<Node>, re: &Re) -> Result
 
 /// Gives all nodes up to this many that have no part yet to the part.
 pub(crate) fn own(owners: &mut Vec<usize>, count: usize, part: usize) -> Result<(), AllocError>
-    ensures { length owners.old.items ≤ count → OnOk result (Fills owners.old.items owners.new.items count part) }
+    ensures { length owners.old.items ≤ count
+        → OnOk result (Fills owners.old.items owners.new.items count part) }
 {
     for _node in owners.len()..count {
         owners.push(part)?;

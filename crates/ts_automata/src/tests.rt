@@ -1,3 +1,5 @@
+//! That building succeeds where memory is there, and what it comes to on a small grammar.
+
 ghost use Rattle.ts_automata.specs.Machine.{IsMachine};
 
 use crate::{Automaton, Machine, Node, build, machine_of};

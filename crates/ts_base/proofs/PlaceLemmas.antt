@@ -13,11 +13,11 @@ set_there (x ∷ xs) zero (suc k) v other = refl
 set_there (x ∷ xs) (suc i) zero v other = refl
 set_there (x ∷ xs) (suc i) (suc k) v other = set_there xs i k v (λ e. other (ap (λ (n : ℕ). suc n) e))
 
--- an element of the front of a list
-pub at_front : {X : Type 0} (xs ys : List X) (k : ℕ) → k < length xs → slice_get (xs ++ ys) k ≡ slice_get xs k
-at_front [] ys k below = absurd (omega arith)
-at_front (x ∷ xs) ys zero below = refl
-at_front (x ∷ xs) ys (suc k) below = at_front xs ys k (omega arith)
+-- an element of the first part of a list
+pub in_prefix : {X : Type 0} (xs ys : List X) (k : ℕ) → k < length xs → slice_get (xs ++ ys) k ≡ slice_get xs k
+in_prefix [] ys k below = absurd (omega arith)
+in_prefix (x ∷ xs) ys zero below = refl
+in_prefix (x ∷ xs) ys (suc k) below = in_prefix xs ys k (omega arith)
 
 -- the element that was pushed
 pub at_end : {X : Type 0} (xs : List X) (y : X) → slice_get (xs ++ y ∷ []) (length xs) ≡ Some y

@@ -1,3 +1,5 @@
+//! What a parser does: an entry of its table, taken in by the parser and by nobody else.
+
 /// What a parser does on a token in a state.
 #[derive(Clone, Copy, Debug, PartialEq, Eq, PartialOrd, Ord, Hash)]
 pub enum Action {

@@ -1,3 +1,6 @@
+//! A grammar in normal form: a grammar file or a language file comes to it, and tables and automata
+//! are made of it.
+
 use crate::re::Re;
 use crate::symbol::{Kind, Symbol};
 use ts_base::{List, Str};
@@ -78,7 +81,8 @@ pub enum Entry {
     Rule(Symbol),
 }
 
-/// A grammar in normal form. Symbol 0 is the end, then come the tokens and then the rules, the start rule first.
+/// A grammar in normal form. Symbol 0 is the end, then come the tokens and then the rules, the
+/// start rule first.
 #[derive(Debug, PartialEq, Eq, Drop)]
 pub struct FlatGrammar {
     pub name: Str,

@@ -1,5 +1,6 @@
-//! The types that the crates share: grammar files, grammars in normal form, parser actions, and the nodes
-//! that are printed. Values of these types go in and out of every other crate; nothing is computed here.
+//! The types that the crates share: grammar files, grammars in normal form, parser actions, and the
+//! nodes that are printed. Values of these types go in and out of every other crate; nothing is
+//! computed here.
 #![tactic(auto)]
 
 mod action;

@@ -1,3 +1,6 @@
+//! Why a grammar is refused although each of its parts can be read: a limit is passed, or the
+//! normal form can't be used.
+
 use crate::symbol::Symbol;
 
 /// What there is too much of in a grammar.

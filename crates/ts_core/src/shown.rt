@@ -1,7 +1,9 @@
+//! A node of the visible tree, as the cursor gives it and the printed line has it.
+
 use ts_base::{List, Str};
 
-/// A node of the visible tree, as it is printed. Places, rows and columns are counted from 0; columns and
-/// places are in bytes.
+/// A node of the visible tree, as it is printed. Places, rows and columns are counted from 0;
+/// columns and places are in bytes.
 #[derive(Debug, PartialEq, Eq, Drop)]
 pub struct Shown {
     /// How many nodes it stands in. The root's is 0.

@@ -1,4 +1,5 @@
--- Lists whose items are read one after another: what holds when those before a place are read without fault.
+-- Lists whose items are read one after another: what holds when those before a place are read
+-- without fault.
 use Rattle.std.proofs.Common.{◌≡◌, ◌∙◌, sym, ap, ℕ, suc, ◌+◌, ◌<◌, add-one, List, [], ◌∷◌, ◌++◌, append_assoc, length, get_or, drop, drop-cons, Option, Some, None, Result, Bor, subst}
 use Rattle.ts_base.specs.Bytes.{Bytes}
 use Rattle.ts_ojson.specs.declared.value.OJson.{OJson}
@@ -9,7 +10,8 @@ use Rattle.ts_grammar_json.specs.Members.{items_json}
 use Rattle.ts_grammar_json.specs.Faults.{under, first, must, may}
 use Rattle.ts_grammar_json.specs.Found.{Gives, json_at}
 
--- the faults of a whole array are those from this place on, and what is read of it are these and then the rest
+-- the faults of a whole array are those from this place on, and what is read of it are these and
+-- then the rest
 pub record SoFar {X : Type 0} (faults : ℕ → Items → List GFault) (read_all : Items → List X) (all : List OJson) (i : ℕ) (out : List X) : Type 0 where
   pub none_yet : faults 0 (items_json all) ≡ faults i (items_json (drop i all))
   pub read_yet : read_all (items_json all) ≡ out ++ read_all (items_json (drop i all))

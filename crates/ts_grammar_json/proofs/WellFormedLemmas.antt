@@ -95,7 +95,8 @@ none_wrong h = cc
 
 -- ---- rules
 
--- what holds of a rule's tree where nothing is wrong with its own members, and the trees inside it are so
+-- what holds of a rule's tree where nothing is wrong with its own members, and the trees inside it
+-- are so
 fine_by : (t : RuleType) (m : Looked) (content : Rule) (members : List Rule) (cf mf : List GFault)
     → inner_faults t cf mf ≡ [] → (cf ≡ [] → has_choices content ≡ true) → (mf ≡ [] → all_fine members ≡ true) → (own_faults t m ≡ []) → (own_faults Choice m ≡ [] → members ≡ [] → ⊥)
     → has_choices (tree_of t m content members) ≡ true

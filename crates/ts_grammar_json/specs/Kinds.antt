@@ -67,7 +67,9 @@ positive_of digits =
 
 abbrev pub negative_of : Bytes → Option ℤ
 negative_of digits =
-    if is_numeral_below (2 ^ 31 + 1) digits then Some (neg_ℤ (pos (digits_value 10 digits))) else None
+    if is_numeral_below (2 ^ 31 + 1) digits
+    then Some (neg_ℤ (pos (digits_value 10 digits)))
+    else None
 
 abbrev pub integer_of : Bytes → Option ℤ
 integer_of spelling =

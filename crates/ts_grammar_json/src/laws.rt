@@ -25,8 +25,8 @@ pub fn refused_is_no_grammar()
         → IsGrammar value g → ⊥ }
 {}
 
-/// A grammar that a file stands for, whose objects have no two members of one name, has a rule and not
-/// too many, none without a name, no two of one name, and no CHOICE without members.
+/// A grammar that a file stands for, whose objects have no two members of one name, has a rule and
+/// not too many, none without a name, no two of one name, and no CHOICE without members.
 pub fn grammars_are_well_formed()
     ensures { (g : AnyGrammar) (value : Json) → HasDistinctNames value
         → IsGrammar value g → IsWellFormed g }

@@ -1,5 +1,5 @@
-//! Grammar files in Tree-sitter's grammar.json form: from a JSON value to the grammar that it stands
-//! for, or to its first fault with a pointer to it.
+//! Grammar files in Tree-sitter's grammar.json form: from a JSON value to the grammar that it
+//! stands for, or to its first fault with a pointer to it.
 #![tactic(auto)]
 
 mod fault;

@@ -22,7 +22,8 @@ fn step_text(alloc: Global, name: &str) -> Result<String, AllocError>
 }
 
 fn push_escaped(text: &mut String, c: char) -> Result<(), AllocError>
-    ensures { OnOk result (string_bytes text.new ≡ string_bytes text.old ++ escaped (encode_utf8 c)) }
+    ensures { OnOk result
+        (string_bytes text.new ≡ string_bytes text.old ++ escaped (encode_utf8 c)) }
 {
     match c {
         '~' => text.push_str("~0"),

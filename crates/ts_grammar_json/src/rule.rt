@@ -1,5 +1,5 @@
-//! Rules: from a JSON value to the rule tree that it stands for. A rule's own members are read before
-//! the rules inside it.
+//! Rules: from a JSON value to the rule tree that it stands for. A rule's own members are read
+//! before the rules inside it.
 ghost use Rattle.std.specs.Prelude.{◌≡◌, codes};
 ghost use Rattle.ts_ojson.specs.Json.{json_of};
 ghost use Rattle.ts_grammar_json.specs.Pointer.{step};

@@ -1,3 +1,5 @@
+//! Tables of grammar files: with the grammar of each, and with the fault of each that is refused.
+
 use crate::{GFault, grammar};
 use std::alloc::{AllocError, Global};
 use std::test::Fail;
@@ -117,7 +119,8 @@ fn answers_the_first_fault(rt: HostRuntime) -> Result<(), Fail> {
     Ok(())
 }
 
-/// Rules, one of each type in the order of the format, and the trees that they stand for, with `~>` between.
+/// Rules, one of each type in the order of the format, and the trees that they stand for, with `~>`
+/// between.
 const TREES: &str = r#"
 {"type":"BLANK"} ~> Blank
 {"value":"a","type":"STRING","x":0} ~> Literal(Str { text: "a" })

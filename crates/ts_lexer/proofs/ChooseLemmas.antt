@@ -8,7 +8,7 @@ use Rattle.std.proofs.lemmas.Option.{slice_get_within, slice_get-map}
 use Rattle.std.proofs.Math.Dec.{leb}
 use Rattle.std.proofs.lemmas.Bool.Decides.{leb_tells}
 use Rattle.ts_base.specs.Bytes.{Bytes}
-use Rattle.ts_base.proofs.PlaceLemmas.{at_front}
+use Rattle.ts_base.proofs.PlaceLemmas.{in_prefix}
 use Rattle.ts_core.specs.declared.flat.FlatGrammar.{FlatGrammar}
 use Rattle.ts_core.specs.declared.flat.TokenDef.{TokenDef}
 use Rattle.ts_core.specs.declared.symbol.Symbol.{Symbol}
@@ -75,7 +75,7 @@ beats_then a b c s t u m n o (inr (e, inr (same, p))) (inr (f, inr (also, q))) =
 
 pub part_of_token : (g : FlatGrammar) (k : ℕ) (t : TokenDef) → slice_get g.tokens k ≡ Some t → slice_get (parts_of g) k ≡ Some (regular_of t.re)
 part_of_token g k t at =
-    at_front (map (λ (x : TokenDef). regular_of x.re) g.tokens) (map regular_of g.separators) k
+    in_prefix (map (λ (x : TokenDef). regular_of x.re) g.tokens) (map regular_of g.separators) k
     (let w = slice_get_within g.tokens k t at in let e = length-map g.tokens (λ (x : TokenDef). regular_of x.re) in omega arith)
     ∙ slice_get-map (λ (x : TokenDef). regular_of x.re) g.tokens k ∙ ap (option_map (λ (x : TokenDef). regular_of x.re)) at
 
@@ -91,7 +91,8 @@ matches_token g rest k n t at m = record { expression = regular_of t.re; at = pa
 
 module _ (g : FlatGrammar) (valid : List Symbol) (first : Bool) (rest : Bytes) (bound : ℕ) (p : Progress) (sofar : Sofar g valid first (PartMatches g rest) bound p)
     (all : (k n : ℕ) → Wanted g valid k → PartMatches g rest k n → n ≤ bound) where
-  -- a candidate is a token that is no keyword, or a keyword with the longest match of the word token
+  -- a candidate is a token that is no keyword, or a keyword with the longest match of the word
+  -- token
   data Sort (t : TokenDef) (s : Symbol) (n : ℕ) : Type 0 where
     plain : (k : ℕ) → Offered g valid first false k s t → PartMatches g rest k n → n ≤ bound → Sort t s n
     keyword : (k : ℕ) → Offered g valid first true k s t → (0 < p.word) × PartMatches g rest k p.word → n ≡ p.word → Sort t s n

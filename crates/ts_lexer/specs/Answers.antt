@@ -19,7 +19,8 @@ extent_of (Token symbol pad size extent) = extent
 extent_of (Absent place extent) = extent
 
 -- the answer is what lexing comes to, and how far it looked
-pub record IsAnswer (g : FlatGrammar) (valid : List Symbol) (text : Bytes) (place : ℕ) (lexed : Lexed) : Type 0 where
+pub record IsAnswer (g : FlatGrammar) (valid : List Symbol) (text : Bytes) (place : ℕ)
+    (lexed : Lexed) : Type 0 where
   pub found : Found
   pub lex : Lex g valid (drop place text) found
   pub says : Says place lexed found

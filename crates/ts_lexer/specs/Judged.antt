@@ -1,5 +1,5 @@
--- What is known once some characters have been read. The parts of a grammar are its tokens and then its
--- separators, by number.
+-- What is known once some characters have been read. The parts of a grammar are its tokens and then
+-- its separators, by number.
 use Rattle.std.specs.Prelude.{◌≡◌, ℕ, ◌+◌, suc, Bool, true, false, List, length, slice_get, Option, Some, MatchOption, IsTrue, ◌↔◌}
 use Rattle.std.specs.List.{Contains}
 use Rattle.ts_core.specs.declared.flat.FlatGrammar.{FlatGrammar}
@@ -16,18 +16,21 @@ use Rattle.ts_lexer.specs.declared.verdict.Verdict.{Verdict}
 use Rattle.ts_lexer.specs.Rules.{kind_of, Over}
 
 -- the part is this token
-pub record IsTokenPart (g : FlatGrammar) (part : ℕ) (symbol : Symbol) (token : TokenDef) : Type 0 where
+pub record IsTokenPart (g : FlatGrammar) (part : ℕ) (symbol : Symbol)
+    (token : TokenDef) : Type 0 where
   pub number : symbol.0 ≡ suc part
   pub at : slice_get g.tokens part ≡ Some token
 
 -- the part is a valid token, a keyword or none, that may stand at the place
-pub record Offered (g : FlatGrammar) (valid : List Symbol) (first keyword : Bool) (part : ℕ) (symbol : Symbol) (token : TokenDef) : Type 0 where
+pub record Offered (g : FlatGrammar) (valid : List Symbol) (first keyword : Bool) (part : ℕ)
+    (symbol : Symbol) (token : TokenDef) : Type 0 where
   pub is_valid : Contains valid symbol
   pub is_token : IsTokenPart g part symbol token
   pub immediate : token.immediate ≡ true → first ≡ true
   pub kind : token.keyword ≡ keyword
 
--- the fronts of the part count: a valid token, the word token where a keyword is valid, or a separator
+-- the fronts of the part count: a valid token, the word token where a keyword is valid, or a
+-- separator
 pub data Wanted (g : FlatGrammar) (valid : List Symbol) (part : ℕ) : Type 0 where
   valid_token : (symbol : Symbol) (token : TokenDef) → Contains valid symbol
       → IsTokenPart g part symbol token → Wanted g valid part
@@ -51,12 +54,14 @@ pub record IsSeparatorPart (g : FlatGrammar) (part : ℕ) : Type 0 where
   pub at : slice_get g.separators place ≡ Some separator
 
 -- of the parts that end, this token is taken
-pub record IsPicked (g : FlatGrammar) (valid : List Symbol) (first keyword : Bool) (Ends : ℕ → Type 0) (symbol : Symbol) : Type 0 where
+pub record IsPicked (g : FlatGrammar) (valid : List Symbol) (first keyword : Bool)
+    (Ends : ℕ → Type 0) (symbol : Symbol) : Type 0 where
   pub part : ℕ
   pub token : TokenDef
   pub offered : Offered g valid first keyword part symbol token
   pub ends : Ends part
-  pub best : (k : ℕ) (s : Symbol) (other : TokenDef) → Offered g valid first keyword k s other → Ends k
+  pub best : (k : ℕ) (s : Symbol) (other : TokenDef) → Offered g valid first keyword k s other
+      → Ends k
       → Over (kind_of token) symbol (kind_of other) s
 
 -- this token is taken, or there is none to take
@@ -67,7 +72,8 @@ IsPick g valid first keyword Ends pick =
     (IsPicked g valid first keyword Ends)
 
 -- what is known where these parts end, and these are alive
-pub record Judges (g : FlatGrammar) (valid : List Symbol) (first : Bool) (Ends Lives : ℕ → Type 0) (v : Verdict) : Type 0 where
+pub record Judges (g : FlatGrammar) (valid : List Symbol) (first : Bool) (Ends Lives : ℕ → Type 0)
+    (v : Verdict) : Type 0 where
   pub plain : IsPick g valid first false Ends v.plain
   pub keyword : IsPick g valid first true Ends v.keyword
   pub word : IsTrue v.word ↔ ((k : ℕ) × IsWordPart g k × Ends k)

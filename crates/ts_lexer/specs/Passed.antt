@@ -19,7 +19,8 @@ found_by None pad = absent pad
 found_by (Some m) pad = token m.symbol pad m.size
 
 -- this is what lexing comes to, and how far the text was looked at
-pub record IsPassed (g : FlatGrammar) (valid : List Symbol) (rest : Bytes) (marks : List Bool) (p : Passed) : Type 0 where
+pub record IsPassed (g : FlatGrammar) (valid : List Symbol) (rest : Bytes) (marks : List Bool)
+    (p : Passed) : Type 0 where
   pub lex : Lex g valid rest (found_by p.found p.pad)
   pub seen : Seen g valid rest p.extent
   pub size : length marks ≡ length g.tokens

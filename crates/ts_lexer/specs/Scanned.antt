@@ -22,19 +22,23 @@ pub record PartMatches (g : FlatGrammar) (rest : Bytes) (part n : ℕ) : Type 0 
   pub matches : MatchesRe expression rest n
 
 -- this token, which is no keyword, is taken before all others that match with at most so many bytes
-pub record IsFirstPlain (g : FlatGrammar) (valid : List Symbol) (first : Bool) (M : ℕ → ℕ → Type 0) (bound : ℕ) (m : Match) : Type 0 where
+pub record IsFirstPlain (g : FlatGrammar) (valid : List Symbol) (first : Bool) (M : ℕ → ℕ → Type 0)
+    (bound : ℕ) (m : Match) : Type 0 where
   pub part : ℕ
   pub token : TokenDef
   pub offered : Offered g valid first false part m.symbol token
   pub matches : M part m.size
   pub within : m.size ≤ bound
-  pub best : (k n : ℕ) (s : Symbol) (other : TokenDef) → Offered g valid first false k s other → M k n
+  pub best : (k n : ℕ) (s : Symbol) (other : TokenDef) → Offered g valid first false k s other
+      → M k n
       → n ≤ bound → Beats token m.symbol m.size other s n
 
 -- what was found among the matches `M`, by part and length, with at most so many bytes
-pub record Sofar (g : FlatGrammar) (valid : List Symbol) (first : Bool) (M : ℕ → ℕ → Type 0) (bound : ℕ) (p : Progress) : Type 0 where
+pub record Sofar (g : FlatGrammar) (valid : List Symbol) (first : Bool) (M : ℕ → ℕ → Type 0)
+    (bound : ℕ) (p : Progress) : Type 0 where
   pub plain : MatchOption p.plain
-      ((k n : ℕ) (s : Symbol) (t : TokenDef) → Offered g valid first false k s t → M k n → n ≤ bound → ⊥)
+      ((k n : ℕ) (s : Symbol) (t : TokenDef) → Offered g valid first false k s t → M k n → n ≤ bound
+      → ⊥)
       (IsFirstPlain g valid first M bound)
   pub word_matches : 0 < p.word → (k : ℕ) × IsWordPart g k × M k p.word
   pub word_within : p.word ≤ bound
@@ -44,9 +48,10 @@ pub record Sofar (g : FlatGrammar) (valid : List Symbol) (first : Bool) (M : ℕ
   pub separator_within : p.separator ≤ bound
   pub separator_longest : (k n : ℕ) → IsSeparatorPart g k → M k n → n ≤ bound → n ≤ p.separator
 
--- all that is to be known of a place: the token that is taken, the longest separator (0 where there is
--- none), and how far the text was looked at
-pub record IsScanned (g : FlatGrammar) (valid : List Symbol) (first : Bool) (rest : Bytes) (s : Scanned) : Type 0 where
+-- all that is to be known of a place: the token that is taken, the longest separator (0 where there
+-- is none), and how far the text was looked at
+pub record IsScanned (g : FlatGrammar) (valid : List Symbol) (first : Bool) (rest : Bytes)
+    (s : Scanned) : Type 0 where
   pub best : MatchOption s.best
       ((t : TokenDef) (symbol : Symbol) (n : ℕ) → Candidate g valid first rest t symbol n → ⊥)
       (λ m. IsBest g valid first rest m.symbol m.size)
@@ -54,11 +59,12 @@ pub record IsScanned (g : FlatGrammar) (valid : List Symbol) (first : Bool) (res
   pub longest : (n : ℕ) → MatchesSeparator g rest n → n ≤ s.separator
   pub reach : IsReach g valid rest s.reach
 
--- with one character more, so many bytes have been read, which are these characters; nothing matches with
--- a length in between
+-- with one character more, so many bytes have been read, which are these characters; nothing
+-- matches with a length in between
 pub record IsStep (g : FlatGrammar) (rest : Bytes) (bound next : ℕ) (w : List ℕ) : Type 0 where
   pub rises : bound < next
-  pub from : (k n : ℕ) → n ≤ next → PartMatches g rest k n → (n ≤ bound) ⊎ ((n ≡ next) × PartWord g w k)
+  pub from : (k n : ℕ) → n ≤ next → PartMatches g rest k n → (n ≤ bound)
+      ⊎ ((n ≡ next) × PartWord g w k)
   pub now : (k : ℕ) → PartWord g w k → PartMatches g rest k next
 
 -- of two matches of tokens that are no keywords, the second longer, this one is taken

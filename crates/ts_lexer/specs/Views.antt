@@ -23,7 +23,8 @@ MayTake g valid first keyword part =
     (s : Symbol) × (token : TokenDef) × Offered g valid first keyword part s token
 
 -- this is what the part is
-pub record IsRole (g : FlatGrammar) (valid : List Symbol) (first : Bool) (part : ℕ) (r : Role) : Type 0 where
+pub record IsRole (g : FlatGrammar) (valid : List Symbol) (first : Bool) (part : ℕ)
+    (r : Role) : Type 0 where
   pub wanted : IsTrue r.wanted ↔ Wanted g valid part
   pub plain : IsTrue r.plain ↔ MayTake g valid first false part
   pub keyword : IsTrue r.keyword ↔ MayTake g valid first true part

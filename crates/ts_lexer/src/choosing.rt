@@ -1,4 +1,5 @@
-//! The token that is taken at a place: the best of those that are no keywords, and the best keyword, go in.
+//! The token that is taken at a place: the best of those that are no keywords, and the best
+//! keyword, go in.
 ghost use Rattle.std.specs.Prelude.{◌≡◌, ◌↔◌, ◌<◌, ◌<ℤ◌, ◌⊎◌, ℕ, Some, None, IsTrue};
 ghost use Rattle.ts_core.specs.declared.flat.FlatGrammar.{FlatGrammar as AnyGrammar};
 ghost use Rattle.ts_core.specs.declared.flat.TokenDef.{TokenDef as AnyToken};
@@ -28,7 +29,8 @@ fn beats(a: &Kind, m: &Match, b: &Kind, n: &Match) -> bool
 
 /// The one of two matches that is taken.
 fn taken(rules: &Rules, m: Match, n: Match) -> Match
-    ensures { (g : AnyGrammar) (j k : ℕ) (a b : AnyToken) → IsRules g rules.now → IsTokenPart g j m.symbol a
+    ensures { (g : AnyGrammar) (j k : ℕ) (a b : AnyToken) → IsRules g rules.now
+        → IsTokenPart g j m.symbol a
         → IsTokenPart g k n.symbol b → IsBetterMatch (kind_of a) m (kind_of b) n result }
 {
     if beats(&kind_at(rules, m.symbol), &m, &kind_at(rules, n.symbol), &n) {
@@ -46,7 +48,8 @@ pub(crate) fn chosen(rules: &Rules, progress: &Progress) -> Option<Match>
         → progress.now.keyword ≡ Some s → progress.now.plain ≡ Some m → IsRules g rules.now
         → IsTokenPart g j m.symbol a → IsTokenPart g k s b
         → (n : AnyMatch) × (result ≡ Some n)
-        × IsBetterMatch (kind_of a) m (kind_of b) (record { symbol = s; size = progress.now.word }) n }
+        × IsBetterMatch (kind_of a) m (kind_of b)
+        (record { symbol = s; size = progress.now.word }) n }
 {
     let Some(symbol) = progress.keyword else {
         return progress.plain;

@@ -1,4 +1,5 @@
-//! What a set of nodes says: the nodes go in, and the verdict on the characters that led to them comes out.
+//! What a set of nodes says: the nodes go in, and the verdict on the characters that led to them
+//! comes out.
 ghost use Rattle.std.specs.Prelude.{◌≡◌, ◌<◌, ◌^◌, ◌-◌, ◌++◌, ◌∷◌, ◌↔◌, [], ℕ, suc, List, Bool, true, false, Some, None, IsTrue, slice_get, Option};
 ghost use Rattle.ts_core.specs.declared.flat.FlatGrammar.{FlatGrammar as AnyGrammar};
 ghost use Rattle.ts_core.specs.declared.flat.TokenDef.{TokenDef as AnyToken};
@@ -49,7 +50,8 @@ pub(crate) fn kind_at(rules: &Rules, symbol: Symbol) -> Kind
 
 /// The one of two tokens that is taken at one length.
 fn better(rules: &Rules, old: Symbol, new: Symbol) -> Symbol
-    ensures { (g : AnyGrammar) (j k : ℕ) (a b : AnyToken) → IsRules g rules.now → IsTokenPart g j old a
+    ensures { (g : AnyGrammar) (j k : ℕ) (a b : AnyToken) → IsRules g rules.now
+        → IsTokenPart g j old a
         → IsTokenPart g k new b → IsBetter (kind_of a) old (kind_of b) new result }
 {
     if is_over(&kind_at(rules, old), old, &kind_at(rules, new), new) {
@@ -92,11 +94,14 @@ fn is_end(nodes: &[Node], node: usize) -> bool
 
 /// What is known with one node's part more.
 fn with_part(rules: &Rules, old: Verdict, role: &Role, part: usize, ends: bool) -> Verdict
-    ensures { (g : AnyGrammar) (valid : List AnySymbol) (first : Bool) (T : List AnyNode) (owners seen : List ℕ) (node : ℕ)
-        → IsRules g rules.now → IsRole g valid first part role.now → slice_get owners node ≡ Some part
+    ensures { (g : AnyGrammar) (valid : List AnySymbol) (first : Bool) (T : List AnyNode)
+        (owners seen : List ℕ) (node : ℕ)
+        → IsRules g rules.now → IsRole g valid first part role.now
+        → slice_get owners node ≡ Some part
         → (IsTrue ends ↔ IsEnd T node)
         → Judges g valid first (EndsIn T owners seen) (LivesIn owners seen) old
-        → Judges g valid first (EndsIn T owners (seen ++ node ∷ [])) (LivesIn owners (seen ++ node ∷ [])) result }
+        → Judges g valid first (EndsIn T owners (seen ++ node ∷ []))
+        (LivesIn owners (seen ++ node ∷ [])) result }
 {
     let plain_ends = both_hold(role.plain, ends);
     let plain = picked(rules, old.plain, plain_ends, part);

@@ -1,5 +1,5 @@
-//! The lexer of a grammar: its automaton and the grammar go in, and then a text, a place and the valid
-//! tokens; what stands there comes out.
+//! The lexer of a grammar: its automaton and the grammar go in, and then a text, a place and the
+//! valid tokens; what stands there comes out.
 ghost use Rattle.std.specs.Prelude.{◌≡◌, ◌≤◌, ◌+◌, ◌-◌, ◌^◌, ℕ, min, drop, length, IfOk};
 ghost use Rattle.ts_core.specs.declared.flat.FlatGrammar.{FlatGrammar as AnyGrammar};
 ghost use Rattle.ts_automata.specs.Automata.{IsAutomaton};
@@ -66,8 +66,10 @@ impl Lexer {
         requires made { IsMade self.old }
         requires within { place ≤ length text.now }
         ensures lexer { (g : AnyGrammar) → IsLexer g self.old → IsLexer g self.new }
-        ensures answer { (g : AnyGrammar) → IsLexer g self.old → IsAnswer g valid.now text.now place result }
-        ensures examined { examined_of self.new ≡ min (examined_of self.old + extent_of result) (2 ^ 64 - 1) }
+        ensures answer { (g : AnyGrammar) → IsLexer g self.old
+            → IsAnswer g valid.now text.now place result }
+        ensures examined { examined_of self.new ≡ min (examined_of self.old + extent_of result)
+            (2 ^ 64 - 1) }
     {
         let lexed = answer_at(
             &self.machine,

@@ -1,5 +1,5 @@
-//! Lexing: a text, a place and the valid tokens go in; the token that stands there comes out, behind its
-//! separators, with how far the text was looked at.
+//! Lexing: a text, a place and the valid tokens go in; the token that stands there comes out,
+//! behind its separators, with how far the text was looked at.
 #![tactic(auto)]
 
 mod answering;

@@ -1,4 +1,5 @@
-//! Marks for valid tokens: a list of symbols goes in, and whether each token is among them comes out.
+//! Marks for valid tokens: a list of symbols goes in, and whether each token is among them comes
+//! out.
 ghost use Rattle.std.specs.Prelude.{◌≡◌, ◌↔◌, ◌++◌, ◌∷◌, [], ℕ, List, IsTrue, IfOk, length};
 ghost use Rattle.ts_core.specs.declared.flat.FlatGrammar.{FlatGrammar as AnyGrammar};
 ghost use Rattle.ts_core.specs.declared.symbol.Symbol.{Symbol as AnySymbol};

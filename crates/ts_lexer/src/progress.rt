@@ -1,4 +1,5 @@
-//! What was found at a place: the verdict on one character more goes in, and what it adds comes out.
+//! What was found at a place: the verdict on one character more goes in, and what it adds comes
+//! out.
 ghost use Rattle.std.specs.Prelude.{◌≡◌, ℕ, List, Bool, true, false, Some, None};
 ghost use Rattle.ts_base.specs.Bytes.{Bytes};
 ghost use Rattle.ts_core.specs.declared.flat.FlatGrammar.{FlatGrammar as AnyGrammar};
@@ -18,10 +19,13 @@ use ts_core::Symbol;
 /// The token that is taken, with one that matches with more bytes than those before.
 fn longer(rules: &Rules, old: Option<Match>, pick: Option<Symbol>, size: usize) -> Option<Match>
     ensures none { pick ≡ None → result ≡ old }
-    ensures first { (s : AnySymbol) → pick ≡ Some s → old ≡ None → result ≡ Some (record { symbol = s; size = size }) }
-    ensures more { (g : AnyGrammar) (j k : ℕ) (m : AnyMatch) (s : AnySymbol) (a b : AnyToken) → old ≡ Some m
+    ensures first { (s : AnySymbol) → pick ≡ Some s → old ≡ None
+        → result ≡ Some (record { symbol = s; size = size }) }
+    ensures more { (g : AnyGrammar) (j k : ℕ) (m : AnyMatch) (s : AnySymbol) (a b : AnyToken)
+        → old ≡ Some m
         → pick ≡ Some s → IsRules g rules.now → IsTokenPart g j m.symbol a → IsTokenPart g k s b
-        → (n : AnyMatch) × (result ≡ Some n) × IsLonger a b m (record { symbol = s; size = size }) n }
+        → (n : AnyMatch) × (result ≡ Some n)
+        × IsLonger a b m (record { symbol = s; size = size }) n }
 {
     let Some(symbol) = pick else {
         return old;
@@ -52,7 +56,8 @@ fn keyword_of(there: bool, new: Option<Symbol>, old: Option<Symbol>) -> Option<S
 
 /// What was found with one character more, after which so many bytes have been read.
 pub(crate) fn advance(rules: &Rules, old: &Progress, verdict: &Verdict, size: usize) -> Progress
-    ensures { (g : AnyGrammar) (valid : List AnySymbol) (first : Bool) (rest : Bytes) (bound : ℕ) (w : List ℕ)
+    ensures { (g : AnyGrammar) (valid : List AnySymbol) (first : Bool) (rest : Bytes) (bound : ℕ)
+        (w : List ℕ)
         → IsRules g rules.now → IsStep g rest bound size w → Knows g valid first w verdict.now
         → Sofar g valid first (PartMatches g rest) bound old.now
         → Sofar g valid first (PartMatches g rest) size result }

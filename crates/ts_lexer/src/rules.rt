@@ -1,5 +1,5 @@
-//! What a grammar says of its tokens beside what they match: the grammar goes in, and for each token its
-//! rank among the others comes out.
+//! What a grammar says of its tokens beside what they match: the grammar goes in, and for each
+//! token its rank among the others comes out.
 ghost use Rattle.std.specs.Prelude.{◌≡◌, map, length, take, IfOk, IsTrue, ◌↔◌, ◌<◌, ◌⊎◌, ◌≤◌, Some};
 ghost use Rattle.ts_lexer.specs.Rules.{kind_of, AreFew, IsRules, Over};
 

@@ -1,3 +1,5 @@
+//! What one pass over the bytes at a place has found so far, and at its end.
+
 use ts_core::Symbol;
 
 /// A token that matches, with its size in bytes.

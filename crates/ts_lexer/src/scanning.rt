@@ -1,5 +1,5 @@
-//! One place of a text: the rest of the text goes in, and what matches there comes out, found in one pass
-//! over its bytes for all valid tokens and all separators.
+//! One place of a text: the rest of the text goes in, and what matches there comes out, found in
+//! one pass over its bytes for all valid tokens and all separators.
 ghost use Rattle.std.specs.Prelude.{◌≡◌, ◌<◌, ◌^◌, ℕ, List, Bool, length};
 ghost use Rattle.ts_core.specs.declared.flat.FlatGrammar.{FlatGrammar as AnyGrammar};
 ghost use Rattle.ts_core.specs.declared.symbol.Symbol.{Symbol as AnySymbol};

@@ -1,3 +1,5 @@
+//! Worked examples: each names what was lexed and what comes out.
+
 use crate::{Lexed, Lexer};
 use std::alloc::{AllocError, Global};
 use std::process::Abort;

@@ -1,3 +1,6 @@
+//! What is decided of characters that have been read: which token has them, for a set of valid
+//! tokens.
+
 use ts_core::Symbol;
 
 /// What is known once some characters have been read, for a set of valid tokens.

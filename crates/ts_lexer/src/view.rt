@@ -62,7 +62,8 @@ pub(crate) fn is_marked(marks: &[bool], part: usize) -> bool
 
 /// Whether a part is the word token.
 fn is_word(word: Option<Symbol>, part: usize) -> bool
-    ensures { IsTrue result ↔ ((symbol : AnySymbol) × (word ≡ Some symbol) × (symbol.0 ≡ suc part)) }
+    ensures { IsTrue result
+        ↔ ((symbol : AnySymbol) × (word ≡ Some symbol) × (symbol.0 ≡ suc part)) }
 {
     let Some(symbol) = word else {
         return false;
@@ -111,7 +112,13 @@ fn is_below(a: usize, b: usize) -> bool
 
 /// What a part is that is no token.
 fn beyond(separator: bool) -> Role
-    ensures { result ≡ record { wanted = separator; plain = false; keyword = false; word = false; separator = separator } }
+    ensures { result ≡ record {
+      wanted = separator;
+      plain = false;
+      keyword = false;
+      word = false;
+      separator = separator;
+    } }
 {
     Role {
         wanted: separator,

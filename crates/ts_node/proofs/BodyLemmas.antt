@@ -7,12 +7,12 @@ use Rattle.spec_trees.specs.declared.tree.Element.{Element}
 use Rattle.spec_trees.specs.declared.tree.Tree.TheOpen.{Tree-F}
 use Rattle.spec_trees.specs.declared.tree.Tree.TheViews.{out-Tree, out-roll-Tree}
 use Rattle.spec_trees.specs.declared.tree.Tree.TheFolds.{fold-roll-Tree, fold_out-Tree}
-use Rattle.spec_trees.specs.Trees.{production_of, children_of, elements_of, is_extra_node, pad_of, size_of, nodes_of, nodes_step, all_nodes, all_spans, first_pad, depth_of, depth_step, greatest_depth}
-use Rattle.spec_trees.specs.Made.{IsNode, node_over, most_span, most_depth}
+use Rattle.spec_trees.specs.Trees.{production_of, children_of, elements_of, is_extra_node, pad_of, size_of, node_count, nodes_step, all_nodes, all_spans, first_pad, tree_depth, depth_step, greatest_depth}
+use Rattle.spec_trees.specs.Made.{IsNode, node_over, children_count, AreCounted, most_span, most_depth}
 use Rattle.ts_node.specs.Falls.{nodes_of_body}
 use Rattle.ts_node.specs.declared.node.Leaf.{Leaf}
 use Rattle.ts_node.specs.declared.node.Summary.{Summary}
-use Rattle.ts_node.specs.Held.{leaf_tree, body_tree, IsKept, Tells}
+use Rattle.ts_node.specs.Held.{leaf_tree, body_tree, IsSummary, Tells}
 
 abbrev pub layer : Summary → Option ℕ → List Element → List Tree → Tree-F Tree
 layer s production elements children = record {
@@ -50,7 +50,7 @@ out_body s p es ks t e = ap out-Tree (sym e) ∙ out-roll-Tree (layer s p es ks)
 pub out_leaf : (l : Leaf) (t : Tree) → leaf_tree l ≡ t → out-Tree t ≡ leaf_layer l
 out_leaf l t e = ap out-Tree (sym e) ∙ out-roll-Tree (leaf_layer l)
 
-pub tells : (s : Summary) (p : Option ℕ) (es : List Element) (ks : List Tree) (t : Tree) → body_tree s p es ks ≡ t → IsKept s (body_tree s p es ks) → Tells s t
+pub tells : (s : Summary) (p : Option ℕ) (es : List Element) (ks : List Tree) (t : Tree) → body_tree s p es ks ≡ t → IsSummary s (body_tree s p es ks) → Tells s t
 tells s p es ks t e k =
     let o : out-Tree t ≡ layer s p es ks = out_body s p es ks t e in
     record {
@@ -61,8 +61,8 @@ tells s p es ks t e k =
       state = ap (λ (x : Tree-F Tree). x.state) (sym o);
       settled = ap (λ (x : Tree-F Tree). x.settled) (sym o);
       dynamic = ap (λ (x : Tree-F Tree). x.dynamic) (sym o);
-      nodes = k.counted ∙ ap nodes_of e;
-      depth = k.deep ∙ ap depth_of e;
+      nodes = k.counted ∙ ap node_count e;
+      depth = k.deep ∙ ap tree_depth e;
       node = subst (λ (x : Tree). IsNode x) e k.node;
     }
 
@@ -81,10 +81,19 @@ leaf_children l t e = ap (λ (x : Tree-F Tree). x.children) (out_leaf l t e)
 pub leaf_elements : (l : Leaf) (t : Tree) → leaf_tree l ≡ t → elements_of t ≡ []
 leaf_elements l t e = ap (λ (x : Tree-F Tree). x.elements) (out_leaf l t e)
 
+-- elements that are not there have no children to count
+pub none_counted : (es : List Element) (ts : List Tree) → length es ≡ 0 → AreCounted es ts
+none_counted [] ts none = tt
+none_counted (e ∷ es) ts none = let f : ⊥ = omega (arith, none) in elim f [ ]
+
+pub counted : (es : List Element) (ts : List Tree) → children_count es ≡ length ts → AreCounted es ts
+counted [] ts own = tt
+counted (e ∷ es) ts own = own
+
 pub leaf_production : (l : Leaf) (t : Tree) → leaf_tree l ≡ t → production_of t ≡ None
 leaf_production l t e = ap (λ (x : Tree-F Tree). x.production) (out_leaf l t e)
 
-pub depth_of_body : (s : Summary) (p : Option ℕ) (es : List Element) (ks : List Tree) → depth_of (body_tree s p es ks) ≡ 1 + greatest_depth ks
+pub depth_of_body : (s : Summary) (p : Option ℕ) (es : List Element) (ks : List Tree) → tree_depth (body_tree s p es ks) ≡ 1 + greatest_depth ks
 depth_of_body s p es ks = fold-roll-Tree ℕ depth_step (layer s p es ks)
 
 pub extra_is : (s : Summary) (p : Option ℕ) (es : List Element) (ks : List Tree) (t : Tree) → body_tree s p es ks ≡ t → is_extra_node t ≡ false
@@ -97,7 +106,7 @@ all_nodes-length : (ks : List Tree) → length ks ≤ all_nodes ks
 all_nodes-length [] = omega arith
 all_nodes-length (k ∷ ks) = omega (arith, all_nodes-length ks, fold_out-Tree ℕ nodes_step k)
 
-pub few_children : (s : Summary) (p : Option ℕ) (es : List Element) (ks : List Tree) (t : Tree) → body_tree s p es ks ≡ t → IsKept s (body_tree s p es ks) → length (children_of t) < 2 ^ 31
+pub few_children : (s : Summary) (p : Option ℕ) (es : List Element) (ks : List Tree) (t : Tree) → body_tree s p es ks ≡ t → IsSummary s (body_tree s p es ks) → length (children_of t) < 2 ^ 31
 few_children s p es ks t e k = rw (children_are s p es ks t e) (omega (arith, k.node.sized.few, nodes_of_body s p es ks, all_nodes-length ks))
 
 -- ---- a node over children
@@ -120,8 +129,8 @@ room symbol p dynamic extent state es ks n =
     let t : Tree = node_over symbol p dynamic extent state es ks in
     let a : pad_of t ≡ first_pad ks = ap (λ (x : Tree-F Tree). x.pad) (out-roll-Tree (layer s p es ks)) in
     let b : size_of t ≡ all_spans ks - first_pad ks = ap (λ (x : Tree-F Tree). x.size) (out-roll-Tree (layer s p es ks)) in
-    let c : nodes_of t ≡ 1 + (length es + all_nodes ks) = nodes_of_body s p es ks in
-    let d : depth_of t ≡ 1 + greatest_depth ks = depth_of_body s p es ks in
+    let c : node_count t ≡ 1 + (length es + all_nodes ks) = nodes_of_body s p es ks in
+    let d : tree_depth t ≡ 1 + greatest_depth ks = depth_of_body s p es ks in
     record {
       pad = first_pad_within ks;
       short = omega (arith, a, b, first_pad_within ks, n.sized.short);
@@ -145,7 +154,7 @@ pub record IsOver (s : Summary) (token : Symbol) (total : ℤ) (reach : ℕ) (be
 pub over_is : (s : Summary) (symbol : Symbol) (p : Option ℕ) (dynamic : ℤ) (extent : ℕ) (state : Option ℕ) (es : List Element) (ks : List Tree) → IsOver s symbol dynamic extent state es ks → body_tree s p es ks ≡ node_over symbol.0 p dynamic extent state es ks
 over_is s symbol p dynamic extent state es ks o = rw (o.symbol, o.pad, o.size, o.extent, o.state, o.settled, o.dynamic) refl
 
-pub over_kept : (s : Summary) (symbol : Symbol) (p : Option ℕ) (dynamic : ℤ) (extent : ℕ) (state : Option ℕ) (es : List Element) (ks : List Tree) → IsOver s symbol dynamic extent state es ks → IsNode (node_over symbol.0 p dynamic extent state es ks) → IsKept s (body_tree s p es ks)
+pub over_kept : (s : Summary) (symbol : Symbol) (p : Option ℕ) (dynamic : ℤ) (extent : ℕ) (state : Option ℕ) (es : List Element) (ks : List Tree) → IsOver s symbol dynamic extent state es ks → IsNode (node_over symbol.0 p dynamic extent state es ks) → IsSummary s (body_tree s p es ks)
 over_kept s symbol p dynamic extent state es ks o n = record {
   counted = omega (arith, o.nodes, nodes_of_body s p es ks);
   deep = omega (arith, o.depth, depth_of_body s p es ks);

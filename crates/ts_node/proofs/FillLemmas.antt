@@ -1,6 +1,6 @@
 -- The steps that children fill, by parts of the list of children.
 use Rattle.std.proofs.Common.{◌≡◌, ℕ, zero, suc, ◌+◌, ◌-◌, ◌<◌, ◌≤◌, sym, ap, ◌∙◌, refl, arith, get_or, Bool, true, false, List, [], ◌∷◌, ◌++◌, length, take, drop, slice_get, Option, Some, None, length-append, length-take, length-drop, append_assoc}
-use Rattle.ts_base.proofs.PlaceLemmas.{at_front}
+use Rattle.ts_base.proofs.PlaceLemmas.{in_prefix}
 use Rattle.std.proofs.lemmas.List.{take-append-le, drop-append-le, drop-drop}
 use Rattle.std.proofs.Math.Seq.{drop-cons}
 use Rattle.std.proofs.lemmas.Option.{slice_get_within}
@@ -8,7 +8,7 @@ use Rattle.std.specs.Prelude.{if◌then◌else◌}
 use Rattle.spec_trees.specs.declared.tree.Tree.{Tree}
 use Rattle.spec_trees.specs.declared.tree.Element.{Element}
 use Rattle.spec_trees.specs.declared.tree.Stretch.{Stretch}
-use Rattle.ts_node.specs.Held.{joined}
+use Rattle.ts_node.specs.Held.{joined_stretch}
 use Rattle.spec_trees.specs.Trees.{is_extra_node}
 use Rattle.spec_trees.specs.Made.{children_count, fills_from, fills_in}
 
@@ -106,7 +106,7 @@ length-fills_in (e ∷ es) ts h =
 pub fills_left : (es more : List Element) (ts us : List Tree) (k : ℕ) → children_count es ≡ length ts → k < length ts → slice_get (fills_in (es ++ more) (ts ++ us)) k ≡ slice_get (fills_in es ts) k
 fills_left es more ts us k h within =
     ap (λ (xs : List (Option ℕ)). slice_get xs k) (fills_in-append es more ts us h)
-    ∙ at_front (fills_in es ts) (fills_in more us) k (omega (arith, within, length-fills_in es ts h))
+    ∙ in_prefix (fills_in es ts) (fills_in more us) k (omega (arith, within, length-fills_in es ts h))
 
 get-right : {X : Type 0} (xs ys : List X) (i : ℕ) → slice_get (xs ++ ys) (length xs + i) ≡ slice_get ys i
 get-right {X = X} [] ys i = let n : length {A = X} [] + i ≡ i = omega arith in ap (slice_get ys) n
@@ -138,7 +138,7 @@ fills-take n (suc m) (suc k) (t ∷ ts) h = by_extra (is_extra_node t) (fills-ta
 -- a child of the first of these elements
 pub fills_first : (e : Element) (es : List Element) (ts : List Tree) (k : ℕ) → k < e.children → k < length ts → slice_get (fills_in (e ∷ es) ts) k ≡ slice_get (fills_from 0 ts) k
 fills_first e es ts k h within =
-    at_front (fills_from 0 (take e.children ts)) (fills_in es (drop e.children ts)) k (omega (arith, h, within, length-fills 0 (take e.children ts), length-take e.children ts))
+    in_prefix (fills_from 0 (take e.children ts)) (fills_in es (drop e.children ts)) k (omega (arith, h, within, length-fills 0 (take e.children ts), length-take e.children ts))
     ∙ fills-take 0 e.children k ts h
 
 -- a child past it
@@ -150,13 +150,13 @@ fills_past e es ts k h within =
 
 -- ---- parts of a run
 
-pub fill_left : (s t w : Stretch) (k : ℕ) (x : Option ℕ) → joined s t ≡ w → children_count s.elements ≡ length s.children → k < length s.children → slice_get (fills_in s.elements s.children) k ≡ Some x → slice_get (fills_in w.elements w.children) k ≡ Some x
+pub fill_left : (s t w : Stretch) (k : ℕ) (x : Option ℕ) → joined_stretch s t ≡ w → children_count s.elements ≡ length s.children → k < length s.children → slice_get (fills_in s.elements s.children) k ≡ Some x → slice_get (fills_in w.elements w.children) k ≡ Some x
 fill_left s t w k x e h within there =
     ap (λ (v : Stretch). slice_get (fills_in v.elements v.children) k) (sym e)
     ∙ fills_left s.elements t.elements s.children t.children k h within
     ∙ there
 
-pub fill_right : (s t w : Stretch) (k : ℕ) (x : Option ℕ) → joined s t ≡ w → children_count s.elements ≡ length s.children → length s.children ≤ k → slice_get (fills_in t.elements t.children) (k - length s.children) ≡ Some x → slice_get (fills_in w.elements w.children) k ≡ Some x
+pub fill_right : (s t w : Stretch) (k : ℕ) (x : Option ℕ) → joined_stretch s t ≡ w → children_count s.elements ≡ length s.children → length s.children ≤ k → slice_get (fills_in t.elements t.children) (k - length s.children) ≡ Some x → slice_get (fills_in w.elements w.children) k ≡ Some x
 fill_right s t w k x e h past there =
     ap (λ (v : Stretch). slice_get (fills_in v.elements v.children) k) (sym e)
     ∙ fills_right s.elements t.elements s.children t.children k h past

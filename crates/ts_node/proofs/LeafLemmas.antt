@@ -9,16 +9,16 @@ use Rattle.spec_trees.specs.declared.tree.Element.{Element}
 use Rattle.spec_trees.specs.declared.tree.Tree.TheOpen.{Tree-F}
 use Rattle.spec_trees.specs.declared.tree.Tree.TheViews.{out-Tree, roll-Tree, out-roll-Tree}
 use Rattle.spec_trees.specs.declared.tree.Tree.TheFolds.{fold-roll-Tree}
-use Rattle.spec_trees.specs.Trees.{pad_of, size_of, span_of, extent_of, is_settled, total_of, children_of, elements_of, nodes_of, nodes_step, depth_of, depth_step, all_spans}
+use Rattle.spec_trees.specs.Trees.{pad_of, size_of, span_of, node_extent, is_settled, total_of, children_of, elements_of, node_count, nodes_step, tree_depth, depth_step, all_spans}
 use Rattle.spec_trees.specs.Made.{IsNode, IsLeaf, AreCounted, EndBy, most_span, as_extra}
 use Rattle.ts_node.specs.declared.node.Leaf.{Leaf}
 use Rattle.ts_node.specs.Held.{leaf_tree, extra_leaf, Tells}
 use Rattle.ts_node.proofs.BodyLemmas.{leaf_layer, out_leaf, leaf_production, leaf_elements}
 
-pub nodes_of_leaf : (l : Leaf) → nodes_of (leaf_tree l) ≡ 1
+pub nodes_of_leaf : (l : Leaf) → node_count (leaf_tree l) ≡ 1
 nodes_of_leaf l = fold-roll-Tree ℕ nodes_step (leaf_layer l)
 
-pub depth_of_leaf : (l : Leaf) → depth_of (leaf_tree l) ≡ 1
+pub depth_of_leaf : (l : Leaf) → tree_depth (leaf_tree l) ≡ 1
 depth_of_leaf l = fold-roll-Tree ℕ depth_step (leaf_layer l)
 
 pad_is : (l : Leaf) → pad_of (leaf_tree l) ≡ l.pad
@@ -27,7 +27,7 @@ pad_is l = ap (λ (x : Tree-F Tree). x.pad) (out-roll-Tree (leaf_layer l))
 size_is : (l : Leaf) → size_of (leaf_tree l) ≡ l.size
 size_is l = ap (λ (x : Tree-F Tree). x.size) (out-roll-Tree (leaf_layer l))
 
-extent_is : (l : Leaf) → extent_of (leaf_tree l) ≡ l.extent
+extent_is : (l : Leaf) → node_extent (leaf_tree l) ≡ l.extent
 extent_is l = ap (λ (x : Tree-F Tree). x.extent) (out-roll-Tree (leaf_layer l))
 
 settled_is : (l : Leaf) → is_settled (leaf_tree l) ≡ l.settled
@@ -54,11 +54,11 @@ leaf_node l short past = record {
     shallow = omega (arith, depth_of_leaf l);
   };
   counted = subst (λ (es : List Element). AreCounted es (children_of (leaf_tree l))) (sym (elements_are l)) tt;
-  modest = rw (total_is l) (none_is_modest (nodes_of (leaf_tree l)));
+  modest = rw (total_is l) (none_is_modest (node_count (leaf_tree l)));
   settled = λ h. record {
     past = let p : l.pad + l.size < l.extent = past (sym (settled_is l) ∙ h) in omega (arith, p, pad_is l, size_is l, extent_is l);
     inner = subst (λ (ks : List Tree). All (λ child. is_settled child ≡ true) ks) (sym (children_are l)) (All-nil (λ child. is_settled child ≡ true));
-    covers = subst (λ (ks : List Tree). EndBy (extent_of (leaf_tree l)) 0 ks) (sym (children_are l)) tt;
+    covers = subst (λ (ks : List Tree). EndBy (node_extent (leaf_tree l)) 0 ks) (sym (children_are l)) tt;
   };
 }
 
@@ -66,7 +66,7 @@ short_leaf : (l : Leaf) → IsNode (leaf_tree l) → l.pad + l.size ≤ most_spa
 short_leaf l n = omega (arith, n.sized.short, pad_is l, size_is l)
 
 past_leaf : (l : Leaf) → IsNode (leaf_tree l) → l.settled ≡ true → l.pad + l.size < l.extent
-past_leaf l n h = let p : span_of (leaf_tree l) < extent_of (leaf_tree l) = (n.settled (settled_is l ∙ h)).past in omega (arith, p, pad_is l, size_is l, extent_is l)
+past_leaf l n h = let p : span_of (leaf_tree l) < node_extent (leaf_tree l) = (n.settled (settled_is l ∙ h)).past in omega (arith, p, pad_is l, size_is l, extent_is l)
 
 pub extra_leaf_node : (l : Leaf) → IsNode (leaf_tree l) → IsNode (leaf_tree (extra_leaf l))
 extra_leaf_node l n = leaf_node (extra_leaf l) (short_leaf l n) (past_leaf l n)

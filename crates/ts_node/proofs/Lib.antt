@@ -2,6 +2,8 @@ pub mod BodyLemmas
 pub mod FillLemmas
 pub mod LeafLemmas
 pub mod ProductionLemmas
+pub mod ReducedLemmas
 pub mod RemakeLemmas
 pub mod RunLemmas
+pub mod SmallLemmas
 pub mod TotalLemmas

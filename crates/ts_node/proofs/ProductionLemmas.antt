@@ -1,6 +1,6 @@
 -- The production of a number: its rule, its place there, and its form.
 use Rattle.std.proofs.Common.{◌≡◌, ℕ, zero, suc, ◌+◌, ◌-◌, ◌/◌, ◌<◌, ◌≤◌, sym, ap, ◌∙◌, refl, arith, true, List, [], ◌∷◌, ◌++◌, length, map, take, slice_get, Option, Some, length-append, subst}
-use Rattle.ts_base.proofs.PlaceLemmas.{at_front, push_cases}
+use Rattle.ts_base.proofs.PlaceLemmas.{in_prefix, push_cases}
 use Rattle.std.proofs.lemmas.List.{length-map}
 use Rattle.std.proofs.lemmas.List.Sums.{sum_by-cons}
 use Rattle.ts_node.specs.declared.productions.Entry.{Entry}
@@ -12,7 +12,7 @@ use Rattle.std.proofs.lemmas.Option.{slice_get_within, slice_get-map}
 use Rattle.ts_core.specs.declared.flat.Production.{Production}
 use Rattle.ts_core.specs.declared.flat.FlatRule.{FlatRule}
 use Rattle.ts_core.specs.declared.flat.FlatGrammar.{FlatGrammar}
-use Rattle.spec_grammar.specs.Symbols.{start_symbol, rule_at, is_owned, count_productions, productions_from, all_productions, production_at, half}
+use Rattle.spec_grammar.specs.Symbols.{start_symbol, symbol_rule, is_owned, count_productions, productions_from, all_productions, production_at, half}
 use Rattle.spec_trees.specs.Made.{left_of, value_of, form_of, repetition_form, of_rule}
 
 -- ---- sums of productions
@@ -70,7 +70,7 @@ from_is symbol (x ∷ rules) zero i rule p e f =
     let n : count_productions [] + i ≡ i = omega arith in
     let s : symbol ≡ symbol + 0 = omega arith in
     ap (slice_get (productions_from symbol (x ∷ rules))) n
-    ∙ at_front (map (owned_by symbol) x.productions) (productions_from (suc symbol) rules) i (omega (arith, slice_get_within x.productions i p k, length-map x.productions (owned_by symbol)))
+    ∙ in_prefix (map (owned_by symbol) x.productions) (productions_from (suc symbol) rules) i (omega (arith, slice_get_within x.productions i p k, length-map x.productions (owned_by symbol)))
     ∙ slice_get-map (owned_by symbol) x.productions i
     ∙ ap (option_map (owned_by symbol)) k
     ∙ ap (λ (m : ℕ). Some (owned_by m p)) s
@@ -99,7 +99,7 @@ half_is zero = refl
 half_is (suc zero) = refl
 half_is (suc (suc n)) = omega (arith, half_is n)
 
-rule_is : (g : FlatGrammar) (r : ℕ) (rule : FlatRule) → slice_get g.rules r ≡ Some rule → rule_at g (start_symbol g + r) ≡ Some rule
+rule_is : (g : FlatGrammar) (r : ℕ) (rule : FlatRule) → slice_get g.rules r ≡ Some rule → symbol_rule g (start_symbol g + r) ≡ Some rule
 rule_is g r rule e =
     let a : nat_le (start_symbol g) (start_symbol g + r) ≡ true = grind arith in
     let b : start_symbol g + r - start_symbol g ≡ r = omega arith in
@@ -109,7 +109,7 @@ pub form_is_of : (g : FlatGrammar) (r i : ℕ) (rule : FlatRule) → slice_get g
     → form_of g (start_symbol g + r) (count_productions (take r g.rules) + i)
     ≡ (if is_owned (start_symbol g + r) rule then repetition_form (length rule.productions / 2) i else of_rule)
 form_is_of g r i rule e =
-    let a : rule_at g (start_symbol g + r) ≡ Some rule = rule_is g r rule e in
+    let a : symbol_rule g (start_symbol g + r) ≡ Some rule = rule_is g r rule e in
     let b : start_symbol g + r - start_symbol g ≡ r = omega arith in
     let c : count_productions (take r g.rules) + i - count_productions (take r g.rules) ≡ i = omega arith in
     rw (a, b, c, half_is (length rule.productions)) refl

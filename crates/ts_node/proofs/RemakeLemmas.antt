@@ -10,7 +10,7 @@ use Rattle.spec_trees.specs.Trees.{all_nodes, greatest_depth}
 use Rattle.spec_trees.specs.Made.{IsNode, remade, replaced, most_depth}
 use Rattle.ts_node.specs.declared.node.Summary.{Summary}
 use Rattle.ts_node.specs.declared.node.Leaf.{Leaf}
-use Rattle.ts_node.specs.Held.{body_tree, leaf_tree, remade_leaf, stretch, IsKept}
+use Rattle.ts_node.specs.Held.{body_tree, leaf_tree, remade_leaf, stretch, IsSummary}
 use Rattle.ts_node.specs.Falls.{nodes_of_body}
 use Rattle.ts_node.proofs.BodyLemmas.{leaf_layer, out_body, out_leaf, depth_of_body}
 
@@ -37,7 +37,7 @@ remade_layer s p es ks t pad size cs e = ap (λ (x : Tree-F Tree). roll-Tree (re
 pub remade_is : (n s : Summary) (p : Option ℕ) (es : List Element) (ks : List Tree) (t : Tree) (pad size : ℕ) (cs : List (ℕ × Tree)) → body_tree s p es ks ≡ t → IsRemade n s pad size es (replaced cs ks) → body_tree n p es (replaced cs ks) ≡ remade t pad size cs
 remade_is n s p es ks t pad size cs e r = rw (remade_layer s p es ks t pad size cs e, r.symbol, r.pad, r.size, r.extent, r.state, r.settled, r.dynamic) refl
 
-pub remade_kept : (n s : Summary) (p : Option ℕ) (es : List Element) (ks : List Tree) (t : Tree) (pad size : ℕ) (cs : List (ℕ × Tree)) → body_tree s p es ks ≡ t → IsRemade n s pad size es (replaced cs ks) → IsNode (remade t pad size cs) → IsKept n (body_tree n p es (replaced cs ks))
+pub remade_kept : (n s : Summary) (p : Option ℕ) (es : List Element) (ks : List Tree) (t : Tree) (pad size : ℕ) (cs : List (ℕ × Tree)) → body_tree s p es ks ≡ t → IsRemade n s pad size es (replaced cs ks) → IsNode (remade t pad size cs) → IsSummary n (body_tree n p es (replaced cs ks))
 remade_kept n s p es ks t pad size cs e r k = record {
   counted = omega (arith, r.nodes, nodes_of_body n p es (replaced cs ks));
   deep = omega (arith, r.depth, depth_of_body n p es (replaced cs ks));
@@ -75,9 +75,9 @@ remade_leaf_node l t pad size cs e k = subst (λ (x : Tree). IsNode x) (sym (rem
 
 -- ---- with the children that were made
 
-pub kept_with : (n s : Summary) (p : Option ℕ) (es : List Element) (ks new : List Tree) (t : Tree) (pad size : ℕ) (cs : List (ℕ × Tree)) → body_tree s p es ks ≡ t → new ≡ replaced cs ks → IsRemade n s pad size es new → IsNode (remade t pad size cs) → IsKept n (body_tree n p es new)
+pub kept_with : (n s : Summary) (p : Option ℕ) (es : List Element) (ks new : List Tree) (t : Tree) (pad size : ℕ) (cs : List (ℕ × Tree)) → body_tree s p es ks ≡ t → new ≡ replaced cs ks → IsRemade n s pad size es new → IsNode (remade t pad size cs) → IsSummary n (body_tree n p es new)
 kept_with n s p es ks new t pad size cs e is r k =
-    subst (λ (x : List Tree). IsKept n (body_tree n p es x)) (sym is)
+    subst (λ (x : List Tree). IsSummary n (body_tree n p es x)) (sym is)
     (remade_kept n s p es ks t pad size cs e (subst (λ (x : List Tree). IsRemade n s pad size es x) is r) k)
 
 pub is_with : (n s : Summary) (p : Option ℕ) (es : List Element) (ks new : List Tree) (t : Tree) (pad size : ℕ) (cs : List (ℕ × Tree)) → body_tree s p es ks ≡ t → new ≡ replaced cs ks → IsRemade n s pad size es new → body_tree n p es new ≡ remade t pad size cs
@@ -85,9 +85,9 @@ is_with n s p es ks new t pad size cs e is r =
     ap (λ (x : List Tree). body_tree n p es x) is
     ∙ remade_is n s p es ks t pad size cs e (subst (λ (x : List Tree). IsRemade n s pad size es x) is r)
 
-pub run_kept_with : (n s : Summary) (p : Option ℕ) (old new : Stretch) (t : Tree) (pad size : ℕ) (cs : List (ℕ × Tree)) → body_tree s p old.elements old.children ≡ t → new ≡ stretch old.elements (replaced cs old.children) → IsRemade n s pad size new.elements new.children → IsNode (remade t pad size cs) → IsKept n (body_tree n p new.elements new.children)
+pub run_kept_with : (n s : Summary) (p : Option ℕ) (old new : Stretch) (t : Tree) (pad size : ℕ) (cs : List (ℕ × Tree)) → body_tree s p old.elements old.children ≡ t → new ≡ stretch old.elements (replaced cs old.children) → IsRemade n s pad size new.elements new.children → IsNode (remade t pad size cs) → IsSummary n (body_tree n p new.elements new.children)
 run_kept_with n s p old new t pad size cs e is r k =
-    subst (λ (x : Stretch). IsKept n (body_tree n p x.elements x.children)) (sym is)
+    subst (λ (x : Stretch). IsSummary n (body_tree n p x.elements x.children)) (sym is)
     (remade_kept n s p old.elements old.children t pad size cs e (subst (λ (x : Stretch). IsRemade n s pad size x.elements x.children) is r) k)
 
 pub run_is_with : (n s : Summary) (p : Option ℕ) (old new : Stretch) (t : Tree) (pad size : ℕ) (cs : List (ℕ × Tree)) → body_tree s p old.elements old.children ≡ t → new ≡ stretch old.elements (replaced cs old.children) → IsRemade n s pad size new.elements new.children → body_tree n p new.elements new.children ≡ remade t pad size cs

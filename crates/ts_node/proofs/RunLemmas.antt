@@ -9,7 +9,7 @@ use Rattle.spec_trees.specs.Trees.{all_spans, greatest_depth, first_pad, pad_of}
 use Rattle.spec_trees.specs.Made.{children_count}
 use Rattle.ts_node.specs.declared.node.Counts.{Counts}
 use Rattle.ts_node.specs.declared.node.Sums.{Sums}
-use Rattle.ts_node.specs.Held.{IsSum, IsCount, joined, stretch, changed}
+use Rattle.ts_node.specs.Held.{IsSum, IsCount, joined_stretch, stretch, changed}
 use Rattle.ts_node.specs.Falls.{all_nodes-append}
 
 pub all_spans-append : (xs ys : List Tree) → all_spans (xs ++ ys) ≡ all_spans xs + all_spans ys
@@ -34,7 +34,7 @@ both_sums a b xs ys p q = record {
 }
 
 pub both_counts : (a b : Counts) (s t : Stretch) → IsCount a s → IsCount b t
-    → IsCount (record { elements = a.elements + b.elements; children = a.children + b.children; sums = record { nodes = a.sums.nodes + b.sums.nodes; spans = a.sums.spans + b.sums.spans; depth = max a.sums.depth b.sums.depth } }) (joined s t)
+    → IsCount (record { elements = a.elements + b.elements; children = a.children + b.children; sums = record { nodes = a.sums.nodes + b.sums.nodes; spans = a.sums.spans + b.sums.spans; depth = max a.sums.depth b.sums.depth } }) (joined_stretch s t)
 both_counts a b s t p q = record {
   elements = omega (arith, p.elements, q.elements, length-append s.elements t.elements);
   children = omega (arith, p.children, q.children, length-append s.children t.children);
@@ -53,12 +53,12 @@ no_first_pad (x ∷ xs) e = omega (arith, e)
 
 -- ---- one child replaced
 
-pub changed_left : (s t w : Stretch) (k : ℕ) (child : Tree) → joined s t ≡ w → k < length s.children → joined (changed s k child) t ≡ changed w k child
+pub changed_left : (s t w : Stretch) (k : ℕ) (child : Tree) → joined_stretch s t ≡ w → k < length s.children → joined_stretch (changed s k child) t ≡ changed w k child
 changed_left s t w k child e h =
     ap (λ (xs : List Tree). stretch (s.elements ++ t.elements) xs) (sym (set-append_left s.children t.children k child h))
     ∙ ap (λ (v : Stretch). changed v k child) e
 
-pub changed_right : (s t w : Stretch) (k : ℕ) (child : Tree) → joined s t ≡ w → length s.children ≤ k → joined s (changed t (k - length s.children) child) ≡ changed w k child
+pub changed_right : (s t w : Stretch) (k : ℕ) (child : Tree) → joined_stretch s t ≡ w → length s.children ≤ k → joined_stretch s (changed t (k - length s.children) child) ≡ changed w k child
 changed_right s t w k child e h =
     ap (λ (xs : List Tree). stretch (s.elements ++ t.elements) xs) (sym (set-append_right s.children t.children (length s.children) k child refl h))
     ∙ ap (λ (v : Stretch). changed v k child) e

@@ -26,5 +26,5 @@ pub record AreUpTo (g : FlatGrammar) (count : ℕ) (entries : List Entry) : Type
   pub each : (number : ℕ) (e : Entry) → slice_get entries number ≡ Some e → IsEntry g number e
 
 -- there is an entry for each production, in their order
-abbrev pub AreEntries : FlatGrammar → List Entry → Type 0
-AreEntries g entries = AreUpTo g (length (all_productions g)) entries
+abbrev pub HasAllEntries : FlatGrammar → List Entry → Type 0
+HasAllEntries g entries = AreUpTo g (length (all_productions g)) entries

@@ -1,4 +1,5 @@
--- Each part of a node is smaller than the node: what a recursion down a tree ends by. For proofs alone.
+-- Each part of a node is smaller than the node: what a recursion down a tree ends by. For proofs
+-- alone.
 use Rattle.std.specs.Prelude.{ℕ, ◌+◌, ◌*◌, ◌≤◌, ◌≡◌, max, false, List, [], ◌∷◌, ◌++◌, Option, Some, None, length}
 use Rattle.std.proofs.Common.{arith, length-append}
 use denote.Param.Weighed.{most}
@@ -12,10 +13,11 @@ use Rattle.ts_node.specs.declared.node.Kind.TheVariants as kind
 use Rattle.ts_node.specs.declared.node.Shape.{Shape}
 use Rattle.ts_node.specs.declared.node.Shape.TheVariants as shape
 use Rattle.ts_node.specs.declared.node.Node.TheDeep.{deep-Kind, deep-Shape}
-use Rattle.spec_trees.specs.Trees.{nodes_of, nodes_step, all_nodes}
-use Rattle.ts_node.specs.Held.{tree_of, body_tree, stretch_of, AreHeld}
+use Rattle.spec_trees.specs.Trees.{node_count, nodes_step, all_nodes}
+use Rattle.ts_node.specs.Held.{node_tree, body_tree, stretch_of, HasNoEmptyPart}
 
-pub nodes_of_body : (s : Summary) (production : Option ℕ) (es : List Element) (ks : List Tree) → nodes_of (body_tree s production es ks) ≡ 1 + (length es + all_nodes ks)
+pub nodes_of_body : (s : Summary) (production : Option ℕ) (es : List Element) (ks : List Tree)
+    → node_count (body_tree s production es ks) ≡ 1 + (length es + all_nodes ks)
 nodes_of_body s production es ks = fold-roll-Tree ℕ nodes_step (record {
   symbol = s.symbol;
   production = production;
@@ -30,25 +32,38 @@ nodes_of_body s production es ks = fold-roll-Tree ℕ nodes_step (record {
   children = ks;
 })
 
-most_le : (ks : List Tree) → most (λ k. 4 * nodes_of k + 1 + 1) ks ≤ 4 * all_nodes ks + 2
+most_le : (ks : List Tree) → most (λ k. 4 * node_count k + 1 + 1) ks ≤ 4 * all_nodes ks + 2
 most_le [] = omega arith
 most_le (k ∷ ks) = omega (arith, most_le ks)
 
-pub kind_falls : (k : Kind) → max (deep-Kind k) 0 ≤ 4 * nodes_of (tree_of k) + 1
+pub kind_falls : (k : Kind) → max (deep-Kind k) 0 ≤ 4 * node_count (node_tree k) + 1
 kind_falls (kind.Leaf leaf) = omega arith
 kind_falls (kind.Rule body) = omega arith
 kind_falls (kind.Repetition body) = omega arith
 
-pub children_fall : (s : Summary) (production : ℕ) (ks : List Tree) → max (most (λ k. 4 * nodes_of k + 1 + 1) ks) 0 ≤ 4 * nodes_of (body_tree s (Some production) [] ks)
+pub children_fall : (s : Summary) (production : ℕ) (ks : List Tree)
+    → max (most (λ k. 4 * node_count k + 1 + 1) ks) 0
+    ≤ 4 * node_count (body_tree s (Some production) [] ks)
 children_fall s production ks = omega (arith, most_le ks, nodes_of_body s (Some production) [] ks)
 
-pub run_falls : (s : Summary) (run : Stretch) → max (4 * (length run.elements + all_nodes run.children) + 2 + 1) 0 ≤ 4 * nodes_of (body_tree s None run.elements run.children)
+pub run_falls : (s : Summary) (run : Stretch)
+    → max (4 * (length run.elements + all_nodes run.children) + 2 + 1) 0
+    ≤ 4 * node_count (body_tree s None run.elements run.children)
 run_falls s run = omega (arith, nodes_of_body s None run.elements run.children)
 
 pub all_nodes-append : (xs ys : List Tree) → all_nodes (xs ++ ys) ≡ all_nodes xs + all_nodes ys
 all_nodes-append [] ys = omega arith
 all_nodes-append (x ∷ xs) ys = omega (arith, all_nodes-append xs ys)
 
-pub shape_falls : (s : Shape) → AreHeld s → max (deep-Shape s) 0 ≤ 4 * (length (stretch_of s).elements + all_nodes (stretch_of s).children) + 2
+pub shape_falls : (s : Shape) → HasNoEmptyPart s
+    → max (deep-Shape s) 0
+    ≤ 4 * (length (stretch_of s).elements + all_nodes (stretch_of s).children) + 2
 shape_falls (shape.Leaf elements children) h = omega (arith, most_le children)
-shape_falls (shape.Branch left right) h = omega (arith, length-append left.elements right.elements, all_nodes-append left.children right.children, h.0, h.1)
+shape_falls (shape.Branch left right) h =
+    omega (
+      arith,
+      length-append left.elements right.elements,
+      all_nodes-append left.children right.children,
+      h.0,
+      h.1,
+    )

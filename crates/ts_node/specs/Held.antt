@@ -5,7 +5,7 @@ use Rattle.spec_trees.specs.declared.tree.Tree.{Tree}
 use Rattle.spec_trees.specs.declared.tree.Element.{Element}
 use Rattle.spec_trees.specs.declared.tree.Stretch.{Stretch}
 use Rattle.spec_trees.specs.declared.tree.Tree.TheViews.{roll-Tree}
-use Rattle.spec_trees.specs.Trees.{nodes_of, depth_of, all_nodes, all_spans, greatest_depth, symbol_of, pad_of, size_of, extent_of, state_of, is_settled, total_of}
+use Rattle.spec_trees.specs.Trees.{node_count, tree_depth, all_nodes, all_spans, greatest_depth, symbol_of, pad_of, size_of, node_extent, state_of, is_settled, total_of}
 use Rattle.spec_trees.specs.Made.{IsNode, children_count, most_span, node_limit}
 use Rattle.ts_node.specs.declared.node.Leaf.{Leaf}
 use Rattle.ts_node.specs.declared.node.Summary.{Summary}
@@ -34,11 +34,27 @@ leaf_tree l = roll-Tree (record {
 
 -- the leaf, standing as an extra
 abbrev pub extra_leaf : Leaf → Leaf
-extra_leaf l = record { pad = l.pad; size = l.size; extent = l.extent; symbol = l.symbol; settled = l.settled; extra = true; state = l.state }
+extra_leaf l = record {
+  pad = l.pad;
+  size = l.size;
+  extent = l.extent;
+  symbol = l.symbol;
+  settled = l.settled;
+  extra = true;
+  state = l.state;
+}
 
 -- the leaf as an edit leaves it
 abbrev pub remade_leaf : ℕ → ℕ → Leaf → Leaf
-remade_leaf pad size l = record { pad = pad; size = size; extent = l.extent; symbol = l.symbol; settled = false; extra = l.extra; state = l.state }
+remade_leaf pad size l = record {
+  pad = pad;
+  size = size;
+  extent = l.extent;
+  symbol = l.symbol;
+  settled = false;
+  extra = l.extra;
+  state = l.state;
+}
 
 -- the tree of a node with these children
 abbrev pub body_tree : Summary → Option ℕ → List Element → List Tree → Tree
@@ -57,10 +73,10 @@ body_tree s production elements children = roll-Tree (record {
 })
 
 -- the tree that a node stands for
-abbrev pub tree_of : Kind → Tree
-tree_of (kind.Leaf leaf) = leaf_tree leaf
-tree_of (kind.Rule body) = body
-tree_of (kind.Repetition body) = body
+abbrev pub node_tree : Kind → Tree
+node_tree (kind.Leaf leaf) = leaf_tree leaf
+node_tree (kind.Rule body) = body
+node_tree (kind.Repetition body) = body
 
 -- a leaf keeps this itself, the others by their types
 abbrev pub IsKeptLeaf : Kind → Type 0
@@ -69,9 +85,9 @@ IsKeptLeaf (kind.Rule body) = Unit {0}
 IsKeptLeaf (kind.Repetition body) = Unit {0}
 
 -- A summary agrees with its tree, which is a node.
-pub record IsKept (s : Summary) (t : Tree) : Type 0 where
-  pub counted : s.nodes ≡ nodes_of t
-  pub deep : s.depth ≡ depth_of t
+pub record IsSummary (s : Summary) (t : Tree) : Type 0 where
+  pub counted : s.nodes ≡ node_count t
+  pub deep : s.depth ≡ tree_depth t
   pub node : IsNode t
 
 -- a summary tells all this of a tree, which is a node
@@ -79,19 +95,22 @@ pub record Tells (s : Summary) (t : Tree) : Type 0 where
   pub symbol : s.symbol.0 ≡ symbol_of t
   pub pad : s.pad ≡ pad_of t
   pub size : s.size ≡ size_of t
-  pub extent : s.extent ≡ extent_of t
+  pub extent : s.extent ≡ node_extent t
   pub state : s.state ≡ state_of t
   pub settled : s.settled ≡ is_settled t
   pub dynamic : s.dynamic ≡ total_of t
-  pub nodes : s.nodes ≡ nodes_of t
-  pub depth : s.depth ≡ depth_of t
+  pub nodes : s.nodes ≡ node_count t
+  pub depth : s.depth ≡ tree_depth t
   pub node : IsNode t
 
 -- ---- runs
 
 -- two stretches one after the other
-abbrev pub joined : Stretch → Stretch → Stretch
-joined s t = record { elements = s.elements ++ t.elements; children = s.children ++ t.children }
+abbrev pub joined_stretch : Stretch → Stretch → Stretch
+joined_stretch s t = record {
+  elements = s.elements ++ t.elements;
+  children = s.children ++ t.children;
+}
 
 -- a stretch of these elements and children
 abbrev pub stretch : List Element → List Tree → Stretch
@@ -104,12 +123,12 @@ changed s k t = record { elements = s.elements; children = set s.children k t }
 -- what a run holds
 abbrev pub stretch_of : Shape → Stretch
 stretch_of (shape.Leaf elements children) = stretch elements children
-stretch_of (shape.Branch left right) = joined left right
+stretch_of (shape.Branch left right) = joined_stretch left right
 
 -- no part of a run is without elements
-abbrev pub AreHeld : Shape → Type 0
-AreHeld (shape.Leaf elements children) = 0 < length elements
-AreHeld (shape.Branch left right) = (0 < length left.elements) × (0 < length right.elements)
+abbrev pub HasNoEmptyPart : Shape → Type 0
+HasNoEmptyPart (shape.Leaf elements children) = 0 < length elements
+HasNoEmptyPart (shape.Branch left right) = (0 < length left.elements) × (0 < length right.elements)
 
 -- what is added up over children, each of which is a node
 pub record IsSum (s : Sums) (ts : List Tree) : Type 0 where
@@ -130,4 +149,4 @@ pub record IsCount (c : Counts) (s : Stretch) : Type 0 where
 -- what a run keeps
 pub record IsWhole (c : Counts) (s : Shape) : Type 0 where
   pub counted : IsCount c (stretch_of s)
-  pub held : AreHeld s
+  pub held : HasNoEmptyPart s

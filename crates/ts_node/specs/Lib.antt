@@ -1,3 +1,4 @@
 pub mod Held
 pub mod Entries
 pub mod Falls
+pub mod Small

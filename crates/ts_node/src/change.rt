@@ -1,5 +1,5 @@
-//! What an edit leaves of a node: a node, its new pad and size and its changed children go in, and the node with
-//! these, not settled, comes out.
+//! What an edit leaves of a node: a node, its new pad and size and its changed children go in, and
+//! the node with these, not settled, comes out.
 ghost use Rattle.std.specs.Prelude.{◌≡◌, ◌+◌, ◌<◌, ◌^◌, false, All, IfOk, length};
 ghost use Rattle.spec_trees.specs.Trees.{children_of};
 ghost use Rattle.spec_trees.specs.Made.{remade, replaced, IsNode};
@@ -10,8 +10,8 @@ use crate::sums::{copy, sums};
 use std::alloc::{AllocError, Global};
 use ts_base::{List, Shared};
 
-/// The node with another pad and size, its children of these numbers replaced, and not settled. It shares all other
-/// children.
+/// The node with another pad and size, its children of these numbers replaced, and not settled. All
+/// else stays, its dynamic total too. It shares all other children.
 ///
 /// # Errors
 ///
@@ -140,7 +140,8 @@ fn run_with_changes(
     changed: &[(u32, Node)],
 ) -> Result<Shared<Run>, AllocError>
     requires { All (λ change. change.0 < length run.now.children) changed.now }
-    ensures { IfOk result (λ new. new ≡ stretch run.now.elements (replaced changed.now run.now.children)) }
+    ensures { IfOk result
+        (λ new. new ≡ stretch run.now.elements (replaced changed.now run.now.children)) }
 {
     let mut run = run.try_clone()?;
     for (k, node) in changed {

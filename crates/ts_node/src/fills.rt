@@ -1,5 +1,5 @@
-//! Which step a child fills: a node and the number of a child go in, the step's place in its production or alternative
-//! comes out.
+//! Which step a child fills: a node and the number of a child go in, the step's place in its
+//! production or alternative comes out.
 ghost use Rattle.std.specs.Prelude.{◌≡◌, ◌<◌, ◌≤◌, ◌^◌, drop, length, slice_get, Some};
 ghost use Rattle.spec_trees.specs.Trees.{children_of};
 ghost use Rattle.spec_trees.specs.Made.{children_count, fills_from, fills_in, fills_of};
@@ -8,8 +8,8 @@ use crate::node::{Kind, Node, Run, Shape};
 use spec_trees::Element;
 
 impl Node {
-    /// The step that child `k` fills in its production, or in the alternative of its element, counted from 0. None
-    /// for an extra.
+    /// The step that child `k` fills in its production, or in the alternative of its element,
+    /// counted from 0. None for an extra.
     #[tactic(auto, using(crate::proofs::BodyLemmas::leaf_children))]
     pub fn filled(&self, k: u32) -> Option<u32>
         requires { k < length (children_of self.now) }

@@ -1,9 +1,10 @@
-//! Nodes of parse trees: tokens, productions and children go in, nodes come out that share their parts. A leaf lies
-//! in its parent's list and takes no memory of its own.
+//! Nodes of parse trees: tokens, productions and children go in, nodes come out that share their
+//! parts. A leaf lies in its parent's list and takes no memory of its own.
 #![tactic(auto)]
 
 mod change;
 mod fills;
+mod laws;
 mod make;
 mod node;
 mod productions;
@@ -13,6 +14,7 @@ mod sums;
 mod tests;
 
 pub use change::remake;
+pub use laws::reduced_is_node;
 pub use make::{accept, reduce};
 pub use node::Node;
 pub use productions::Productions;

@@ -1,8 +1,8 @@
-//! The makers of nodes: tokens and children go in, a leaf, a node over children, the accepted root, or a node as an
-//! edit leaves it comes out.
-ghost use Rattle.std.specs.Prelude.{◌≡◌, ◌+◌, ◌<◌, ◌≤◌, ◌++◌, ◌^◌, ◌-◌, ◌∷◌, [], true, IfOk, Some, None, length, IsTrue};
+//! The makers of nodes: tokens and children go in, a leaf, a node over children, the accepted root,
+//! or a node as an edit leaves it comes out.
+ghost use Rattle.std.specs.Prelude.{◌≡◌, ◌+◌, ◌<◌, ◌≤◌, ◌++◌, ◌^◌, ◌-◌, ◌∷◌, [], true, All, IfOk, Some, None, length, IsTrue};
 ghost use Rattle.std.proofs.Common.{is_some};
-ghost use Rattle.spec_trees.specs.Trees.{children_of, elements_of, production_of};
+ghost use Rattle.spec_trees.specs.Trees.{children_of, elements_of, is_extra_node, production_of};
 ghost use Rattle.spec_trees.specs.Made.{leaf_of, node_over, rule_node, first_element, next_element, accepted, reduced, made_by, most_span, IsNode, IsLeaf, Lengthens, FitsProduction};
 ghost use Rattle.spec_trees.specs.Made as made;
 ghost use Rattle.ts_node.specs.Entries.{form_is};
@@ -98,8 +98,10 @@ fn summary(head: Head, pad: u32, elements: u32, sums: Sums) -> Summary
 
 /// A node of a rule's production over these children.
 fn over(alloc: Global, head: Head, number: u32, children: List<Node>) -> Result<Node, AllocError>
-    requires { IsNode (node_over head.symbol.0 (Some number) head.dynamic head.extent head.state [] children) }
-    ensures { IfOk result (λ node. node ≡ node_over head.symbol.0 (Some number) head.dynamic head.extent head.state [] children) }
+    requires { IsNode
+        (node_over head.symbol.0 (Some number) head.dynamic head.extent head.state [] children) }
+    ensures { IfOk result (λ node. node
+        ≡ node_over head.symbol.0 (Some number) head.dynamic head.extent head.state [] children) }
 {
     let pad = pad_of_first(children.as_slice());
     let sums = sums(children.as_slice());
@@ -119,8 +121,10 @@ fn over(alloc: Global, head: Head, number: u32, children: List<Node>) -> Result<
 
 /// A repetition of these elements.
 fn over_run(alloc: Global, head: Head, run: Shared<Run>) -> Result<Node, AllocError>
-    requires { IsNode (node_over head.symbol.0 None head.dynamic head.extent head.state run.elements run.children) }
-    ensures { IfOk result (λ node. node ≡ node_over head.symbol.0 None head.dynamic head.extent head.state run.elements run.children) }
+    requires { IsNode (node_over head.symbol.0 None head.dynamic head.extent head.state
+        run.elements run.children) }
+    ensures { IfOk result (λ node. node ≡ node_over head.symbol.0 None head.dynamic head.extent
+        head.state run.elements run.children) }
 {
     let counts = run.get().counts();
     let pad = run.get().pad_of_first();
@@ -141,7 +145,8 @@ fn rule(
     state: Option<u16>,
 ) -> Result<Node, AllocError>
     requires { IsNode (rule_node entry.symbol.0 number entry.dynamic extent state children) }
-    ensures { IfOk result (λ node. node ≡ rule_node entry.symbol.0 number entry.dynamic extent state children) }
+    ensures { IfOk result (λ node. node
+        ≡ rule_node entry.symbol.0 number entry.dynamic extent state children) }
 {
     let total = totals(children.as_slice());
     let dynamic = with_value(entry.dynamic, total);
@@ -163,8 +168,10 @@ fn first(
     extent: u32,
     state: Option<u16>,
 ) -> Result<Node, AllocError>
-    requires { IsNode (first_element entry.symbol.0 alternative entry.dynamic extent state children) }
-    ensures { IfOk result (λ node. node ≡ first_element entry.symbol.0 alternative entry.dynamic extent state children) }
+    requires { IsNode
+        (first_element entry.symbol.0 alternative entry.dynamic extent state children) }
+    ensures { IfOk result (λ node. node
+        ≡ first_element entry.symbol.0 alternative entry.dynamic extent state children) }
 {
     let total = totals(children.as_slice());
     let dynamic = with_value(entry.dynamic, total);
@@ -188,14 +195,17 @@ fn next(
     state: Option<u16>,
 ) -> Result<Node, AllocError>
     requires longer { Lengthens (made.of_next alternative) children }
-    requires node { IsNode (next_element entry.symbol.0 alternative entry.dynamic extent state children) }
-    ensures { IfOk result (λ node. node ≡ next_element entry.symbol.0 alternative entry.dynamic extent state children) }
+    requires node { IsNode
+        (next_element entry.symbol.0 alternative entry.dynamic extent state children) }
+    ensures { IfOk result (λ node. node
+        ≡ next_element entry.symbol.0 alternative entry.dynamic extent state children) }
 {
     let (before, more) = parted(children);
     longer(alloc, entry, alternative, &before, more, extent, state)
 }
 
-/// The repetition `before` with one more element of these children. It shares the parts of the repetition so far.
+/// The repetition `before` with one more element of these children. It shares the parts of the
+/// repetition so far.
 fn longer(
     alloc: Global,
     entry: Entry,
@@ -206,8 +216,10 @@ fn longer(
     state: Option<u16>,
 ) -> Result<Node, AllocError>
     requires repetition { 0 < length (elements_of before.now) }
-    requires node { IsNode (next_element entry.symbol.0 alternative entry.dynamic extent state (before.now ∷ more)) }
-    ensures { IfOk result (λ node. node ≡ next_element entry.symbol.0 alternative entry.dynamic extent state (before.now ∷ more)) }
+    requires node { IsNode (next_element entry.symbol.0 alternative entry.dynamic extent state
+        (before.now ∷ more)) }
+    ensures { IfOk result (λ node. node ≡ next_element entry.symbol.0 alternative entry.dynamic
+        extent state (before.now ∷ more)) }
 {
     let summary = before.summary();
     let others = totals(more.as_slice());
@@ -244,7 +256,8 @@ fn lengthened(
     requires repetition { 0 < length (elements_of before.now) }
     requires wide { length (children_of before.now) + length more < 2 ^ 32 }
     requires fits { length (elements_of before.now) + 1 < 2 ^ 32 }
-    ensures elements { IfOk result (λ run. run.elements ≡ elements_of before.now ++ made.element alternative (length more) ∷ []) }
+    ensures elements { IfOk result (λ run. run.elements
+        ≡ elements_of before.now ++ made.element alternative (length more) ∷ []) }
     ensures children { IfOk result (λ run. run.children ≡ children_of before.now ++ more) }
 {
     match &before.kind {
@@ -260,8 +273,9 @@ fn lengthened(
     }
 }
 
-/// The node that a reduction by the production of this number makes of its children. A production that lengthens a
-/// repetition shares the repetition so far, and takes time by the logarithm of its length.
+/// The node that a reduction by the production of this number makes of its children. A production
+/// that lengthens a repetition shares the repetition so far, and takes time by the logarithm of its
+/// length.
 ///
 /// # Errors
 ///
@@ -297,8 +311,10 @@ fn made(
     state: Option<u16>,
 ) -> Result<Node, AllocError>
     requires longer { Lengthens (form_is entry.form) children }
-    requires node { IsNode (made_by (form_is entry.form) entry.symbol.0 number entry.dynamic extent state children) }
-    ensures { IfOk result (λ node. node ≡ made_by (form_is entry.form) entry.symbol.0 number entry.dynamic extent state children) }
+    requires node { IsNode (made_by (form_is entry.form) entry.symbol.0 number entry.dynamic extent
+        state children) }
+    ensures { IfOk result (λ node. node ≡ made_by (form_is entry.form) entry.symbol.0 number
+        entry.dynamic extent state children) }
 {
     match entry.form {
         Form::Rule => rule(alloc, entry, number, children, extent, state),
@@ -321,6 +337,8 @@ pub fn accept(
     extent: u32,
 ) -> Result<Node, AllocError>
     requires rule { IsTrue (is_some (production_of root.now)) }
+    requires before { All (λ node. is_extra_node node ≡ true) before.now }
+    requires after { All (λ node. is_extra_node node ≡ true) after.now }
     requires node { IsNode (accepted root.now before.now after.now extent) }
     ensures { IfOk result (λ node. node ≡ accepted root.now before.now after.now extent) }
 {

@@ -1,7 +1,7 @@
 //! The node itself, and what it says of itself.
 ghost use Rattle.std.specs.Prelude.{◌≡◌, ◌<◌, ◌^◌, IfOk, false, length, slice_get, Some, None};
-ghost use Rattle.spec_trees.specs.Trees.{symbol_of, production_of, pad_of, size_of, extent_of, state_of, total_of, is_settled, is_extra_node, children_of, elements_of, nodes_of, depth_of};
-ghost use Rattle.spec_trees.specs.Made.{IsNode};
+ghost use Rattle.spec_trees.specs.Trees.{symbol_of, production_of, pad_of, size_of, node_extent, state_of, total_of, is_settled, is_extra_node, children_of, elements_of, node_count, tree_depth};
+ghost use Rattle.spec_trees.specs.Made.{AreCounted, IsNode, node_limit};
 ghost use Rattle.ts_node.specs.Held.{leaf_tree, extra_leaf, remade_leaf, Tells};
 
 use spec_trees::Element;
@@ -10,7 +10,8 @@ use std::marker::Model;
 use ts_base::{List, Shared};
 use ts_core::Symbol;
 
-/// A node of a parse tree, which contracts see as a `Tree`: a leaf, or one more owner of a node with children.
+/// A node of a parse tree, which contracts see as a `Tree`: a leaf, or one more owner of a node
+/// with children.
 #[cycle(node)]
 #[derive(Drop)]
 pub struct Node {
@@ -68,7 +69,8 @@ pub(crate) struct Repetition {
     pub run: Shared<Run>,
 }
 
-/// Elements of a repetition one after another, with their children, in a balanced tree of shared parts.
+/// Elements of a repetition one after another, with their children, in a balanced tree of shared
+/// parts.
 #[cycle(node)]
 #[derive(Drop)]
 pub(crate) struct Run {
@@ -113,14 +115,14 @@ impl Model for Node {
 
     ghost coded = { Prim.hlevel (codes, tree.the_row.coded) };
 
-    ghost use Rattle.spec_trees.specs.Trees.{nodes_of};
-    ghost use Rattle.ts_node.specs.Held.{tree_of, IsKeptLeaf};
+    ghost use Rattle.spec_trees.specs.Trees.{node_count};
+    ghost use Rattle.ts_node.specs.Held.{node_tree, IsKeptLeaf};
 
-    ghost view = { λ a. tree_of a.kind };
+    ghost view = { λ a. node_tree a.kind };
 
     ghost invariant = { λ a. IsKeptLeaf a.kind };
 
-    ghost size = { λ t. 4 * nodes_of t + 1 };
+    ghost size = { λ t. 4 * node_count t + 1 };
 
     ghost use Rattle.ts_node.specs.Falls.{kind_falls};
 
@@ -137,14 +139,15 @@ impl Model for RuleNode {
 
     ghost coded = { Prim.hlevel (codes, tree.the_row.coded) };
 
-    ghost use Rattle.spec_trees.specs.Trees.{nodes_of};
-    ghost use Rattle.ts_node.specs.Held.{body_tree, IsKept};
+    ghost use Rattle.spec_trees.specs.Trees.{node_count};
+    ghost use Rattle.ts_node.specs.Held.{body_tree, IsSummary};
 
     ghost view = { λ a. body_tree a.summary (Some a.production) [] a.children };
 
-    ghost invariant = { λ a. IsKept a.summary (body_tree a.summary (Some a.production) [] a.children) };
+    ghost invariant = { λ a. IsSummary a.summary
+        (body_tree a.summary (Some a.production) [] a.children) };
 
-    ghost size = { λ t. 4 * nodes_of t };
+    ghost size = { λ t. 4 * node_count t };
 
     ghost use Rattle.ts_node.specs.Falls.{children_fall};
 
@@ -161,14 +164,16 @@ impl Model for Repetition {
 
     ghost coded = { Prim.hlevel (codes, tree.the_row.coded) };
 
-    ghost use Rattle.spec_trees.specs.Trees.{nodes_of};
-    ghost use Rattle.ts_node.specs.Held.{body_tree, IsKept};
+    ghost use Rattle.spec_trees.specs.Trees.{node_count};
+    ghost use Rattle.ts_node.specs.Held.{body_tree, IsSummary};
 
     ghost view = { λ a. body_tree a.summary None a.run.elements a.run.children };
 
-    ghost invariant = { λ a. IsKept a.summary (body_tree a.summary None a.run.elements a.run.children) × (0 < length a.run.elements) };
+    ghost invariant = { λ a.
+        IsSummary a.summary (body_tree a.summary None a.run.elements a.run.children)
+        × (0 < length a.run.elements) };
 
-    ghost size = { λ t. 4 * nodes_of t };
+    ghost size = { λ t. 4 * node_count t };
 
     ghost use Rattle.ts_node.specs.Falls.{run_falls};
 
@@ -218,7 +223,7 @@ impl RuleNode {
     #[tactic(auto, using(crate::proofs::BodyLemmas::children_are, crate::proofs::BodyLemmas::elements_are, crate::proofs::BodyLemmas::few_children))]
     pub(crate) fn children(&self) -> &List<Node>
         ensures children { result.now ≡ children_of self.now }
-        ensures few { length (children_of self.now) < 2 ^ 31 }
+        ensures few { length (children_of self.now) < node_limit }
         ensures elements { length (elements_of self.now) ≡ 0 }
     {
         &self.children
@@ -234,11 +239,12 @@ impl Repetition {
         self.summary
     }
 
-    #[tactic(auto, using(crate::proofs::BodyLemmas::children_are, crate::proofs::BodyLemmas::elements_are, crate::proofs::BodyLemmas::production_is))]
+    #[tactic(auto, using(crate::proofs::BodyLemmas::children_are, crate::proofs::BodyLemmas::elements_are, crate::proofs::BodyLemmas::production_is, crate::proofs::BodyLemmas::few_children))]
     pub(crate) fn run(&self) -> &Shared<Run>
         ensures elements { result.now.elements ≡ elements_of self.now }
         ensures children { result.now.children ≡ children_of self.now }
         ensures production { production_of self.now ≡ None }
+        ensures few { length (children_of self.now) < node_limit }
     {
         &self.run
     }
@@ -362,7 +368,7 @@ impl Node {
 
     /// 1 for a node without children, else one more than its deepest child.
     pub fn depth(&self) -> u32
-        ensures { result ≡ depth_of self.now }
+        ensures { result ≡ tree_depth self.now }
     {
         self.summary().depth as u32
     }
@@ -374,9 +380,10 @@ impl Node {
         self.summary().dynamic
     }
 
-    /// How many bytes were examined to make it, from its first byte on. The end of the text counts as one.
+    /// How many bytes were examined to make it, from its first byte on. The end of the text counts
+    /// as one.
     pub fn extent(&self) -> u32
-        ensures { result ≡ extent_of self.now }
+        ensures { result ≡ node_extent self.now }
     {
         self.summary().extent
     }
@@ -397,7 +404,7 @@ impl Node {
 
     /// How many nodes its tree has, and one more for each element of a repetition in it.
     pub fn nodes(&self) -> u32
-        ensures count { result ≡ nodes_of self.now }
+        ensures count { result ≡ node_count self.now }
         ensures node { IsNode self.now }
     {
         self.summary().nodes
@@ -446,10 +453,13 @@ impl Node {
         }
     }
 
-    /// How many elements it has as a repetition, and 0 for all other nodes.
-    #[tactic(auto, using(crate::proofs::BodyLemmas::leaf_elements))]
+    /// How many elements it has as a repetition, and 0 for all other nodes. Its elements have just
+    /// its children.
+    #[tactic(auto, using(crate::proofs::BodyLemmas::leaf_elements, crate::proofs::BodyLemmas::leaf_children, crate::proofs::BodyLemmas::none_counted, crate::proofs::BodyLemmas::counted))]
     pub fn elements(&self) -> u32
-        ensures { result ≡ length (elements_of self.now) }
+        ensures count { result ≡ length (elements_of self.now) }
+        ensures own { AreCounted (elements_of self.now) (children_of self.now) }
+        ensures few { length (children_of self.now) < node_limit }
     {
         match &self.kind {
             Kind::Leaf(_) => 0,

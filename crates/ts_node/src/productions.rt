@@ -1,8 +1,9 @@
-//! The productions of a grammar by their numbers: what a reduction has to know of each, found at once.
+//! The productions of a grammar by their numbers: what a reduction has to know of each, found at
+//! once.
 ghost use Rattle.std.specs.Prelude.{◌≡◌, ◌+◌, ◌<◌, ◌≤◌, ◌^◌, suc, length, take, slice_get, Some, IfOk, OnOk, if◌then◌else◌};
 ghost use Rattle.spec_grammar.specs.Symbols.{all_productions, symbol_count, count_productions};
 ghost use Rattle.spec_trees.specs.Made.{repetition_form, of_rule};
-ghost use Rattle.ts_node.specs.Entries.{IsEntry, AreEntries, AreUpTo, form_is};
+ghost use Rattle.ts_node.specs.Entries.{IsEntry, HasAllEntries, AreUpTo, form_is};
 
 use std::alloc::{AllocError, Global};
 use std::marker::Model;
@@ -44,11 +45,11 @@ impl Model for Productions {
 
     ghost coded = { Prim.hlevel (codes, grammar.the_row.coded) };
 
-    ghost use Rattle.ts_node.specs.Entries.{AreEntries};
+    ghost use Rattle.ts_node.specs.Entries.{HasAllEntries};
 
     ghost view = { λ a. a.flat.value };
 
-    ghost invariant = { λ a. AreEntries a.flat.value a.entries };
+    ghost invariant = { λ a. HasAllEntries a.flat.value a.entries };
 }
 
 impl Productions {
@@ -83,7 +84,7 @@ impl Productions {
 fn entries(alloc: Global, flat: &FlatGrammar) -> Result<List<Entry>, AllocError>
     requires symbols { symbol_count flat.now ≤ 2 ^ 16 }
     requires productions { length (all_productions flat.now) < 2 ^ 32 }
-    ensures { IfOk result (λ entries. AreEntries flat.now entries) }
+    ensures { IfOk result (λ entries. HasAllEntries flat.now entries) }
 {
     let mut entries = List::new(alloc);
     for r in 0..flat.rules.len() {
@@ -99,7 +100,8 @@ fn add_rule(flat: &FlatGrammar, r: usize, entries: &mut List<Entry>) -> Result<(
     requires symbols { symbol_count flat.now ≤ 2 ^ 16 }
     requires productions { length (all_productions flat.now) < 2 ^ 32 }
     requires before { AreUpTo flat.now (count_productions (take r flat.now.rules)) entries.old }
-    ensures { OnOk result (AreUpTo flat.now (count_productions (take (suc r) flat.now.rules)) entries.new) }
+    ensures { OnOk result
+        (AreUpTo flat.now (count_productions (take (suc r) flat.now.rules)) entries.new) }
 {
     let rule = flat.rules.get(r);
     for i in 0..rule.productions.len() {

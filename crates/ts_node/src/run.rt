@@ -1,9 +1,9 @@
-//! Runs: the elements of a repetition with their children, in a tree of shared parts that is balanced as an AVL
-//! tree is. Heights and balance are no part of what a run means.
+//! Runs: the elements of a repetition with their children, in a tree of shared parts that is
+//! balanced as an AVL tree is. Heights and balance are no part of what a run means.
 ghost use Rattle.std.specs.Prelude.{◌≡◌, ◌+◌, ◌<◌, ◌^◌, ◌++◌, ◌∷◌, [], IfOk, OnOk, length, set, slice_get, Some};
 ghost use Rattle.spec_trees.specs.Trees.{first_pad};
 ghost use Rattle.spec_trees.specs.Made.{children_count, element};
-ghost use Rattle.ts_node.specs.Held.{joined, stretch, changed, IsCount};
+ghost use Rattle.ts_node.specs.Held.{joined_stretch, stretch, changed, IsCount};
 
 use crate::node::{Counts, Node, Run, Shape, Sums};
 use crate::sums::{copy, sums};
@@ -110,7 +110,7 @@ impl Run {
     ) -> Result<Shared<Run>, AllocError>
         requires fits { length left.elements + length right.elements < 2 ^ 32 }
         requires wide { length left.children + length right.children < 2 ^ 32 }
-        ensures { IfOk result (λ run. run ≡ joined left right) }
+        ensures { IfOk result (λ run. run ≡ joined_stretch left right) }
     {
         let height = left
             .get()
@@ -136,7 +136,7 @@ impl Run {
     ) -> Result<Shared<Run>, AllocError>
         requires fits { length left.elements + length right.now.elements < 2 ^ 32 }
         requires wide { length left.children + length right.now.children < 2 ^ 32 }
-        ensures { IfOk result (λ run. run ≡ joined left right.now) }
+        ensures { IfOk result (λ run. run ≡ joined_stretch left right.now) }
     {
         match &right.get().shape {
             Shape::Branch(inner, outer) if is_two_higher(right.get(), left.get()) => {
@@ -164,7 +164,7 @@ impl Run {
     ) -> Result<Shared<Run>, AllocError>
         requires fits { length left.now.elements + length right.elements < 2 ^ 32 }
         requires wide { length left.now.children + length right.children < 2 ^ 32 }
-        ensures { IfOk result (λ run. run ≡ joined left.now right) }
+        ensures { IfOk result (λ run. run ≡ joined_stretch left.now right) }
     {
         match &left.get().shape {
             Shape::Branch(outer, inner) if is_two_higher(left.get(), right.get()) => {
@@ -197,7 +197,8 @@ impl Run {
         requires high { children_count high.now ≡ length high_children.now }
         requires fits { length low.now + length high.now < 2 ^ 32 }
         requires wide { length low_children.now + length high_children.now < 2 ^ 32 }
-        ensures { IfOk result (λ run. run ≡ stretch (low.now ++ high.now) (low_children.now ++ high_children.now)) }
+        ensures { IfOk result (λ run. run
+            ≡ stretch (low.now ++ high.now) (low_children.now ++ high_children.now)) }
     {
         let mut elements = List::with_capacity(alloc, low.len() + high.len())?;
         copy_elements(low, &mut elements)?;
@@ -216,7 +217,7 @@ impl Run {
     ) -> Result<Shared<Run>, AllocError>
         requires fits { length left.now.elements + length right.now.elements < 2 ^ 32 }
         requires wide { length left.now.children + length right.now.children < 2 ^ 32 }
-        ensures { IfOk result (λ run. run ≡ joined left.now right.now) }
+        ensures { IfOk result (λ run. run ≡ joined_stretch left.now right.now) }
     {
         let (first, second) = (left.get(), right.get());
         match (&first.shape, &second.shape) {
@@ -251,7 +252,8 @@ impl Run {
         children: List<Node>,
     ) -> Result<Shared<Run>, AllocError>
         requires wide { length children < 2 ^ 32 }
-        ensures { IfOk result (λ run. run ≡ stretch (element alternative (length children) ∷ []) children) }
+        ensures { IfOk result
+            (λ run. run ≡ stretch (element alternative (length children) ∷ []) children) }
     {
         let mut elements = List::with_capacity(alloc, 1)?;
         elements.push(Element {
@@ -318,7 +320,7 @@ impl Run {
 fn both(left: &Run, right: &Run) -> Counts
     requires fits { length left.now.elements + length right.now.elements < 2 ^ 32 }
     requires wide { length left.now.children + length right.now.children < 2 ^ 32 }
-    ensures both { IsCount result (joined left.now right.now) }
+    ensures both { IsCount result (joined_stretch left.now right.now) }
     ensures left { 0 < length left.now.elements }
     ensures right { 0 < length right.now.elements }
 {
@@ -355,8 +357,8 @@ fn is_two_higher(run: &Run, other: &Run) -> bool {
     run.height > other.height.saturating_add(1)
 }
 
-/// Whether a run of that height is opened where it is joined with one of the other height: where it is two levels
-/// higher, or where the other is a leaf.
+/// Whether a run of that height is opened where it is joined with one of the other height: where it
+/// is two levels higher, or where the other is a leaf.
 fn is_deeper(high: u8, low: u8) -> bool {
     high > low.saturating_add(1) || (low == 0 && high > 0)
 }

@@ -1,11 +1,18 @@
-ghost use Rattle.std.specs.Prelude.{◌≡◌, ◌<◌, IfOk, length};
+//! Each call once: nodes are made of tokens and children, and what they say is compared.
+ghost use Rattle.std.specs.Prelude.{◌≡◌, ◌<◌, ◌∷◌, [], ℕ, IfOk, Some, length};
+ghost use Rattle.ts_node.specs.Small.{IsSmall, production_over, rule_over, start_productions, repetition_productions};
+ghost use Rattle.spec_trees.specs.Made.{FitsProduction};
+ghost use Rattle.spec_trees.specs.Reducible.{CanBeChildren};
 
-use crate::Node;
 use crate::node::Run;
-use std::alloc::Global;
+use crate::sums::sums;
+use crate::{Node, Productions, reduce, reduced_is_node};
+use std::alloc::{AllocError, Global};
 use std::test::Fail;
 use ts_base::{List, Shared};
-use ts_core::Symbol;
+use ts_core::{
+    Assoc, FlatGrammar, FlatRule, Kind, Prec, Production, Re, Step, Str, Symbol, TokenDef,
+};
 
 #[test]
 fn a_leaf_says_what_it_was_made_of(rt: HostRuntime) -> Result<(), Fail> {
@@ -20,6 +27,175 @@ fn a_leaf_says_what_it_was_made_of(rt: HostRuntime) -> Result<(), Fail> {
     assert_eq!(rt; leaf.elements(), 0);
     assert_eq!(rt; leaf.as_extra().extra(), true);
     Ok(())
+}
+
+/// A production of these symbols.
+fn production(alloc: Global, symbols: &[u16]) -> Result<Production, AllocError>
+    ensures { IfOk result (λ production. production ≡ production_over symbols.now) }
+{
+    let mut steps = List::new(alloc);
+    for symbol in symbols {
+        steps.push(Step {
+            symbol: Symbol(*symbol),
+            prec: Prec::Absent,
+            assoc: Assoc::Absent,
+            alias: None,
+            field: None,
+        })?;
+    }
+    Ok(Production { dynamic: 0, steps })
+}
+
+/// A rule that the start rule owns, of two productions.
+fn rule(
+    alloc: Global,
+    name: &str,
+    kind: Kind,
+    first: Production,
+    second: Production,
+) -> Result<FlatRule, AllocError>
+    ensures { IfOk result (λ rule. rule ≡ rule_over name.now kind (first ∷ second ∷ [])) }
+{
+    let mut productions = List::new(alloc);
+    productions.push(first)?;
+    productions.push(second)?;
+    Ok(FlatRule {
+        name: Str::from_text(alloc, name)?,
+        kind,
+        owner: Symbol(2),
+        productions,
+    })
+}
+
+/// Symbol 2 is the start rule: the repetition 3 of the token 1, or empty.
+fn grammar(alloc: Global) -> Result<FlatGrammar, AllocError>
+    ensures { IfOk result IsSmall }
+{
+    let mut tokens = List::new(alloc);
+    tokens.push(TokenDef {
+        name: Str::from_text(alloc, "x")?,
+        kind: Kind::Named,
+        re: Re::Empty,
+        prec: 0,
+        literal: false,
+        immediate: false,
+        keyword: false,
+    })?;
+    let filled = production(alloc, &[3])?;
+    let empty = production(alloc, &[])?;
+    let first = production(alloc, &[1])?;
+    let next = production(alloc, &[3, 1])?;
+    let mut rules = List::new(alloc);
+    rules.push(rule(alloc, "s", Kind::Named, filled, empty)?)?;
+    rules.push(rule(alloc, "", Kind::Hidden, first, next)?)?;
+    Ok(FlatGrammar {
+        name: Str::from_text(alloc, "g")?,
+        tokens,
+        rules,
+        separators: List::new(alloc),
+        extras: List::new(alloc),
+        word: None,
+        fields: List::new(alloc),
+        precs: List::new(alloc),
+        conflicts: List::new(alloc),
+        precedences: List::new(alloc),
+        supertypes: List::new(alloc),
+    })
+}
+
+/// How many bytes a node over these examined, where they can be its children.
+fn reach(children: &[Node]) -> Option<u32>
+    ensures { (extent : ℕ) → result ≡ Some extent → CanBeChildren extent children.now }
+{
+    if children.len() > 100 {
+        return None;
+    }
+    let sums = sums(children);
+    let mut place = 0u64;
+    let mut end = sums.spans + 1;
+    for child in children {
+        if child.nodes() == 0 || !child.settled() {
+            return None;
+        }
+        end = end.max(place + child.extent() as u64);
+        place += child.pad() as u64 + child.size() as u64;
+    }
+    if sums.nodes > 1_000_000 || sums.spans > 1_000_000 || sums.depth > 900 || end > 2_000_000 {
+        return None;
+    }
+    Some(end as u32)
+}
+
+/// A node of a production of the small grammar over these children.
+fn made(
+    alloc: Global,
+    productions: &Productions,
+    number: u32,
+    children: List<Node>,
+) -> Result<Option<Node>, Fail>
+    requires small { IsSmall productions.now }
+    requires number { number < 4 }
+    requires fits { FitsProduction productions.now number children }
+{
+    let Some(extent) = reach(children.as_slice()) else {
+        return Ok(None);
+    };
+    reduced_is_node();
+    Ok(Some(reduce(alloc, productions, number, children, extent, None)?))
+}
+
+/// The start rule's empty node.
+fn empty(alloc: Global, productions: &Productions) -> Result<Option<Node>, Fail>
+    requires small { IsSmall productions.now }
+{
+    made(alloc, productions, 1, List::new(alloc))
+}
+
+/// The start rule's node over a repetition.
+fn start(alloc: Global, productions: &Productions, run: Node) -> Result<Option<Node>, Fail>
+    requires small { IsSmall productions.now }
+{
+    if run.symbol().0 != 3 || run.extra() {
+        return Ok(None);
+    }
+    let mut children = List::new(alloc);
+    children.push(run)?;
+    made(alloc, productions, 0, children)
+}
+
+/// A repetition of one token.
+fn first(alloc: Global, productions: &Productions, token: Node) -> Result<Option<Node>, Fail>
+    requires small { IsSmall productions.now }
+{
+    if token.symbol().0 != 1 || token.extra() {
+        return Ok(None);
+    }
+    let mut children = List::new(alloc);
+    children.push(token)?;
+    made(alloc, productions, 2, children)
+}
+
+/// A repetition with one more token, and an extra before it.
+fn next(
+    alloc: Global,
+    productions: &Productions,
+    run: Node,
+    between: Node,
+    token: Node,
+) -> Result<Option<Node>, Fail>
+    requires small { IsSmall productions.now }
+{
+    if run.symbol().0 != 3 || run.extra() || run.elements() == 0 {
+        return Ok(None);
+    }
+    if !between.extra() || token.symbol().0 != 1 || token.extra() {
+        return Ok(None);
+    }
+    let mut children = List::new(alloc);
+    children.push(run)?;
+    children.push(between)?;
+    children.push(token)?;
+    made(alloc, productions, 3, children)
 }
 
 /// A leaf of that many bytes.
@@ -56,5 +232,59 @@ fn a_run_keeps_its_elements(rt: HostRuntime) -> Result<(), Fail> {
     let changed = Run::with_child(alloc, &run, 77_777, longer)?;
     assert_eq!(rt; changed.get().counts().sums.spans, 100_008);
     assert_eq!(rt; run.get().counts().sums.spans, 100_000);
+    Ok(())
+}
+
+/// A repetition of so many tokens of one byte, each but the first behind an extra of one byte.
+fn repetition(alloc: Global, productions: &Productions, count: u32) -> Result<Option<Node>, Fail>
+    requires small { IsSmall productions.now }
+{
+    let token = Node::leaf(Symbol(1), 0, 1, 2, None);
+    let extra = token.as_extra();
+    let mut run = first(alloc, productions, token.try_clone()?)?;
+    for _ in 1..count {
+        let Some(before) = run else {
+            return Ok(None);
+        };
+        run = next(
+            alloc,
+            productions,
+            before,
+            extra.try_clone()?,
+            token.try_clone()?,
+        )?;
+    }
+    Ok(run)
+}
+
+#[test]
+fn nodes_are_reduced(rt: HostRuntime) -> Result<(), Fail> {
+    let alloc = rt.alloc();
+    let flat = grammar(alloc)?;
+    let productions = Productions::new(alloc, &flat)?;
+    let Some(run) = repetition(alloc, &productions, 10_000)? else {
+        panic!(rt; "no repetition");
+    };
+    assert_eq!(rt; run.elements(), 10_000);
+    assert_eq!(rt; run.children(), 19_999);
+    assert_eq!(rt; run.size(), 19_999);
+    assert_eq!(rt; run.depth(), 2);
+    if run.children() > 7_778 {
+        assert_eq!(rt; run.filled(7_777), None);
+        assert_eq!(rt; run.filled(7_778), Some(0));
+        assert_eq!(rt; run.child(7_777).extra(), true);
+    }
+    let Some(root) = start(alloc, &productions, run)? else {
+        panic!(rt; "no start");
+    };
+    assert_eq!(rt; root.symbol().0, 2);
+    assert_eq!(rt; root.production(), Some(0));
+    assert_eq!(rt; root.nodes(), 30_001);
+    let Some(nothing) = empty(alloc, &productions)? else {
+        panic!(rt; "no empty start");
+    };
+    assert_eq!(rt; nothing.production(), Some(1));
+    assert_eq!(rt; nothing.children(), 0);
+    assert_eq!(rt; nothing.depth(), 1);
     Ok(())
 }

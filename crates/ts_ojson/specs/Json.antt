@@ -1,5 +1,6 @@
 -- A JSON value as plain data, and the value that an `OJson` stands for. Members keep their order.
 use Rattle.std.specs.Prelude.{ℕ, suc, max, ◌≢◌, Bool, List, [], ◌∷◌, ⊤}
+use Rattle.ts_base.specs.Bytes.{Bytes}
 use Rattle.ts_ojson.specs.declared.value.OJson.{OJson}
 use Rattle.ts_ojson.specs.declared.value.OJson.TheOpen.{OJson-F}
 use Rattle.ts_ojson.specs.declared.value.OJson.TheFolds.{fold-OJson}
@@ -8,8 +9,8 @@ mutual
   pub data Json : Type 0 where
     null : Json
     boolean : Bool → Json
-    number : List ℕ → Json
-    string : List ℕ → Json
+    number : Bytes → Json
+    string : Bytes → Json
     array : Items → Json
     object : Members → Json
 
@@ -19,13 +20,13 @@ mutual
 
   pub data Members : Type 0 where
     no_members : Members
-    member : List ℕ → Json → Members → Members
+    member : Bytes → Json → Members → Members
 
 abbrev pub items_of : List Json → Items
 items_of [] = no_items
 items_of (j ∷ js) = item j (items_of js)
 
-abbrev pub members_of : List (List ℕ × Json) → Members
+abbrev pub members_of : List (Bytes × Json) → Members
 members_of [] = no_members
 members_of (m ∷ ms) = member m.0 m.1 (members_of ms)
 
@@ -58,7 +59,7 @@ abbrev mutual
   members_depth no_members = 0
   members_depth (member k j ms) = max (depth j) (members_depth ms)
 
-abbrev pub names : Members → List (List ℕ)
+abbrev pub names : Members → List Bytes
 names no_members = []
 names (member k j ms) = k ∷ names ms
 
@@ -67,11 +68,11 @@ abbrev pub most_deep : ℕ
 most_deep = 256
 
 -- the name is none of these; no two are equal
-abbrev pub IsNone : List ℕ → List (List ℕ) → Type 0
+abbrev pub IsNone : Bytes → List Bytes → Type 0
 IsNone k [] = ⊤
 IsNone k (l ∷ ls) = (k ≢ l) × IsNone k ls
 
-abbrev pub AreDistinct : List (List ℕ) → Type 0
+abbrev pub AreDistinct : List Bytes → Type 0
 AreDistinct [] = ⊤
 AreDistinct (k ∷ ks) = IsNone k ks × AreDistinct ks
 

@@ -1,5 +1,7 @@
--- How a text goes on, byte for byte, for private clauses and proofs. What the states mean is said in proofs/Meaning.antt.
+-- How a text goes on, byte for byte, for private clauses and proofs. What the states mean is said
+-- in proofs/Meaning.antt.
 use Rattle.std.specs.Prelude.{ℕ, zero, suc, ◌+◌, List, [], ◌∷◌, ◌++◌, length, get_or, Bool, true, false, cond, ◌&&◌, ◌==◌, nat_lt, nat_le, Option, Some, None}
+use Rattle.ts_base.specs.Bytes.{Bytes}
 use Rattle.ts_ojson.specs.declared.class.Class.{Class}
 use Rattle.ts_ojson.specs.declared.class.Class.TheVariants as class
 use Rattle.ts_ojson.specs.declared.part.Part.{Part}
@@ -26,16 +28,33 @@ abbrev pub Frames : Type 0
 Frames = List Frame
 
 abbrev pub Gathered : Type 0
-Gathered = List (List ℕ × OJson)
+Gathered = List (Bytes × OJson)
 
 -- ---- bytes and numbers
 
 abbrev pub class_of : ℕ → Class
 class_of b =
-    cond (b == 32) class.Blank (cond (b == 9) class.Blank (cond (b == 13) class.Blank (cond (b == 10) class.Blank (cond (b == 34) class.Quote (cond (b == 44) class.Comma
-    (cond (b == 58) class.Colon (cond (b == 91) class.OpenArray (cond (b == 93) class.CloseArray (cond (b == 123) class.OpenObject (cond (b == 125) class.CloseObject
-    (cond (b == 45) class.Minus (cond (b == 43) class.Plus (cond (b == 46) class.Point (cond (b == 48) class.Zero (cond (nat_le 49 b && nat_le b 57) class.Digit
-    (cond (b == 101) class.Exponent (cond (b == 69) class.Exponent (cond (b == 116) class.LetterT (cond (b == 102) class.LetterF (cond (b == 110) class.LetterN class.Other))))))))))))))))))))
+    cond (b == 32) class.Blank
+    (cond (b == 9) class.Blank
+    (cond (b == 13) class.Blank
+    (cond (b == 10) class.Blank
+    (cond (b == 34) class.Quote
+    (cond (b == 44) class.Comma
+    (cond (b == 58) class.Colon
+    (cond (b == 91) class.OpenArray
+    (cond (b == 93) class.CloseArray
+    (cond (b == 123) class.OpenObject
+    (cond (b == 125) class.CloseObject
+    (cond (b == 45) class.Minus
+    (cond (b == 43) class.Plus
+    (cond (b == 46) class.Point
+    (cond (b == 48) class.Zero
+    (cond (nat_le 49 b && nat_le b 57) class.Digit
+    (cond (b == 101) class.Exponent
+    (cond (b == 69) class.Exponent
+    (cond (b == 116) class.LetterT
+    (cond (b == 102) class.LetterF
+    (cond (b == 110) class.LetterN class.Other))))))))))))))))))))
 
 abbrev pub is_digit_class : Class → Bool
 is_digit_class class.Zero = true
@@ -92,7 +111,7 @@ part_ends part.Exponent = false
 part_ends part.Sign = false
 part_ends part.Power = true
 
-abbrev pub word_bytes : Word → List ℕ
+abbrev pub word_bytes : Word → Bytes
 word_bytes word.Null = 110 ∷ 117 ∷ 108 ∷ 108 ∷ []
 word_bytes word.True = 116 ∷ 114 ∷ 117 ∷ 101 ∷ []
 word_bytes word.False = 102 ∷ 97 ∷ 108 ∷ 115 ∷ 101 ∷ []
@@ -109,7 +128,8 @@ pub data Verdict : Type 0 where
   too_deep : Verdict
   repeated : ℕ → Verdict
 
--- no text goes on with the byte, or it leads to this state with these arrays and objects open, the innermost first
+-- no text goes on with the byte, or it leads to this state with these arrays and objects open, the
+-- innermost first
 pub data Outcome : Type 0 where
   stuck : Outcome
   goes : Verdict → State → Frames → Outcome
@@ -148,7 +168,7 @@ after_item xs j k class.Comma = goes fine state.value (frame.array (xs ++ j ∷ 
 after_item xs j k class.CloseArray = goes fine (state.after (json.Array (xs ++ j ∷ []))) k
 after_item xs j k c = stuck
 
-abbrev pub after_member : Gathered → List ℕ → OJson → Class → Option State
+abbrev pub after_member : Gathered → Bytes → OJson → Class → Option State
 after_member ms n j class.Comma = Some (state.name (ms ++ (n, j) ∷ []))
 after_member ms n j class.CloseObject = Some (state.after (json.Object (ms ++ (n, j) ∷ [])))
 after_member ms n j c = None
@@ -181,22 +201,25 @@ name_next at ms class.Blank = Some (state.name ms)
 name_next at ms class.Quote = Some (state.text Plain [] (role.name at ms))
 name_next at ms c = None
 
-abbrev pub colon_next : Gathered → List ℕ → Frames → Class → Outcome
+abbrev pub colon_next : Gathered → Bytes → Frames → Class → Outcome
 colon_next ms n k class.Blank = goes fine (state.colon ms n) k
 colon_next ms n k class.Colon = goes fine state.value (frame.object ms n ∷ k)
 colon_next ms n k c = stuck
 
 abbrev pub word_next : Word → ℕ → Frames → ℕ → Outcome
-word_next w i k b = cond (nat_lt i (length (word_bytes w))) (cond (get_or (word_bytes w) i 0 == b) (goes fine (state.word w (i + 1)) k) stuck) (after (word_value w) k (class_of b))
+word_next w i k b =
+    cond (nat_lt i (length (word_bytes w)))
+    (cond (get_or (word_bytes w) i 0 == b) (goes fine (state.word w (i + 1)) k) stuck)
+    (after (word_value w) k (class_of b))
 
-abbrev pub number_part : Part → List ℕ → Frames → ℕ → Option Part → Outcome
+abbrev pub number_part : Part → Bytes → Frames → ℕ → Option Part → Outcome
 number_part p s k b (Some q) = goes fine (state.number q (s ++ b ∷ [])) k
 number_part p s k b None = cond (part_ends p) (after (json.Num s) k (class_of b)) stuck
 
-abbrev pub number_next : Part → List ℕ → Frames → ℕ → Outcome
+abbrev pub number_next : Part → Bytes → Frames → ℕ → Outcome
 number_next p s k b = number_part p s k b (part_next p (class_of b))
 
-abbrev pub closed : List ℕ → Role → Frames → Outcome
+abbrev pub closed : Bytes → Role → Frames → Outcome
 closed s role.value k = goes fine (state.after (json.Text s)) k
 closed s (role.name p ms) k = goes (cond (has_name s ms) (repeated p) fine) (state.colon ms s) k
 
@@ -205,7 +228,7 @@ text_piece r k None = stuck
 text_piece r k (Some (reading e s)) = goes fine (state.text e s r) k
 text_piece r k (Some (finished s)) = closed s r k
 
-abbrev pub text_next : Escape → List ℕ → Role → Frames → ℕ → Outcome
+abbrev pub text_next : Escape → Bytes → Role → Frames → ℕ → Outcome
 text_next e s r k b = text_piece r k (next_piece e s b)
 
 abbrev pub next : ℕ → State → Frames → ℕ → Outcome
@@ -227,7 +250,7 @@ on_byte at b (goes too_deep s k) = goes too_deep s k
 on_byte at b (goes (repeated p) s k) = goes (repeated p) s k
 
 -- what the bytes before a place lead to
-abbrev pub outcome : List ℕ → ℕ → Outcome
+abbrev pub outcome : Bytes → ℕ → Outcome
 outcome w zero = goes fine state.value []
 outcome w (suc at) = on_byte at (get_or w at 0) (outcome w at)
 

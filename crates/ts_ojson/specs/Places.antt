@@ -1,4 +1,5 @@
--- What the bytes before a place lead to, for private clauses: the machine's states, where the code has none of them.
+-- What the bytes before a place lead to, for private clauses: the machine's states, where the code
+-- has none of them.
 use Rattle.std.specs.Prelude.{◌≡◌, ◌≢◌, ℕ, ◌-◌, ◌<◌, ◌≤◌, cond, nat_lt, length, get_or, take, drop, Option, Some, None, ⊤}
 use Rattle.ts_base.specs.Bytes.{Bytes}
 use Rattle.ts_ojson.specs.declared.class.Class.{Class}
@@ -68,7 +69,8 @@ pub record Starts (w : Bytes) (at : ℕ) (k : Frames) : Type 0 where
 pub record Named (w : Bytes) (at : ℕ) (ms : Gathered) (k : Frames) : Type 0 where
   pub state : State
   pub reached : Reaches w at state k
-  pub next : at < length w → next at state k (get_or w at 0) ≡ stays (name_next at ms (class_of (get_or w at 0))) k
+  pub next : at < length w
+      → next at state k (get_or w at 0) ≡ stays (name_next at ms (class_of (get_or w at 0))) k
   pub blank : NoBlank w at
   pub last : ended state k ≡ None
 

@@ -7,7 +7,8 @@ use Rattle.ts_ojson.specs.declared.word.Word.{Word}
 use Rattle.ts_ojson.specs.declared.value.OJson.{OJson}
 use Rattle.ts_ojson.specs.Roles.{Role}
 
--- a value, an array's first item or an object's first name comes next; a value, a name or a part of a token was read
+-- a value, an array's first item or an object's first name comes next; a value, a name or a part of
+-- a token was read
 pub data State : Type 0 where
   value : State
   first_item : State

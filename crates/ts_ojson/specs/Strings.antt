@@ -1,6 +1,7 @@
 -- How the reader goes on within a string, for private clauses.
 use Rattle.std.specs.Prelude.{ℕ, ◌+◌, ◌*◌, ◌<◌, ◌≤◌, ◌⊎◌, List, [], ◌∷◌, ◌++◌, cond, ◌==◌, nat_lt, Option, Some, None, ⊤}
 use Rattle.std.specs.Char.{encode_utf8, digit_value}
+use Rattle.ts_base.specs.Bytes.{Bytes}
 use Rattle.ts_ojson.specs.declared.escape.Escape.{Escape}
 use Rattle.ts_ojson.specs.declared.escape.Escape.TheVariants.{Plain, Backslash, First, Second, Third, Fourth, High, HighBackslash, LowFirst, LowSecond, LowThird, LowFourth}
 use Rattle.ts_ojson.specs.declared.escape.Next.{Next}
@@ -9,28 +10,34 @@ use Rattle.ts_ojson.specs.Pieces.{Piece}
 use Rattle.ts_ojson.specs.Pieces.{reading, finished}
 use Rattle.ts_ojson.specs.Characters.{IsHigh, pair_of, short_of}
 
-abbrev pub plain_piece : List ℕ → ℕ → Option Piece
-plain_piece s b = cond (b == 34) (Some (finished s)) (cond (b == 92) (Some (reading Backslash s)) (cond (nat_lt b 32) None (Some (reading Plain (s ++ b ∷ [])))))
+abbrev pub plain_piece : Bytes → ℕ → Option Piece
+plain_piece s b =
+    cond (b == 34) (Some (finished s))
+    (cond (b == 92) (Some (reading Backslash s))
+    (cond (nat_lt b 32) None (Some (reading Plain (s ++ b ∷ [])))))
 
-abbrev pub shorted : List ℕ → Option ℕ → Option Piece
+abbrev pub shorted : Bytes → Option ℕ → Option Piece
 shorted s None = None
 shorted s (Some c) = Some (reading Plain (s ++ c ∷ []))
 
-abbrev pub backslash_piece : List ℕ → ℕ → Option Piece
+abbrev pub backslash_piece : Bytes → ℕ → Option Piece
 backslash_piece s b = cond (b == 117) (Some (reading First s)) (shorted s (short_of b))
 
-abbrev pub unit_piece : List ℕ → ℕ → Option Piece
+abbrev pub unit_piece : Bytes → ℕ → Option Piece
 unit_piece s u =
-    cond (nat_lt u 55296) (Some (reading Plain (s ++ encode_utf8 u))) (cond (nat_lt u 56320) (Some (reading (High u) s))
+    cond (nat_lt u 55296) (Some (reading Plain (s ++ encode_utf8 u)))
+    (cond (nat_lt u 56320) (Some (reading (High u) s))
     (cond (nat_lt u 57344) None (Some (reading Plain (s ++ encode_utf8 u)))))
 
-abbrev pub pair_piece : List ℕ → ℕ → ℕ → Option Piece
+abbrev pub pair_piece : Bytes → ℕ → ℕ → Option Piece
 pair_piece s h l = Some (reading Plain (s ++ encode_utf8 (pair_of h l)))
 
-abbrev pub third_piece : List ℕ → ℕ → Option Piece
-third_piece s n = cond (nat_lt n 220) (Some (reading (Third n) s)) (cond (nat_lt n 224) None (Some (reading (Third n) s)))
+abbrev pub third_piece : Bytes → ℕ → Option Piece
+third_piece s n =
+    cond (nat_lt n 220) (Some (reading (Third n) s))
+    (cond (nat_lt n 224) None (Some (reading (Third n) s)))
 
-abbrev pub digit_piece : Escape → List ℕ → ℕ → Option Piece
+abbrev pub digit_piece : Escape → Bytes → ℕ → Option Piece
 digit_piece Plain s d = None
 digit_piece Backslash s d = None
 digit_piece First s d = Some (reading (Second d) s)
@@ -44,11 +51,11 @@ digit_piece (LowSecond h) s d = cond (nat_lt d 12) None (Some (reading (LowThird
 digit_piece (LowThird h n) s d = Some (reading (LowFourth h (n * 16 + d)) s)
 digit_piece (LowFourth h n) s d = pair_piece s h (n * 16 + d)
 
-abbrev pub hex_piece : Escape → List ℕ → ℕ → Option Piece
+abbrev pub hex_piece : Escape → Bytes → ℕ → Option Piece
 hex_piece e s b = cond (nat_lt (digit_value b) 16) (digit_piece e s (digit_value b)) None
 
 -- the string with one more byte, where it can go on with it
-abbrev pub next_piece : Escape → List ℕ → ℕ → Option Piece
+abbrev pub next_piece : Escape → Bytes → ℕ → Option Piece
 next_piece Plain s b = plain_piece s b
 next_piece Backslash s b = backslash_piece s b
 next_piece First s b = hex_piece First s b
@@ -93,7 +100,7 @@ IsInside (LowThird h n) = IsWithin (LowThird h n)
 IsInside (LowFourth h n) = IsWithin (LowFourth h n)
 
 -- the string with an escape that goes on, or whose character was read
-abbrev pub piece_of : List ℕ → Option Next → Option Piece
+abbrev pub piece_of : Bytes → Option Next → Option Piece
 piece_of s None = None
 piece_of s (Some (More e)) = Some (reading e s)
 piece_of s (Some (Character c)) = Some (reading Plain (s ++ encode_utf8 c))

@@ -1,5 +1,7 @@
--- The texts of JSON (RFC 8259), as a relation between a value and bytes. `Part j w r` says that the bytes w begin with such a part, and that r follows it.
+-- The texts of JSON (RFC 8259), as a relation between a value and bytes. `Part j w r` says that the
+-- bytes w begin with such a part, and that r follows it.
 use Rattle.std.specs.Prelude.{◌≡◌, ℕ, ◌⊎◌, List, [], ◌∷◌, ◌++◌, Bool, true, false}
+use Rattle.ts_base.specs.Bytes.{Bytes}
 use Rattle.ts_ojson.specs.Json.{Json, null, boolean, number, string, array, object, Items, no_items, item, Members, no_members, member}
 use Rattle.ts_ojson.specs.Number.{Number}
 use Rattle.ts_ojson.specs.Characters.{Quoted}
@@ -8,48 +10,53 @@ abbrev pub IsBlank : ℕ → Type 0
 IsBlank c = (c ≡ 32) ⊎ ((c ≡ 9) ⊎ ((c ≡ 10) ⊎ (c ≡ 13)))
 
 -- any number of blanks
-abbrev pub Blanks : List ℕ → List ℕ → Type 0
+abbrev pub Blanks : Bytes → Bytes → Type 0
 Blanks [] r = r ≡ []
 Blanks (c ∷ w) r = (r ≡ c ∷ w) ⊎ (IsBlank c × Blanks w r)
 
-abbrev pub null_word : List ℕ
+abbrev pub null_word : Bytes
 null_word = 110 ∷ 117 ∷ 108 ∷ 108 ∷ []
 
-abbrev pub bool_word : Bool → List ℕ
+abbrev pub bool_word : Bool → Bytes
 bool_word true = 116 ∷ 114 ∷ 117 ∷ 101 ∷ []
 bool_word false = 102 ∷ 97 ∷ 108 ∷ 115 ∷ 101 ∷ []
 
 -- blanks may stand on both sides of a value
-abbrev pub Spaced : (List ℕ → List ℕ → Type 0) → List ℕ → List ℕ → Type 0
-Spaced Part w r = (a : List ℕ) × (b : List ℕ) × Blanks w a × Part a b × Blanks b r
+abbrev pub Spaced : (Bytes → Bytes → Type 0) → Bytes → Bytes → Type 0
+Spaced Part w r = (a : Bytes) × (b : Bytes) × Blanks w a × Part a b × Blanks b r
 
 abbrev mutual
-  pub Value : Json → List ℕ → List ℕ → Type 0
+  pub Value : Json → Bytes → Bytes → Type 0
   Value null w r = w ≡ null_word ++ r
   Value (boolean b) w r = w ≡ bool_word b ++ r
   Value (number s) w r = (w ≡ s ++ r) × Number s []
   Value (string s) w r = Quoted s w r
-  Value (array js) w r = (v : List ℕ) × (w ≡ 91 ∷ v) × FirstItem js v r
-  Value (object ms) w r = (v : List ℕ) × (w ≡ 123 ∷ v) × FirstMember ms v r
+  Value (array js) w r = (v : Bytes) × (w ≡ 91 ∷ v) × FirstItem js v r
+  Value (object ms) w r = (v : Bytes) × (w ≡ 123 ∷ v) × FirstMember ms v r
 
   -- the rest of an array: behind its bracket, and behind one of its items
-  pub FirstItem : Items → List ℕ → List ℕ → Type 0
+  pub FirstItem : Items → Bytes → Bytes → Type 0
   FirstItem no_items w r = Blanks w (93 ∷ r)
-  FirstItem (item j js) w r = (v : List ℕ) × Spaced (Value j) w v × MoreItems js v r
+  FirstItem (item j js) w r = (v : Bytes) × Spaced (Value j) w v × MoreItems js v r
 
-  pub MoreItems : Items → List ℕ → List ℕ → Type 0
+  pub MoreItems : Items → Bytes → Bytes → Type 0
   MoreItems no_items w r = w ≡ 93 ∷ r
-  MoreItems (item j js) w r = (u : List ℕ) × (v : List ℕ) × (w ≡ 44 ∷ u) × Spaced (Value j) u v × MoreItems js v r
+  MoreItems (item j js) w r =
+      (u : Bytes) × (v : Bytes) × (w ≡ 44 ∷ u) × Spaced (Value j) u v × MoreItems js v r
 
   -- the rest of an object: behind its bracket, and behind one of its members
-  pub FirstMember : Members → List ℕ → List ℕ → Type 0
+  pub FirstMember : Members → Bytes → Bytes → Type 0
   FirstMember no_members w r = Blanks w (125 ∷ r)
-  FirstMember (member k j ms) w r = (v : List ℕ) × (t : List ℕ) × Spaced (Quoted k) w (58 ∷ v) × Spaced (Value j) v t × MoreMembers ms t r
+  FirstMember (member k j ms) w r =
+      (v : Bytes) × (t : Bytes) × Spaced (Quoted k) w (58 ∷ v) × Spaced (Value j) v t
+      × MoreMembers ms t r
 
-  pub MoreMembers : Members → List ℕ → List ℕ → Type 0
+  pub MoreMembers : Members → Bytes → Bytes → Type 0
   MoreMembers no_members w r = w ≡ 125 ∷ r
-  MoreMembers (member k j ms) w r = (u : List ℕ) × (v : List ℕ) × (t : List ℕ) × (w ≡ 44 ∷ u) × Spaced (Quoted k) u (58 ∷ v) × Spaced (Value j) v t × MoreMembers ms t r
+  MoreMembers (member k j ms) w r =
+      (u : Bytes) × (v : Bytes) × (t : Bytes) × (w ≡ 44 ∷ u) × Spaced (Quoted k) u (58 ∷ v)
+      × Spaced (Value j) v t × MoreMembers ms t r
 
 -- the bytes are a text of the value
-abbrev pub IsJsonText : Json → List ℕ → Type 0
+abbrev pub IsJsonText : Json → Bytes → Type 0
 IsJsonText j w = Spaced (Value j) w []

@@ -44,7 +44,8 @@ pub(crate) fn blanks_end(text: &str, from: usize) -> usize
     at
 }
 
-/// The first place from `from` on where a quote, a backslash or a control character stands, or the end.
+/// The first place from `from` on where a quote, a backslash or a control character stands, or the
+/// end.
 pub(crate) fn plain_end(text: &str, from: usize) -> usize
     requires { from ≤ length text.now }
     ensures within { (from ≤ result) × (result ≤ length text.now) }

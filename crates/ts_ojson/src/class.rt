@@ -1,3 +1,5 @@
+//! What a byte is outside of strings: the byte goes in, and its class comes out.
+
 ghost use Rattle.std.specs.Prelude.{◌≡◌};
 ghost use Rattle.ts_ojson.specs.Machine.{class_of};
 

@@ -13,8 +13,8 @@ ghost use Rattle.ts_ojson.specs.Places.{Reaches, Refused};
 
 use crate::stop::Stop;
 
-/// How much of a character of a string was read: nothing, of an escape its letter and digits, and where
-/// it is the second of a pair the first one's code unit.
+/// How much of a character of a string was read: nothing, of an escape its letter and digits, and
+/// where it is the second of a pair the first one's code unit.
 #[derive(Clone, Copy, PartialEq, Eq, Debug)]
 pub(crate) enum Escape {
     Plain,

@@ -1,13 +1,15 @@
+//! Why bytes are refused, with the place of it.
+
 use std::alloc::AllocError;
 use thiserror::Error;
 
 /// Why bytes are no ordered JSON. Each place is in bytes from 0.
 #[derive(Debug, Error, PartialEq, Eq, Clone, Copy)]
 pub enum OFault {
-    /// The length of the longest front of the input that begins some text of JSON.
+    /// The length of the longest prefix of the input that begins some text of JSON.
     #[error("no JSON from byte {0} on")]
     Syntax(u32),
-    /// The length of the longest front of the input that is UTF-8.
+    /// The length of the longest prefix of the input that is UTF-8.
     #[error("no UTF-8 from byte {0} on")]
     Utf8(u32),
     /// The bracket that opens the 257th level.

@@ -1,5 +1,6 @@
-//! The members of an object that is read, with their names in order to look them up. A name is claimed
-//! when it is read, before its value: one search says whether it is new and puts it among the names.
+//! The members of an object that is read, with their names in order to look them up. A name is
+//! claimed when it is read, before its value: one search says whether it is new and puts it among
+//! the names.
 
 ghost use Rattle.std.specs.Prelude.{◌≡◌, ◌++◌, ◌∷◌, [], true, false, get_or, IfOk, MatchOption};
 ghost use Rattle.ts_ojson.specs.Gathered.{has_name, leading};
@@ -9,8 +10,8 @@ use std::collections::BTreeSet;
 use std::marker::Model;
 use ts_base::{List, Str};
 
-/// The first bytes of a name as a number, and the name. Where the numbers differ, a comparison of two
-/// keys reads neither name.
+/// The first bytes of a name as a number, and the name. Where the numbers differ, a comparison of
+/// two keys reads neither name.
 type Key = (u64, Str);
 
 /// The members of an object that were read so far.
@@ -122,7 +123,8 @@ fn key_of(alloc: Global, name: &Str) -> Result<Key, AllocError>
     Ok((leading_bytes(text.as_bytes()), Str::from_text(alloc, text)?))
 }
 
-/// The first eight bytes as a number, the first one its highest, with 0 for those that there are not.
+/// The first eight bytes as a number, the first one its highest, with 0 for those that there are
+/// not.
 fn leading_bytes(bytes: &[u8]) -> u64
     ensures { result ≡ leading bytes.now }
 {

@@ -19,12 +19,14 @@ pub fn one_value()
 
 /// What is refused is read as no value, unless memory ran out.
 pub fn refused_is_not_read()
-    ensures { (e : AnyFault) (v : AnyOJson) (w : Bytes) → e ≢ OFault.Memory → IsFault e w → Reads v w → ⊥ }
+    ensures { (e : AnyFault) (v : AnyOJson) (w : Bytes) → e ≢ OFault.Memory → IsFault e w
+        → Reads v w → ⊥ }
 {}
 
 /// Each refusal has a cause that no other has, and one place.
 pub fn one_fault()
-    ensures { (e f : AnyFault) (w : Bytes) → e ≢ OFault.Memory → f ≢ OFault.Memory → IsFault e w → IsFault f w → e ≡ f }
+    ensures { (e f : AnyFault) (w : Bytes) → e ≢ OFault.Memory → f ≢ OFault.Memory → IsFault e w
+        → IsFault f w → e ≡ f }
 {}
 
 /// The plain data of an array and of an object is made of that of their parts.

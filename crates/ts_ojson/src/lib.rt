@@ -1,5 +1,5 @@
-//! Ordered JSON: values whose members keep the order of the file, and a reader of the whole of RFC 8259
-//! that answers each fault with its place.
+//! Ordered JSON: values whose members keep the order of the file, and a reader of the whole of RFC
+//! 8259 that answers each fault with its place.
 #![tactic(auto)]
 
 mod byte;

@@ -17,13 +17,14 @@ use std::str::from_utf8;
 /// How many arrays and objects may be open at once.
 const MOST_DEEP: usize = 256;
 
-/// Reads a whole text of JSON (RFC 8259) in which an escape of a high surrogate is followed by one of
-/// a low surrogate and no low one stands alone, in one pass.
+/// Reads a whole text of JSON (RFC 8259) in which an escape of a high surrogate is followed by one
+/// of a low surrogate and no low one stands alone, in one pass.
 ///
 /// # Errors
 ///
-/// The first fault, as `OFault` says. That the input is UTF-8 is tested before all else; of the other
-/// faults the one of the least place is answered, and `Syntax` where it and `Deep` have one place.
+/// The first fault, as `OFault` says. That the input is UTF-8 is tested before all else; of the
+/// other faults the one of the least place is answered, and `Syntax` where it and `Deep` have one
+/// place.
 /// `Memory` may come at any time.
 pub fn read(alloc: Global, bytes: &[u8]) -> Result<OJson, OFault>
     requires { length bytes.now < 2 ^ 32 }

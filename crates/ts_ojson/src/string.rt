@@ -1,4 +1,5 @@
-//! Strings: from the place behind a quote to the characters and the place of the quote that ends them.
+//! Strings: from the place behind a quote to the characters and the place of the quote that ends
+//! them.
 
 ghost use Rattle.std.specs.Prelude.{◌≡◌, ℕ, ◌<◌, ◌≤◌, length, [], Some, IfOk, IfErr};
 ghost use Rattle.std.specs.Str.{IsCharBoundary};
@@ -13,8 +14,8 @@ use crate::stop::Stop;
 use std::alloc::Global;
 use ts_base::Str;
 
-/// The characters of a string, and the place of the quote that ends it. `from` is behind the quote that
-/// begins it.
+/// The characters of a string, and the place of the quote that ends it. `from` is behind the quote
+/// that begins it.
 pub(crate) fn string(alloc: Global, text: &str, from: usize) -> Result<(Str, usize), Stop>
     requires within { from ≤ length text.now }
     requires boundary { IsCharBoundary text.now from }

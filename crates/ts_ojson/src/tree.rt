@@ -65,7 +65,8 @@ fn name(
     Ok((claimed, blanks_end(text, colon + 1)))
 }
 
-/// The value that begins at `at`, and the place behind it. So many more arrays and objects may be open.
+/// The value that begins at `at`, and the place behind it. So many more arrays and objects may be
+/// open.
 #[cycle(value)]
 pub(crate) fn value(
     alloc: Global,

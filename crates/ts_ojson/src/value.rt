@@ -1,3 +1,5 @@
+//! The values that reading gives: lists in the order of the file, numbers as they are spelled.
+
 use ts_base::{List, Str};
 
 /// A text, or the spelling of a number.

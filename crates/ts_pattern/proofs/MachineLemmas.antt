@@ -1,4 +1,5 @@
--- The reader's steps and the tokens that spell trees: what is open after some tokens is spelled by them, and a tree's tokens open the tree.
+-- The reader's steps and the tokens that spell trees: what is open after some tokens is spelled by
+-- them, and a tree's tokens open the tree.
 use Rattle.std.proofs.Common.{◌≡◌, ℕ, Bool, true, false, List, [], ◌∷◌, ◌++◌, Option, Some, None, option_map, refl, sym, ap, subst, ◌∙◌, append-nil, true≢false}
 use Rattle.std.proofs.lemmas.List.{append_assoc}
 use Rattle.std.proofs.lemmas.Option.{none-some, same_Some}

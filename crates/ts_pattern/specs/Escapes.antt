@@ -3,6 +3,7 @@
 use Rattle.std.specs.Prelude.{ℕ, ◌+◌, Bool, true, false, ◌&&◌, ◌||◌, ◌==◌, nat_le, List, take, drop, Option, Some, None, if◌then◌else◌, codes}
 use Rattle.std.specs.Option.{option_or}
 use Rattle.std.specs.Char.{is_ascii_punctuation}
+use Rattle.ts_base.specs.Bytes.{Bytes}
 use Rattle.ucd_sets.specs.declared.set.Set.{Set}
 use Rattle.ucd_sets.specs.Loose.{normalize}
 use Rattle.ucd_sets.specs.Lookup.{by_name, by_value}
@@ -63,7 +64,7 @@ unicode_code w i =
 
 -- the set with this name, in the form in which names are compared: a general category, a script,
 -- or a binary property
-abbrev pub named : Table → List ℕ → Option Set
+abbrev pub named : Table → Bytes → Option Set
 named Any n = option_or (by_value (codes "gc") n) (option_or (by_value (codes "sc") n) (by_name n))
 named Category n = by_value (codes "gc") n
 named Script n = by_value (codes "sc") n
@@ -122,4 +123,5 @@ abbrev pub is_class_escape : Text → ℕ → Bool
 is_class_escape w i =
     let c = peek w (i + 1) in
     (peek w i == backslash)
-    && ((c == 100) || (c == 119) || (c == 115) || (c == 68) || (c == 87) || (c == 83) || (c == 112) || (c == 80))
+    && ((c == 100) || (c == 119) || (c == 115) || (c == 68) || (c == 87) || (c == 83) || (c == 112)
+    || (c == 80))

@@ -56,8 +56,8 @@ run_from (Some z) (t ∷ ts) = run_from (step z.0 z.1 t) ts
 abbrev pub start : Option Open
 start = Some (only empty, [])
 
--- ---- what is kept of an open pattern; below the limit on nesting nothing is kept, since such a pattern is
--- refused
+-- ---- what is kept of an open pattern; below the limit on nesting nothing is kept, since such a
+-- pattern is refused
 
 abbrev mutual
   pub built_branches : Pattern → List Re

@@ -1,5 +1,6 @@
 -- What is read from which text, and what each refusal says.
 use Rattle.std.specs.Prelude.{◌≡◌, ℕ, Bool, true, false, ◌&&◌, ◌==◌, List, [], ◌∷◌, ◌++◌, length, take, chars, encode_utf8_all, Some, None, if◌then◌else◌, ◌⊎◌, ⊤}
+use Rattle.ts_base.specs.Bytes.{Bytes}
 use Rattle.ts_core.specs.declared.re.Re.{Re}
 use Rattle.ts_pattern.specs.declared.fault.PFault.{PFault}
 use Rattle.ts_pattern.specs.declared.fault.PFault.TheVariants as fault
@@ -38,7 +39,7 @@ abbrev pub IsTree : Bool → Text → Pattern → Type 0
 IsTree ignore_case w p = Tokens ignore_case w 0 (spelling p) (length w)
 
 -- the source is a pattern within the limits, and stands for this regular expression
-abbrev pub Reads : List ℕ → Bool → Re → Type 0
+abbrev pub Reads : Bytes → Bool → Re → Type 0
 Reads source ignore_case r =
     (p : Pattern) × IsTree ignore_case (chars source) p × (passed_limit p ≡ None) × (r ≡ re_of p)
 
@@ -99,12 +100,12 @@ abbrev pub bytes_before : Text → ℕ → ℕ
 bytes_before w i = length (encode_utf8_all (take i w))
 
 -- the source has this flaw, at a place in bytes
-abbrev pub IsFlawed : List ℕ → Bool → Flaw → ℕ → Type 0
+abbrev pub IsFlawed : Bytes → Bool → Flaw → ℕ → Type 0
 IsFlawed source ignore_case flaw place =
     (at : ℕ) × Stops ignore_case (chars source) flaw at × (place ≡ bytes_before (chars source) at)
 
 -- the cause of each refusal; running out of memory has none
-abbrev pub IsFault : List ℕ → Bool → PFault → Type 0
+abbrev pub IsFault : Bytes → Bool → PFault → Type 0
 IsFault source ignore_case (fault.Syntax p) = IsFlawed source ignore_case Syntax p
 IsFault source ignore_case (fault.Unsupported p) = IsFlawed source ignore_case Unsupported p
 IsFault source ignore_case (fault.EmptyClass p) = IsFlawed source ignore_case EmptyClass p

@@ -14,7 +14,8 @@ use Rattle.ts_pattern.specs.Machine.{step, run_from, start, level_of, Follows}
 abbrev pub IsTaken : Bool → Sign → Level → List Level → Option Level → List Level → Type 0
 IsTaken ignore_case sign level outer after round =
     (t : Token) × Means ignore_case sign t
-    × ((p : Pattern) (k : List Pattern) → level ≡ level_of p → outer ≡ map level_of k → Follows (step p k t) after round)
+    × ((p : Pattern) (k : List Pattern) → level ≡ level_of p → outer ≡ map level_of k
+    → Follows (step p k t) after round)
 
 -- some tokens lead to the place, and these patterns are open behind them
 pub record IsState (ignore_case : Bool) (w : Text) (s : State) : Type 0 where

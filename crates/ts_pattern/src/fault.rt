@@ -17,7 +17,8 @@ pub enum PFault {
     /// An escape of a property whose name is in no table.
     #[error("unknown property at byte {0}")]
     UnknownProperty(u32),
-    /// The pattern passes this limit: 200 groups in one another, a count of 65,535 or 8,192 positions.
+    /// The pattern passes this limit: 200 groups in one another, a count of 65,535 or 8,192
+    /// positions.
     #[error("beyond the limit of {0}")]
     Limit(u32),
     /// Memory ran out.

@@ -1,4 +1,5 @@
-//! Patterns that are open: from parts, bars and quantifiers to a regular expression and its measures.
+//! Patterns that are open: from parts, bars and quantifiers to a regular expression and its
+//! measures.
 ghost use Rattle.std.specs.Prelude.{◌≡◌, ◌≤◌, ◌*◌, ◌+◌, ℕ, min, max, nat_lt, [], ◌∷◌, ◌++◌, Option, None, Some, IfOk, if◌then◌else◌};
 ghost use Rattle.ts_pattern.specs.Trees.{Pattern, Atom, set, group, once, or, only, empty, joined, chosen, factor, greater_count, nesting, limit_passed};
 ghost use Rattle.ts_pattern.specs.Limits.{stopped_nesting, stopped_positions};
@@ -211,7 +212,8 @@ impl Level {
         least: u32,
         most: Option<u32>,
     ) -> Result<Option<Level>, AllocError>
-        ensures { IfOk result (λ r. (p : Pattern) → self ≡ level_of p → IsTimes (times_last p least most) r) }
+        ensures { IfOk result
+            (λ r. (p : Pattern) → self ≡ level_of p → IsTimes (times_last p least most) r) }
     {
         let Level {
             branches,

@@ -1,5 +1,5 @@
-//! Patterns, the regular expressions of a grammar file: from the text of a pattern to an `Re`, or to the
-//! fault that it has.
+//! Patterns, the regular expressions of a grammar file: from the text of a pattern to an `Re`, or
+//! to the fault that it has.
 #![tactic(auto)]
 
 mod chars;

@@ -11,20 +11,21 @@ use crate::state::read;
 use std::alloc::{AllocError, Global};
 use ts_core::Re;
 
-/// Reads a whole pattern. With `ignore_case` each set also has the characters that share a simple case
-/// folding with one of its own (the Unicode standard, section 3.13), before any complement.
+/// Reads a whole pattern. With `ignore_case` each set also has the characters that share a simple
+/// case folding with one of its own (the Unicode standard, section 3.13), before any complement.
 ///
 /// # Errors
 ///
-/// The first fault, as `PFault` says; `Limit` only where there is no other. `Memory` may come at any
-/// time.
+/// The first fault, as `PFault` says; `Limit` only where there is no other. `Memory` may come at
+/// any time.
 pub fn pattern(alloc: Global, source: &str, ignore_case: bool) -> Result<Re, PFault>
     requires { length source.now < 2 ^ 32 }
     ensures ok { IfOk result (λ r. Reads source.now ignore_case r) }
     ensures refused { IfErr result (λ e. IsFault source.now ignore_case e) }
     ensures complete { IfErr result
         (λ e. e ≢ PFault.Memory → (r : AnyRe) → Reads source.now ignore_case r → ⊥) }
-    ensures exact { (f : AnyFault) → f ≢ PFault.Memory → IsFault source.now ignore_case f → IsErrAnd result
+    ensures exact { (f : AnyFault) → f ≢ PFault.Memory → IsFault source.now ignore_case f
+        → IsErrAnd result
         (λ e. (e ≡ f) ⊎ (e ≡ PFault.Memory)) }
 {
     read_source(alloc, source, ignore_case)

@@ -61,7 +61,8 @@ fn brace(alloc: Global, at: usize) -> Result<Sight<Sign>, AllocError>
     Ok(Sight::Sees(char(alloc, OPEN_BRACE)?, at + 1))
 }
 
-/// `{n,}` or `{n,m}`: `n` has the `least` digits after the brace, `m` the `most` digits from `start` on.
+/// `{n,}` or `{n,m}`: `n` has the `least` digits after the brace, `m` the `most` digits from
+/// `start` on.
 fn two_counts(
     alloc: Global,
     text: &[char],

@@ -13,8 +13,8 @@ use crate::sign::{Sign, sign_at};
 use crate::stack::Stack;
 use std::alloc::{AllocError, Global};
 
-/// How far the text is read: the pattern that is open, those round it, and whether the last sign was a
-/// quantifier. The place counts characters.
+/// How far the text is read: the pattern that is open, those round it, and whether the last sign
+/// was a quantifier. The place counts characters.
 #[derive(Drop)]
 pub(crate) struct State {
     at: usize,
@@ -32,7 +32,8 @@ pub(crate) enum Turn {
 
 impl Sign {
     fn is_quantifier(&self) -> bool
-        ensures { (ignore_case : _) (t : Token) → Means ignore_case self.now t → result ≡ is_quantifier t }
+        ensures { (ignore_case : _) (t : Token) → Means ignore_case self.now t
+            → result ≡ is_quantifier t }
     {
         match self {
             Sign::Times(_, _) => true,

@@ -1,3 +1,5 @@
+//! Tables of sources: with what each is read as, and with the fault of each that is refused.
+
 use crate::{PFault, pattern};
 use std::alloc::Global;
 use std::test::Fail;

@@ -1,7 +1,7 @@
--- Sums and products that stop at a bound.
+-- Products that stop at a bound.
 use Rattle.std.proofs.Common.{◌≡◌, ◌∙◌, ap, arith, ℕ, zero, suc, ◌*◌, ◌<◌, ◌≤◌, min, ◌⊎◌, inl, inr}
 use Rattle.std.proofs.lemmas.Bool.{cases_lt}
-use Rattle.std.proofs.Math.Nat.{le-mul_of_pos_right, mul_comm}
+use Rattle.std.proofs.Math.Nat.{le-mul_of_pos_right}
 
 low : (m a b : ℕ) → a ≤ m → min m (min m a * b) ≡ min m (a * b)
 low m a b h = let e : min m a ≡ a = omega arith in ap (λ (n : ℕ). min m (n * b)) e
@@ -24,12 +24,3 @@ by m a b (inr h) = low m a b h
 -- a first factor that stopped at the bound
 pub capped_left : (m a b : ℕ) → min m (min m a * b) ≡ min m (a * b)
 capped_left m a b = by m a b (cases_lt m a)
-
--- a second factor that stopped at the bound
-pub capped_right : (m a b : ℕ) → min m (a * min m b) ≡ min m (a * b)
-capped_right m a b =
-    ap (min m) (mul_comm a (min m b)) ∙ capped_left m b a ∙ ap (min m) (mul_comm b a)
-
--- both factors stopped at the bound
-pub capped_both : (m a b : ℕ) → min m (min m a * min m b) ≡ min m (a * b)
-capped_both m a b = capped_left m a (min m b) ∙ capped_right m a b

@@ -17,7 +17,7 @@ use Rattle.std.specs.Str.{bytes_eq}
 use Rattle.std.proofs.lemmas.List.Elements.{Contains-append_left, Contains-append_right, Contains-append_cases, All-push}
 use Rattle.std.proofs.lemmas.Option.{slice_get_within, slice_get-get_or, get_or_from_slice_get}
 use Rattle.ts_rules.specs.FirstSights.{Not, FirstAt, AreFirstSights, Clear, First}
-use Rattle.ts_base.proofs.PlaceLemmas.{at_front, at_end}
+use Rattle.ts_base.proofs.PlaceLemmas.{in_prefix, at_end}
 
 cases_lt_or_eq : (m n : ℕ) → m < n + 1 → (m < n) ⊎ (m ≡ n)
 cases_lt_or_eq m n h = ⊎_elim (λ lt. inl lt) (λ ge. inr (omega arith)) (cases_lt m n)
@@ -39,17 +39,17 @@ module _ {X : Type 0} where
 
   first_old : (seen : List X) (x y : X) (k : ℕ) → Contains seen y → FirstAt (seen ++ x ∷ []) y k → FirstAt seen y k
   first_old seen x y k w f =
-      let low : k ≤ w.0 = f.least w.0 (at_front seen (x ∷ []) w.0 w.1 ∙ at_of seen y w) in
+      let low : k ≤ w.0 = f.least w.0 (in_prefix seen (x ∷ []) w.0 w.1 ∙ at_of seen y w) in
       let below : w.0 < length seen = w.1 in
       let lt : k < length seen = omega arith in
       record {
-        at = sym (at_front seen (x ∷ []) k lt) ∙ f.at;
-        least = λ j e. f.least j (at_front seen (x ∷ []) j (slice_get_within seen j y e) ∙ e);
+        at = sym (in_prefix seen (x ∷ []) k lt) ∙ f.at;
+        least = λ j e. f.least j (in_prefix seen (x ∷ []) j (slice_get_within seen j y e) ∙ e);
       }
 
   first_new : (seen : List X) (x : X) (k : ℕ) → Not (Contains seen x) → FirstAt (seen ++ x ∷ []) x k → length seen ≤ k
   first_new seen x k unseen f =
-      ⊎_elim (λ lt. absurd (unseen (there seen k x (sym (at_front seen (x ∷ []) k lt) ∙ f.at)))) (λ ge. ge) (cases_lt k (length seen))
+      ⊎_elim (λ lt. absurd (unseen (there seen k x (sym (in_prefix seen (x ∷ []) k lt) ∙ f.at)))) (λ ge. ge) (cases_lt k (length seen))
 
   pub sights_begin : AreFirstSights {X = X} [] []
   sights_begin = record {
@@ -77,7 +77,7 @@ module _ {X : Type 0} where
   }
     where
       old : (n : ℕ) (y : X) → n < length found → slice_get (found ++ x ∷ []) n ≡ Some y → slice_get found n ≡ Some y
-      old n y lt e = sym (at_front found (x ∷ []) n lt) ∙ e
+      old n y lt e = sym (in_prefix found (x ∷ []) n lt) ∙ e
 
       was : (n : ℕ) (y : X) → n < length found → slice_get (found ++ x ∷ []) n ≡ Some y → Contains seen y
       was n y lt e = before.only y (there found n y (old n y lt e))

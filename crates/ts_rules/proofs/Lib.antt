@@ -4,5 +4,4 @@ pub mod CountLemmas
 pub mod FirstSightLemmas
 pub mod InsideLemmas
 pub mod LengthLemmas
-pub mod NothingLemmas
 pub mod SightLemmas

@@ -1,15 +1,11 @@
 -- Bounds at which counts stop, each one more than a limit.
 use Rattle.std.specs.Prelude.{ℕ, ◌<◌, ◌≤◌}
 use Rattle.ts_rules.specs.declared.within.Verdict.{Verdict}
-use Rattle.ts_rules.specs.Fit.{most_productions, most_steps}
+use Rattle.spec_tables.specs.Fit.{most_productions, most_steps}
 
 -- of the alternatives of a grammar: one more than the most productions
 abbrev pub many : ℕ
 many = 65536
-
--- of the positions of tokens and separators
-abbrev pub many_positions : ℕ
-many_positions = 65537
 
 -- of the steps of an alternative
 abbrev pub long : ℕ

@@ -8,7 +8,7 @@ use Rattle.ts_core.specs.declared.rule.Rule.TheOpen.{Rule-F}
 use Rattle.ts_core.specs.declared.rule.Rule.TheViews.{out-Rule}
 use Rattle.ts_core.specs.declared.rule.Grammar.{Grammar}
 use Rattle.ts_rules.specs.FirstSights.{Not}
-use Rattle.ts_rules.specs.Fit.{IsShort, AreShort}
+use Rattle.spec_tables.specs.Fit.{IsShort, AreShort}
 use Rattle.ts_rules.specs.Sights.{NamedRule, Sight, walk}
 
 -- the most rules of a grammar file

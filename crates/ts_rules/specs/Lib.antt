@@ -3,7 +3,6 @@ pub mod Causes
 pub mod Counts
 pub mod FileGrammar
 pub mod FirstSights
-pub mod Fit
 pub mod Names
 pub mod Normal
 pub mod Numbers

@@ -1,9 +1,8 @@
 //! Rule trees of grammar files: what comes in are the trees, and what goes out is what stands in
 //! them, in preorder, and their alternatives, as lists of steps or by count alone. The definitions
-//! of a grammar's normal form, and of when a flat grammar is fit for use, stand here.
+//! of a grammar's normal form stand here.
 #![tactic(auto)]
 
-mod expanse;
 mod names;
 mod numbered;
 mod sights;
@@ -14,9 +13,7 @@ mod token_marks;
 mod tree;
 mod walk;
 mod within;
-mod words;
 
-pub use expanse::{positions, positions_of_all};
 pub use names::{first_inside, first_undefined, is_among, rule_names, symbol_name, used_names};
 pub use numbered::{field_names, prec_names};
 pub use sights::{Spot, sights_of, walk_of};
@@ -25,4 +22,3 @@ pub use token_marks::{CoreTree, core_of, is_immediate, lexical_precedence};
 pub use tree::{Alternative, Around, NumberedStep, Tree};
 pub use walk::alternatives;
 pub use within::{WalkFault, alternatives_within};
-pub use words::matches_nothing;

@@ -1,10 +1,10 @@
 use crate::{
     Around, CoreTree, Tree, WalkFault, alternatives_within, core_of, first_inside, first_undefined,
-    is_immediate, lexical_precedence, matches_nothing, positions, rule_names, used_names, walk_of,
+    is_immediate, lexical_precedence, rule_names, used_names, walk_of,
 };
 use std::alloc::{AllocError, Global};
 use std::test::Fail;
-use ts_core::{Assoc, Boxed, Grammar, List, Prec, PrecValue, Re, Rule, Str};
+use ts_core::{Assoc, Boxed, Grammar, List, Prec, PrecValue, Rule, Str};
 
 fn text(alloc: Global, text: &str) -> Result<Str, AllocError> {
     Str::from_text(alloc, text)
@@ -129,15 +129,5 @@ fn tells_what_a_token_is(rt: HostRuntime) -> Result<(), Fail> {
         CoreTree::Source(_) => assert!(rt; false),
         CoreTree::Other => assert!(rt; false),
     }
-    Ok(())
-}
-
-#[test]
-fn counts_positions(rt: HostRuntime) -> Result<(), Fail> {
-    let alloc = rt.alloc();
-    let inner = Re::Set(List::new(alloc));
-    let repeat = Re::Repeat(Boxed::new(alloc, inner)?, 0, Some(9));
-    assert_eq!(rt; positions(&repeat), 9);
-    assert!(rt; matches_nothing(&repeat));
     Ok(())
 }

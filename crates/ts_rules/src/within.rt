@@ -3,7 +3,7 @@
 ghost use Rattle.std.specs.Prelude.{◌≡◌, ◌<◌, ◌≤◌, ◌↔◌, length, IfOk};
 ghost use Rattle.std.specs.Result.{IsErrOf, IsOkUnless};
 ghost use Rattle.ts_rules.specs.Alternatives.{alternatives_of, longest_of};
-ghost use Rattle.ts_rules.specs.Fit.{most_productions, most_steps};
+ghost use Rattle.spec_tables.specs.Fit.{most_productions, most_steps};
 ghost use Rattle.ts_rules.specs.Counts.{Judges};
 ghost use Rattle.ts_rules.specs.declared.tree.Around.{Around};
 

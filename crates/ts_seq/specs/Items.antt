@@ -4,9 +4,9 @@ use Rattle.ts_seq.specs.declared.part.Shape.{Shape}
 use Rattle.ts_seq.specs.declared.part.Shape.TheVariants.{Leaf, Branch}
 
 -- the items that a part holds, in order
-abbrev pub items_of : {T : Type 0} → Shape T → List T
-items_of (Leaf items) = items
-items_of (Branch left right) = left ++ right
+abbrev pub part_items : {T : Type 0} → Shape T → List T
+part_items (Leaf items) = items
+part_items (Branch left right) = left ++ right
 
 -- a leaf has an item, and a branch has one on either side
 abbrev pub AreHeld : {T : Type 0} → Shape T → Type 0

@@ -1,5 +1,5 @@
-//! The parts of a sequence: a tree of shared parts, balanced as an AVL tree is, whose leaves hold up to
-//! 32 items. Heights and balance are no part of what a part means.
+//! The parts of a sequence: a tree of shared parts, balanced as an AVL tree is, whose leaves hold
+//! up to 32 items. Heights and balance are no part of what a part means.
 ghost use Rattle.std.specs.Prelude.{◌≡◌, ◌+◌, ◌<◌, ◌≤◌, ◌^◌, ◌++◌, ◌∷◌, [], IfOk, OnOk, take, drop, length, slice_get, Some};
 
 use std::alloc::{AllocError, Global};
@@ -33,11 +33,11 @@ impl<T> Model for Part<T> {
 
     ghost coded = { coded_list T.code };
 
-    ghost use Rattle.ts_seq.specs.Items.{items_of, AreHeld};
+    ghost use Rattle.ts_seq.specs.Items.{part_items, AreHeld};
 
-    ghost view = { λ a. items_of a.shape };
+    ghost view = { λ a. part_items a.shape };
 
-    ghost invariant = { λ a. (a.len ≡ length (items_of a.shape)) × AreHeld a.shape };
+    ghost invariant = { λ a. (a.len ≡ length (part_items a.shape)) × AreHeld a.shape };
 
     ghost size = { length };
 
@@ -337,8 +337,8 @@ fn is_two_higher<T>(part: &Part<T>, other: &Part<T>) -> bool {
     part.height > other.height.saturating_add(1)
 }
 
-/// Whether a part of that height is opened where it is joined with one of the other height: where it is
-/// two levels higher, or where the other is a leaf.
+/// Whether a part of that height is opened where it is joined with one of the other height: where
+/// it is two levels higher, or where the other is a leaf.
 fn is_deeper(high: u8, low: u8) -> bool {
     high > low.saturating_add(1) || (low == 0 && high > 0)
 }

@@ -7,9 +7,9 @@ use std::alloc::{AllocError, Global};
 use std::marker::Model;
 use ts_base::Shared;
 
-/// A shared list that does not change, which contracts see as the list of its items. What is made of it shares
-/// its parts: `push`, `join` and `split` cost the logarithm of its length, and most pushes touch the last leaf
-/// alone.
+/// A shared list that does not change, which contracts see as the list of its items. What is made
+/// of it shares its parts: `push`, `join` and `split` cost the logarithm of its length, and most
+/// pushes touch the last leaf alone.
 #[derive(Drop)]
 pub struct Seq<T> {
     body: Option<Shared<Part<T>>>,

@@ -1,3 +1,4 @@
+//! Each call of `Seq` once: numbers go in, and what was pushed, split and joined comes out.
 ghost use Rattle.std.specs.Prelude.{◌≡◌, IfOk, length};
 
 use crate::Seq;

@@ -22,7 +22,8 @@ latest_of_holds P shown_of opening (e ∷ es) first each =
     latest_of_holds P shown_of (shown_of e.item) es (each 0 e (omega arith))
     (λ k d lt. each (suc k) d (omega arith))
 
--- where no item is below the opening, what a pass was shown last is not below it, and so nothing above that
+-- where no item is below the opening, what a pass was shown last is not below it, and so nothing
+-- above that
 pub above_latest_fits : (k : Knowledge ℕ ℕ) (latest item : ℕ)
     → IsPass (λ opening item. opening ≤ item) k → ShowsLatest (λ x. x) k latest → latest ≤ item
     → FitsOpening (λ opening item. opening ≤ item) k item

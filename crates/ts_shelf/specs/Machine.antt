@@ -22,7 +22,8 @@ module _ {I : Type 0} where
   used_by (offer base item) = 1
 
   -- a look answers how many entries there are, and changes nothing
-  pub record LookShows (before : List (Entry I)) (number : ℕ) (after : List (Entry I)) : Type 0 where
+  pub record LookShows (before : List (Entry I)) (number : ℕ)
+      (after : List (Entry I)) : Type 0 where
     pub number_is : number ≡ length before
     pub same : after ≡ before
 

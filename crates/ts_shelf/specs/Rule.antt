@@ -96,7 +96,8 @@ module _ {J S I : Type 0} (entries : J → List (Entry I)) (room : J → ℕ) (o
     -- the entries' turns rise, and are over
     pub rises : RisesWithin 0 turn history
     -- each view has seen the entries with turns below its own
-    pub each : (k : ℕ) (v : View S I) → get_elem? s.views k ≡ some v → FitsHistory turn history v.knows
+    pub each : (k : ℕ) (v : View S I) → get_elem? s.views k ≡ some v
+        → FitsHistory turn history v.knows
     pub noted : (k : ℕ) (v : View S I) → get_elem? s.views k ≡ some v → Noted v
     -- each turn that is over stands in the list of one view, once, and no other turn stands there
     pub once : (x : ℕ) → sum_over (λ v. occurrences x v.knows.taken) s.views ≡ once_below x turn

@@ -14,7 +14,8 @@ use std::sync::{Arc, Wait};
 use std::test::Fail;
 use std::thread::{self, Threads};
 
-/// Heights, none of them below the lowest one allowed, with room for some more, and a switch at which
+/// Heights, none of them below the lowest one allowed, with room for some more, and a switch at
+/// which
 /// `shown` refuses memory.
 #[derive(Drop)]
 struct Heights {

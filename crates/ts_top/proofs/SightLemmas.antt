@@ -12,7 +12,7 @@ use Rattle.ts_core.specs.declared.rule.Rule.{Rule}
 use Rattle.ts_top.specs.PlainNormal.{NamedRule, Part, literal, named, parts_of, joined, literals_in, all_literals, first_sights, where_once}
 use Rattle.ts_top.specs.declared.normal.sights.Sights.{Sights}
 use Rattle.ts_top.specs.Normal.{HasSights, IsPaired, Sees, number_of}
-use Rattle.ts_base.proofs.PlaceLemmas.{at_front, at_end, set_here, set_there, push_cases}
+use Rattle.ts_base.proofs.PlaceLemmas.{in_prefix, at_end, set_here, set_there, push_cases}
 use Rattle.ts_top.proofs.TextLemmas.{has, has_sights, apart_sights}
 use Rattle.ts_base.proofs.PositionLemmas.{count_none, count_some, count_push, one_if, Found, position_there}
 use Rattle.ts_base.proofs.ByteLemmas.{same_bytes, bytes_same, bytes_apart}
@@ -142,7 +142,7 @@ sees_new old new text paired inserted once none = record {
         let pushed = count_push (bytes_eq other) all text in
         let weight : one_if (bytes_eq other text) ≡ 0 = ap one_if differ in
         let stays : count_by (bytes_eq other) all ≡ count_by (bytes_eq other) (all ++ text ∷ []) = omega arith in
-        ap (λ (l : List Bool). slice_get l k) once ∙ at_front old.once.items (true ∷ []) k (let b = w.0 in let p = paired.one_each in omega arith)
+        ap (λ (l : List Bool). slice_get l k) once ∙ in_prefix old.once.items (true ∷ []) k (let b = w.0 in let p = paired.one_each in omega arith)
         ∙ before.once k other w.1 ∙ ap (λ (m : ℕ). Some (nat_eq m 1)) stays)
         (λ w.
         let one : bytes_eq other text ≡ true = bytes_same other text (sym w.1) in

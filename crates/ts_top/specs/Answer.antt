@@ -33,7 +33,8 @@ IsUsage words = (grammar text : Bytes) → Parses words grammar text → ⊥
 -- ---- what stands at the paths
 
 -- the words ask to parse, and both files are there
-pub record Has (files : Files) (words : List Bytes) (grammar text : Bytes) (path : Bytes) : Type 0 where
+pub record Has (files : Files) (words : List Bytes) (grammar text : Bytes)
+    (path : Bytes) : Type 0 where
   pub grammar_path : Bytes
   pub parses : Parses words grammar_path path
   pub grammar_is : file_at files grammar_path ≡ Some grammar
@@ -45,7 +46,8 @@ pub record IsAbsent (files : Files) (words : List Bytes) (path : Bytes) : Type 0
   pub text_path : Bytes
   pub parses : Parses words grammar_path text_path
   pub first : ((file_at files grammar_path ≡ None) × (path ≡ grammar_path))
-      ⊎ ((grammar : Bytes) × (file_at files grammar_path ≡ Some grammar) × (file_at files text_path ≡ None) × (path ≡ text_path))
+      ⊎ ((grammar : Bytes) × (file_at files grammar_path ≡ Some grammar)
+      × (file_at files text_path ≡ None) × (path ≡ text_path))
 
 -- ---- the line of an outcome
 
@@ -57,10 +59,11 @@ outcome_line g text Deep = deep_line
 
 -- ---- the answer
 
--- What a grammar file and a text come to, and what is printed of it: the status and the bytes. The grammar is judged
--- first.
+-- What a grammar file and a text come to, and what is printed of it: the status and the bytes. The
+-- grammar is judged first.
 pub data Judged (grammar text path : Bytes) : Status → Bytes → Type 0 where
-  unbuilt : ((g : PlainGrammar) → IsBuilt grammar g → ⊥) → Judged grammar text path status.Grammar unbuilt_line
+  unbuilt : ((g : PlainGrammar) → IsBuilt grammar g → ⊥)
+      → Judged grammar text path status.Grammar unbuilt_line
   too_large : (g : PlainGrammar) → IsBuilt grammar g → most_text_bytes < length text
       → Judged grammar text path status.Text (text_size_line path)
   no_text : (g : PlainGrammar) (place : ℕ) → IsBuilt grammar g → BreaksAt text place
@@ -68,15 +71,18 @@ pub data Judged (grammar text path : Bytes) : Status → Bytes → Type 0 where
   parsed : (g : PlainGrammar) (out : Outcome) → IsBuilt grammar g → IsText text → Plain g text out
       → Judged grammar text path status.Done (outcome_line g text out)
 
--- Words and files come to this status and these bytes. The words are judged first, then the files are read, and then
--- what they hold is judged.
+-- Words and files come to this status and these bytes. The words are judged first, then the files
+-- are read, and then what they hold is judged.
 pub data Answers (files : Files) (words : List Bytes) : Status → Bytes → Type 0 where
   usage : IsUsage words → Answers files words status.Usage usage_line
-  absent : (path : Bytes) → IsAbsent files words path → Answers files words status.Absent (absent_line path)
-  judged : (grammar text path : Bytes) (ends : Status) (bytes : Bytes) → Has files words grammar text path
+  absent : (path : Bytes) → IsAbsent files words path
+      → Answers files words status.Absent (absent_line path)
+  judged : (grammar text path : Bytes) (ends : Status) (bytes : Bytes)
+      → Has files words grammar text path
       → Judged grammar text path ends bytes → Answers files words ends bytes
 
--- Both files are there, the grammar is built, and the text is one: nothing stands in the way of an outcome.
+-- Both files are there, the grammar is built, and the text is one: nothing stands in the way of an
+-- outcome.
 pub record IsClean (files : Files) (words : List Bytes) : Type 0 where
   pub grammar : Bytes
   pub text : Bytes
@@ -94,7 +100,8 @@ Told None claim = Unit {0}
 Told (Some files) claim = claim files
 
 -- the new bytes are the old ones and then the answer's, at this status
-pub record Writes (files : Files) (words : List Bytes) (ends : Status) (old new : Option Bytes) : Type 0 where
+pub record Writes (files : Files) (words : List Bytes) (ends : Status)
+    (old new : Option Bytes) : Type 0 where
   pub bytes : Bytes
   pub answers : Answers files words ends bytes
   pub appends : Appends old new bytes

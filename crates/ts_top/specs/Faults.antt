@@ -46,7 +46,9 @@ refusal_of fault = refusal.Unbuilt
 
 -- a status that the files decide
 abbrev pub IsJudged : Status → Type 0
-IsJudged ends = (ends ≡ status.Done) ⊎ ((ends ≡ status.Grammar) ⊎ ((ends ≡ status.Absent) ⊎ (ends ≡ status.Text)))
+IsJudged ends =
+    (ends ≡ status.Done)
+    ⊎ ((ends ≡ status.Grammar) ⊎ ((ends ≡ status.Absent) ⊎ (ends ≡ status.Text)))
 
 -- The words alone show a wrong usage. Each other answer is that of the words and the files.
 pub data IsAnswer (files : Option Files) (words : List Bytes) : Status → Bytes → Type 0 where
@@ -54,8 +56,8 @@ pub data IsAnswer (files : Option Files) (words : List Bytes) : Status → Bytes
   other : (ends : Status) (bytes : Bytes) → IsJudged ends → (IsUsage words → ⊥)
       → Told files (λ known. Answers known words ends bytes) → IsAnswer files words ends bytes
 
--- What a stop says: a fault is the answer; a failed read has its cause, and the words asked for it; out of memory
--- needs none.
+-- What a stop says: a fault is the answer; a failed read has its cause, and the words asked for it;
+-- out of memory needs none.
 abbrev pub Stopped : Option Files → List Bytes → Type 0 → Stop → Type 0
 Stopped files words rose (stop.Fault fault) = IsAnswer files words (status_of fault) (line_of fault)
 Stopped files words rose stop.Read = rose × (IsUsage words → ⊥)
@@ -69,7 +71,8 @@ pub record IsThere (path : Bytes) (limit : ℕ) (found : Found) (files : Files) 
 
 -- what a stop says of the read of one file
 abbrev pub ReadStopped : Option Files → Bytes → Type 0 → Stop → Type 0
-ReadStopped files path rose (stop.Fault (Absent at)) = (at.now ≡ path) × Told files (λ known. file_at known path ≡ None)
+ReadStopped files path rose (stop.Fault (Absent at)) =
+    (at.now ≡ path) × Told files (λ known. file_at known path ≡ None)
 ReadStopped files path rose (stop.Fault _) = ⊥
 ReadStopped files path rose stop.Read = rose
 ReadStopped files path rose stop.Memory = Unit {0}
@@ -89,7 +92,8 @@ pub record AreRead (grammar_file text_file : Found) (grammar text : Bytes) : Typ
 
 -- a stop once both files are read
 abbrev pub StoppedAt : Bytes → Bytes → Bytes → Stop → Type 0
-StoppedAt grammar text path (stop.Fault fault) = Judged grammar text path (status_of fault) (line_of fault)
+StoppedAt grammar text path (stop.Fault fault) =
+    Judged grammar text path (status_of fault) (line_of fault)
 StoppedAt grammar text path stop.Read = ⊥
 StoppedAt grammar text path stop.Memory = Unit {0}
 

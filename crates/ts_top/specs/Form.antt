@@ -1,4 +1,5 @@
--- Grammar files of the plain form: the rules that a JSON value holds, and which bytes are such a file.
+-- Grammar files of the plain form: the rules that a JSON value holds, and which bytes are such a
+-- file.
 use Rattle.std.specs.Prelude.{◌≡◌, ℕ, ◌≤◌, Bool, true, false, ◌&&◌, if◌then◌else◌, List, [], ◌∷◌, length, Option, Some, None, option_map, option_and_then, unwrap_or, is_some, codes}
 use Rattle.std.specs.Str.{bytes_eq}
 use Rattle.ts_ojson.specs.Json.{Json, null, string, array, object, Items, no_items, item, Members, no_members, member, json_of}
@@ -48,8 +49,10 @@ is_hollow _ = false
 abbrev pub is_word : List ℕ → Option (List ℕ) → Bool
 is_word word text = unwrap_or (option_map (bytes_eq word) text) false
 
--- A STRING has a value, a SYMBOL a name, and a SEQ members. The type comes first here, then these three.
-abbrev pub rule_by : Option (List ℕ) → Option (List ℕ) → Option (List ℕ) → Option (List Rule) → Option Rule
+-- A STRING has a value, a SYMBOL a name, and a SEQ members. The type comes first here, then these
+-- three.
+abbrev pub rule_by : Option (List ℕ) → Option (List ℕ) → Option (List ℕ) → Option (List Rule)
+    → Option Rule
 rule_by kind value name members =
     if is_word (codes "STRING") kind then option_map Literal value
     else if is_word (codes "SYMBOL") kind then option_map Symbol name
@@ -59,7 +62,9 @@ rule_by kind value name members =
 abbrev mutual
   -- the rule tree that a value stands for, where its types are STRING, SYMBOL and SEQ alone
   pub rule_of : Json → Option Rule
-  rule_of (object ms) = rule_by (text_of (find (codes "type") ms)) (text_of (find (codes "value") ms)) (text_of (find (codes "name") ms)) (members_rules ms)
+  rule_of (object ms) =
+      rule_by (text_of (find (codes "type") ms)) (text_of (find (codes "value") ms))
+      (text_of (find (codes "name") ms)) (members_rules ms)
   rule_of _ = None
 
   -- the rule trees of an array
@@ -74,7 +79,8 @@ abbrev mutual
   -- the rule trees of the array at the member `members`
   pub members_rules : Members → Option (List Rule)
   members_rules no_members = None
-  members_rules (member own value ms) = if bytes_eq own (codes "members") then array_rules value else members_rules ms
+  members_rules (member own value ms) =
+      if bytes_eq own (codes "members") then array_rules value else members_rules ms
 
 abbrev pub named_rule : List ℕ → Rule → NamedRule
 named_rule name rule = (name, rule)
@@ -109,7 +115,10 @@ is_bare ms =
 
 -- the rules of the object at the member `rules`
 abbrev pub file_rules : Members → Option (List NamedRule)
-file_rules ms = if is_bare ms then option_and_then rules_in (option_and_then members_in (find (codes "rules") ms)) else None
+file_rules ms =
+    if is_bare ms
+    then option_and_then rules_in (option_and_then members_in (find (codes "rules") ms))
+    else None
 
 -- the rules of a grammar file, where it has the plain form
 abbrev pub grammar_rules : Json → Option (List NamedRule)

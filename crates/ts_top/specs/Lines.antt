@@ -1,4 +1,5 @@
--- The lines that the program prints: a compact JSON object, its members in byte order, and a newline.
+-- The lines that the program prints: a compact JSON object, its members in byte order, and a
+-- newline.
 use Rattle.std.specs.Prelude.{ℕ, List, [], ◌∷◌, ◌++◌, map, codes}
 use Rattle.ts_base.specs.Bytes.{Bytes}
 use Rattle.serde_json.specs.Data.{Data, string, number, unsigned, boolean, array, object, Items, no_items, item, Members, no_members, member}
@@ -28,8 +29,9 @@ text_items texts = items_of (map string texts)
 -- depth, kind, named, fields, start, end, row and column
 abbrev pub node_data : Shown → Data
 node_data n =
-    array (item (count n.depth) (item (string n.name) (item (boolean n.named) (item (array (text_items n.fields))
-    (item (count n.start) (item (count n.end) (item (count n.row) (item (count n.column) no_items))))))))
+    array (item (count n.depth) (item (string n.name) (item (boolean n.named)
+    (item (array (text_items n.fields)) (item (count n.start) (item (count n.end)
+    (item (count n.row) (item (count n.column) no_items))))))))
 
 -- nodes, as they are printed
 abbrev pub node_items : List Shown → Items
@@ -46,7 +48,9 @@ tree_line nodes =
 -- the line of a parse that gets no further than a place
 abbrev pub stuck_line : ℕ → Bytes
 stuck_line place =
-    object_line (member (codes "outcome") (string (codes "stuck")) (member (codes "place") (count place) no_members))
+    object_line
+    (member (codes "outcome") (string (codes "stuck"))
+    (member (codes "place") (count place) no_members))
 
 -- the line of a parse that comes to a tree too deep
 abbrev pub deep_line : Bytes
@@ -65,7 +69,9 @@ fault_line word status = object_line (member (codes "fault") (string word) (stat
 -- a fault at a path
 abbrev pub fault_line_at : Bytes → Bytes → Status → Bytes
 fault_line_at path word status =
-    object_line (member (codes "at") (string path) (member (codes "fault") (string word) (status_member status)))
+    object_line
+    (member (codes "at") (string path)
+    (member (codes "fault") (string word) (status_member status)))
 
 -- the words have none of the forms
 abbrev pub usage_line : Bytes

@@ -9,7 +9,9 @@ use Rattle.ts_core.specs.declared.shown.Shown.{Shown}
 -- Each node is of one of the grammar's tokens or rules, and its children's bytes lie in its own.
 abbrev mutual
   pub IsNested : PlainGrammar → Node → Type 0
-  IsNested g (node symbol pad size children) = (0 < symbol) × (symbol < start_of g + length g.rules) × (extent_of_all children ≤ pad + size) × AreNested g children
+  IsNested g (node symbol pad size children) =
+      (0 < symbol) × (symbol < start_of g + length g.rules) × (extent_of_all children ≤ pad + size)
+      × AreNested g children
 
   pub AreNested : PlainGrammar → Nodes → Type 0
   AreNested g no_nodes = Unit {0}
@@ -17,4 +19,5 @@ abbrev mutual
 
 -- a node by itself, which begins at a place, as it shows at a depth
 abbrev pub shown_at : PlainGrammar → List ℕ → ℕ → ℕ → Node → Shown
-shown_at g text depth place (node symbol pad size children) = shown_of g text depth place symbol pad size
+shown_at g text depth place (node symbol pad size children) =
+    shown_of g text depth place symbol pad size

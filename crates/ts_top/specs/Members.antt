@@ -1,4 +1,5 @@
--- What the reader of grammar files sees of JSON values: their members and items, as the definitions have them.
+-- What the reader of grammar files sees of JSON values: their members and items, as the definitions
+-- have them.
 use Rattle.std.specs.Prelude.{ℕ, List, ◌++◌, map, Option, option_map, codes}
 use Rattle.ts_ojson.specs.declared.value.OJson.{OJson}
 use Rattle.ts_core.specs.declared.rule.Rule.{Rule}
@@ -21,4 +22,6 @@ prepend xs rest = option_map (λ ys. xs ++ ys) rest
 
 -- the rule tree of an object with these members
 abbrev pub rule_with : Members → Option Rule
-rule_with ms = rule_by (text_of (find (codes "type") ms)) (text_of (find (codes "value") ms)) (text_of (find (codes "name") ms)) (members_rules ms)
+rule_with ms =
+    rule_by (text_of (find (codes "type") ms)) (text_of (find (codes "value") ms))
+    (text_of (find (codes "name") ms)) (members_rules ms)

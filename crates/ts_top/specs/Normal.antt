@@ -38,7 +38,8 @@ pub record IsPaired (sights : Sights) : Type 0 where
 pub record HasSights (all : List (List ℕ)) (sights : Sights) : Type 0 where
   pub texts : sights.texts.keys ≡ first_sights all
   pub paired : IsPaired sights
-  pub once : (k : ℕ) (text : List ℕ) → slice_get sights.texts.keys k ≡ Some text → slice_get sights.once.items k ≡ Some (nat_eq (count_by (bytes_eq text) all) 1)
+  pub once : (k : ℕ) (text : List ℕ) → slice_get sights.texts.keys k ≡ Some text
+      → slice_get sights.once.items k ≡ Some (nat_eq (count_by (bytes_eq text) all) 1)
 
 -- the walk goes on over these texts
 pub record Sees (texts : List (List ℕ)) (old new : Sights) : Type 0 where
@@ -56,8 +57,11 @@ token_of all tree = option_and_then (where_once all) (whole_literal tree)
 -- ---- symbols by name
 
 -- the symbol of a name, where some rules are numbered and these come next
-abbrev pub symbol_in : List (List ℕ) → List (List ℕ) → Numbering → List NamedRule → List ℕ → Option ℕ
-symbol_in all texts numbering rest name = option_or (symbol_at numbering.symbols.entries name) (symbol_at (numbered all texts numbering.next rest) name)
+abbrev pub symbol_in : List (List ℕ) → List (List ℕ) → Numbering → List NamedRule → List ℕ
+    → Option ℕ
+symbol_in all texts numbering rest name =
+    option_or (symbol_at numbering.symbols.entries name)
+    (symbol_at (numbered all texts numbering.next rest) name)
 
 -- the symbol of this one name
 abbrev pub symbol_for : List ℕ → ℕ → List ℕ → Option ℕ
@@ -65,54 +69,74 @@ symbol_for name number other = if bytes_eq name other then Some number else None
 
 -- a name has this symbol too, where it had none
 abbrev pub AddsName : List ℕ → ℕ → List (List ℕ × ℕ) → List (List ℕ × ℕ) → Type 0
-AddsName name number old new = (other : List ℕ) → symbol_at new other ≡ option_or (symbol_at old other) (symbol_for name number other)
+AddsName name number old new =
+    (other : List ℕ)
+    → symbol_at new other ≡ option_or (symbol_at old other) (symbol_for name number other)
 
 -- one rule more is numbered, and no name's symbol is another
 abbrev pub Numbers : Sights → NamedRule → Numbering → Numbering → Type 0
 Numbers sights rule old new =
-    (all : List (List ℕ)) (rest : List NamedRule) (name : List ℕ) → HasSights all sights → symbol_in all sights.texts.keys new rest name ≡ symbol_in all sights.texts.keys old (rule ∷ rest) name
+    (all : List (List ℕ)) (rest : List NamedRule) (name : List ℕ) → HasSights all sights
+    → symbol_in all sights.texts.keys new rest name ≡ symbol_in all sights.texts.keys old
+    (rule ∷ rest) name
 
 -- each name has its symbol
 abbrev pub AreSymbols : Sights → NamedRule → List NamedRule → List (List ℕ × ℕ) → Type 0
 AreSymbols sights start others symbols =
-    (all : List (List ℕ)) (name : List ℕ) → HasSights all sights → symbol_at symbols name ≡ symbol_at (symbols_by all sights.texts.keys start others) name
+    (all : List (List ℕ)) (name : List ℕ) → HasSights all sights
+    → symbol_at symbols name ≡ symbol_at (symbols_by all sights.texts.keys start others) name
 
 -- ---- tokens
 
 -- one rule more has named its token, where it names one
 abbrev pub NamesToken : Sights → NamedRule → List LiteralToken → List LiteralToken → Type 0
 NamesToken sights rule old new =
-    (all : List (List ℕ)) (rest : List NamedRule) → HasSights all sights → old ≡ tokens_by all rest sights.texts.keys → new ≡ tokens_by all (rule ∷ rest) sights.texts.keys
+    (all : List (List ℕ)) (rest : List NamedRule) → HasSights all sights
+    → old ≡ tokens_by all rest sights.texts.keys
+    → new ≡ tokens_by all (rule ∷ rest) sights.texts.keys
 
 abbrev pub AreTokens : Sights → List NamedRule → List LiteralToken → Type 0
-AreTokens sights others tokens = (all : List (List ℕ)) → HasSights all sights → tokens ≡ tokens_by all others sights.texts.keys
+AreTokens sights others tokens =
+    (all : List (List ℕ)) → HasSights all sights → tokens ≡ tokens_by all others sights.texts.keys
 
 -- ---- steps
 
 -- the parts come to these steps at the end
-pub record Pushes (texts : List (List ℕ)) (symbols : List (List ℕ × ℕ)) (parts : List Part) (old new : List Symbol) : Type 0 where
+pub record Pushes (texts : List (List ℕ)) (symbols : List (List ℕ × ℕ)) (parts : List Part)
+    (old new : List Symbol) : Type 0 where
   pub added : List Symbol
   pub is : steps_of texts symbols parts ≡ Some added
   pub new_is : new ≡ old ++ added
 
 -- what the rules come to, where some are done and the rest follow
-abbrev pub rules_after : List (List ℕ) → List (List ℕ) → List (List ℕ × ℕ) → List PlainRule → List NamedRule → Option (List PlainRule)
-rules_after all texts symbols done rest = option_map (λ rules. done ++ rules) (rules_by texts symbols (kept all rest))
+abbrev pub rules_after : List (List ℕ) → List (List ℕ) → List (List ℕ × ℕ) → List PlainRule
+    → List NamedRule → Option (List PlainRule)
+rules_after all texts symbols done rest =
+    option_map (λ rules. done ++ rules) (rules_by texts symbols (kept all rest))
 
 -- one rule more is done, and the rules come to the same
-abbrev pub AddsRule : Sights → List (List ℕ × ℕ) → NamedRule → List PlainRule → List PlainRule → Type 0
+abbrev pub AddsRule : Sights → List (List ℕ × ℕ) → NamedRule → List PlainRule → List PlainRule
+    → Type 0
 AddsRule sights symbols rule old new =
-    (all : List (List ℕ)) (rest : List NamedRule) → HasSights all sights → rules_after all sights.texts.keys symbols new rest ≡ rules_after all sights.texts.keys symbols old (rule ∷ rest)
+    (all : List (List ℕ)) (rest : List NamedRule) → HasSights all sights
+    → rules_after all sights.texts.keys symbols new rest
+    ≡ rules_after all sights.texts.keys symbols old (rule ∷ rest)
 
 -- the rule has a name that no rule has
 abbrev pub LacksName : Sights → List (List ℕ × ℕ) → NamedRule → List PlainRule → Type 0
 LacksName sights symbols rule done =
-    (all : List (List ℕ)) (rest : List NamedRule) → HasSights all sights → rules_after all sights.texts.keys symbols done (rule ∷ rest) ≡ None
+    (all : List (List ℕ)) (rest : List NamedRule) → HasSights all sights
+    → rules_after all sights.texts.keys symbols done (rule ∷ rest) ≡ None
 
 -- the rules that name no token come to these
-abbrev pub RulesComeTo : Sights → List (List ℕ × ℕ) → NamedRule → List NamedRule → Option (List PlainRule) → Type 0
-RulesComeTo sights symbols start others plain = (all : List (List ℕ)) → HasSights all sights → rules_by sights.texts.keys symbols (start ∷ kept all others) ≡ plain
+abbrev pub RulesComeTo : Sights → List (List ℕ × ℕ) → NamedRule → List NamedRule
+    → Option (List PlainRule) → Type 0
+RulesComeTo sights symbols start others plain =
+    (all : List (List ℕ)) → HasSights all sights
+    → rules_by sights.texts.keys symbols (start ∷ kept all others) ≡ plain
 
 -- the rules come to this grammar
 abbrev pub GrammarComesTo : Sights → NamedRule → List NamedRule → Option PlainGrammar → Type 0
-GrammarComesTo sights start others grammar = (all : List (List ℕ)) → HasSights all sights → normal_with all sights.texts.keys start others ≡ grammar
+GrammarComesTo sights start others grammar =
+    (all : List (List ℕ)) → HasSights all sights
+    → normal_with all sights.texts.keys start others ≡ grammar

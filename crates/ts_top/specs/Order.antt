@@ -28,16 +28,20 @@ pub record IsDone (marks : List Mark) (rule : ℕ) : Type 0 where
 pub record Lead (g : PlainGrammar) (marks : List Mark) (rule : ℕ) : Type 0 where
   pub lead : (k : ℕ) → slice_get marks k ≡ Some Open → Leads g k rule
 
--- each rule that is done has a rank below `next`, and above the ranks of all rules that stand in it, which are done too
+-- each rule that is done has a rank below `next`, and above the ranks of all rules that stand in
+-- it, which are done too
 pub record Falls (g : PlainGrammar) (marks : List Mark) (next : ℕ) : Type 0 where
   pub one_each : length marks ≡ length g.rules
   pub below : (k rank : ℕ) → slice_get marks k ≡ Some (Done rank) → rank < next
-  pub falls : (k rank to : ℕ) → slice_get marks k ≡ Some (Done rank) → StandsIn g k to → (r : ℕ) × (slice_get marks to ≡ Some (Done r)) × (r < rank)
+  pub falls : (k rank to : ℕ) → slice_get marks k ≡ Some (Done rank) → StandsIn g k to → (r : ℕ)
+      × (slice_get marks to ≡ Some (Done r)) × (r < rank)
 
--- The search goes on: what is seen stays as it is, no more rules are open, and ranks are given to no more than the rules seen anew.
+-- The search goes on: what is seen stays as it is, no more rules are open, and ranks are given to
+-- no more than the rules seen anew.
 pub record Goes (old new : List Mark) (next after : ℕ) : Type 0 where
   pub size : length new ≡ length old
-  pub kept : (k : ℕ) (mark : Mark) → is_unseen mark ≡ false → slice_get old k ≡ Some mark → slice_get new k ≡ Some mark
+  pub kept : (k : ℕ) (mark : Mark) → is_unseen mark ≡ false → slice_get old k ≡ Some mark
+      → slice_get new k ≡ Some mark
   pub opened : (k : ℕ) → slice_get new k ≡ Some Open → slice_get old k ≡ Some Open
   pub rises : next ≤ after
   pub room : after + unseen new ≤ next + unseen old

@@ -1,4 +1,5 @@
--- The plain outcome: what a parse of a text comes to, for a grammar that derives one list of tokens.
+-- The plain outcome: what a parse of a text comes to, for a grammar that derives one list of
+-- tokens.
 use Rattle.std.specs.Prelude.{◌≡◌, ℕ, ◌+◌, ◌-◌, ◌<◌, suc, max, ◌⊎◌, Bool, if◌then◌else◌, nat_lt, nat_eq, List, [], ◌∷◌, ◌++◌, length, drop, slice_get, Option, Some, None}
 use Rattle.std.specs.List.{starts_with}
 use Rattle.ts_top.specs.Tree.{Node, node, Nodes, no_nodes, add, first_pad, extent_of_all, depth_of, node_of}
@@ -30,14 +31,16 @@ pub record IsRule (g : PlainGrammar) (symbol : ℕ) (rule : PlainRule) : Type 0 
 
 -- ---- the tree of the grammar's expansion
 
--- The symbol expands to this tree: a token to a node of its text's size, a rule to a node whose children are
--- the trees of its steps. Nothing stands between two tokens, so a token's pad is 0.
+-- The symbol expands to this tree: a token to a node of its text's size, a rule to a node whose
+-- children are the trees of its steps. Nothing stands between two tokens, so a token's pad is 0.
 abbrev mutual
   pub Expands : PlainGrammar → ℕ → Node → Type 0
   Expands g symbol (node own pad size children) =
       (own ≡ symbol)
-      × (((token : LiteralToken) × IsToken g symbol token × (pad ≡ 0) × (size ≡ length token.text) × (children ≡ no_nodes))
-      ⊎ ((rule : PlainRule) × IsRule g symbol rule × (pad ≡ first_pad children) × (pad + size ≡ extent_of_all children) × ExpandsAll g rule.steps children))
+      × (((token : LiteralToken) × IsToken g symbol token × (pad ≡ 0) × (size ≡ length token.text)
+      × (children ≡ no_nodes))
+      ⊎ ((rule : PlainRule) × IsRule g symbol rule × (pad ≡ first_pad children)
+      × (pad + size ≡ extent_of_all children) × ExpandsAll g rule.steps children))
 
   pub ExpandsAll : PlainGrammar → List Symbol → Nodes → Type 0
   ExpandsAll g [] no_nodes = Unit {0}
@@ -55,7 +58,8 @@ text_of (Some token) = token.text
 abbrev pub token_text : PlainGrammar → ℕ → List ℕ
 token_text g number = text_of (slice_get g.tokens number)
 
--- whether lexing finds the token at the place, where it is the one valid token: its bytes stand there
+-- whether lexing finds the token at the place, where it is the one valid token: its bytes stand
+-- there
 abbrev pub finds : PlainGrammar → List ℕ → ℕ → ℕ → Bool
 finds g text place number = starts_with nat_eq (drop place text) (token_text g number)
 
@@ -74,7 +78,8 @@ pub data Event : Type 0 where
 
 abbrev mutual
   pub events_of : Node → List Event
-  events_of (node symbol pad size children) = events_in symbol (depth_of (node symbol pad size children)) children
+  events_of (node symbol pad size children) =
+      events_in symbol (depth_of (node symbol pad size children)) children
 
   -- the events of a node by its children: a node without any is a token
   pub events_in : ℕ → ℕ → Nodes → List Event
@@ -95,14 +100,16 @@ pub data Ending : Type 0 where
   stuck : ℕ → Ending
   deep : Ending
 
--- The walk stands at a place, and the deepest node that ends with the token before has this depth. That node is
--- made only once the next token is found, so it is then that it can be too deep.
+-- The walk stands at a place, and the deepest node that ends with the token before has this depth.
+-- That node is made only once the next token is found, so it is then that it can be too deep.
 abbrev pub walk : PlainGrammar → List ℕ → List Event → ℕ → ℕ → Ending
 walk g text [] place depth =
-    if finds_end text place then (if nat_lt most_depth depth then deep else accepted) else stuck place
+    if finds_end text place then
+    (if nat_lt most_depth depth then deep else accepted) else stuck place
 walk g text (token number ∷ events) place depth =
     if finds g text place number
-    then (if nat_lt most_depth depth then deep else walk g text events (place + length (token_text g number)) 0)
+    then (if nat_lt most_depth depth then deep else walk g text events
+    (place + length (token_text g number)) 0)
     else stuck place
 walk g text (complete d ∷ events) place depth = walk g text events place (max depth d)
 
@@ -129,14 +136,17 @@ pub record StandsIn (g : PlainGrammar) (from to : ℕ) : Type 0 where
   pub stands : slice_get rule.steps place ≡ Some step
   pub numbered : step.0 ≡ start_of g + to
 
--- A rule leads to each rule that stands in it, and to each that those lead to. Rules by their places.
+-- A rule leads to each rule that stands in it, and to each that those lead to. Rules by their
+-- places.
 pub data Leads (g : PlainGrammar) : ℕ → ℕ → Type 0 where
   stands_in : (from to : ℕ) → StandsIn g from to → Leads g from to
   further : (from through to : ℕ) → StandsIn g from through → Leads g through to → Leads g from to
 
 -- each step of each rule is a token or a rule
 pub record IsClosed (g : PlainGrammar) : Type 0 where
-  pub closed : (k : ℕ) (rule : PlainRule) → slice_get g.rules k ≡ Some rule → (j : ℕ) (step : Symbol) → slice_get rule.steps j ≡ Some step → (0 < step.0) × (step.0 < start_of g + length g.rules)
+  pub closed : (k : ℕ) (rule : PlainRule) → slice_get g.rules k ≡ Some rule
+      → (j : ℕ) (step : Symbol) → slice_get rule.steps j ≡ Some step → (0 < step.0)
+      × (step.0 < start_of g + length g.rules)
 
 -- no rule comes back to itself
 pub record IsAcyclic (g : PlainGrammar) : Type 0 where

@@ -1,4 +1,5 @@
--- The normal form of a plain grammar: its literal tokens by first sight, and its rules with their steps by number.
+-- The normal form of a plain grammar: its literal tokens by first sight, and its rules with their
+-- steps by number.
 use Rattle.std.specs.Prelude.{◌≡◌, ℕ, ◌+◌, ◌≤◌, suc, Bool, true, false, not, ◌&&◌, nat_eq, nat_le, nat_lt, if◌then◌else◌, List, [], ◌∷◌, ◌++◌, length, map, sum, count_by, Option, Some, None, option_map, option_and_then, unwrap_or, is_none, All}
 use Rattle.std.specs.List.{filter, fold, position_or_len, list_all}
 use Rattle.std.specs.Str.{bytes_eq}
@@ -68,7 +69,8 @@ first_sights all = fold (insert_key bytes_eq) [] all
 abbrev pub where_once : List (List ℕ) → List ℕ → Option (List ℕ)
 where_once all text = if nat_eq (count_by (bytes_eq text) all) 1 then Some text else None
 
--- A rule other than the start rule names a token where its whole tree is a text that stands nowhere else.
+-- A rule other than the start rule names a token where its whole tree is a text that stands nowhere
+-- else.
 abbrev pub token_named : List (List ℕ) → NamedRule → Option (List ℕ)
 token_named all rule = option_and_then (where_once all) (whole_literal rule.1)
 
@@ -79,7 +81,8 @@ names all text rule = unwrap_or (option_map (bytes_eq text) (token_named all rul
 -- the name of the rule that names the token of a text, among the rules after the start rule
 abbrev pub name_for : List (List ℕ) → List ℕ → List NamedRule → Option (List ℕ)
 name_for all text [] = None
-name_for all text (rule ∷ rules) = if names all text rule then Some rule.0 else name_for all text rules
+name_for all text (rule ∷ rules) =
+    if names all text rule then Some rule.0 else name_for all text rules
 
 abbrev pub kind_by : Option (List ℕ) → Kind
 kind_by None = Anonymous
@@ -109,15 +112,19 @@ next_by next (Some text) = next
 abbrev pub numbered : List (List ℕ) → List (List ℕ) → ℕ → List NamedRule → List (List ℕ × ℕ)
 numbered all texts next [] = []
 numbered all texts next (rule ∷ rules) =
-    (rule.0, number_by texts next (token_named all rule)) ∷ numbered all texts (next_by next (token_named all rule)) rules
+    (rule.0, number_by texts next (token_named all rule)) ∷ numbered all texts
+    (next_by next (token_named all rule)) rules
 
 -- the symbols of all names: the start rule comes right after the tokens, and the others follow
-abbrev pub symbols_by : List (List ℕ) → List (List ℕ) → NamedRule → List NamedRule → List (List ℕ × ℕ)
-symbols_by all texts start others = (start.0, suc (length texts)) ∷ numbered all texts (suc (suc (length texts))) others
+abbrev pub symbols_by : List (List ℕ) → List (List ℕ) → NamedRule → List NamedRule
+    → List (List ℕ × ℕ)
+symbols_by all texts start others =
+    (start.0, suc (length texts)) ∷ numbered all texts (suc (suc (length texts))) others
 
 abbrev pub symbol_at : List (List ℕ × ℕ) → List ℕ → Option ℕ
 symbol_at [] name = None
-symbol_at (entry ∷ entries) name = if bytes_eq entry.0 name then Some entry.1 else symbol_at entries name
+symbol_at (entry ∷ entries) name =
+    if bytes_eq entry.0 name then Some entry.1 else symbol_at entries name
 
 -- ---- rules
 
@@ -136,17 +143,20 @@ in_front (Some x) rest = option_map (λ xs. x ∷ xs) rest
 -- all the steps, or none where one is missing
 abbrev pub steps_of : List (List ℕ) → List (List ℕ × ℕ) → List Part → Option (List Symbol)
 steps_of texts symbols [] = Some []
-steps_of texts symbols (part ∷ parts) = in_front (step_of texts symbols part) (steps_of texts symbols parts)
+steps_of texts symbols (part ∷ parts) =
+    in_front (step_of texts symbols part) (steps_of texts symbols parts)
 
 abbrev pub plain_rule : List ℕ → List Symbol → PlainRule
 plain_rule name steps = record { name = name; steps = steps }
 
 abbrev pub rule_by : List (List ℕ) → List (List ℕ × ℕ) → NamedRule → Option PlainRule
-rule_by texts symbols rule = option_map (plain_rule rule.0) (steps_of texts symbols (parts_of rule.1))
+rule_by texts symbols rule =
+    option_map (plain_rule rule.0) (steps_of texts symbols (parts_of rule.1))
 
 abbrev pub rules_by : List (List ℕ) → List (List ℕ × ℕ) → List NamedRule → Option (List PlainRule)
 rules_by texts symbols [] = Some []
-rules_by texts symbols (rule ∷ rules) = in_front (rule_by texts symbols rule) (rules_by texts symbols rules)
+rules_by texts symbols (rule ∷ rules) =
+    in_front (rule_by texts symbols rule) (rules_by texts symbols rules)
 
 -- the rules that name no token
 abbrev pub kept : List (List ℕ) → List NamedRule → List NamedRule
@@ -155,9 +165,11 @@ kept all others = filter (λ rule. is_none (token_named all rule)) others
 abbrev pub plain_grammar : List LiteralToken → List PlainRule → PlainGrammar
 plain_grammar tokens rules = record { tokens = tokens; rules = rules }
 
-abbrev pub normal_with : List (List ℕ) → List (List ℕ) → NamedRule → List NamedRule → Option PlainGrammar
+abbrev pub normal_with : List (List ℕ) → List (List ℕ) → NamedRule → List NamedRule
+    → Option PlainGrammar
 normal_with all texts start others =
-    option_map (plain_grammar (tokens_by all others texts)) (rules_by texts (symbols_by all texts start others) (start ∷ kept all others))
+    option_map (plain_grammar (tokens_by all others texts))
+    (rules_by texts (symbols_by all texts start others) (start ∷ kept all others))
 
 abbrev pub normal_by : List (List ℕ) → NamedRule → List NamedRule → Option PlainGrammar
 normal_by all start others = normal_with all (first_sights all) start others
@@ -198,8 +210,8 @@ characters text = count_by is_first_byte text
 abbrev pub positions_of : LiteralToken → ℕ
 positions_of token = characters token.text
 
--- The rules are plain, and this is their normal form: no rule is hidden, empty in a part or comes back to itself,
--- and no limit is passed.
+-- The rules are plain, and this is their normal form: no rule is hidden, empty in a part or comes
+-- back to itself, and no limit is passed.
 pub record IsPlain (rules : List NamedRule) (g : PlainGrammar) : Type 0 where
   pub shown : All (λ rule. is_hidden rule.0 ≡ false) rules
   pub filled : All (λ rule. is_filled rule.1 ≡ true) rules

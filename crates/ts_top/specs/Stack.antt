@@ -17,11 +17,13 @@ use Rattle.ts_top.specs.Walk.{Passes, PassesAll, counted, nodes_in, the_start}
 abbrev pub dot_of : Frame → ℕ
 dot_of frame = length frame.children
 
--- the frame's children are the nodes of the steps before the dot, and the walk over them ends where it stands
+-- the frame's children are the nodes of the steps before the dot, and the walk over them ends where
+-- it stands
 pub record IsFrame (g : PlainGrammar) (text : List ℕ) (frame : Frame) : Type 0 where
   pub rule : PlainRule
   pub is : IsRule g frame.symbol.0 rule
-  pub passes : PassesAll g text (take (dot_of frame) rule.steps) (nodes_in frame.children) frame.from frame.after
+  pub passes : PassesAll g text (take (dot_of frame) rule.steps)
+      (nodes_in frame.children) frame.from frame.after
   pub deepest_is : frame.deepest ≡ counted (deepest (nodes_in frame.children))
 
 -- the step stands after the frame's dot
@@ -36,12 +38,13 @@ pub record IsEnded (g : PlainGrammar) (frame : Frame) : Type 0 where
   pub is : IsRule g frame.symbol.0 rule
   pub past : length rule.steps ≤ dot_of frame
 
--- From one symbol and spot the frames, the outermost first, lead to another: each awaits the next one's symbol
--- where it stands.
+-- From one symbol and spot the frames, the outermost first, lead to another: each awaits the next
+-- one's symbol where it stands.
 abbrev pub Nests : PlainGrammar → List ℕ → ℕ → Spot → List Frame → ℕ → Spot → Type 0
 Nests g text symbol from [] inner at = (inner ≡ symbol) × (at ≡ from)
 Nests g text symbol from (f ∷ fs) inner at =
-    (f.symbol.0 ≡ symbol) × (f.from ≡ from) × IsFrame g text f × ((step : Symbol) × Awaits g f step × Nests g text step.0 f.after fs inner at)
+    (f.symbol.0 ≡ symbol) × (f.from ≡ from) × IsFrame g text f
+    × ((step : Symbol) × Awaits g f step × Nests g text step.0 f.after fs inner at)
 
 -- the stack leads from the start symbol at the text's start to where the innermost rule stands
 pub record Stands (g : PlainGrammar) (text : List ℕ) (stack : Stack) : Type 0 where
@@ -68,14 +71,17 @@ pub record IsAdded (frame : Frame) (child : Grown) (next : Frame) : Type 0 where
 
 -- the node of a frame's rule
 pub record Closes (frame : Frame) (grown : Grown) : Type 0 where
-  pub tree_is : node_of grown.tree ≡ node frame.symbol.0 0 (frame.after.place - frame.from.place) (nodes_in frame.children)
+  pub tree_is : node_of grown.tree ≡ node frame.symbol.0 0 (frame.after.place - frame.from.place)
+      (nodes_in frame.children)
   pub depth_is : grown.depth ≡ min frame.deepest most_depth + 1
   pub place_is : grown.after.place ≡ frame.after.place
   pub ends : grown.after.depth ≡ max frame.after.depth grown.depth
 
 -- the innermost rule's node is a child of the rule around it, or the tree
 abbrev pub Leaves : Stack → Turn → Type 0
-Leaves stack (On next) = (around : Frame) × (child : Grown) × (stack.outer ≡ next.outer ++ around ∷ []) × Closes stack.top child × IsAdded around child next.top
+Leaves stack (On next) =
+    (around : Frame) × (child : Grown) × (stack.outer ≡ next.outer ++ around ∷ [])
+    × Closes stack.top child × IsAdded around child next.top
 Leaves stack (Done grown) = (stack.outer ≡ []) × Closes stack.top grown
 
 -- ---- how many turns are left
@@ -89,9 +95,11 @@ steps_in None = []
 steps_in (Some rule) = rule.steps
 
 abbrev pub steps_of : PlainGrammar → ℕ → List Symbol
-steps_of g symbol = if nat_lt symbol (start_of g) then [] else steps_in (slice_get g.rules (symbol - start_of g))
+steps_of g symbol =
+    if nat_lt symbol (start_of g) then [] else steps_in (slice_get g.rules (symbol - start_of g))
 
--- the turns that a symbol's expansion takes, as far as rules lead down by the first number, and at least two
+-- the turns that a symbol's expansion takes, as far as rules lead down by the first number, and at
+-- least two
 abbrev pub turns_within : PlainGrammar → ℕ → ℕ → ℕ
 turns_within g zero symbol = 2
 turns_within g (suc far) symbol = suc (suc (total (turns_within g far) (steps_of g symbol)))
@@ -113,5 +121,7 @@ turns_left form stack = turns_around form stack.outer + turns_from form (dot_of 
 
 -- what a turn comes to: a stack with fewer turns left, or the start rule's node
 abbrev pub Turns : PlainGrammar → List ℕ → Stack → Turn → Type 0
-Turns form text stack (On next) = Stands form text next × (turns_left form next < turns_left form stack)
-Turns form text stack (Done grown) = Passes form text (start_of form) (node_of grown.tree) the_start grown.after
+Turns form text stack (On next) =
+    Stands form text next × (turns_left form next < turns_left form stack)
+Turns form text stack (Done grown) =
+    Passes form text (start_of form) (node_of grown.tree) the_start grown.after

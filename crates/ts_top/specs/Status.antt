@@ -20,4 +20,6 @@ IsStatus number = (status : Status) × (number ≡ number_of status)
 
 -- A read failed, a write failed or memory ran out, and the answer was not given whole.
 abbrev pub IsCutShort : ℕ → Type 0
-IsCutShort number = (number ≡ number_of ReadFault) ⊎ ((number ≡ number_of WriteFault) ⊎ (number ≡ number_of OutOfMemory))
+IsCutShort number =
+    (number ≡ number_of ReadFault)
+    ⊎ ((number ≡ number_of WriteFault) ⊎ (number ≡ number_of OutOfMemory))

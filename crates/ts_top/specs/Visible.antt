@@ -1,4 +1,5 @@
--- The visible tree of a plain grammar's parse tree: the list of its nodes in preorder. No node is hidden.
+-- The visible tree of a plain grammar's parse tree: the list of its nodes in preorder. No node is
+-- hidden.
 use Rattle.std.specs.Prelude.{ℕ, ◌+◌, ◌-◌, Bool, true, false, nat_le, if◌then◌else◌, List, [], ◌∷◌, ◌++◌, slice_get, Option, Some, None}
 use Rattle.ts_text.specs.Point.{row_of, column_of}
 use Rattle.ts_top.specs.Tree.{Node, node, Nodes, no_nodes, add, extent_of}
@@ -30,11 +31,13 @@ rule_name (Some rule) = rule.name
 -- the name under which a symbol's nodes show
 abbrev pub name_of : PlainGrammar → ℕ → List ℕ
 name_of g symbol =
-    if nat_le (start_of g) symbol then rule_name (slice_get g.rules (symbol - start_of g)) else token_name (slice_get g.tokens (symbol - 1))
+    if nat_le (start_of g) symbol then rule_name
+    (slice_get g.rules (symbol - start_of g)) else token_name (slice_get g.tokens (symbol - 1))
 
 -- A rule's nodes are named, and those of a token that a rule names.
 abbrev pub named_of : PlainGrammar → ℕ → Bool
-named_of g symbol = if nat_le (start_of g) symbol then true else token_is_named (slice_get g.tokens (symbol - 1))
+named_of g symbol =
+    if nat_le (start_of g) symbol then true else token_is_named (slice_get g.tokens (symbol - 1))
 
 -- a node that begins at a place, its pad first, as it shows at a depth
 abbrev pub shown_of : PlainGrammar → List ℕ → ℕ → ℕ → ℕ → ℕ → ℕ → Shown
@@ -49,7 +52,8 @@ shown_of g text depth place symbol pad size = record {
   column = column_of text (place + pad);
 }
 
--- The node itself comes first, then its children one deeper, each from the place where the one before ends.
+-- The node itself comes first, then its children one deeper, each from the place where the one
+-- before ends.
 abbrev mutual
   pub visible_of : PlainGrammar → List ℕ → ℕ → ℕ → Node → List Shown
   visible_of g text depth place (node symbol pad size children) =

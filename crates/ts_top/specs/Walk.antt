@@ -20,16 +20,20 @@ abbrev pub walk_from : PlainGrammar → List ℕ → List Event → Spot → End
 walk_from g text events spot = walk g text events spot.place spot.depth
 
 -- The symbol expands to this node, and the walk over it comes from one spot to the other.
-pub record Passes (g : PlainGrammar) (text : List ℕ) (symbol : ℕ) (n : Node) (from to : Spot) : Type 0 where
+pub record Passes (g : PlainGrammar) (text : List ℕ) (symbol : ℕ) (n : Node)
+    (from to : Spot) : Type 0 where
   pub expands : Expands g symbol n
-  pub goes : (more : List Event) → walk_from g text (events_of n ++ more) from ≡ walk_from g text more to
+  pub goes : (more : List Event)
+      → walk_from g text (events_of n ++ more) from ≡ walk_from g text more to
   pub moves : to.place ≡ from.place + extent_of n
   pub within : to.place ≤ length text
 
 -- the same of a list of symbols
-pub record PassesAll (g : PlainGrammar) (text : List ℕ) (steps : List Symbol) (ns : Nodes) (from to : Spot) : Type 0 where
+pub record PassesAll (g : PlainGrammar) (text : List ℕ) (steps : List Symbol) (ns : Nodes)
+    (from to : Spot) : Type 0 where
   pub expands : ExpandsAll g steps ns
-  pub goes : (more : List Event) → walk_from g text (events_of_all ns ++ more) from ≡ walk_from g text more to
+  pub goes : (more : List Event)
+      → walk_from g text (events_of_all ns ++ more) from ≡ walk_from g text more to
   pub moves : to.place ≡ from.place + extent_of_all ns
   pub within : to.place ≤ length text
 
@@ -42,7 +46,8 @@ Says (Memory error) ending = Unit {0}
 -- Whatever follows, the walk over the symbol's expansion ends in it as the halt says.
 abbrev pub Halts : PlainGrammar → List ℕ → ℕ → Spot → Halt → Type 0
 Halts g text symbol from halt =
-    (n : Node) → Expands g symbol n → (more : List Event) → Says halt (walk_from g text (events_of n ++ more) from)
+    (n : Node) → Expands g symbol n → (more : List Event)
+    → Says halt (walk_from g text (events_of n ++ more) from)
 
 -- the nodes that a list of trees stands for
 abbrev pub nodes_in : List Tree → Nodes
@@ -60,6 +65,7 @@ Ends g text (Memory error) = Unit {0}
 
 -- A tree takes the whole text, and is not too deep.
 abbrev pub FitsText : List ℕ → Outcome → Type 0
-FitsText text (outcome.Tree tree) = (extent_of (node_of tree) ≡ length text) × (depth_of (node_of tree) ≤ most_depth)
+FitsText text (outcome.Tree tree) =
+    (extent_of (node_of tree) ≡ length text) × (depth_of (node_of tree) ≤ most_depth)
 FitsText text (outcome.Stuck place) = Unit {0}
 FitsText text outcome.Deep = Unit {0}

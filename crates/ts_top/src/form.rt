@@ -1,4 +1,5 @@
-//! Reads a grammar file of the plain form: the rules that it holds, of STRING, SYMBOL and SEQ alone.
+//! Reads a grammar file of the plain form: the rules that it holds, of STRING, SYMBOL and SEQ
+//! alone.
 ghost use Rattle.std.specs.Prelude.{◌≡◌, IfOk, option_map, Option, List as Values, ℕ};
 ghost use Rattle.std.specs.Option.{option_copied};
 ghost use Rattle.ts_ojson.specs.Json.{json_of};

@@ -1,4 +1,5 @@
-//! What was read of a grammar file and a text in; the line of the outcome, or why there is none, out.
+//! What was read of a grammar file and a text in; the line of the outcome, or why there is none,
+//! out.
 ghost use Rattle.std.specs.Prelude.{◌≡◌, ◌<◌, ◌^◌, IfOk, IfErr, string_bytes};
 ghost use Rattle.ts_base.specs.Bytes.{Bytes};
 ghost use Rattle.ts_io.specs.Read.{AnswersFor, KeepsLimit};
@@ -62,7 +63,8 @@ fn grammar_stop<'a>(refusal: NotPlain) -> Stop<'a>
 
 fn text_stop<'a>(fault: &TextFault, path: &'a str) -> Stop<'a>
     ensures late { IsLate result }
-    ensures stop { (g t : Bytes) (normal : PlainGrammar) → IsBuilt g normal → IsTextFault t fault.now
+    ensures stop { (g t : Bytes) (normal : PlainGrammar) → IsBuilt g normal
+        → IsTextFault t fault.now
         → StoppedAt g t path.now result }
 {
     match fault {
@@ -83,7 +85,8 @@ fn read_grammar(alloc: Global, file: &Found) -> Result<PlainGrammar, NotPlain>
     ensures form { IfOk result (λ form. IsForm form) }
     ensures numbered { IfOk result (λ form. start_of form < 2 ^ 16) }
     ensures unbuilt { result ≡ Err NotPlain.Unbuilt → (bytes : Bytes)
-        → AnswersFor (Some bytes) most_grammar_bytes file.now → (g : PlainGrammar) → IsBuilt bytes g → ⊥ }
+        → AnswersFor (Some bytes) most_grammar_bytes file.now → (g : PlainGrammar) → IsBuilt bytes g
+        → ⊥ }
 {
     match file {
         Found::Bytes(bytes) => plain_form(alloc, bytes.as_slice()),
@@ -93,9 +96,11 @@ fn read_grammar(alloc: Global, file: &Found) -> Result<PlainGrammar, NotPlain>
 
 /// The text of the file that was read.
 fn read_text(alloc: Global, file: &Found) -> Result<Text, TextFault>
-    ensures text { IfOk result (λ text. (bytes : Bytes) → AnswersFor (Some bytes) most_text_bytes file.now
+    ensures text { IfOk result
+        (λ text. (bytes : Bytes) → AnswersFor (Some bytes) most_text_bytes file.now
         → (text ≡ bytes) × IsText bytes) }
-    ensures fault { IfErr result (λ fault. (bytes : Bytes) → AnswersFor (Some bytes) most_text_bytes file.now
+    ensures fault { IfErr result
+        (λ fault. (bytes : Bytes) → AnswersFor (Some bytes) most_text_bytes file.now
         → IsTextFault bytes fault) }
 {
     match file {

@@ -35,5 +35,6 @@ pub fn clean_is_done()
 
 /// A symbol of a plain grammar expands to one tree at most.
 pub fn one_tree()
-    ensures { (g : AnyGrammar) (symbol : ℕ) (n m : Node) → Expands g symbol n → Expands g symbol m → n ≡ m }
+    ensures { (g : AnyGrammar) (symbol : ℕ) (n m : Node) → Expands g symbol n → Expands g symbol m
+        → n ≡ m }
 {}

@@ -1,3 +1,5 @@
+//! A plain normal form from the rules of a file.
+
 ghost use Rattle.std.specs.Prelude.{◌≡◌, ◌<◌, ◌≤◌, length, IfOk, Some, None, Err};
 ghost use Rattle.ts_top.specs.declared.plain.PlainGrammar.{PlainGrammar};
 ghost use Rattle.ts_top.specs.PlainNormal.{IsPlain, Normal};
@@ -63,7 +65,8 @@ fn grammar_with(
     requires paired { IsPaired sights.now }
     requires few_texts { length sights.now.texts.keys < 16384 }
     requires few_rules { length others.now < 4096 }
-    ensures normal { IfOk result (λ grammar. GrammarComesTo sights.now start.now others.now (Some grammar)) }
+    ensures normal { IfOk result
+        (λ grammar. GrammarComesTo sights.now start.now others.now (Some grammar)) }
     ensures unbuilt { result ≡ Err Unbuilt → GrammarComesTo sights.now start.now others.now None }
 {
     let symbols = all_symbols(alloc, sights, start, others)?;
@@ -76,7 +79,8 @@ fn grammar_with(
 fn grammar_of(alloc: Global, rules: &[(Str, Rule)]) -> Result<PlainGrammar, NotPlain>
     requires { length rules.now ≤ 4096 }
     ensures normal { IfOk result (λ grammar. Normal rules.now ≡ Some grammar) }
-    ensures unbuilt { result ≡ Err Unbuilt → (grammar : PlainGrammar) → Normal rules.now ≡ Some grammar → 16384 ≤ length grammar.tokens }
+    ensures unbuilt { result ≡ Err Unbuilt → (grammar : PlainGrammar)
+        → Normal rules.now ≡ Some grammar → 16384 ≤ length grammar.tokens }
 {
     if rules.is_empty() {
         return Err(NotPlain::Unbuilt);
@@ -93,12 +97,14 @@ fn grammar_of(alloc: Global, rules: &[(Str, Rule)]) -> Result<PlainGrammar, NotP
 ///
 /// # Errors
 ///
-/// `Unbuilt` where the rules are not plain: a rule is hidden, has an empty part or another type than text, name and
-/// sequence, names a rule that is not there or comes back to itself, or a limit is passed. `Memory` where memory is wanting.
+/// `Unbuilt` where the rules are not plain: a rule is hidden, has an empty part or another type
+/// than text, name and sequence, names a rule that is not there or comes back to itself, or a limit
+/// is passed. `Memory` where memory runs out.
 pub(crate) fn normal(alloc: Global, rules: &List<(Str, Rule)>) -> Result<PlainGrammar, NotPlain>
     ensures plain { IfOk result (λ form. IsPlain rules.now form) }
     ensures form { IfOk result (λ form. IsForm form) }
-    ensures unbuilt { result ≡ Err Unbuilt → (grammar : PlainGrammar) → IsPlain rules.now grammar → ⊥ }
+    ensures unbuilt { result ≡ Err Unbuilt → (grammar : PlainGrammar) → IsPlain rules.now grammar
+        → ⊥ }
 {
     let rules = rules.as_slice();
     if rules.len() > MOST_RULES || !are_shown(rules) {

@@ -1,3 +1,5 @@
+//! A search for circles among rules: rules go in, and an order or a circle comes out.
+
 ghost use Rattle.std.specs.Prelude.{◌≡◌, ℕ, ◌+◌, ◌<◌, ◌≤◌, length, IfOk, IfSome, IfNone, IsTrue, IsFalse, slice_get, Some};
 ghost use Rattle.ts_top.specs.Plain.{IsAcyclic, IsClosed, Leads, start_of};
 ghost use Rattle.ts_top.specs.Order.{AllDone, AllUnseen, Falls, Goes, IsDone, Lead, unseen};
@@ -31,7 +33,8 @@ fn rule_of(grammar: &PlainGrammar, step: Symbol) -> Option<usize>
     }
 }
 
-/// Comes from an open rule to one that stands in it. It gives the next rank, or none where the search came in a circle.
+/// Comes from an open rule to one that stands in it. It gives the next rank, or none where the
+/// search came in a circle.
 #[cycle(search)]
 fn come_to(grammar: &PlainGrammar, marks: &mut [Mark], rule: usize, next: usize) -> Option<usize>
     requires closed { IsClosed grammar.now }

@@ -1,3 +1,5 @@
+//! Grammars in plain normal form.
+
 use crate::tree::Tree;
 use ts_core::{Kind, List, Str, Symbol};
 
@@ -18,8 +20,9 @@ pub struct PlainRule {
     pub steps: List<Symbol>,
 }
 
-/// The normal form of a plain grammar, which has literal tokens alone and derives one list of tokens. Symbol 0
-/// is the end, then come the tokens in order and then the rules in order, the start rule first.
+/// The normal form of a plain grammar, which has literal tokens alone and derives one list of
+/// tokens. Symbol 0 is the end, then come the tokens in order and then the rules in order, the
+/// start rule first.
 #[derive(Debug, PartialEq, Eq, Drop)]
 pub struct PlainGrammar {
     pub tokens: List<LiteralToken>,

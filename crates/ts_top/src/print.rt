@@ -1,4 +1,5 @@
-//! Outcomes and faults in; the lines that the program prints of them out, each a compact object and a newline.
+//! Outcomes and faults in; the lines that the program prints of them out, each a compact object and
+//! a newline.
 ghost use Rattle.std.specs.Prelude.{◌≡◌, false, IfOk, codes, string_bytes, ◌++◌, ◌∷◌, []};
 ghost use Rattle.serde_json.specs.Data.{array, object, member, no_members, string};
 ghost use Rattle.serde_json.specs.View.{view, items_view};

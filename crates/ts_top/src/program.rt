@@ -49,11 +49,13 @@ impl From<AllocError> for Unanswered {
     }
 }
 
-/// Runs the program on its words: `parse GRAMMAR TEXT` writes the outcome of parsing the text as one line.
+/// Runs the program on its words: `parse GRAMMAR TEXT` writes the outcome of parsing the text as
+/// one line.
 ///
-/// It answers the number of a `Status`. The words are judged before any file is read, and GRAMMAR is read before TEXT.
-/// At `Usage`, `Grammar`, `Absent` and `Text` a line that says so is written. `ReadFault` and `WriteFault` come only
-/// where a read or a write failed in this call. `OutOfMemory` may come at any time.
+/// It answers the number of a `Status`. The words are judged before any file is read, and GRAMMAR
+/// is read before TEXT. At `Usage`, `Grammar`, `Absent` and `Text` a line that says so is written.
+/// `ReadFault` and `WriteFault` come only where a read or a write failed in this call.
+/// `OutOfMemory` may come at any time.
 pub fn run<R: AllocGlobal, F: Folder, S: Sink>(
     rt: &R,
     words: &[String],
@@ -81,13 +83,18 @@ pub fn run<R: AllocGlobal, F: Folder, S: Sink>(
         WritesPrefix files (texts words.now) (S.taken sink.old) (S.taken sink.new)) }
 
     // A fault of reading or writing has its cause outside.
-    ensures read { result ≡ number_of ends.ReadFault → Rose (F.faults folder.old) (F.faults folder.new) }
-    ensures write { result ≡ number_of ends.WriteFault → Rose (S.faults sink.old) (S.faults sink.new) }
+    ensures read { result ≡ number_of ends.ReadFault
+        → Rose (F.faults folder.old) (F.faults folder.new) }
+    ensures write { result ≡ number_of ends.WriteFault
+        → Rose (S.faults sink.old) (S.faults sink.new) }
 
     // Each other status comes exactly where it is the answer.
-    ensures exact { (files : Files) (status : AnyStatus) (bytes : Bytes) → F.files folder.old ≡ Some files
-        → Answers files (texts words.now) status bytes → (result ≡ number_of status) ⊎ IsCutShort result }
-    ensures complete { (files : Files) → F.files folder.old ≡ Some files → IsClean files (texts words.now)
+    ensures exact { (files : Files) (status : AnyStatus) (bytes : Bytes)
+        → F.files folder.old ≡ Some files
+        → Answers files (texts words.now) status bytes → (result ≡ number_of status)
+        ⊎ IsCutShort result }
+    ensures complete { (files : Files) → F.files folder.old ≡ Some files
+        → IsClean files (texts words.now)
         → (Rose (F.faults folder.old) (F.faults folder.new) → ⊥)
         → (Rose (S.faults sink.old) (S.faults sink.new) → ⊥)
         → (result ≡ number_of ends.Done) ⊎ (result ≡ number_of ends.OutOfMemory) }
@@ -183,7 +190,8 @@ fn read<'a, F: Folder>(
     ensures same { F.files folder.new ≡ F.files folder.old }
     ensures later { F.faults folder.old ≤ F.faults folder.new }
     ensures within { IfOk result (λ found. KeepsLimit limit found) }
-    ensures there { IfOk result (λ found. Told (F.files folder.old) (IsThere path.now limit found)) }
+    ensures there { IfOk result
+        (λ found. Told (F.files folder.old) (IsThere path.now limit found)) }
     ensures stop { IfErr result (λ stop. ReadStopped (F.files folder.old) path.now
         (Rose (F.faults folder.old) (F.faults folder.new)) stop) }
 {
@@ -205,7 +213,8 @@ struct Paths<'a> {
 /// The paths that the words name, or none where the words have another form.
 fn paths_in(words: &[String]) -> Option<Paths<'_>>
     ensures none { IfNone result (IsUsage (texts words.now)) }
-    ensures some { IfSome result (λ paths. Parses (texts words.now) paths.grammar.now paths.text.now) }
+    ensures some { IfSome result
+        (λ paths. Parses (texts words.now) paths.grammar.now paths.text.now) }
 {
     if words.len() == 3 && words[0].as_str() == "parse" {
         Some(Paths {

@@ -1,3 +1,5 @@
+//! The nodes that are printed, from a tree in the plain form.
+
 ghost use Rattle.std.specs.Prelude.{◌≡◌, ◌+◌, ◌<◌, ◌≤◌, ◌^◌, ◌++◌, ◌∷◌, [], length, IfOk, OnOk};
 ghost use Rattle.ts_top.specs.Tree.{node_of, depth_of, deepest, extent_of, extent_of_all};
 ghost use Rattle.ts_top.specs.Plain.{Expands, start_of};
@@ -57,7 +59,9 @@ fn list(
     requires size { length listing.old.points < 2 ^ 32 }
     requires within { place + extent_of (node_of tree.now) ≤ length listing.old.points }
     requires depth { depth + depth_of (node_of tree.now) < 2 ^ 32 }
-    ensures shown { OnOk result (listing.new.shown ≡ listing.old.shown ++ visible_of listing.old.grammar.now listing.old.points depth place (node_of tree.now)) }
+    ensures shown { OnOk result
+        (listing.new.shown ≡ listing.old.shown
+        ++ visible_of listing.old.grammar.now listing.old.points depth place (node_of tree.now)) }
     ensures grammar { OnOk result (listing.new.grammar.now ≡ listing.old.grammar.now) }
     ensures points { OnOk result (listing.new.points ≡ listing.old.points) }
 {
@@ -79,7 +83,10 @@ fn list_all(
     requires size { length listing.old.points < 2 ^ 32 }
     requires within { start + extent_of_all (nodes_in children.now) ≤ length listing.old.points }
     requires depth { depth + deepest (nodes_in children.now) < 2 ^ 32 }
-    ensures shown { OnOk result (listing.new.shown ≡ listing.old.shown ++ visible_of_all listing.old.grammar.now listing.old.points depth start (nodes_in children.now)) }
+    ensures shown { OnOk result
+        (listing.new.shown ≡ listing.old.shown
+        ++ visible_of_all listing.old.grammar.now listing.old.points depth start
+        (nodes_in children.now)) }
     ensures grammar { OnOk result (listing.new.grammar.now ≡ listing.old.grammar.now) }
     ensures points { OnOk result (listing.new.points ≡ listing.old.points) }
 {
@@ -102,7 +109,9 @@ fn shown(
     requires nested { IsNested listing.old.grammar.now (node_of tree.now) }
     requires size { length listing.old.points < 2 ^ 32 }
     requires within { place + extent_of (node_of tree.now) ≤ length listing.old.points }
-    ensures shown { IfOk result (λ shown. shown ≡ shown_at listing.old.grammar.now listing.old.points depth place (node_of tree.now)) }
+    ensures shown { IfOk result
+        (λ shown. shown ≡ shown_at listing.old.grammar.now listing.old.points depth place
+        (node_of tree.now)) }
     ensures list { listing.new.shown ≡ listing.old.shown }
     ensures grammar { listing.new.grammar.now ≡ listing.old.grammar.now }
     ensures points { listing.new.points ≡ listing.old.points }

@@ -1,3 +1,5 @@
+//! A text is walked along the one tree of a plain grammar.
+
 ghost use Rattle.std.specs.Prelude.{◌≡◌, ◌+◌, ◌<◌, ◌≤◌, ◌^◌, ◌++◌, ◌∷◌, [], length, IfOk, IfErr, IfSome, IfNone};
 ghost use Rattle.ts_top.specs.Tree.{node_of, depth_of};
 ghost use Rattle.ts_top.specs.Plain.{Plain, start_of};
@@ -18,7 +20,8 @@ const MOST_DEPTH: u32 = 1000;
 #[derive(Clone, Copy, Debug)]
 struct Spot {
     place: usize,
-    /// The depth of the deepest node that ends here. All above the most are counted as one more than that.
+    /// The depth of the deepest node that ends here. All above the most are counted as one more
+    /// than that.
     depth: u32,
 }
 
@@ -81,8 +84,8 @@ impl From<AllocError> for Halt {
     }
 }
 
-/// Parses a text by one walk over the list of tokens to which the start rule expands. The list itself can be
-/// far longer than the grammar, and is not made.
+/// Parses a text by one walk over the list of tokens to which the start rule expands. The list
+/// itself can be far longer than the grammar, and is not made.
 ///
 /// # Errors
 ///
@@ -125,14 +128,18 @@ fn whole(alloc: Global, form: &PlainGrammar, text: &[u8]) -> Result<Tree, Halt>
     Ok(tree)
 }
 
-/// The tree of what the start rule expands to, from the text's start on. The walk keeps the rules that it
-/// stands in on a stack of its own, since rules can be nested deeper than the native stack allows for.
+/// The tree of what the start rule expands to, from the text's start on. The walk keeps the rules
+/// that it stands in on a stack of its own, since rules can be nested deeper than the native stack
+/// allows for.
 fn start_tree(alloc: Global, form: &PlainGrammar, text: &[u8]) -> Result<Grown, Halt>
     requires form { IsForm form.now }
     requires numbered { start_of form.now < 2 ^ 16 }
     requires size { length text.now < 2 ^ 31 }
-    ensures passes { IfOk result (λ grown. Passes form.now text.now (start_of form.now) (node_of grown.tree) the_start grown.after) }
-    ensures halts { IfErr result (λ halt. Halts form.now text.now (start_of form.now) the_start halt) }
+    ensures passes { IfOk result
+        (λ grown. Passes form.now text.now (start_of form.now)
+        (node_of grown.tree) the_start grown.after) }
+    ensures halts { IfErr result
+        (λ halt. Halts form.now text.now (start_of form.now) the_start halt) }
 {
     let start = Symbol((form.tokens.len() + 1) as u16);
     let mut stack = Stack {
@@ -153,7 +160,8 @@ fn take_turn(alloc: Global, form: &PlainGrammar, text: &[u8], stack: Stack) -> R
     requires size { length text.now < 2 ^ 31 }
     requires stands { Stands form.now text.now stack }
     ensures turns { IfOk result (λ turn. Turns form.now text.now stack turn) }
-    ensures halts { IfErr result (λ halt. Halts form.now text.now (start_of form.now) the_start halt) }
+    ensures halts { IfErr result
+        (λ halt. Halts form.now text.now (start_of form.now) the_start halt) }
 {
     let grammar = form;
     match next_step(grammar, &stack.top) {
@@ -248,7 +256,8 @@ fn leaf(
     requires below { symbol.0 < start_of grammar.now }
     requires size { length text.now < 2 ^ 31 }
     requires within { from.place ≤ length text.now }
-    ensures passes { IfOk result (λ grown. Passes grammar.now text.now symbol.0 (node_of grown.tree) from grown.after) }
+    ensures passes { IfOk result
+        (λ grown. Passes grammar.now text.now symbol.0 (node_of grown.tree) from grown.after) }
     ensures depth { IfOk result (λ grown. grown.depth ≡ counted (depth_of (node_of grown.tree))) }
     ensures halts { IfErr result (λ halt. Halts grammar.now text.now symbol.0 from halt) }
 {
@@ -298,8 +307,8 @@ fn add(frame: Frame, child: Grown) -> Result<Frame, AllocError>
     })
 }
 
-/// The node of a frame's rule, all of whose steps are passed. No byte stands between the tokens of a plain
-/// grammar, so its pad is 0.
+/// The node of a frame's rule, all of whose steps are passed. No byte stands between the tokens of
+/// a plain grammar, so its pad is 0.
 #[tactic(auto, using(crate::proofs::NodeLemmas::node_of_made))]
 fn close(frame: Frame) -> Grown
     requires place { frame.from.place ≤ frame.after.place }

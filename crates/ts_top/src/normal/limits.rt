@@ -1,3 +1,5 @@
+//! The limits that a plain grammar keeps.
+
 ghost use Rattle.std.specs.Prelude.{◌≡◌, ◌↔◌, ℕ, ◌≤◌, All, IsTrue, length, map, sum};
 ghost use Rattle.ts_top.specs.PlainNormal as normal;
 ghost use Rattle.ts_top.specs.PlainNormal.{positions_of};

@@ -1,3 +1,5 @@
+//! Texts of a plain grammar by first sight.
+
 ghost use Rattle.std.specs.Prelude.{◌≡◌, ℕ, List, [], ◌∷◌, ◌<◌, IfOk, IfSome, OnOk, length, map, option_map};
 ghost use Rattle.ts_top.specs.PlainNormal as normal;
 ghost use Rattle.ts_top.specs.PlainNormal.{all_literals, joined, literals_in, parts_of, where_once};
@@ -47,7 +49,8 @@ fn see_tree(alloc: Global, sights: &mut Sights, tree: &Rule) -> Result<(), Alloc
 #[cycle(see)]
 fn see_trees(alloc: Global, sights: &mut Sights, trees: &[Rule]) -> Result<(), AllocError>
     requires { IsPaired sights.old }
-    ensures { OnOk result (Sees (literals_in (joined (map parts_of trees.now))) sights.old sights.new) }
+    ensures { OnOk result
+        (Sees (literals_in (joined (map parts_of trees.now))) sights.old sights.new) }
 {
     for tree in trees {
         see_tree(alloc, sights, tree)?;
@@ -73,7 +76,8 @@ pub(super) fn all_sights(alloc: Global, rules: &[(Str, Rule)]) -> Result<Sights,
 fn number_once(sights: &Sights, text: &Str) -> Option<usize>
     requires { IsPaired sights.now }
     ensures within { IfSome result (λ number. number < length sights.now.texts.keys) }
-    ensures number { (all : List (List ℕ)) → HasSights all sights.now → result ≡ option_map (number_of sights.now) (where_once all text.now) }
+    ensures number { (all : List (List ℕ)) → HasSights all sights.now
+        → result ≡ option_map (number_of sights.now) (where_once all text.now) }
 {
     let number = sights.texts.get_index_of(text)?;
     if sights.once[number] {
@@ -87,7 +91,8 @@ fn number_once(sights: &Sights, text: &Str) -> Option<usize>
 pub(super) fn token_named(sights: &Sights, tree: &Rule) -> Option<usize>
     requires { IsPaired sights.now }
     ensures within { IfSome result (λ number. number < length sights.now.texts.keys) }
-    ensures number { (all : List (List ℕ)) → HasSights all sights.now → result ≡ option_map (number_of sights.now) (token_of all tree.now) }
+    ensures number { (all : List (List ℕ)) → HasSights all sights.now
+        → result ≡ option_map (number_of sights.now) (token_of all tree.now) }
 {
     match tree {
         Rule::Literal(text) => number_once(sights, text),

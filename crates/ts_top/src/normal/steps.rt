@@ -1,3 +1,5 @@
+//! The steps of the rules of a plain grammar.
+
 ghost use Rattle.std.specs.Prelude.{◌≡◌, ◌<◌, length, map, IfOk, OnOk, Some, None, Err, option_map};
 ghost use Rattle.ts_top.specs.PlainNormal.{joined, parts_of, rule_by, steps_of, symbol_at, symbol as symbol_of, token_symbol};
 ghost use Rattle.ts_top.specs.Normal.{AddsRule, IsPaired, LacksName, Pushes, RulesComeTo};
@@ -38,8 +40,10 @@ fn push_steps(
     steps: &mut List<Symbol>,
 ) -> Result<(), NotPlain>
     requires { length sights.now.texts.keys < 16384 }
-    ensures ok { OnOk result (Pushes sights.now.texts.keys symbols.now.entries (parts_of tree.now) steps.old steps.new) }
-    ensures unbuilt { result ≡ Err Unbuilt → steps_of sights.now.texts.keys symbols.now.entries (parts_of tree.now) ≡ None }
+    ensures ok { OnOk result
+        (Pushes sights.now.texts.keys symbols.now.entries (parts_of tree.now) steps.old steps.new) }
+    ensures unbuilt { result ≡ Err Unbuilt
+        → steps_of sights.now.texts.keys symbols.now.entries (parts_of tree.now) ≡ None }
 {
     match tree {
         Rule::Literal(text) => {
@@ -66,8 +70,12 @@ fn push_all_steps(
     steps: &mut List<Symbol>,
 ) -> Result<(), NotPlain>
     requires { length sights.now.texts.keys < 16384 }
-    ensures ok { OnOk result (Pushes sights.now.texts.keys symbols.now.entries (joined (map parts_of trees.now)) steps.old steps.new) }
-    ensures unbuilt { result ≡ Err Unbuilt → steps_of sights.now.texts.keys symbols.now.entries (joined (map parts_of trees.now)) ≡ None }
+    ensures ok { OnOk result
+        (Pushes sights.now.texts.keys symbols.now.entries
+        (joined (map parts_of trees.now)) steps.old steps.new) }
+    ensures unbuilt { result ≡ Err Unbuilt
+        → steps_of sights.now.texts.keys symbols.now.entries
+        (joined (map parts_of trees.now)) ≡ None }
 {
     for tree in trees {
         push_steps(sights, symbols, tree, steps)?;
@@ -82,8 +90,10 @@ fn plain_rule(
     rule: &(Str, Rule),
 ) -> Result<PlainRule, NotPlain>
     requires { length sights.now.texts.keys < 16384 }
-    ensures ok { IfOk result (λ plain. rule_by sights.now.texts.keys symbols.now.entries rule.now ≡ Some plain) }
-    ensures unbuilt { result ≡ Err Unbuilt → rule_by sights.now.texts.keys symbols.now.entries rule.now ≡ None }
+    ensures ok { IfOk result
+        (λ plain. rule_by sights.now.texts.keys symbols.now.entries rule.now ≡ Some plain) }
+    ensures unbuilt { result ≡ Err Unbuilt
+        → rule_by sights.now.texts.keys symbols.now.entries rule.now ≡ None }
 {
     let name = Str::from_text(alloc, rule.0.text())?;
     let mut steps = List::new(alloc);
@@ -102,7 +112,8 @@ fn push_rule(
     requires paired { IsPaired sights.now }
     requires few { length sights.now.texts.keys < 16384 }
     ensures ok { OnOk result (AddsRule sights.now symbols.now.entries rule.now done.old done.new) }
-    ensures unbuilt { result ≡ Err Unbuilt → LacksName sights.now symbols.now.entries rule.now done.old }
+    ensures unbuilt { result ≡ Err Unbuilt
+        → LacksName sights.now symbols.now.entries rule.now done.old }
 {
     if token_named(sights, &rule.1).is_some() {
         return Ok(());
@@ -122,8 +133,10 @@ pub(super) fn plain_rules(
 ) -> Result<List<PlainRule>, NotPlain>
     requires paired { IsPaired sights.now }
     requires few { length sights.now.texts.keys < 16384 }
-    ensures ok { IfOk result (λ rules. RulesComeTo sights.now symbols.now.entries start.now others.now (Some rules)) }
-    ensures unbuilt { result ≡ Err Unbuilt → RulesComeTo sights.now symbols.now.entries start.now others.now None }
+    ensures ok { IfOk result
+        (λ rules. RulesComeTo sights.now symbols.now.entries start.now others.now (Some rules)) }
+    ensures unbuilt { result ≡ Err Unbuilt
+        → RulesComeTo sights.now symbols.now.entries start.now others.now None }
 {
     let mut done = List::new(alloc);
     let first = plain_rule(alloc, sights, symbols, start)?;

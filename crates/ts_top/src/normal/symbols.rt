@@ -1,3 +1,5 @@
+//! The numbers of rules in a plain grammar.
+
 ghost use Rattle.std.specs.Prelude.{◌+◌, ◌<◌, ◌≤◌, length, IfOk, OnOk};
 ghost use Rattle.ts_top.specs.Normal.{AddsName, AreSymbols, IsPaired, Numbers};
 

@@ -1,3 +1,5 @@
+//! The tokens of a plain grammar.
+
 ghost use Rattle.std.specs.Prelude.{◌≡◌, length, map, IfOk, OnOk, None};
 ghost use Rattle.ts_top.specs.PlainNormal.{token_by};
 ghost use Rattle.ts_top.specs.Normal.{AreTokens, IsPaired, NamesToken};
@@ -38,7 +40,8 @@ fn name_token(
     requires paired { IsPaired sights.now }
     requires one_each { length tokens.old.items ≡ length sights.now.texts.keys }
     ensures size { OnOk result (length tokens.new.items ≡ length tokens.old.items) }
-    ensures tokens { OnOk result (NamesToken sights.now rule.now tokens.old.items tokens.new.items) }
+    ensures tokens { OnOk result
+        (NamesToken sights.now rule.now tokens.old.items tokens.new.items) }
 {
     let Some(number) = token_named(sights, &rule.1) else {
         return Ok(());

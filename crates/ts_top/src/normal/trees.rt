@@ -1,3 +1,5 @@
+//! The parts of rule trees that are plain.
+
 ghost use Rattle.std.specs.Prelude.{◌≡◌, ◌↔◌, ℕ, List, ◌<◌, ◌≤◌, All, IsTrue, length, map};
 ghost use Rattle.std.specs.List.{list_all};
 ghost use Rattle.ts_top.specs.PlainNormal as normal;

@@ -1,0 +1,9 @@
+pub mod CapLemmas
+pub mod CauseLemmas
+pub mod CyclicLemmas
+pub mod GrowLemmas
+pub mod ListLemmas
+pub mod NothingLemmas
+pub mod PlaceLemmas
+pub mod RepeatLemmas
+pub mod StraightLemmas

@@ -1,0 +1,4 @@
+pub mod Bounds
+pub mod Misfits
+pub mod Searches
+pub mod Straight

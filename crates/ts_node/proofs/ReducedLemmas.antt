@@ -1,0 +1,180 @@
+-- What a reduction makes of children that can be reduced is a node.
+use Rattle.std.proofs.Common.{◌≡◌, ℕ, ◌+◌, ◌-◌, ◌*◌, ◌<◌, ◌≤◌, ◌^◌, sym, ap, subst, arith, List, [], ◌∷◌, ◌++◌, length, Option, Some, None, true, false, length-append}
+use Rattle.std.specs.Prelude.{All, option_map, unwrap_or}
+use Rattle.std.specs.Int.RustNames.{unsigned_abs}
+use Rattle.std.proofs.lemmas.List.Elements.{All-head, All-tail, All-append}
+use lib.IntN.{ℤ, ◌+ℤ◌}
+use Rattle.ts_core.specs.declared.flat.FlatGrammar.{FlatGrammar}
+use Rattle.ts_core.specs.declared.flat.Production.{Production}
+use Rattle.spec_trees.specs.declared.tree.Tree.{Tree}
+use Rattle.spec_trees.specs.declared.tree.Element.{Element}
+use Rattle.spec_trees.specs.declared.tree.Tree.TheOpen.{Tree-F}
+use Rattle.spec_trees.specs.declared.tree.Tree.TheViews.{out-roll-Tree}
+use Rattle.spec_trees.specs.declared.tree.Tree.TheFolds.{fold-roll-Tree, fold_out-Tree}
+use Rattle.spec_trees.specs.Trees.{elements_of, children_of, is_settled, total_of, all_totals, pad_of, size_of, span_of, node_extent, all_spans, first_pad, node_count, nodes_step, all_nodes, tree_depth, depth_step, greatest_depth}
+use Rattle.spec_trees.specs.Made.{IsNode, IsSettledWell, node_over, element, made_by, reduced, Form, of_rule, of_first, of_next, form_of, left_of, value_of, Lengthens, EndBy, AreCounted, children_count, most_span, most_depth, node_limit}
+use Rattle.spec_trees.specs.Reducible.{IsReducible}
+use Rattle.ts_node.specs.Falls.{all_nodes-append}
+use Rattle.ts_node.proofs.RunLemmas.{all_spans-append, greatest_depth-append, children_count_append}
+use Rattle.ts_node.proofs.TotalLemmas.{abs_sum}
+
+-- ---- a node over children
+
+abbrev over_layer : ℕ → Option ℕ → ℤ → ℕ → Option ℕ → List Element → List Tree → Tree-F Tree
+over_layer symbol production dynamic extent state es ks = record {
+  symbol = record { 0 = symbol };
+  production = production;
+  pad = first_pad ks;
+  size = all_spans ks - first_pad ks;
+  dynamic = dynamic;
+  extent = extent;
+  state = state;
+  settled = true;
+  extra = false;
+  elements = es;
+  children = ks;
+}
+
+first_pad_within : (ks : List Tree) → first_pad ks ≤ all_spans ks
+first_pad_within [] = omega arith
+first_pad_within (k ∷ ks) = omega arith
+
+-- what is asked of children and elements for a node over them
+pub record IsFit (dynamic : ℤ) (extent : ℕ) (es : List Element) (ks : List Tree) : Type 0 where
+  pub few : 1 + (length es + all_nodes ks) < node_limit
+  pub short : all_spans ks ≤ most_span
+  pub shallow : 1 + greatest_depth ks ≤ most_depth
+  pub counted : AreCounted es ks
+  pub modest : unsigned_abs dynamic ≤ 2 ^ 31 * (1 + (length es + all_nodes ks))
+  pub past : all_spans ks < extent
+  pub inner : All (λ child. is_settled child ≡ true) ks
+  pub covers : EndBy extent 0 ks
+
+fit_is_node : (symbol : ℕ) (production : Option ℕ) (dynamic : ℤ) (extent : ℕ) (state : Option ℕ) (es : List Element) (ks : List Tree) → IsFit dynamic extent es ks → IsNode (node_over symbol production dynamic extent state es ks)
+fit_is_node symbol production dynamic extent state es ks f =
+    let layer = over_layer symbol production dynamic extent state es ks in
+    let t = node_over symbol production dynamic extent state es ks in
+    let o = out-roll-Tree layer in
+    let n : node_count t ≡ 1 + (length es + all_nodes ks) = fold-roll-Tree ℕ nodes_step layer in
+    let d : tree_depth t ≡ 1 + greatest_depth ks = fold-roll-Tree ℕ depth_step layer in
+    let p : pad_of t ≡ first_pad ks = ap (λ (x : Tree-F Tree). x.pad) o in
+    let z : size_of t ≡ all_spans ks - first_pad ks = ap (λ (x : Tree-F Tree). x.size) o in
+    let e : node_extent t ≡ extent = ap (λ (x : Tree-F Tree). x.extent) o in
+    let c : children_of t ≡ ks = ap (λ (x : Tree-F Tree). x.children) o in
+    let es' : elements_of t ≡ es = ap (λ (x : Tree-F Tree). x.elements) o in
+    let v : total_of t ≡ dynamic = ap (λ (x : Tree-F Tree). x.dynamic) o in
+    let s : span_of t ≡ all_spans ks = omega (arith, p, z, first_pad_within ks) in
+    record {
+      sized = record {
+        few = omega (arith, n, f.few);
+        short = omega (arith, s, f.short);
+        within = let w : all_spans (children_of t) ≡ all_spans ks = ap all_spans c in omega (arith, w, s);
+        shallow = omega (arith, d, f.shallow);
+      };
+      counted = subst (λ (x : List Element). AreCounted x (children_of t)) (sym es') (subst (λ (x : List Tree). AreCounted es x) (sym c) f.counted);
+      modest = let m : unsigned_abs (total_of t) ≡ unsigned_abs dynamic = ap unsigned_abs v in omega (arith, m, n, f.modest);
+      settled = λ h. record {
+        past = omega (arith, s, e, f.past);
+        inner = subst (λ (x : List Tree). All (λ child. is_settled child ≡ true) x) (sym c) f.inner;
+        covers = subst (λ (x : List Tree). EndBy (node_extent t) 0 x) (sym c) (subst (λ (x : ℕ). EndBy x 0 ks) (sym e) f.covers);
+      };
+    }
+
+-- ---- totals
+
+modest_totals : (ks : List Tree) → All IsNode ks → unsigned_abs (all_totals ks) ≤ 2 ^ 31 * all_nodes ks
+modest_totals [] a = omega arith
+modest_totals (k ∷ ks) a =
+    let m : unsigned_abs (total_of k) ≤ 2 ^ 31 * node_count k = (All-head IsNode k ks a).modest in
+    let r : unsigned_abs (all_totals ks) ≤ 2 ^ 31 * all_nodes ks = modest_totals ks (All-tail IsNode k ks a) in
+    omega (arith, m, r, abs_sum (total_of k) (all_totals ks))
+
+-- ---- what nodes examined
+
+-- nodes that stand further to the left, before a place further to the right
+pub end_by_wider : (end end' place place' : ℕ) (ks : List Tree) → end ≤ end' → place' ≤ place → EndBy end place ks → EndBy end' place' ks
+end_by_wider end end' place place' [] h i e = tt
+end_by_wider end end' place place' (k ∷ ks) h i e =
+    (omega (arith, e.0, h, i), end_by_wider end end' (place + span_of k) (place' + span_of k) ks h (omega (arith, i)) e.1)
+
+pub end_by_both : (end place : ℕ) (ks more : List Tree) → EndBy end place ks → EndBy end (place + all_spans ks) more → EndBy end place (ks ++ more)
+end_by_both end place [] more a b = end_by_wider end end (place + 0) place more (omega arith) (omega arith) b
+end_by_both end place (k ∷ ks) more a b =
+    (a.0, end_by_both end (place + span_of k) ks more a.1 (end_by_wider end end (place + (span_of k + all_spans ks)) (place + span_of k + all_spans ks) more (omega arith) (omega arith) b))
+
+-- ---- the three forms
+
+rule_fits : (value : ℤ) (extent : ℕ) (g : FlatGrammar) (number : ℕ) (ks : List Tree) → unsigned_abs value ≤ 2 ^ 31 → IsReducible g number extent ks → IsFit (value +ℤ all_totals ks) extent [] ks
+rule_fits value extent g number ks v r = record {
+  few = omega (arith, r.standing.few);
+  short = r.standing.short;
+  shallow = r.standing.shallow;
+  counted = tt;
+  modest = omega (arith, v, abs_sum value (all_totals ks), modest_totals ks r.standing.nodes);
+  past = r.standing.past;
+  inner = r.standing.settled;
+  covers = r.standing.covers;
+}
+
+first_fits : (value : ℤ) (extent alternative : ℕ) (g : FlatGrammar) (number : ℕ) (ks : List Tree) → unsigned_abs value ≤ 2 ^ 31 → IsReducible g number extent ks → IsFit (value +ℤ all_totals ks) extent (element alternative (length ks) ∷ []) ks
+first_fits value extent alternative g number ks v r = record {
+  few = omega (arith, r.standing.few);
+  short = r.standing.short;
+  shallow = r.standing.shallow;
+  counted = omega arith;
+  modest = omega (arith, v, abs_sum value (all_totals ks), modest_totals ks r.standing.nodes);
+  past = r.standing.past;
+  inner = r.standing.settled;
+  covers = r.standing.covers;
+}
+
+counted_by : (es : List Element) (ks : List Tree) → children_count es ≡ length ks → AreCounted es ks
+counted_by [] ks h = tt
+counted_by (e ∷ es) ks h = h
+
+some_counted : (es : List Element) (ks : List Tree) → 0 < length es → AreCounted es ks → children_count es ≡ length ks
+some_counted [] ks some h = let f : ⊥ = omega (arith, some) in elim f [ ]
+some_counted (e ∷ es) ks some h = h
+
+next_fits : (value : ℤ) (extent alternative : ℕ) (g : FlatGrammar) (number : ℕ) (before : Tree) (more : List Tree) → unsigned_abs value ≤ 2 ^ 31 → 0 < length (elements_of before) → IsReducible g number extent (before ∷ more) → IsFit (value +ℤ (total_of before +ℤ all_totals more)) extent (elements_of before ++ element alternative (length more) ∷ []) (children_of before ++ more)
+next_fits value extent alternative g number before more v some r =
+    let es = elements_of before in
+    let ks = children_of before in
+    let last = element alternative (length more) ∷ [] in
+    let b : IsNode before = All-head IsNode before more r.standing.nodes in
+    let w : IsSettledWell before = b.settled (All-head (λ child. is_settled child ≡ true) before more r.standing.settled) in
+    let n : node_count before ≡ 1 + (length es + all_nodes ks) = fold_out-Tree ℕ nodes_step before in
+    let d : tree_depth before ≡ 1 + greatest_depth ks = fold_out-Tree ℕ depth_step before in
+    let within : all_spans ks ≤ span_of before = b.sized.within in
+    let own : children_count es ≡ length ks = some_counted es ks some b.counted in
+    let m : unsigned_abs (total_of before) ≤ 2 ^ 31 * node_count before = b.modest in
+    let others : unsigned_abs (all_totals more) ≤ 2 ^ 31 * all_nodes more = modest_totals more (All-tail IsNode before more r.standing.nodes) in
+    let head : 0 + node_extent before ≤ extent = r.standing.covers.0 in
+    let tail : EndBy extent (0 + span_of before) more = r.standing.covers.1 in
+    record {
+      few = omega (arith, r.standing.few, n, all_nodes-append ks more, length-append es last);
+      short = omega (arith, r.standing.short, within, all_spans-append ks more);
+      shallow = omega (arith, r.standing.shallow, d, greatest_depth-append ks more);
+      counted = counted_by (es ++ last) (ks ++ more) (omega (arith, own, children_count_append es last, length-append ks more));
+      modest = omega (arith, v, m, others, n, abs_sum value (total_of before +ℤ all_totals more), abs_sum (total_of before) (all_totals more), all_nodes-append ks more, length-append es last);
+      past = omega (arith, r.standing.past, within, all_spans-append ks more);
+      inner = All-append (λ child. is_settled child ≡ true) ks more w.inner (All-tail (λ child. is_settled child ≡ true) before more r.standing.settled);
+      covers = end_by_both extent 0 ks more
+          (end_by_wider (node_extent before) extent 0 0 ks (omega (arith, head)) (omega arith) w.covers)
+          (end_by_wider extent extent (0 + span_of before) (0 + all_spans ks) more (omega arith) (omega (arith, within)) tail);
+    }
+
+made_node : (f : Form) (symbol number : ℕ) (value : ℤ) (extent : ℕ) (state : Option ℕ) (g : FlatGrammar) (ks : List Tree) → unsigned_abs value ≤ 2 ^ 31 → Lengthens f ks → IsReducible g number extent ks → IsNode (made_by f symbol number value extent state ks)
+made_node of_rule symbol number value extent state g ks v l r =
+    fit_is_node symbol (Some number) (value +ℤ all_totals ks) extent state [] ks (rule_fits value extent g number ks v r)
+made_node (of_first alternative) symbol number value extent state g ks v l r =
+    fit_is_node symbol None (value +ℤ all_totals ks) extent state (element alternative (length ks) ∷ []) ks (first_fits value extent alternative g number ks v r)
+made_node (of_next alternative) symbol number value extent state g [] v l r = elim l [ ]
+made_node (of_next alternative) symbol number value extent state g (before ∷ more) v l r =
+    fit_is_node symbol None (value +ℤ (total_of before +ℤ all_totals more)) extent state (elements_of before ++ element alternative (length more) ∷ []) (children_of before ++ more) (next_fits value extent alternative g number before more v l r)
+
+pub reduced_node : (g : FlatGrammar) (number extent : ℕ) (state : Option ℕ) (children : List Tree) → IsReducible g number extent children → IsNode (reduced g number extent state children)
+reduced_node g number extent state children r =
+    let s : left_of g number ≡ r.fits.left = ap (λ (o : Option (ℕ × Production)). unwrap_or (option_map (λ p. p.0) o) 0) r.fits.at in
+    let l : Lengthens (form_of g (left_of g number) number) children = subst (λ (x : ℕ). Lengthens (form_of g x number) children) (sym s) r.fits.lengthens in
+    made_node (form_of g (left_of g number) number) (left_of g number) number (value_of g number) extent state g children r.value l r
