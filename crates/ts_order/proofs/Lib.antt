@@ -1,0 +1,3 @@
+pub mod CompareLemmas
+pub mod CodeLemmas
+pub mod LeafLemmas

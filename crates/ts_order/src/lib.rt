@@ -1,0 +1,8 @@
+//! The order of parse trees: two nodes go in, and which is chosen first comes out.
+#![tactic(auto)]
+
+mod order;
+#[cfg(test)]
+mod tests;
+
+pub use order::better;
