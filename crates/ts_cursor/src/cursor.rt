@@ -1,0 +1,182 @@
+//! The cursor: a grammar and a root go in, and a place in the visible tree comes out, which moves
+//! to children, siblings and parents.
+ghost use Rattle.std.specs.Prelude.{◌≡◌, ◌↔◌, ◌<◌, ◌^◌, ℕ, true, false, IsTrue, IfOk, Some, length, slice_get, option_map};
+ghost use Rattle.spec_trees.specs.Trees.{span_of};
+ghost use Rattle.spec_trees.specs.VisibleNodes.{visible_nodes};
+ghost use Rattle.spec_trees.specs.Family.{LieWithin, IsFirstChild, IsNextSibling, IsParent, node_at};
+ghost use Rattle.ts_cursor.specs.Marked.{seen_node, seen_nodes};
+
+use crate::links::{parents, pasts};
+use crate::moves::{first_child, next_sibling, parent};
+use crate::nodes::{Face, nodes};
+use crate::steps::Steps;
+use std::alloc::{AllocError, Global};
+use std::marker::Model;
+use ts_core::FlatGrammar;
+use ts_node::Node;
+
+/// A cursor on a node of a visible tree, which contracts see as that `Focus`.
+///
+/// It keeps the nodes that show, and for each the number after its descendants and that of its
+/// parent, so that a move takes constant time and no memory.
+#[derive(Drop)]
+pub struct Cursor<'g> {
+    nodes: Vec<Face<'g>>,
+    pasts: Vec<u32>,
+    parents: Vec<u32>,
+    number: u32,
+}
+
+impl<'g> Model for Cursor<'g> {
+    ghost use Rattle.spec_trees.specs.declared.visible.Focus.{Focus};
+    ghost use Rattle.spec_trees.specs.contracts.visible.Focus as focus;
+    ghost use Rattle.std.specs.Coded.{codes};
+
+    ghost Value = { Focus };
+
+    ghost coded = { Prim.hlevel (codes, focus.the_row.coded) };
+
+    ghost use Rattle.ts_cursor.specs.Marked.{focus_of, seen_nodes};
+    ghost use Rattle.ts_cursor.specs.Linked.{IsLinked};
+
+    ghost view = { λ a. focus_of a.nodes.items a.number };
+
+    ghost invariant = { λ a.
+        IsLinked (seen_nodes a.nodes.items) a.pasts.items a.parents.items a.number };
+}
+
+impl<'g> Cursor<'g> {
+    /// A cursor on the root of the visible tree of a root, in time by the size of the tree.
+    ///
+    /// # Errors
+    ///
+    /// `AllocError` where memory runs out.
+    pub fn new(
+        alloc: Global,
+        grammar: &'g FlatGrammar,
+        root: &Node,
+    ) -> Result<Cursor<'g>, AllocError>
+        ensures nodes { IfOk result (λ cursor. cursor.nodes ≡ visible_nodes grammar.now root.now) }
+        ensures number { IfOk result (λ cursor. cursor.number ≡ 0) }
+        ensures lie { IfOk result (λ cursor. LieWithin (span_of root.now) cursor.nodes) }
+    {
+        let steps = Steps::new(alloc, grammar)?;
+        let nodes = nodes(alloc, &steps, root)?;
+        Cursor::over(alloc, nodes)
+    }
+
+    /// A cursor on the first of visible nodes.
+    pub(crate) fn over(alloc: Global, nodes: Vec<Face<'g>>) -> Result<Cursor<'g>, AllocError>
+        requires few { length nodes.items < 2 ^ 32 }
+        requires some { 0 < length nodes.items }
+        ensures nodes { IfOk result (λ cursor. cursor.nodes ≡ seen_nodes nodes.entry.items) }
+        ensures number { IfOk result (λ cursor. cursor.number ≡ 0) }
+    {
+        let pasts = pasts(alloc, nodes.as_slice())?;
+        let parents = parents(alloc, nodes.as_slice())?;
+        Ok(Cursor {
+            nodes,
+            pasts,
+            parents,
+            number: 0,
+        })
+    }
+
+    /// The node itself.
+    fn node(&self) -> &Face<'g>
+        ensures { node_at self.now ≡ Some (seen_node result.now) }
+    {
+        &self.nodes[self.number as usize]
+    }
+
+    /// Goes to the first child, or stays where there is none.
+    pub fn first_child(&mut self) -> bool
+        ensures goes { result ≡ true → IsFirstChild self.old.nodes self.old.number self.new.number }
+        ensures stays { result ≡ false → self.new.number ≡ self.old.number }
+        ensures exact { (m : ℕ) → IsFirstChild self.old.nodes self.old.number m → result ≡ true }
+        ensures nodes { self.new.nodes ≡ self.old.nodes }
+    {
+        match first_child(self.nodes.as_slice(), self.number) {
+            Some(child) => {
+                self.number = child;
+                true
+            }
+            None => false,
+        }
+    }
+
+    /// Goes to the next sibling, or stays where there is none.
+    pub fn next_sibling(&mut self) -> bool
+        ensures goes { result ≡ true
+            → IsNextSibling self.old.nodes self.old.number self.new.number }
+        ensures stays { result ≡ false → self.new.number ≡ self.old.number }
+        ensures exact { (m : ℕ) → IsNextSibling self.old.nodes self.old.number m → result ≡ true }
+        ensures nodes { self.new.nodes ≡ self.old.nodes }
+    {
+        match next_sibling(self.nodes.as_slice(), self.pasts.as_slice(), self.number) {
+            Some(sibling) => {
+                self.number = sibling;
+                true
+            }
+            None => false,
+        }
+    }
+
+    /// Goes to the parent, or stays where there is none, which is at the root.
+    pub fn parent(&mut self) -> bool
+        ensures goes { result ≡ true → IsParent self.old.nodes self.old.number self.new.number }
+        ensures stays { result ≡ false → self.new.number ≡ self.old.number }
+        ensures exact { (m : ℕ) → IsParent self.old.nodes self.old.number m → result ≡ true }
+        ensures nodes { self.new.nodes ≡ self.old.nodes }
+    {
+        match parent(self.nodes.as_slice(), self.parents.as_slice(), self.number) {
+            Some(above) => {
+                self.number = above;
+                true
+            }
+            None => false,
+        }
+    }
+
+    /// The name under which the node shows.
+    pub fn name(&self) -> &str
+        ensures { option_map (λ node. node.name) (node_at self.now) ≡ Some result.now }
+    {
+        self.node().name
+    }
+
+    /// Whether it shows as named.
+    pub fn named(&self) -> bool
+        ensures { option_map (λ node. node.named) (node_at self.now) ≡ Some result }
+    {
+        self.node().named
+    }
+
+    /// Its field at `k`, counted from 0, by the field's number. None past the last.
+    pub fn field(&self, k: u32) -> Option<u16>
+        ensures { option_map (λ node. slice_get node.fields k) (node_at self.now) ≡ Some result }
+    {
+        let fields = &self.node().fields;
+        if (k as usize) < fields.len() {
+            Some(*fields.get(k as usize))
+        } else {
+            None
+        }
+    }
+
+    /// The place of its first byte, and the place after its last.
+    pub fn range(&self) -> (u32, u32)
+        ensures { option_map (λ node. (node.start, node.end)) (node_at self.now) ≡ Some result }
+    {
+        let node = self.node();
+        (node.start, node.end)
+    }
+
+    /// Its place in preorder, counted from 0.
+    pub fn number(&self) -> u32
+        ensures number { result ≡ self.now.number }
+        ensures within { result < length self.now.nodes }
+    {
+        self.number
+    }
+}

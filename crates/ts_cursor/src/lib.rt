@@ -1,0 +1,18 @@
+//! The visible tree of a parse tree: a grammar and a root go in, and a cursor over the nodes that
+//! show, or all of them as they are printed, come out.
+#![tactic(auto)]
+
+mod cursor;
+mod face;
+mod laws;
+mod links;
+mod moves;
+mod nodes;
+mod printed;
+mod steps;
+#[cfg(test)]
+mod tests;
+
+pub use cursor::Cursor;
+pub use laws::{made_nodes_stand_over, nodes_have_parents, nodes_lie_in_parents};
+pub use printed::shown;
