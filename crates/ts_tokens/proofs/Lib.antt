@@ -1,0 +1,17 @@
+pub mod BackLemmas
+pub mod BoolLemmas
+pub mod DefinitionLemmas
+pub mod EachLemmas
+pub mod ExpressionLemmas
+pub mod FirstLemmas
+pub mod InliningLemmas
+pub mod KeywordLemmas
+pub mod MemberLemmas
+pub mod NameLemmas
+pub mod PathLemmas
+pub mod PickLemmas
+pub mod PlacedLemmas
+pub mod SameLemmas
+pub mod TableLemmas
+pub mod TextLemmas
+pub mod UsesLemmas

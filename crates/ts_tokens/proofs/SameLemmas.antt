@@ -1,0 +1,211 @@
+-- The test of two rule trees decides whether they are equal.
+use Rattle.std.proofs.Common.{◌≡◌, ◌∙◌, sym, ap, subst, refl, ℕ, zero, suc, Bool, true, false, IsTrue, ◌↔◌, List, [], ◌∷◌, map, slice_get, Some, arith}
+use Rattle.std.specs.Prelude.{◌&&◌, ◌||◌}
+use Rattle.std.specs.Borrow.{Bor}
+use Rattle.std.specs.List.{Contains, list_any}
+use Rattle.std.proofs.lemmas.Option.{slice_get_within}
+use Rattle.indexmap.proofs.CallerLemmas.{Contains-list_any}
+use Rattle.ts_tokens.specs.Names.{lent}
+use Rattle.ts_tokens.proofs.MemberLemmas.{at_of}
+use Rattle.std.specs.Cmp.{signed_Decides, booleans_Decides}
+use Rattle.std.specs.Bool.{beq}
+use Rattle.std.specs.Ordering.{int_eq}
+use Rattle.std.specs.Cmp.Lexicographic.{pointwise}
+use Rattle.std.specs.Str.{bytes_eq}
+use Rattle.ts_base.proofs.ByteLemmas.{same_bytes, bytes_same}
+use Rattle.ts_core.specs.contracts.rule.PrecValuePartialEq.TheImpl as prec_value
+use Rattle.ts_core.specs.contracts.rule.RulePartialEq.TheImpl.{ghosts}
+use Rattle.ts_core.specs.contracts.rule.RulePartialEq.TheImpl.Laws as laws
+use Rattle.ts_core.specs.contracts.rule.RuleEq.TheImpl.Laws.{laws-law}
+use Rattle.ts_core.specs.declared.rule.PrecValue.{PrecValue}
+use Rattle.ts_core.specs.declared.rule.PrecValue.TheVariants.{Number, Name}
+use Rattle.ts_core.specs.declared.rule.Rule.{Rule}
+use Rattle.ts_core.specs.declared.rule.Rule.TheBlock.{the_family, member-Rule}
+use Rattle.ts_core.specs.declared.rule.Rule.TheFolds.{ind-Rule, map-Rule, claims}
+use Rattle.ts_core.specs.declared.rule.Rule.TheOpen.{Rule-F}
+use Rattle.ts_core.specs.declared.rule.Rule.TheViews.{roll-Rule, out-Rule, roll-out-Rule, out-roll-Rule}
+use Rattle.ts_core.specs.contracts.rule.Rule.{the_parts}
+use Rattle.ts_core.specs.declared.rule.Rule.TheBlock.{split-Rule}
+use denote.Enum.Compared.{Each, by}
+use denote.Hole.Holds.{Such}
+
+both : (a b : Bool) → (a && b) ≡ true → (a ≡ true) × (b ≡ true)
+both true b h = (refl, h)
+both false b h = let e : false ≡ true = h in cc
+
+value_same : (p q : PrecValue) → prec_value.ghosts.eq p q ≡ true → p ≡ q
+value_same (Number m) (Number n) h = let d = signed_Decides m n in ap Number (d.0 h)
+value_same (Number m) (Name n) h = let e : false ≡ true = h in cc
+value_same (Name m) (Number n) h = let e : false ≡ true = h in cc
+value_same (Name m) (Name n) h = ap Name (same_bytes m n h)
+
+-- ---- trees
+
+abbrev IsKnown : Rule → Type 0
+IsKnown r = (s : Rule) → ghosts.eq r s ≡ true → r ≡ s
+
+abbrev Child : Type 0
+Child = Such the_family (claims IsKnown) member-Rule
+
+abbrev tree : Child → Rule
+tree child = child.0
+
+known : (e : Child) (s : Rule) → ghosts.eq (tree e) s ≡ true → tree e ≡ s
+known e s h = let k : IsKnown e.0 = e.1 in k s h
+
+known_all : (es : List Child) (ss : List Rule) → pointwise ghosts.eq (map tree es) ss ≡ true → map tree es ≡ ss
+known_all [] [] h = refl
+known_all [] (s ∷ ss) h = let e : false ≡ true = h in cc
+known_all (e ∷ es) [] h = let f : false ≡ true = h in cc
+known_all (e ∷ es) (s ∷ ss) h =
+    let parts = both (ghosts.eq e.0 s) (pointwise ghosts.eq (map tree es) ss) h in
+    let here : e.0 ≡ s = known e s parts.0 in
+    let rest : map tree es ≡ ss = known_all es ss parts.1 in
+    cc
+
+-- what the test asks of the fields, by variants
+abbrev fields : Each Bool the_parts
+fields = (
+  (λ x y. true),
+  (
+    (λ x y. bytes_eq x.0 y.0),
+    (
+      (λ x y. bytes_eq x.0 y.0 && beq x.1.0 y.1.0),
+      (
+        (λ x y. bytes_eq x.0 y.0),
+        (
+          (λ x y. pointwise ghosts.eq x.0 y.0),
+          (
+            (λ x y. pointwise ghosts.eq x.0 y.0),
+            (
+              (λ x y. ghosts.eq x.0 y.0),
+              (
+                (λ x y. ghosts.eq x.0 y.0),
+                (
+                  (λ x y. ghosts.eq x.0 y.0),
+                  (
+                    (λ x y. ghosts.eq x.0 y.0),
+                    (
+                      (λ x y. bytes_eq x.0 y.0 && ghosts.eq x.1.0 y.1.0),
+                      (
+                        (λ x y. ghosts.eq x.0 y.0 && (beq x.1.0 y.1.0 && bytes_eq x.1.1.0 y.1.1.0)),
+                        (
+                          (λ x y. prec_value.ghosts.eq x.0 y.0 && ghosts.eq x.1.0 y.1.0),
+                          (
+                            (λ x y. prec_value.ghosts.eq x.0 y.0 && ghosts.eq x.1.0 y.1.0),
+                            (
+                              (λ x y. prec_value.ghosts.eq x.0 y.0 && ghosts.eq x.1.0 y.1.0),
+                              (
+                                (λ x y. int_eq x.0 y.0 && ghosts.eq x.1.0 y.1.0),
+                                tt,
+                              ),
+                            ),
+                          ),
+                        ),
+                      ),
+                    ),
+                  ),
+                ),
+              ),
+            ),
+          ),
+        ),
+      ),
+    ),
+  ),
+)
+
+abbrev alike : Rule-F Rule → Rule-F Rule → Bool
+alike x y = by false false the_parts fields (split-Rule the_family x) (split-Rule the_family y)
+
+is_alike : (r s : Rule) → ghosts.eq r s ≡ alike (out-Rule r) (out-Rule s)
+is_alike r s = laws.is r s
+
+known_layer : (y : Rule-F Child) (z : Rule-F Rule) → alike (map-Rule Child Rule tree y) z ≡ true → map-Rule Child Rule tree y ≡ z
+known_layer Rule-F.Blank Rule-F.Blank h = refl
+known_layer (Rule-F.Literal a) (Rule-F.Literal b) h = ap Rule-F.Literal (same_bytes a b h)
+known_layer (Rule-F.Symbol a) (Rule-F.Symbol b) h = ap Rule-F.Symbol (same_bytes a b h)
+known_layer (Rule-F.Seq es) (Rule-F.Seq ss) h = ap Rule-F.Seq (known_all es ss h)
+known_layer (Rule-F.Choice es) (Rule-F.Choice ss) h = ap Rule-F.Choice (known_all es ss h)
+known_layer (Rule-F.Repeat e) (Rule-F.Repeat s) h = ap Rule-F.Repeat (known e s h)
+known_layer (Rule-F.Repeat1 e) (Rule-F.Repeat1 s) h = ap Rule-F.Repeat1 (known e s h)
+known_layer (Rule-F.Token e) (Rule-F.Token s) h = ap Rule-F.Token (known e s h)
+known_layer (Rule-F.ImmediateToken e) (Rule-F.ImmediateToken s) h = ap Rule-F.ImmediateToken (known e s h)
+known_layer (Rule-F.Pattern a i) (Rule-F.Pattern b j) h =
+    let parts = both (bytes_eq a b) _ h in
+    let d = booleans_Decides i j in
+    let here : a ≡ b = same_bytes a b parts.0 in
+    let flag : i ≡ j = d.0 parts.1 in
+    cc
+known_layer (Rule-F.Field a e) (Rule-F.Field b s) h =
+    let parts = both (bytes_eq a b) (ghosts.eq e.0 s) h in
+    let here : a ≡ b = same_bytes a b parts.0 in
+    let below : e.0 ≡ s = known e s parts.1 in
+    cc
+known_layer (Rule-F.Alias e i a) (Rule-F.Alias s j b) h =
+    let parts = both (ghosts.eq e.0 s) _ h in
+    let more = both _ (bytes_eq a b) parts.1 in
+    let d = booleans_Decides i j in
+    let below : e.0 ≡ s = known e s parts.0 in
+    let flag : i ≡ j = d.0 more.0 in
+    let here : a ≡ b = same_bytes a b more.1 in
+    cc
+known_layer (Rule-F.Prec p e) (Rule-F.Prec q s) h =
+    let parts = both (prec_value.ghosts.eq p q) (ghosts.eq e.0 s) h in
+    let here : p ≡ q = value_same p q parts.0 in
+    let below : e.0 ≡ s = known e s parts.1 in
+    cc
+known_layer (Rule-F.PrecLeft p e) (Rule-F.PrecLeft q s) h =
+    let parts = both (prec_value.ghosts.eq p q) (ghosts.eq e.0 s) h in
+    let here : p ≡ q = value_same p q parts.0 in
+    let below : e.0 ≡ s = known e s parts.1 in
+    cc
+known_layer (Rule-F.PrecRight p e) (Rule-F.PrecRight q s) h =
+    let parts = both (prec_value.ghosts.eq p q) (ghosts.eq e.0 s) h in
+    let here : p ≡ q = value_same p q parts.0 in
+    let below : e.0 ≡ s = known e s parts.1 in
+    cc
+known_layer (Rule-F.PrecDynamic m e) (Rule-F.PrecDynamic n s) h =
+    let parts = both _ (ghosts.eq e.0 s) h in
+    let d = signed_Decides m n in
+    let here : m ≡ n = d.0 parts.0 in
+    let below : e.0 ≡ s = known e s parts.1 in
+    cc
+known_layer y z h = let e : false ≡ true = h in cc
+
+pub tree_same : (r s : Rule) → ghosts.eq r s ≡ true → r ≡ s
+tree_same r = ind-Rule IsKnown (λ x y e. subst (λ (z : Rule-F Rule). IsKnown (roll-Rule z)) e (whole y)) r
+  where
+    whole : (y : Rule-F Child) → IsKnown (roll-Rule (map-Rule Child Rule tree y))
+    whole y s h =
+        let x = map-Rule Child Rule tree y in
+        let same : alike (out-Rule (roll-Rule x)) (out-Rule s) ≡ true = sym (is_alike (roll-Rule x) s) ∙ h in
+        let layers : x ≡ out-Rule s = known_layer y (out-Rule s) (subst (λ (z : Rule-F Rule). alike z (out-Rule s) ≡ true) (out-roll-Rule x) same) in
+        ap roll-Rule layers ∙ roll-out-Rule s
+
+-- a tree is the same as itself
+pub tree_itself : (r : Rule) → ghosts.eq r r ≡ true
+tree_itself r = let l = laws-law in l.refl r
+
+any_at : (xs : List Rule) (x : Rule) (k : ℕ) → slice_get xs k ≡ Some x → list_any (ghosts.eq x) xs ≡ true
+any_at [] x k e = absurd (let w = slice_get_within {A = Rule} [] k x e in omega arith)
+any_at (y ∷ xs) x zero e =
+    let f : Some y ≡ Some x = e in
+    let is : x ≡ y = cc in
+    ap (λ (b : Bool). b || list_any (ghosts.eq x) xs) (ap (ghosts.eq x) (sym is) ∙ tree_itself x)
+any_at (y ∷ xs) x (suc k) e = ap (λ (b : Bool). ghosts.eq x y || b) (any_at xs x k e) ∙ or_true (ghosts.eq x y)
+  where
+    or_true : (b : Bool) → b || true ≡ true
+    or_true true = refl
+    or_true false = refl
+
+any_lent : (x : Rule) (keys : List (Bor Rule)) → list_any (λ (k : Bor Rule). ghosts.eq x k.now) keys ≡ list_any (ghosts.eq x) (lent keys)
+any_lent x [] = refl
+any_lent x (k ∷ keys) = ap (λ (b : Bool). ghosts.eq x k.now || b) (any_lent x keys)
+
+-- a look-up among trees that are lent tells the members
+pub tree_among : (x : Rule) (keys : List (Bor Rule)) (b : Bool) → b ≡ list_any (λ (k : Bor Rule). ghosts.eq x k.now) keys → IsTrue b ↔ Contains (lent keys) x
+tree_among x keys b is = (
+  λ t. Contains-list_any ghosts.eq tree_same (lent keys) x (sym (any_lent x keys) ∙ sym is ∙ t),
+  λ w. is ∙ any_lent x keys ∙ any_at (lent keys) x w.0 (at_of (lent keys) x w),
+)
