@@ -1,0 +1,5 @@
+use Rattle.ts_numbering.proofs.SurveyLemmas.{name_found}
+use Rattle.ts_numbering.proofs.survey.Survey.is_inlined.Goals as goal
+
+pub returns : goal.returns
+returns c = name_found c.args.self.now.inlined.entries c.args.name.now c.contains_key.result c.contains_key.ensures
