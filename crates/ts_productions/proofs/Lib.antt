@@ -1,0 +1,15 @@
+pub mod AlikeLemmas
+pub mod BecomeLemmas
+pub mod EntryLemmas
+pub mod MeasureLemmas
+pub mod SizeLemmas
+pub mod StepLemmas
+pub mod SpreadLemmas
+pub mod SpreadSizeLemmas
+pub mod TotalLemmas
+pub mod TreeLemmas
+pub mod EachLemmas
+pub mod FullLemmas
+pub mod EqLemmas
+pub mod SightLemmas
+pub mod LimitLemmas

@@ -1,0 +1,54 @@
+-- When the productions of a grammar are within the limits. Alternatives are counted before equal
+-- productions are dropped, before inlining and after it.
+use Rattle.std.specs.Prelude.{◌≡◌, ℕ, ◌<◌, ◌≤◌, List, map, length, Some, ◌⊎◌}
+use Rattle.ts_core.specs.declared.flat.Production.{Production}
+use Rattle.spec_tables.specs.Fit.{most_productions, most_steps}
+use Rattle.ts_rules.specs.Alternatives.{Alternatives, longest_of}
+use Rattle.ts_rules.specs.FirstSights.{AreFirstSights}
+use Rattle.ts_rules.specs.Productions.{AllBecome, production}
+use Rattle.ts_productions.specs.declared.rules.InlinedRules.{InlinedRules}
+use Rattle.ts_productions.specs.declared.sources.Sources.{Sources}
+use Rattle.ts_productions.specs.Flat.{aliased}
+use Rattle.ts_productions.specs.Roots.{inlined_at, roots_of, before_of}
+use Rattle.ts_productions.specs.Sizes.{SizesHold, FullHold}
+
+-- the symbol is replaced by the alternatives
+abbrev pub Replaces : Sources → ℕ → Alternatives → Type 0
+Replaces s symbol inner = inlined_at s symbol ≡ Some inner
+
+-- what all alternatives become
+abbrev pub AllGive : Sources → Alternatives → Type 0
+AllGive s all = AllBecome (Replaces s) (roots_of s) all
+
+abbrev pub AreMany : Sources → Type 0
+AreMany s = (most_productions < length (before_of s))
+    ⊎ ((all : Alternatives) × AllGive s all × (most_productions < length all))
+
+abbrev pub AreFew : Sources → Type 0
+AreFew s = (length (before_of s) ≤ most_productions)
+    × ((all : Alternatives) × AllGive s all × (length all ≤ most_productions))
+
+abbrev pub SomeIsLong : Sources → Type 0
+SomeIsLong s = (most_steps < longest_of (before_of s))
+    ⊎ ((all : Alternatives) × AllGive s all × (most_steps < longest_of all))
+
+abbrev pub AllAreShort : Sources → Type 0
+AllAreShort s = (longest_of (before_of s) ≤ most_steps)
+    × ((all : Alternatives) × AllGive s all × (longest_of all ≤ most_steps))
+
+-- what is kept of the inlined rules is theirs
+pub record AreInlined (s : Sources) (rules : InlinedRules) : Type 0 where
+  pub sizes : SizesHold s s.order.now rules.sizes.items
+  pub full : FullHold s s.order.now rules.full.items
+
+-- the alternatives become few, and short ones
+abbrev pub BecomeFew : Sources → Alternatives → Type 0
+BecomeFew s xs = (all : Alternatives) → AllBecome (Replaces s) xs all
+    → (length all ≤ most_productions) × (longest_of all ≤ most_steps)
+
+-- what the alternatives become by inlining; of equal productions the first stays
+pub record AreInlinedProductions (s : Sources) (xs : Alternatives)
+    (found : List Production) : Type 0 where
+  pub all : Alternatives
+  pub become : AllBecome (Replaces s) xs all
+  pub firsts : AreFirstSights (map (production (aliased s.aliases.now)) all) found
