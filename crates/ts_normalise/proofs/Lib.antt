@@ -1,0 +1,11 @@
+pub mod AgreeLemmas
+pub mod BecomeLemmas
+pub mod InsideLemmas
+pub mod LikeLemmas
+pub mod ListLemmas
+pub mod NormalLemmas
+pub mod PatternLemmas
+pub mod RecordLemmas
+pub mod RefusalLemmas
+pub mod TokenLemmas
+pub mod TreeLemmas
