@@ -1,0 +1,13 @@
+pub mod TextLemmas
+pub mod LoopLemmas
+pub mod ReLemmas
+pub mod LawLemmas
+pub mod PartLaws
+pub mod SignedLaws
+pub mod RuleLaws
+pub mod TokenLaws
+pub mod GrammarLaws
+pub mod WholeLaws
+pub mod VerdictLemmas
+pub mod FormedLemmas
+pub mod KnownLemmas
