@@ -1,0 +1,10 @@
+pub mod Closing
+pub mod Collection
+pub mod Edges
+pub mod Flow
+pub mod Numbers
+pub mod Parts
+pub mod Productions
+pub mod Rows
+pub mod Sets
+pub mod Tables

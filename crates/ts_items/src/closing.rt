@@ -1,0 +1,231 @@
+//! Closed sets of items: the parts with which a set begins go in, and all its parts come out.
+ghost use Rattle.std.specs.Prelude.{◌≡◌, ℕ, ◌+◌, ◌*◌, ◌^◌, ◌<◌, ◌↔◌, length, slice_get, Some, IfOk, OnOk};
+ghost use Rattle.std.specs.List.{Contains};
+ghost use Rattle.ts_core.specs.declared.flat.FlatGrammar.{FlatGrammar};
+ghost use Rattle.ts_bits.specs.Members.{Has, IsWide};
+ghost use Rattle.ts_items.specs.Parts.{line_of, In};
+ghost use Rattle.ts_items.specs.Rows.{Each};
+ghost use Rattle.ts_items.specs.Sets.{HasAt, AreWide, Gains, Tells};
+ghost use Rattle.ts_items.specs.Tables.{IsTables};
+ghost use Rattle.ts_items.specs.Closing.{Asked, AskedBy, CanFollow, IsPart, AreParts, Adds, Begins, AreBegun, Grows, IsPool, Closes};
+
+use crate::flow::flow;
+use crate::part::Part;
+use crate::sets::{clear_all, join};
+use crate::tables::Tables;
+use indexmap::IndexSet;
+use std::alloc::{AllocError, Global};
+use ts_bits::BitSet;
+
+fn pool_at(pool: &IndexSet<BitSet>, at: usize) -> &BitSet
+    requires { at < length pool.now.keys }
+    ensures { slice_get pool.now.keys at ≡ Some result.now }
+{
+    let Some(set) = pool.get_index(at) else {
+        unreachable!()
+    };
+    set
+}
+
+/// The tokens that can come after the step at the dot.
+fn behind<'a>(tables: &'a Tables, pool: &'a IndexSet<BitSet>, part: Part) -> &'a BitSet
+    requires part { IsPart (length tables.now.productions.items) pool.now.keys part }
+    requires tables { (g : FlatGrammar) × IsTables g tables.now }
+    requires pool { AreWide tables.now.width pool.now.keys }
+    ensures members { (g : FlatGrammar) → IsTables g tables.now → (t : ℕ) → Has result.now t
+        ↔ CanFollow g pool.now.keys part t }
+    ensures wide { IsWide tables.now.width result.now }
+{
+    match tables.symbol_at(part.line, usize::from(part.dot) + 1) {
+        Some(symbol) => &tables.firsts.as_slice()[usize::from(symbol)],
+        None => pool_at(pool, part.tokens),
+    }
+}
+
+/// Adds what one part asks for.
+fn ask(
+    tables: &Tables,
+    pool: &IndexSet<BitSet>,
+    asked: &mut [BitSet],
+    queue: &mut Vec<u16>,
+    part: Part,
+) -> Result<(), AllocError>
+    requires part { IsPart (length tables.now.productions.items) pool.now.keys part }
+    requires tables { (g : FlatGrammar) × IsTables g tables.now }
+    requires pool { AreWide tables.now.width pool.now.keys }
+    requires count { length asked.old ≡ length tables.now.firsts.items }
+    requires wide { AreWide tables.now.width asked.old }
+    ensures gains { (g : FlatGrammar) → IsTables g tables.now
+        → OnOk result (Gains (AskedBy g pool.now.keys part) asked.old asked.new) }
+    ensures tells { OnOk result (Tells asked.old asked.new queue.old.items queue.new.items) }
+{
+    match tables.symbol_at(part.line, usize::from(part.dot)) {
+        Some(symbol) => join(asked, queue, symbol, behind(tables, pool, part)),
+        None => Ok(()),
+    }
+}
+
+/// Adds what all parts ask for.
+fn ask_all(
+    tables: &Tables,
+    pool: &IndexSet<BitSet>,
+    asked: &mut [BitSet],
+    queue: &mut Vec<u16>,
+    kernel: &[Part],
+) -> Result<(), AllocError>
+    requires parts { AreParts (length tables.now.productions.items) pool.now.keys kernel.now }
+    requires tables { (g : FlatGrammar) × IsTables g tables.now }
+    requires pool { AreWide tables.now.width pool.now.keys }
+    requires count { length asked.old ≡ length tables.now.firsts.items }
+    requires wide { AreWide tables.now.width asked.old }
+    ensures gains { (g : FlatGrammar) → IsTables g tables.now
+        → OnOk result (Gains (Each (AskedBy g pool.now.keys) kernel.now) asked.old asked.new) }
+    ensures tells { OnOk result (Tells asked.old asked.new queue.old.items queue.new.items) }
+{
+    for part in kernel {
+        ask(tables, pool, asked, queue, *part)?;
+    }
+    Ok(())
+}
+
+/// The place of a set in the pool, at whose end it is put where it is new.
+pub(crate) fn place_of(
+    alloc: Global,
+    pool: &mut IndexSet<BitSet>,
+    set: &BitSet,
+) -> Result<usize, AllocError>
+    ensures grows { OnOk result (Grows pool.old.keys pool.new.keys) }
+    ensures pool { OnOk result ((n : ℕ) → IsPool n pool.old.keys → IsWide n set.now
+        → IsPool n pool.new.keys) }
+    ensures inside { IfOk result (λ place. place < length pool.new.keys) }
+    ensures same { IfOk result (λ place. (t : ℕ) → HasAt pool.new.keys place t ↔ Has set.now t) }
+{
+    if let Some(place) = pool.get_index_of(set) {
+        return Ok(place);
+    }
+    let (place, _) = pool.insert_full(set.copy(alloc)?)?;
+    Ok(place)
+}
+
+/// Adds the parts that begin some lines.
+fn add_lines(parts: &mut Vec<Part>, lines: &[u16], tokens: usize) -> Result<(), AllocError>
+    ensures { OnOk result (Adds (λ q. Contains lines.now q.line × (q.dot ≡ 0)
+        × (q.tokens ≡ tokens)) parts.old.items parts.new.items) }
+{
+    for line in lines {
+        parts.push(Part {
+            line: *line,
+            dot: 0,
+            tokens,
+        })?;
+    }
+    Ok(())
+}
+
+/// Adds the parts that begin the lines of one symbol.
+fn add_symbol(
+    alloc: Global,
+    pool: &mut IndexSet<BitSet>,
+    parts: &mut Vec<Part>,
+    lines: &[u16],
+    tokens: &BitSet,
+) -> Result<(), AllocError>
+    requires { 64 * length tokens.now.words.items < 2 ^ 64 }
+    ensures grows { OnOk result (Grows pool.old.keys pool.new.keys) }
+    ensures pool { OnOk result ((n : ℕ) → IsPool n pool.old.keys → IsWide n tokens.now
+        → IsPool n pool.new.keys) }
+    ensures adds { OnOk result
+        (Begins pool.new.keys lines.now tokens.now parts.old.items parts.new.items) }
+{
+    if lines.is_empty() {
+        return Ok(());
+    }
+    match tokens.least() {
+        Some(_token) => {
+            let place = place_of(alloc, pool, tokens)?;
+            add_lines(parts, lines, place)
+        }
+        None => Ok(()),
+    }
+}
+
+/// Adds the parts that begin the productions of what is asked for.
+fn add_begun(
+    alloc: Global,
+    lines: &[Vec<u16>],
+    pool: &mut IndexSet<BitSet>,
+    asked: &[BitSet],
+    parts: &mut Vec<Part>,
+) -> Result<(), AllocError>
+    requires lines { length lines.now ≡ length asked.now }
+    requires wide { (n : ℕ) × (64 * n < 2 ^ 64) × AreWide n asked.now × IsPool n pool.old.keys }
+    ensures grows { OnOk result (Grows pool.old.keys pool.new.keys) }
+    ensures pool { OnOk result ((n : ℕ) → IsPool n pool.old.keys → AreWide n asked.now
+        → IsPool n pool.new.keys) }
+    ensures begun { OnOk result (AreBegun lines.now asked.now pool.new.keys
+        (length asked.now) parts.old.items parts.new.items) }
+{
+    for symbol in 0..asked.len() {
+        add_symbol(alloc, pool, parts, lines[symbol].as_slice(), &asked[symbol])?;
+    }
+    Ok(())
+}
+
+/// For each symbol that the parts ask for, over and over, the tokens behind it.
+fn ask_for(
+    alloc: Global,
+    tables: &Tables,
+    pool: &IndexSet<BitSet>,
+    asked: &mut [BitSet],
+    kernel: &[Part],
+) -> Result<(), AllocError>
+    requires parts { AreParts (length tables.now.productions.items) pool.now.keys kernel.now }
+    requires tables { (g : FlatGrammar) × IsTables g tables.now }
+    requires pool { AreWide tables.now.width pool.now.keys }
+    requires count { length asked.old ≡ length tables.now.firsts.items }
+    requires wide { AreWide tables.now.width asked.old }
+    ensures count { OnOk result (length asked.new ≡ length asked.old) }
+    ensures wide { OnOk result (AreWide tables.now.width asked.new) }
+    ensures asked { OnOk result ((g : FlatGrammar) → IsTables g tables.now → (y t : ℕ)
+        → HasAt asked.new y t ↔ Asked g (In pool.now.keys kernel.now) y t) }
+{
+    clear_all(asked);
+    let mut queue = Vec::new(alloc);
+    ask_all(tables, pool, asked, &mut queue, kernel)?;
+    flow(
+        alloc,
+        tables.edges.as_slice(),
+        tables.firsts.as_slice(),
+        asked,
+        &mut queue,
+    )?;
+    Ok(())
+}
+
+/// All parts of the closed set of a kernel.
+pub(crate) fn close(
+    alloc: Global,
+    tables: &Tables,
+    pool: &mut IndexSet<BitSet>,
+    asked: &mut [BitSet],
+    kernel: &[Part],
+) -> Result<Vec<Part>, AllocError>
+    requires parts { AreParts (length tables.now.productions.items) pool.old.keys kernel.now }
+    requires tables { (g : FlatGrammar) × IsTables g tables.now }
+    requires pool { IsPool tables.now.width pool.old.keys }
+    requires count { length asked.old ≡ length tables.now.firsts.items }
+    requires wide { AreWide tables.now.width asked.old }
+    ensures count { OnOk result (length asked.new ≡ length asked.old) }
+    ensures wide { OnOk result (AreWide tables.now.width asked.new) }
+    ensures grows { OnOk result (Grows pool.old.keys pool.new.keys) }
+    ensures pool { OnOk result (IsPool tables.now.width pool.new.keys) }
+    ensures closes { IfOk result (λ v. (g : FlatGrammar) → IsTables g tables.now
+        → Closes g (length tables.now.productions.items) pool.new.keys kernel.now v.items) }
+{
+    ts_bits::same_words();
+    ask_for(alloc, tables, pool, asked, kernel)?;
+    let mut parts = Vec::new(alloc);
+    parts.extend_from_slice(kernel)?;
+    add_begun(alloc, tables.lines.as_slice(), pool, asked, &mut parts)?;
+    Ok(parts)
+}

@@ -1,0 +1,39 @@
+//! Sets of items as parts: each a production, a dot, and the number of a set of tokens.
+
+use indexmap::IndexSet;
+use ts_bits::BitSet;
+
+/// A production with a dot in it, and all tokens that may come after it.
+#[derive(Debug, Clone, Copy, PartialEq, Eq, PartialOrd, Ord, Hash)]
+pub struct Part {
+    /// One more than the number of the production, and 0 for the start item.
+    pub line: u16,
+    /// How many steps of the production are before the dot.
+    pub dot: u16,
+    /// The place of the set of tokens.
+    pub tokens: usize,
+}
+
+/// Where a set leads over a symbol.
+#[derive(Debug, Clone, Copy, PartialEq, Eq)]
+pub struct Goto {
+    pub symbol: u16,
+    pub state: u16,
+}
+
+/// A set of items, and where it leads.
+#[derive(Debug, Drop)]
+pub struct State {
+    /// The items, in no order. No two parts have the same production and dot.
+    pub parts: Vec<Part>,
+    /// Where the set leads, the symbols rising.
+    pub gotos: Vec<Goto>,
+}
+
+/// The sets of items of a grammar, each by its number.
+#[derive(Drop)]
+pub struct Items {
+    /// The sets of tokens for which parts have a place.
+    pub tokens: IndexSet<BitSet>,
+    pub states: Vec<State>,
+}

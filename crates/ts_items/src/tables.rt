@@ -1,0 +1,149 @@
+//! What closing a set of items needs to know of a grammar: the grammar goes in, and tables with a
+//! row for each production or symbol come out.
+ghost use Rattle.std.specs.Prelude.{◌≡◌, ◌<◌, ◌≤◌, ◌^◌, length, slice_get, IfOk, OnOk};
+ghost use Rattle.ts_core.specs.declared.flat.FlatGrammar.{FlatGrammar as Flat};
+ghost use Rattle.spec_tables.specs.Fit.{Fit};
+ghost use Rattle.ts_items.specs.Productions.{ArePlain, right_of};
+ghost use Rattle.ts_items.specs.Parts.{line_of};
+ghost use Rattle.ts_items.specs.Rows.{Puts};
+ghost use Rattle.ts_items.specs.Edges.{IsAskEdge, AreEdges, IsInside, AreInside, AreFirsts};
+ghost use Rattle.ts_items.specs.Tables.{IsLineOf, AreLines, IsTables};
+
+use crate::first::first_sets;
+use crate::flow::Edge;
+use crate::plain::{Plain, plain_productions};
+use crate::rows::{empty_rows, put};
+use std::alloc::{AllocError, Global};
+use ts_bits::BitSet;
+use ts_core::FlatGrammar;
+
+/// Tables of a grammar.
+#[derive(Debug, Drop)]
+pub(crate) struct Tables {
+    /// The symbols of the start item's only step.
+    pub start: Vec<u16>,
+    pub productions: Vec<Plain>,
+    /// For each symbol the lines of its productions.
+    pub lines: Vec<Vec<u16>>,
+    /// For each symbol those with which its productions begin.
+    pub edges: Vec<Vec<Edge>>,
+    /// For each symbol the tokens with which it can begin.
+    pub firsts: Vec<BitSet>,
+    /// In how many words a set of tokens is held.
+    pub width: usize,
+}
+
+/// The second symbol, if there is one.
+fn second(symbols: &[u16]) -> Option<u16>
+    ensures { result ≡ slice_get symbols.now 1 }
+{
+    if symbols.len() > 1 {
+        Some(symbols[1])
+    } else {
+        None
+    }
+}
+
+/// Puts in the edge from the left side of a production to its first symbol.
+fn put_edge(edges: &mut [Vec<Edge>], production: &Plain) -> Result<(), AllocError>
+    requires { IsInside (length edges.old) production.now }
+    ensures { OnOk result (Puts (IsAskEdge production.now) edges.old edges.new) }
+{
+    let right = production.right.as_slice();
+    if right.is_empty() {
+        return Ok(());
+    }
+    let edge = Edge {
+        to: right[0],
+        behind: second(right),
+    };
+    put(edges, usize::from(production.left), edge)
+}
+
+/// For each symbol the edges to those with which its productions begin.
+fn ask_edges(
+    alloc: Global,
+    productions: &[Plain],
+    count: usize,
+) -> Result<Vec<Vec<Edge>>, AllocError>
+    requires { AreInside count productions.now }
+    ensures { IfOk result (λ v. AreEdges IsAskEdge productions.now count v.items) }
+{
+    let mut edges = empty_rows(alloc, count)?;
+    for production in productions {
+        put_edge(edges.as_mut_slice(), production)?;
+    }
+    Ok(edges)
+}
+
+/// For each symbol the lines of its productions.
+fn lines_of(alloc: Global, productions: &[Plain], count: usize) -> Result<Vec<Vec<u16>>, AllocError>
+    requires inside { AreInside count productions.now }
+    requires few { length productions.now < 2 ^ 16 }
+    ensures { IfOk result (λ v. AreLines productions.now count v.items) }
+{
+    let mut lines = empty_rows(alloc, count)?;
+    let mut line = 0;
+    for production in productions {
+        line += 1;
+        put(lines.as_mut_slice(), usize::from(production.left), line)?;
+    }
+    Ok(lines)
+}
+
+/// The tables of a grammar.
+pub(crate) fn tables_of(alloc: Global, grammar: &FlatGrammar) -> Result<Tables, AllocError>
+    requires { Fit grammar.now }
+    ensures { IfOk result (IsTables grammar.now) }
+{
+    let count = grammar.tokens.len() + grammar.rules.len() + 1;
+    let width = grammar.tokens.len() / 64 + 1;
+    let productions = plain_productions(alloc, grammar)?;
+    let lines = lines_of(alloc, productions.as_slice(), count)?;
+    let edges = ask_edges(alloc, productions.as_slice(), count)?;
+    let firsts = first_sets(alloc, grammar, productions.as_slice(), count, width)?;
+    let mut start = Vec::new(alloc);
+    start.push(grammar.tokens.len() as u16 + 1)?;
+    Ok(Tables {
+        start,
+        productions,
+        lines,
+        edges,
+        firsts,
+        width,
+    })
+}
+
+impl Tables {
+    /// How many symbols there are.
+    pub(crate) fn count(&self) -> usize
+        ensures { result ≡ length self.now.firsts.items }
+    {
+        self.firsts.len()
+    }
+
+    /// The symbols of a line's production.
+    fn right_of(&self, line: u16) -> &[u16]
+        requires { line ≤ length self.now.productions.items }
+        ensures { (g : Flat) → IsTables g self.now → result.now ≡ right_of g (line_of line) }
+    {
+        if line == 0 {
+            return self.start.as_slice();
+        }
+        self.productions[usize::from(line) - 1].right.as_slice()
+    }
+
+    /// The symbol at a place of a line's production.
+    pub(crate) fn symbol_at(&self, line: u16, place: usize) -> Option<u16>
+        requires { line ≤ length self.now.productions.items }
+        ensures { (g : Flat) → IsTables g self.now
+            → result ≡ slice_get (right_of g (line_of line)) place }
+    {
+        let right = self.right_of(line);
+        if place < right.len() {
+            Some(right[place])
+        } else {
+            None
+        }
+    }
+}
