@@ -8,30 +8,30 @@ use Rattle.ts_core.specs.declared.flat.FlatGrammar.{FlatGrammar}
 use Rattle.ts_core.specs.declared.flat.TokenDef.{TokenDef}
 use Rattle.ts_core.specs.declared.symbol.Symbol.{Symbol}
 use Rattle.spec_lexing.specs.Words.{regular_of}
-use Rattle.spec_lexing.specs.Matching.{Begins, MatchesRe, MatchesToken, plainly, as_keyword, MatchesSeparator}
+use Rattle.spec_lexing.specs.Matching.{BeginsSpelled, MatchesRe, MatchesToken, plainly, as_keyword, MatchesSeparator}
 use Rattle.spec_lexing.specs.Lexing.{Candidate}
 use Rattle.spec_lexing.specs.Seen.{CanBegin, a_token, the_word, a_separator, HasFront, one_character, Agree}
 use Rattle.spec_lexing.proofs.WordLemmas.{word_front}
 use Rattle.spec_lexing.proofs.FrontLemmas.{front_prefix}
 use Rattle.spec_lexing.proofs.CharacterLemmas.{encodes_append}
 
-pub begins_within : (rest : Bytes) (w : List ℕ) (n : ℕ) → Begins rest w n → n ≤ length rest
+pub begins_within : (rest : Bytes) (w : List ℕ) (n : ℕ) → BeginsSpelled rest w n → n ≤ length rest
 begins_within rest w n b =
     let e = ap (λ (l : List ℕ). length l) b.is in
     let f = length-append (encodes w) b.tail in
     let h = b.size in
     omega arith
 
-pub begins_nothing : (rest : Bytes) → Begins rest [] 0
+pub begins_nothing : (rest : Bytes) → BeginsSpelled rest [] 0
 begins_nothing rest = record { scalar = λ c h. (let lt = h.1 in absurd (omega arith)); tail = rest; is = refl; size = refl }
 
 -- what follows a beginning
-pub tail_is : (rest : Bytes) (w : List ℕ) (n : ℕ) → (b : Begins rest w n) → drop n rest ≡ b.tail
+pub tail_is : (rest : Bytes) (w : List ℕ) (n : ℕ) → (b : BeginsSpelled rest w n) → drop n rest ≡ b.tail
 tail_is rest w n b =
     ap (λ (m : ℕ). drop m rest) b.size ∙ ap (λ (l : List ℕ). drop (length (encodes w)) l) b.is ∙ drop-append_seam (encodes w) b.tail
 
 -- the beginning of a beginning
-pub begins_before : (rest : Bytes) (u v : List ℕ) (n : ℕ) → Begins rest (u ++ v) n → Begins rest u (length (encodes u))
+pub begins_before : (rest : Bytes) (u v : List ℕ) (n : ℕ) → BeginsSpelled rest (u ++ v) n → BeginsSpelled rest u (length (encodes u))
 begins_before rest u v n b = record {
   scalar = λ c h. b.scalar c (Contains-append_left u v c h);
   tail = encodes v ++ b.tail;
@@ -57,7 +57,7 @@ agree_append (x ∷ xs) ys (y ∷ b) agree =
     let t = agree_append xs ys b (λ k lt. agree (suc k) (omega arith)) in
     ap (λ (z : ℕ). z ∷ b) (sym h) ∙ ap (λ (l : List ℕ). x ∷ l) t
 
-pub same_begins : (a b : Bytes) (w : List ℕ) (n m : ℕ) → Begins a w n → n ≤ m → Agree m a b → Begins b w n
+pub same_begins : (a b : Bytes) (w : List ℕ) (n m : ℕ) → BeginsSpelled a w n → n ≤ m → Agree m a b → BeginsSpelled b w n
 same_begins a b w n m begins le agree =
     let cut = subst (λ (l : List ℕ). Agree (length (encodes w)) l b) begins.is (agree_less (length (encodes w)) m a b (let e = begins.size in omega arith) agree) in
     record { scalar = begins.scalar; tail = drop (length (encodes w)) b; is = agree_append (encodes w) begins.tail b cut; size = begins.size }

@@ -17,7 +17,7 @@ use Rattle.ts_core.specs.declared.flat.FlatGrammar.{FlatGrammar}
 use Rattle.ts_core.specs.declared.flat.TokenDef.{TokenDef}
 use Rattle.ts_core.specs.declared.symbol.Symbol.{Symbol}
 use Rattle.spec_lexing.specs.Words.{Regular, Front, regular_of}
-use Rattle.spec_lexing.specs.Matching.{Begins, MatchesRe, IsTokenOf, MatchesToken, plainly, as_keyword, MatchesSeparator}
+use Rattle.spec_lexing.specs.Matching.{BeginsSpelled, MatchesRe, IsTokenOf, MatchesToken, plainly, as_keyword, MatchesSeparator}
 use Rattle.spec_lexing.specs.Lexing.{end_symbol, Candidate, IsBest, NoneMatches, Passes, Found, token, Lexes, takes, ends, passes, stops}
 use Rattle.spec_lexing.specs.Seen.{CanBegin, a_token, the_word, a_separator, HasFront, is_inner, one_character, IsReach, IsSeen, last, more, Agree}
 use Rattle.spec_lexing.proofs.WordLemmas.{word_front}
@@ -47,12 +47,12 @@ tail_utf8 [] rest tail utf8 is = subst IsUtf8 is utf8
 tail_utf8 (c ∷ w) rest tail utf8 is = tail_utf8 w (encodes w ++ tail) tail (scalar_of rest (encodes w ++ tail) c utf8 (is ∙ append_assoc (encode c) (encodes w) tail)).1 refl
 
 -- nothing begins inside a character
-inside_none : (rest : Bytes) (b : ℕ) (bs : Bytes) (w : List ℕ) (n : ℕ) → rest ≡ b ∷ bs → is_inner b ≡ true → Begins rest w n → n ≡ 0
+inside_none : (rest : Bytes) (b : ℕ) (bs : Bytes) (w : List ℕ) (n : ℕ) → rest ≡ b ∷ bs → is_inner b ≡ true → BeginsSpelled rest w n → n ≡ 0
 inside_none rest b bs [] n is inner x = x.size
 inside_none rest b bs (c ∷ w) n is inner x =
     absurd (inner_begins b c bs (encodes w ++ x.tail) inner (x.scalar c (0, (omega arith), refl)) (sym is ∙ x.is ∙ append_assoc (encode c) (encodes w) x.tail))
 
-pub ending_drop : (rest : Bytes) (w : List ℕ) (n : ℕ) → Ending rest → Begins rest w n → 0 < n → Ending (drop n rest)
+pub ending_drop : (rest : Bytes) (w : List ℕ) (n : ℕ) → Ending rest → BeginsSpelled rest w n → 0 < n → Ending (drop n rest)
 ending_drop rest w n (whole utf8) x above = whole (subst IsUtf8 (sym (tail_is rest w n x)) (tail_utf8 w rest x.tail utf8 x.is))
 ending_drop rest w n (inside b bs is inner) x above = let e = inside_none rest b bs w n is inner x in absurd (omega arith)
 
@@ -85,16 +85,16 @@ module _ (g : FlatGrammar) (valid : List Symbol) (rest other : Bytes) (reach : �
   -- the longest front, as characters
   record Longest : Type 0 where
     characters : List ℕ
-    begins : Begins rest characters x.size
+    begins : BeginsSpelled rest characters x.size
 
   longest : Longest
   longest = by x.front
     where
       by : (x.size ≡ 0) ⊎ HasFront g valid rest x.size → Longest
-      by (inl e) = record { characters = []; begins = subst (λ (n : ℕ). Begins rest [] n) (sym e) (begins_nothing rest) }
+      by (inl e) = record { characters = []; begins = subst (λ (n : ℕ). BeginsSpelled rest [] n) (sym e) (begins_nothing rest) }
       by (inr h) = record { characters = h.characters; begins = h.begins }
 
-  pub forth : (w : List ℕ) (n : ℕ) → Begins rest w n → CanBegin g valid w → Begins other w n
+  pub forth : (w : List ℕ) (n : ℕ) → BeginsSpelled rest w n → CanBegin g valid w → BeginsSpelled other w n
   forth w n b can =
       let le = x.longest n (record { characters = w; begins = b; front = can }) in
       let e = x.is in
@@ -116,7 +116,7 @@ module _ (g : FlatGrammar) (valid : List Symbol) (rest other : Bytes) (reach : �
       longest.begins.is ∙ ap (λ (l : Bytes). encodes longest.characters ++ l) (sym after ∙ same.1)
       ∙ sym (append_assoc (encodes longest.characters) (encode c) same.0)
       ∙ ap (λ (l : Bytes). l ++ same.0) (ap (λ (l : Bytes). encodes longest.characters ++ l) (sym (append-nil (encode c))) ∙ sym (encodes_append longest.characters (c ∷ []))) in
-      let begins : Begins rest (longest.characters ++ c ∷ []) (length (encodes (longest.characters ++ c ∷ []))) = record {
+      let begins : BeginsSpelled rest (longest.characters ++ c ∷ []) (length (encodes (longest.characters ++ c ∷ []))) = record {
         scalar = λ d there. ⊎_elim (λ old. longest.begins.scalar d old) (λ e. subst IsScalar e scalar_c) (Contains-push_cases longest.characters c d there);
         tail = same.0;
         is = is;
@@ -128,16 +128,16 @@ module _ (g : FlatGrammar) (valid : List Symbol) (rest other : Bytes) (reach : �
       let h = longest.begins.size in
       omega arith
 
-  pub back : (w : List ℕ) (n : ℕ) → Begins other w n → CanBegin g valid w → Begins rest w n
+  pub back : (w : List ℕ) (n : ℕ) → BeginsSpelled other w n → CanBegin g valid w → BeginsSpelled rest w n
   back w n b can = by (ways longest.characters w there.tail b.tail (sym there.is ∙ b.is))
     where
-      there : Begins other longest.characters x.size
+      there : BeginsSpelled other longest.characters x.size
       there = same_begins rest other longest.characters x.size reach longest.begins (let e = x.is in omega arith) agree
 
-      short : n ≤ x.size → Begins rest w n
+      short : n ≤ x.size → BeginsSpelled rest w n
       short le = same_begins other rest w n reach b (let e = x.is in omega arith) (agree_back reach rest other agree)
 
-      by : Ways longest.characters w there.tail b.tail → Begins rest w n
+      by : Ways longest.characters w there.tail b.tail → BeginsSpelled rest w n
       by (within c v is) = short (let l = longer_by w c v in let e = ap (λ (l : List ℕ). length (encodes l)) is in let f = longest.begins.size in let h = b.size in omega arith)
       by (on [] is tails) = short (let e = ap (λ (l : List ℕ). length (encodes l)) (is ∙ append-nil longest.characters) in let f = longest.begins.size in let h = b.size in omega arith)
       by (on (c ∷ v) is tails) = absurd (grows_not c v (encodes v ++ b.tail) at (tail_is other longest.characters x.size there ∙ tails ∙ append_assoc (encode c) (encodes v) b.tail)

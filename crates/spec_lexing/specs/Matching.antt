@@ -12,7 +12,7 @@ use Rattle.ts_core.specs.declared.symbol.Symbol.{Symbol}
 use Rattle.spec_lexing.specs.Words.{Regular, Word, regular_of}
 
 -- the text begins with the UTF-8 of these characters, which has so many bytes
-pub record Begins (rest : Bytes) (w : List ℕ) (n : ℕ) : Type 0 where
+pub record BeginsSpelled (rest : Bytes) (w : List ℕ) (n : ℕ) : Type 0 where
   pub scalar : (c : ℕ) → Contains w c → IsScalar c
   pub tail : Bytes
   pub is : rest ≡ encode_utf8_all w ++ tail
@@ -23,7 +23,7 @@ pub record Begins (rest : Bytes) (w : List ℕ) (n : ℕ) : Type 0 where
 pub record MatchesRe (p : Regular) (rest : Bytes) (n : ℕ) : Type 0 where
   pub some : 0 < n
   pub characters : List ℕ
-  pub begins : Begins rest characters n
+  pub begins : BeginsSpelled rest characters n
   pub word : Word p characters
 
 -- the expression matches with so many bytes, and with no more

@@ -8,7 +8,7 @@ use Rattle.ts_core.specs.declared.flat.TokenDef.{TokenDef}
 use Rattle.ts_core.specs.declared.re.Re.{Re}
 use Rattle.ts_core.specs.declared.symbol.Symbol.{Symbol}
 use Rattle.spec_lexing.specs.Words.{Front, regular_of}
-use Rattle.spec_lexing.specs.Matching.{Begins, IsTokenOf, IsWordToken}
+use Rattle.spec_lexing.specs.Matching.{BeginsSpelled, IsTokenOf, IsWordToken}
 use Rattle.spec_lexing.specs.Lexing.{Passes}
 
 -- a valid token is a keyword
@@ -32,7 +32,7 @@ pub data CanBegin (g : FlatGrammar) (valid : List Symbol) (w : List ℕ) : Type 
 -- the first so many bytes can begin what is looked for
 pub record HasFront (g : FlatGrammar) (valid : List Symbol) (rest : Bytes) (n : ℕ) : Type 0 where
   pub characters : List ℕ
-  pub begins : Begins rest characters n
+  pub begins : BeginsSpelled rest characters n
   pub front : CanBegin g valid characters
 
 -- the byte goes on with a character that began before it

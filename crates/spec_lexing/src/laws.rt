@@ -8,7 +8,7 @@ ghost use Rattle.ts_core.specs.declared.re.Re.{Re as AnyRe};
 ghost use Rattle.ts_base.specs.Bytes.{Bytes};
 ghost use Rattle.ts_core.specs.declared.flat.FlatGrammar.{FlatGrammar as FlatGrammars};
 ghost use Rattle.ts_core.specs.declared.symbol.Symbol.{Symbol as Symbols};
-ghost use Rattle.spec_lexing.specs.Matching.{Begins};
+ghost use Rattle.spec_lexing.specs.Matching.{BeginsSpelled};
 ghost use Rattle.spec_lexing.specs.Lexing.{Found, token, absent, Lex};
 ghost use Rattle.spec_lexing.specs.Seen.{one_character, Seen, Agree};
 ghost use Rattle.spec_lexing.specs.Words.{Regular, empty, one_of, repeat, all_of, any_of, regular_of, Word, Front};
@@ -39,18 +39,20 @@ pub fn a_front_has_fronts()
 /// What begins a text: of two beginnings the shorter begins the longer, and one goes on with the
 /// character that follows it.
 pub fn beginnings()
-    ensures nothing { (rest : Bytes) → Begins rest [] 0 }
-    ensures prefix { (rest : Bytes) (u w : List ℕ) (n m : ℕ) → Begins rest u n → Begins rest w m
+    ensures nothing { (rest : Bytes) → BeginsSpelled rest [] 0 }
+    ensures prefix { (rest : Bytes) (u w : List ℕ) (n m : ℕ) → BeginsSpelled rest u n
+        → BeginsSpelled rest w m
         → n ≤ m
         → (v : List ℕ) × (w ≡ u ++ v) }
-    ensures longer { (rest : Bytes) (u v : List ℕ) (c n m : ℕ) → Begins rest u n
-        → Begins rest (u ++ c ∷ v) m → n < m }
-    ensures more { (rest tail : Bytes) (u : List ℕ) (c n : ℕ) → IsScalar c → Begins rest u n
+    ensures longer { (rest : Bytes) (u v : List ℕ) (c n m : ℕ) → BeginsSpelled rest u n
+        → BeginsSpelled rest (u ++ c ∷ v) m → n < m }
+    ensures more { (rest tail : Bytes) (u : List ℕ) (c n : ℕ) → IsScalar c → BeginsSpelled rest u n
         → drop n rest ≡ encode_utf8 c ++ tail
-        → Begins rest (u ++ c ∷ []) (n + length (encode_utf8 c)) }
-    ensures follows { (rest tail : Bytes) (u v : List ℕ) (c d n m : ℕ) → Begins rest u n
-        → drop n rest ≡ encode_utf8 c ++ tail → Begins rest (u ++ d ∷ v) m → d ≡ c }
-    ensures within { (rest : Bytes) (u : List ℕ) (n : ℕ) → Begins rest u n → n ≤ length rest }
+        → BeginsSpelled rest (u ++ c ∷ []) (n + length (encode_utf8 c)) }
+    ensures follows { (rest tail : Bytes) (u v : List ℕ) (c d n m : ℕ) → BeginsSpelled rest u n
+        → drop n rest ≡ encode_utf8 c ++ tail → BeginsSpelled rest (u ++ d ∷ v) m → d ≡ c }
+    ensures within { (rest : Bytes) (u : List ℕ) (n : ℕ) → BeginsSpelled rest u n
+        → n ≤ length rest }
 {}
 
 /// In UTF-8 the next character has as many bytes as its encoding.

@@ -77,13 +77,13 @@ IsRange range = (range.0 ≤ range.1) × IsCharacter range.0 × IsCharacter rang
     × ((range.1 < 55296) ⊎ (57344 ≤ range.0))
 
 -- neither meets nor touches the range before it
-abbrev pub AreApart : List (ℕ × ℕ) → Type 0
-AreApart [] = Unit {0}
-AreApart (a ∷ []) = Unit {0}
-AreApart (a ∷ b ∷ ranges) = (suc a.1 < b.0) × AreApart (b ∷ ranges)
+abbrev pub AreApartRanges : List (ℕ × ℕ) → Type 0
+AreApartRanges [] = Unit {0}
+AreApartRanges (a ∷ []) = Unit {0}
+AreApartRanges (a ∷ b ∷ ranges) = (suc a.1 < b.0) × AreApartRanges (b ∷ ranges)
 
 abbrev pub IsSet : List (ℕ × ℕ) → Type 0
-IsSet ranges = IsShort ranges × All IsRange ranges × AreApart ranges
+IsSet ranges = IsShort ranges × All IsRange ranges × AreApartRanges ranges
 
 -- the most is not below the least
 abbrev pub IsInOrder : ℕ → Option ℕ → Type 0

@@ -7,7 +7,7 @@ use Rattle.ts_automata.specs.declared.node.Node.{Node}
 use Rattle.ts_automata.specs.declared.node.Node.TheVariants.{Take}
 use Rattle.spec_lexing.specs.Words.{IsIn}
 use Rattle.ts_automata.specs.After.{Alike}
-use Rattle.ts_automata.specs.Classes.{IsClass, IsCut}
+use Rattle.ts_automata.specs.Classes.{IsClassOf, IsCut}
 
 cases_lt : (m n : ℕ) → (m < n) ⊎ (n ≤ m)
 cases_lt zero zero = inr (omega arith)
@@ -25,7 +25,7 @@ module _ (T : List Node) (bounds : List ℕ) (cut : IsCut T bounds) where
       let e : get_or bounds 0 0 ≡ 0 = omega arith in
       slice_get-get_or bounds 0 0 (omega arith) ∙ ap Some e
 
-  module _ (c k : ℕ) (fits : c < 2 ^ 32) (class : IsClass bounds c k) where
+  module _ (c k : ℕ) (fits : c < 2 ^ 32) (class : IsClassOf bounds c k) where
     -- a bound that is not above the character is not above its class's first one
     bound_le : (b : ℕ) → Contains bounds b → b ≤ c → b ≤ class.bound
     bound_le b (j, lt, at) le = ⊎_elim (λ h. earlier h) (λ h. later h) (cases_lt k j)

@@ -6,8 +6,8 @@ use Rattle.std.proofs.lemmas.List.{length-map}
 use Rattle.std.proofs.lemmas.Option.{slice_get_within, slice_get-map, slice_get_read, slice_get-get_or}
 use Rattle.ts_automata.specs.declared.node.Node.{Node}
 use Rattle.ts_automata.specs.declared.machine.Machine.{Machine}
-use Rattle.ts_automata.specs.Sets.{IsNext, IsRow, IsFirst, IsSubset, sets_of, rows_of}
-use Rattle.ts_automata.specs.Classes.{IsClass}
+use Rattle.ts_automata.specs.Sets.{IsNextSet, IsRow, IsFirst, IsSubset, sets_of, rows_of}
+use Rattle.ts_automata.specs.Classes.{IsClassOf}
 use Rattle.ts_automata.specs.Machine.{IsMachine, HasRead, state_count}
 use Rattle.ts_automata.proofs.CutLemmas.{cut_alike}
 use Rattle.ts_automata.proofs.AfterLemmas.{after_none, after_more}
@@ -42,26 +42,26 @@ module _ (m : Machine) (x : IsMachine m) where
       → IsRow m.automaton.nodes.items (sets_of m.sets.keys) s m.bounds.items row.items
   row_for n row s lt is at = x.rows n row.items (row_is n row lt is) s at
 
-  pub in_row : (n : ℕ) (row : Vec ℕ) (c k : ℕ) → n < state_count m → row ≡ get_or m.rows.items n row → IsClass m.bounds.items c k → k < length row.items
+  pub in_row : (n : ℕ) (row : Vec ℕ) (c k : ℕ) → n < state_count m → row ≡ get_or m.rows.items n row → IsClassOf m.bounds.items c k → k < length row.items
   in_row n row c k lt is class =
       let r = row_for n row (get_or (sets_of m.sets.keys) n []) lt is (set_there n lt) in
       let w = slice_get_within m.bounds.items k class.bound class.at in
       let e = r.size in
       omega arith
 
-  next_for : (n : ℕ) (row : Vec ℕ) (c k o : ℕ) (s : List ℕ) → n < state_count m → row ≡ get_or m.rows.items n row → (class : IsClass m.bounds.items c k) → o ≡ get_or row.items k o
-      → slice_get (sets_of m.sets.keys) n ≡ Some s → IsNext m.automaton.nodes.items (sets_of m.sets.keys) s class.bound o
+  next_for : (n : ℕ) (row : Vec ℕ) (c k o : ℕ) (s : List ℕ) → n < state_count m → row ≡ get_or m.rows.items n row → (class : IsClassOf m.bounds.items c k) → o ≡ get_or row.items k o
+      → slice_get (sets_of m.sets.keys) n ≡ Some s → IsNextSet m.automaton.nodes.items (sets_of m.sets.keys) s class.bound o
   next_for n row c k o s lt is class there at =
       (row_for n row s lt is at).next k o (slice_get_read row.items (length row.items) k o refl (in_row n row c k lt is class) there) class.bound class.at
 
-  pub next_within : (n : ℕ) (row : Vec ℕ) (c k o : ℕ) → n < state_count m → row ≡ get_or m.rows.items n row → IsClass m.bounds.items c k → o ≡ get_or row.items k o → o < state_count m
+  pub next_within : (n : ℕ) (row : Vec ℕ) (c k o : ℕ) → n < state_count m → row ≡ get_or m.rows.items n row → IsClassOf m.bounds.items c k → o ≡ get_or row.items k o → o < state_count m
   next_within n row c k o lt is class there =
       let r = next_for n row c k o (get_or (sets_of m.sets.keys) n []) lt is class there (set_there n lt) in
       let w = slice_get_within (sets_of m.sets.keys) o r.set r.at in
       let e = set_count m.sets.keys in
       omega arith
 
-  pub next_stands : (n : ℕ) (row : Vec ℕ) (c k o : ℕ) → n < state_count m → row ≡ get_or m.rows.items n row → (class : IsClass m.bounds.items c k) → c < 2 ^ 32 → o ≡ get_or row.items k o
+  pub next_stands : (n : ℕ) (row : Vec ℕ) (c k o : ℕ) → n < state_count m → row ≡ get_or m.rows.items n row → (class : IsClassOf m.bounds.items c k) → c < 2 ^ 32 → o ≡ get_or row.items k o
       → (w : List ℕ) → HasRead m w n → HasRead m (w ++ c ∷ []) o
   next_stands n row c k o lt is class fits there w before =
       after_more m.automaton.nodes.items m.automaton.entries.items (sets_of m.sets.keys) w n c class.bound o before

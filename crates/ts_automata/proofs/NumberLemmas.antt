@@ -10,7 +10,7 @@ use Rattle.std.proofs.lemmas.Slice.Eq.{slice_eq-Decides}
 use Rattle.std.proofs.lemmas.Option.{slice_get-map}
 use Rattle.std.specs.Option.{option_map}
 use Rattle.indexmap.specs.IndexSet.{insert_key}
-use Rattle.ts_automata.specs.Sets.{Numbers, sets_of}
+use Rattle.ts_automata.specs.Sets.{NumbersSet, sets_of}
 use Rattle.std.proofs.Common.{nat_eq, ℕ}
 use Rattle.std.proofs.lemmas.Bool.Decides.{nat_tests}
 
@@ -43,13 +43,13 @@ map_append [] ys = refl
 map_append (x ∷ xs) ys = ap (λ (l : List (List ℕ)). x.items ∷ l) (map_append xs ys)
 
 pub numbers_key : (old new : List (Vec ℕ)) (set : Vec ℕ) (n : ℕ) → new ≡ insert_key set_eq old set → (k : Vec ℕ) → slice_get new n ≡ Some k → set_eq set k ≡ true
-    → Numbers (sets_of old) (sets_of new) set.items n
+    → NumbersSet (sets_of old) (sets_of new) set.items n
 numbers_key old new set n is k at same = by (list_any (set_eq set) old) refl
   where
     place : slice_get (sets_of new) n ≡ Some set.items
     place = slice_get-map (λ (v : Vec ℕ). v.items) new n ∙ ap (option_map (λ (v : Vec ℕ). v.items)) at ∙ ap Some (sym ((lists_decide set.items k.items).0 same))
 
-    by : (b : Bool) → list_any (set_eq set) old ≡ b → Numbers (sets_of old) (sets_of new) set.items n
+    by : (b : Bool) → list_any (set_eq set) old ≡ b → NumbersSet (sets_of old) (sets_of new) set.items n
     by true e = record {
       more = [];
       is = ap sets_of (is ∙ ap (λ (c : Bool). if c then old else old ++ set ∷ []) e) ∙ sym (append-nil (sets_of old));

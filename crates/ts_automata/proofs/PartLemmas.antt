@@ -7,8 +7,8 @@ use Rattle.ts_base.proofs.PlaceLemmas.{in_prefix, at_end, push_cases}
 use Rattle.spec_lexing.specs.Words.{Regular, Word, Front}
 use Rattle.ts_automata.specs.declared.node.Node.{Node}
 use Rattle.ts_automata.specs.declared.node.Node.TheVariants.{Take, Split, End}
-use Rattle.ts_automata.specs.Reads.{Reads, here, goes, takes, IsEnd}
-use Rattle.ts_automata.specs.Grows.{IsInner, Back, leaves, inside, Stands, Agrees, Grows}
+use Rattle.ts_automata.specs.Reads.{ReadsOver, here, goes, takes, IsEnd}
+use Rattle.ts_automata.specs.Grows.{IsInnerNode, Back, leaves, inside, Stands, Agrees, Grows}
 use Rattle.ts_automata.specs.Parts.{IsPart, HasPart, HaveParts, AreParts, Fills}
 use Rattle.ts_automata.specs.declared.automaton.Automaton.{Automaton}
 use Rattle.ts_automata.specs.Automata.{Holds, Gains}
@@ -16,7 +16,7 @@ use Rattle.ts_automata.proofs.RepeatLemmas.{word_front}
 
 module _ (T : List Node) (low high : ℕ) (p : Regular) (e a : ℕ) where
   -- nothing is read from an end
-  stays : (n x : ℕ) (w : List ℕ) (t : ℕ) → Reads T n x w t → IsEnd T x → (w ≡ []) × (t ≡ x)
+  stays : (n x : ℕ) (w : List ℕ) (t : ℕ) → ReadsOver T n x w t → IsEnd T x → (w ≡ []) × (t ≡ x)
   stays _ _ _ _ (here n x) at = (refl, refl)
   stays _ _ _ _ (goes n x y t w split r) at = let f : Some (Split split.left split.right) ≡ Some End = sym split.at ∙ at in cc
   stays _ _ _ _ (takes n x c y t w take r) at = let f : Some (Take take.ranges y) ≡ Some End = sym take.at ∙ at in cc
@@ -24,24 +24,24 @@ module _ (T : List Node) (low high : ℕ) (p : Regular) (e a : ℕ) where
   whole : (w u v : List ℕ) → w ≡ u ++ v → v ≡ [] → w ≡ u
   whole w u v is none = is ∙ ap (λ (l : List ℕ). u ++ l) none ∙ append-nil u
 
-  pub is_part : IsEnd T a → low ≤ a → a < high → Stands T (IsInner T low high) p e a → IsPart T (λ t. (low ≤ t) × (t < high)) p e
+  pub is_part : IsEnd T a → low ≤ a → a < high → Stands T (IsInnerNode T low high) p e a → IsPart T (λ t. (low ≤ t) × (t < high)) p e
   is_part at from below st = record {
-    word = λ w h. let r = st.word 0 w [] a h (here 0 a) in (a, (r.0, subst (λ (l : List ℕ). Reads T r.0 e l a) (append-nil w) r.1), at);
+    word = λ w h. let r = st.word 0 w [] a h (here 0 a) in (a, (r.0, subst (λ (l : List ℕ). ReadsOver T r.0 e l a) (append-nil w) r.1), at);
     ends = λ w t r has. ends r.0 w t (st.back r.0 w t r.1) has;
     front = λ w f. st.front w f;
     leads = λ w t r. begins r.0 w t (st.back r.0 w t r.1);
     own = λ w t r. owned r.0 w t (st.back r.0 w t r.1);
   }
     where
-      ends : (n : ℕ) (w : List ℕ) (t : ℕ) → Back T (IsInner T low high) p a n w t → IsEnd T t → Word p w
+      ends : (n : ℕ) (w : List ℕ) (t : ℕ) → Back T (IsInnerNode T low high) p a n w t → IsEnd T t → Word p w
       ends n w t (leaves u v is word r) has = subst (λ (l : List ℕ). Word p l) (sym (whole w u v is (stays n a v t r at).0)) word
       ends n w t (inside f inner) has = absurd (inner.goes_on has)
 
-      begins : (n : ℕ) (w : List ℕ) (t : ℕ) → Back T (IsInner T low high) p a n w t → Front p w
+      begins : (n : ℕ) (w : List ℕ) (t : ℕ) → Back T (IsInnerNode T low high) p a n w t → Front p w
       begins n w t (leaves u v is word r) = subst (λ (l : List ℕ). Front p l) (sym (whole w u v is (stays n a v t r at).0)) (word_front p u word)
       begins n w t (inside f inner) = f
 
-      owned : (n : ℕ) (w : List ℕ) (t : ℕ) → Back T (IsInner T low high) p a n w t → (low ≤ t) × (t < high)
+      owned : (n : ℕ) (w : List ℕ) (t : ℕ) → Back T (IsInnerNode T low high) p a n w t → (low ≤ t) × (t < high)
       owned n w t (leaves u v is word r) = let e = (stays n a v t r at).1 in ((omega arith), (omega arith))
       owned n w t (inside f inner) = (inner.from, inner.below)
 
@@ -63,10 +63,10 @@ has_part p a b c end e end_is is g = record {
     size : length b ≡ length a + 1
     size = ap (λ (l : List Node). length l) is ∙ length-append a (End ∷ [])
 
-    widen : (T : List Node) → Stands T (IsInner T (length b) (length c)) p e end → Stands T (IsInner T (length a) (length c)) p e end
+    widen : (T : List Node) → Stands T (IsInnerNode T (length b) (length c)) p e end → Stands T (IsInnerNode T (length a) (length c)) p e end
     widen T st = record { word = st.word; front = st.front; back = λ n w t r. turn n w t (st.back n w t r) }
       where
-        turn : (n : ℕ) (w : List ℕ) (t : ℕ) → Back T (IsInner T (length b) (length c)) p end n w t → Back T (IsInner T (length a) (length c)) p end n w t
+        turn : (n : ℕ) (w : List ℕ) (t : ℕ) → Back T (IsInnerNode T (length b) (length c)) p end n w t → Back T (IsInnerNode T (length a) (length c)) p end n w t
         turn n w t (leaves u v u_is word r) = leaves u v u_is word r
         turn n w t (inside f i) = inside f (record { from = (let s = size in let l = i.from in omega arith); below = i.below; goes_on = i.goes_on })
 

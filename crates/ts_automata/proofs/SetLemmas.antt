@@ -8,7 +8,7 @@ use Rattle.std.proofs.lemmas.Option.{slice_get_within, slice_get-map, slice_get_
 use Rattle.std.specs.Option.{option_map}
 use Rattle.ts_automata.specs.declared.node.Node.{Node}
 use Rattle.ts_automata.specs.Reads.{Takes}
-use Rattle.ts_automata.specs.Sets.{Adds, Moves, Numbers, Grew, IsNext, IsFirst, IsRow, IsSubset, Each, sets_of}
+use Rattle.ts_automata.specs.Sets.{Adds, Moves, NumbersSet, Grew, IsNextSet, IsFirst, IsRow, IsSubset, EachAt, sets_of}
 use Rattle.ts_automata.proofs.AddsLemmas.{adds_none, adds_both}
 use Rattle.ts_base.proofs.PlaceLemmas.{in_prefix}
 
@@ -44,13 +44,13 @@ cases_lt zero (suc n) = inl (omega arith)
 cases_lt (suc m) zero = inr (omega arith)
 cases_lt (suc m) (suc n) = ⊎_elim (λ h. inl (omega arith)) (λ h. inr (omega arith)) (cases_lt m n)
 
-pub each_more : {X : Type 0} (P : ℕ → X → Type 0) (xs : List X) (x : X) → Each P xs → P (length xs) x → Each P (xs ++ x ∷ [])
+pub each_more : {X : Type 0} (P : ℕ → X → Type 0) (xs : List X) (x : X) → EachAt P xs → P (length xs) x → EachAt P (xs ++ x ∷ [])
 each_more {X} P xs x all one k y at =
     ⊎_elim (λ lt. all k y (sym (in_prefix xs (x ∷ []) k lt) ∙ at))
     (λ past. let r = at_last xs x y k past at in subst (λ (j : ℕ). P j y) (sym r.0) (subst (λ (z : X). P (length xs) z) (sym r.1) one))
     (cases_lt k (length xs))
 
-pub each_none : {X : Type 0} (P : ℕ → X → Type 0) → Each P []
+pub each_none : {X : Type 0} (P : ℕ → X → Type 0) → EachAt P []
 each_none P k x at = absurd (let w = slice_get_within [] k x at in omega arith)
 
 pub grew_self : (a : List (List ℕ)) → Grew a a
@@ -68,13 +68,13 @@ at_shrunk a b k s (m, e) lt at = sym (in_prefix a m k lt) ∙ ap (λ (l : List (
 pub grown_longer : (a b : List (List ℕ)) → Grew a b → length a ≤ length b
 grown_longer a b (m, e) = omega (arith, ap (λ (l : List (List ℕ)). length l) e, length-append a m)
 
-pub grew_number : (a b : List (List ℕ)) (s : List ℕ) (n : ℕ) → Numbers a b s n → Grew a b
+pub grew_number : (a b : List (List ℕ)) (s : List ℕ) (n : ℕ) → NumbersSet a b s n → Grew a b
 grew_number a b s n h = (h.more, h.is)
 
 pub first_grows : (T : List Node) (a b : List (List ℕ)) (kernel : List ℕ) (n : ℕ) → Grew a b → IsFirst T a kernel n → IsFirst T b kernel n
 first_grows T a b kernel n g f = record { set = f.set; at = at_grown a b n f.set g f.at; closed = f.closed }
 
-pub next_grows : (T : List Node) (a b : List (List ℕ)) (s : List ℕ) (c m : ℕ) → Grew a b → IsNext T a s c m → IsNext T b s c m
+pub next_grows : (T : List Node) (a b : List (List ℕ)) (s : List ℕ) (c m : ℕ) → Grew a b → IsNextSet T a s c m → IsNextSet T b s c m
 next_grows T a b s c m g f = record { kernel = f.kernel; moves = f.moves; set = f.set; at = at_grown a b m f.set g f.at; closed = f.closed }
 
 -- ---- the numbers of the first sets
@@ -82,7 +82,7 @@ next_grows T a b s c m g f = record { kernel = f.kernel; moves = f.moves; set = 
 pub record Begun (T : List Node) (kernels : List (List ℕ)) (start sets : List (List ℕ)) (numbers : List ℕ) (k : ℕ) : Type 0 where
   pub grows : Grew start sets
   pub size : length numbers ≡ k
-  pub first : Each (λ v n. (kernel : List ℕ) → slice_get kernels v ≡ Some kernel → IsFirst T sets kernel n) numbers
+  pub first : EachAt (λ v n. (kernel : List ℕ) → slice_get kernels v ≡ Some kernel → IsFirst T sets kernel n) numbers
 
 pub begun_none : (T : List Node) (kernels : List (List ℕ)) (start : List (List ℕ)) → Begun T kernels start start [] 0
 begun_none T kernels start = record { grows = grew_self start; size = refl; first = each_none (λ v n. (kernel : List ℕ) → slice_get kernels v ≡ Some kernel → IsFirst T start kernel n) }
@@ -106,24 +106,24 @@ begun_more T kernels start a b numbers k m kernel below is before g one = record
 pub record Rowing (T : List Node) (bounds : List ℕ) (start sets : List (List ℕ)) (row : List ℕ) (at k : ℕ) : Type 0 where
   pub grows : Grew start sets
   pub size : length row ≡ k
-  pub next : (s : List ℕ) → slice_get start at ≡ Some s → Each (λ j m. (c : ℕ) → slice_get bounds j ≡ Some c → IsNext T sets s c m) row
+  pub next : (s : List ℕ) → slice_get start at ≡ Some s → EachAt (λ j m. (c : ℕ) → slice_get bounds j ≡ Some c → IsNextSet T sets s c m) row
 
 pub rowing_none : (T : List Node) (bounds : List ℕ) (start : List (List ℕ)) (at : ℕ) → Rowing T bounds start start [] at 0
-rowing_none T bounds start at = record { grows = grew_self start; size = refl; next = λ s is. each_none (λ j m. (c : ℕ) → slice_get bounds j ≡ Some c → IsNext T start s c m) }
+rowing_none T bounds start at = record { grows = grew_self start; size = refl; next = λ s is. each_none (λ j m. (c : ℕ) → slice_get bounds j ≡ Some c → IsNextSet T start s c m) }
 
 pub rowing_more : (T : List Node) (bounds : List ℕ) (start a b : List (List ℕ)) (row : List ℕ) (at k m d : ℕ) → k < length bounds → Rowing T bounds start a row at k → Grew a b
-    → ((s : List ℕ) → slice_get a at ≡ Some s → IsNext T b s (get_or bounds k d) m) → Rowing T bounds start b (row ++ m ∷ []) at (k + 1)
+    → ((s : List ℕ) → slice_get a at ≡ Some s → IsNextSet T b s (get_or bounds k d) m) → Rowing T bounds start b (row ++ m ∷ []) at (k + 1)
 rowing_more T bounds start a b row at k m d below before g one = record {
   grows = grew_both start a b before.grows g;
   size = omega (arith, length-append row (m ∷ []), before.size);
-  next = λ s is. each_more (λ j n. (c : ℕ) → slice_get bounds j ≡ Some c → IsNext T b s c n) row m
+  next = λ s is. each_more (λ j n. (c : ℕ) → slice_get bounds j ≡ Some c → IsNextSet T b s c n) row m
       (λ j n there c has. next_grows T a b s c n g (before.next s is j n there c has))
       (λ c has.
       let x : ℕ = get_or bounds k d in
       let place : slice_get bounds k ≡ Some x = slice_get-get_or bounds k d below in
       let same : Some x ≡ Some c = sym place ∙ ap (λ (j : ℕ). slice_get bounds j) (sym before.size) ∙ has in
       let e : x ≡ c = cc in
-      subst (λ (y : ℕ). IsNext T b s y m) e (one s (at_grown start a at s before.grows is)));
+      subst (λ (y : ℕ). IsNextSet T b s y m) e (one s (at_grown start a at s before.grows is)));
 }
 
 pub row_done : (T : List Node) (bounds : List ℕ) (start sets : List (List ℕ)) (row : List ℕ) (at k : ℕ) → length bounds ≤ k → k ≤ length bounds → Rowing T bounds start sets row at k
@@ -136,14 +136,14 @@ row_grows T a b s bounds row g r = record { size = r.size; next = λ k m at c ha
 -- ---- all rows
 
 pub record Collecting (T : List Node) (kernels : List (List ℕ)) (bounds begins : List ℕ) (sets table : List (List ℕ)) (next : ℕ) : Type 0 where
-  pub first : Each (λ v n. (kernel : List ℕ) → slice_get kernels v ≡ Some kernel → IsFirst T sets kernel n) begins
+  pub first : EachAt (λ v n. (kernel : List ℕ) → slice_get kernels v ≡ Some kernel → IsFirst T sets kernel n) begins
   pub each : length begins ≡ length kernels
-  pub rows : Each (λ n row. (s : List ℕ) → slice_get sets n ≡ Some s → IsRow T sets s bounds row) table
+  pub rows : EachAt (λ n row. (s : List ℕ) → slice_get sets n ≡ Some s → IsRow T sets s bounds row) table
   pub count : length table ≡ next
   pub within : next ≤ length sets
 
 pub collecting_begins : (T : List Node) (kernels : List (List ℕ)) (bounds begins : List ℕ) (sets : List (List ℕ)) → length begins ≡ length kernels
-    → Each (λ v n. (kernel : List ℕ) → slice_get kernels v ≡ Some kernel → IsFirst T sets kernel n) begins → Collecting T kernels bounds begins sets [] 0
+    → EachAt (λ v n. (kernel : List ℕ) → slice_get kernels v ≡ Some kernel → IsFirst T sets kernel n) begins → Collecting T kernels bounds begins sets [] 0
 collecting_begins T kernels bounds begins sets size first = record {
   first = first;
   each = size;

@@ -2,11 +2,11 @@
 use Rattle.std.specs.Prelude.{◌≡◌, ℕ, List, slice_get, Some, ◌↔◌}
 use Rattle.std.specs.List.{Contains}
 use Rattle.ts_automata.specs.declared.node.Node.{Node}
-use Rattle.ts_automata.specs.Reads.{Takes, Leads}
+use Rattle.ts_automata.specs.Reads.{Takes, LeadsOver}
 
 -- the characters lead from one of the first nodes to the node
 abbrev pub Comes : List Node → List ℕ → List ℕ → ℕ → Type 0
-Comes T kernel w t = (e : ℕ) × Contains kernel e × Leads T e w t
+Comes T kernel w t = (e : ℕ) × Contains kernel e × LeadsOver T e w t
 
 -- after these characters the automaton is in the set of this number
 pub record After (T : List Node) (kernel : List ℕ) (sets : List (List ℕ)) (w : List ℕ)

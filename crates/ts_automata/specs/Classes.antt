@@ -7,7 +7,7 @@ use Rattle.ts_automata.specs.declared.node.Node.{Node}
 use Rattle.ts_automata.specs.declared.node.Node.TheVariants.{Take}
 
 -- the class of the character is this one: its first character is the last bound that is not above
-pub record IsClass (bounds : List ℕ) (c k : ℕ) : Type 0 where
+pub record IsClassOf (bounds : List ℕ) (c k : ℕ) : Type 0 where
   pub bound : ℕ
   pub at : slice_get bounds k ≡ Some bound
   pub low : bound ≤ c

@@ -1,19 +1,19 @@
 -- An automaton by numbered sets of nodes.
 use Rattle.std.specs.Prelude.{◌≡◌, ℕ, List, length, slice_get, Some}
 use Rattle.ts_automata.specs.declared.machine.Machine.{Machine}
-use Rattle.ts_automata.specs.Sets.{Each, IsRow, IsFirst, sets_of, rows_of}
-use Rattle.ts_automata.specs.Classes.{IsClass, IsCut}
+use Rattle.ts_automata.specs.Sets.{EachAt, IsRow, IsFirst, sets_of, rows_of}
+use Rattle.ts_automata.specs.Classes.{IsClassOf, IsCut}
 use Rattle.ts_automata.specs.After.{After}
 
 -- the tables stand for the sets of nodes of the automaton
 pub record IsMachine (m : Machine) : Type 0 where
-  pub rows : Each (λ n row. (s : List ℕ) → slice_get (sets_of m.sets.keys) n ≡ Some s
+  pub rows : EachAt (λ n row. (s : List ℕ) → slice_get (sets_of m.sets.keys) n ≡ Some s
       → IsRow m.automaton.nodes.items (sets_of m.sets.keys) s m.bounds.items row)
       (rows_of m.rows.items)
   pub row_count : length (rows_of m.rows.items) ≡ length (sets_of m.sets.keys)
   pub cut : IsCut m.automaton.nodes.items m.bounds.items
   pub ascii_count : length m.ascii.items ≡ 128
-  pub ascii_class : Each (λ c k. IsClass m.bounds.items c k) m.ascii.items
+  pub ascii_class : EachAt (λ c k. IsClassOf m.bounds.items c k) m.ascii.items
   pub first : IsFirst m.automaton.nodes.items
       (sets_of m.sets.keys) m.automaton.entries.items m.first
 

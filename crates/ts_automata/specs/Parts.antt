@@ -2,17 +2,17 @@
 use Rattle.std.specs.Prelude.{◌≡◌, ℕ, ◌≤◌, ◌<◌, List, length, slice_get, Some}
 use Rattle.spec_lexing.specs.Words.{Regular, Word, Front}
 use Rattle.ts_automata.specs.declared.node.Node.{Node}
-use Rattle.ts_automata.specs.Reads.{Leads, IsEnd}
+use Rattle.ts_automata.specs.Reads.{LeadsOver, IsEnd}
 use Rattle.ts_automata.specs.Grows.{Agrees}
 
 -- From the node exactly the words of the expression lead to an end, and exactly its fronts lead
 -- anywhere. All the nodes to which they lead are the expression's own.
 pub record IsPart (T : List Node) (Own : ℕ → Type 0) (p : Regular) (e : ℕ) : Type 0 where
-  pub word : (w : List ℕ) → Word p w → (t : ℕ) × Leads T e w t × IsEnd T t
-  pub ends : (w : List ℕ) (t : ℕ) → Leads T e w t → IsEnd T t → Word p w
-  pub front : (w : List ℕ) → Front p w → (t : ℕ) × Leads T e w t
-  pub leads : (w : List ℕ) (t : ℕ) → Leads T e w t → Front p w
-  pub own : (w : List ℕ) (t : ℕ) → Leads T e w t → Own t
+  pub word : (w : List ℕ) → Word p w → (t : ℕ) × LeadsOver T e w t × IsEnd T t
+  pub ends : (w : List ℕ) (t : ℕ) → LeadsOver T e w t → IsEnd T t → Word p w
+  pub front : (w : List ℕ) → Front p w → (t : ℕ) × LeadsOver T e w t
+  pub leads : (w : List ℕ) (t : ℕ) → LeadsOver T e w t → Front p w
+  pub own : (w : List ℕ) (t : ℕ) → LeadsOver T e w t → Own t
 
 -- nodes were added, and the node reads the expression by them
 pub record HasPart (old new : List Node) (p : Regular) (e : ℕ) : Type 0 where

@@ -18,15 +18,15 @@ pub record Splits (T : List Node) (s a : ℕ) : Type 0 where
   pub way : (a ≡ left) ⊎ (a ≡ right)
 
 -- the characters lead from the first node to the other, in at most so many steps
-pub data Reads (T : List Node) : ℕ → ℕ → List ℕ → ℕ → Type 0 where
-  here : (n s : ℕ) → Reads T n s [] s
-  goes : (n s a t : ℕ) (w : List ℕ) → Splits T s a → Reads T n a w t → Reads T (suc n) s w t
-  takes : (n s c a t : ℕ) (w : List ℕ) → Takes T s c a → Reads T n a w t
-      → Reads T (suc n) s (c ∷ w) t
+pub data ReadsOver (T : List Node) : ℕ → ℕ → List ℕ → ℕ → Type 0 where
+  here : (n s : ℕ) → ReadsOver T n s [] s
+  goes : (n s a t : ℕ) (w : List ℕ) → Splits T s a → ReadsOver T n a w t → ReadsOver T (suc n) s w t
+  takes : (n s c a t : ℕ) (w : List ℕ) → Takes T s c a → ReadsOver T n a w t
+      → ReadsOver T (suc n) s (c ∷ w) t
 
 -- the characters lead from the first node to the other
-abbrev pub Leads : List Node → ℕ → List ℕ → ℕ → Type 0
-Leads T s w t = (n : ℕ) × Reads T n s w t
+abbrev pub LeadsOver : List Node → ℕ → List ℕ → ℕ → Type 0
+LeadsOver T s w t = (n : ℕ) × ReadsOver T n s w t
 
 -- a word ends at the node
 abbrev pub IsEnd : List Node → ℕ → Type 0

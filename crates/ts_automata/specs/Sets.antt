@@ -18,8 +18,8 @@ pub record Adds {X : Type 0} (P : X → Type 0) (old new : List X) : Type 0 wher
   pub added : (i : X) → P i → Contains new i
 
 -- so it is with each element at its place
-abbrev pub Each : {X : Type 0} → (ℕ → X → Type 0) → List X → Type 0
-Each {X} P xs = (k : ℕ) (x : X) → slice_get xs k ≡ Some x → P k x
+abbrev pub EachAt : {X : Type 0} → (ℕ → X → Type 0) → List X → Type 0
+EachAt {X} P xs = (k : ℕ) (x : X) → slice_get xs k ≡ Some x → P k x
 
 abbrev pub Same : (ℕ → Type 0) → (ℕ → Type 0) → Type 0
 Same P Q = (i : ℕ) → P i ↔ Q i
@@ -38,7 +38,7 @@ abbrev pub Closure : List Node → List ℕ → ℕ → Type 0
 Closure T kernel = Least (Splits T) kernel
 
 -- a set has this number, and was added at the end if it was new
-pub record Numbers (old new : List (List ℕ)) (set : List ℕ) (n : ℕ) : Type 0 where
+pub record NumbersSet (old new : List (List ℕ)) (set : List ℕ) (n : ℕ) : Type 0 where
   pub more : List (List ℕ)
   pub is : new ≡ old ++ more
   pub at : slice_get new n ≡ Some set
@@ -47,7 +47,7 @@ abbrev pub Grew : List (List ℕ) → List (List ℕ) → Type 0
 Grew old new = (more : List (List ℕ)) × (new ≡ old ++ more)
 
 -- the set of this number is what the set leads to over the character
-pub record IsNext (T : List Node) (sets : List (List ℕ)) (s : List ℕ) (c m : ℕ) : Type 0 where
+pub record IsNextSet (T : List Node) (sets : List (List ℕ)) (s : List ℕ) (c m : ℕ) : Type 0 where
   pub kernel : List ℕ
   pub moves : Same (Contains kernel) (Moves T s c)
   pub set : List ℕ
@@ -58,7 +58,7 @@ pub record IsNext (T : List Node) (sets : List (List ℕ)) (s : List ℕ) (c m :
 pub record IsRow (T : List Node) (sets : List (List ℕ)) (s : List ℕ)
     (bounds row : List ℕ) : Type 0 where
   pub size : length row ≡ length bounds
-  pub next : Each (λ k m. (c : ℕ) → slice_get bounds k ≡ Some c → IsNext T sets s c m) row
+  pub next : EachAt (λ k m. (c : ℕ) → slice_get bounds k ≡ Some c → IsNextSet T sets s c m) row
 
 -- the set of this number is that of the nodes to which these go on
 pub record IsFirst (T : List Node) (sets : List (List ℕ)) (kernel : List ℕ) (n : ℕ) : Type 0 where
@@ -72,10 +72,10 @@ rows_of = sets_of
 -- The numbered sets: one for each list of first nodes, and a row for each set.
 pub record IsSubset (T : List Node) (kernels : List (List ℕ)) (bounds : List ℕ) (begins : List ℕ)
     (sets table : List (List ℕ)) : Type 0 where
-  pub first : Each
+  pub first : EachAt
       (λ v n. (kernel : List ℕ) → slice_get kernels v ≡ Some kernel
       → IsFirst T sets kernel n) begins
   pub each : length begins ≡ length kernels
-  pub rows : Each
+  pub rows : EachAt
       (λ n row. (s : List ℕ) → slice_get sets n ≡ Some s → IsRow T sets s bounds row) table
   pub all : length table ≡ length sets

@@ -2,8 +2,8 @@
 //! characters of a class lead to the same nodes from everywhere.
 ghost use Rattle.std.specs.Prelude.{◌≡◌, ℕ, ◌+◌, ◌-◌, ◌<◌, ◌^◌, List, length, slice_get, Some, IfOk, OnOk};
 ghost use Rattle.std.specs.List.{Contains};
-ghost use Rattle.ts_automata.specs.Sets.{Each};
-ghost use Rattle.ts_automata.specs.Classes.{IsClass, IsCut, HasBounds, OfNode};
+ghost use Rattle.ts_automata.specs.Sets.{EachAt};
+ghost use Rattle.ts_automata.specs.Classes.{IsClassOf, IsCut, HasBounds, OfNode};
 
 use crate::node::Node;
 use std::alloc::{AllocError, Global};
@@ -12,7 +12,7 @@ use std::alloc::{AllocError, Global};
 pub(crate) fn ascii_of(alloc: Global, bounds: &[u32]) -> Result<Vec<usize>, AllocError>
     requires { slice_get bounds.now 0 ≡ Some 0 }
     ensures count { IfOk result (λ v. length v.items ≡ 128) }
-    ensures class { IfOk result (λ v. Each (λ c k. IsClass bounds.now c k) v.items) }
+    ensures class { IfOk result (λ v. EachAt (λ c k. IsClassOf bounds.now c k) v.items) }
 {
     let mut ascii = Vec::new(alloc);
     for c in 0..128u32 {
@@ -69,7 +69,7 @@ pub(crate) fn bounds_of(alloc: Global, nodes: &[Node]) -> Result<Vec<u32>, Alloc
 /// The class of a character.
 pub(crate) fn class_by_search(bounds: &[u32], c: u32) -> usize
     requires { slice_get bounds.now 0 ≡ Some 0 }
-    ensures { IsClass bounds.now c result }
+    ensures { IsClassOf bounds.now c result }
 {
     let mut low = 0;
     let mut high = bounds.len();
@@ -87,8 +87,8 @@ pub(crate) fn class_by_search(bounds: &[u32], c: u32) -> usize
 pub(crate) fn class_of(bounds: &[u32], ascii: &[usize], c: u32) -> usize
     requires bound { slice_get bounds.now 0 ≡ Some 0 }
     requires count { length ascii.now ≡ 128 }
-    requires class { Each (λ x k. IsClass bounds.now x k) ascii.now }
-    ensures { IsClass bounds.now c result }
+    requires class { EachAt (λ x k. IsClassOf bounds.now x k) ascii.now }
+    ensures { IsClassOf bounds.now c result }
 {
     if c < 128 {
         ascii[c as usize]

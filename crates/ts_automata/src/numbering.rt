@@ -2,7 +2,7 @@
 //! with the number of the set to which it goes on over each class of characters.
 ghost use Rattle.std.specs.Prelude.{◌≡◌, ℕ, ◌<◌, List, [], length, OnOk, IfOk, slice_get, Some, map};
 ghost use Rattle.std.specs.List.{Contains};
-ghost use Rattle.ts_automata.specs.Sets.{sets_of, rows_of, Each, Numbers, Grew, IsNext, IsRow, IsFirst, IsSubset};
+ghost use Rattle.ts_automata.specs.Sets.{sets_of, rows_of, EachAt, NumbersSet, Grew, IsNextSet, IsRow, IsFirst, IsSubset};
 
 use crate::closing::{moved, set_of};
 use crate::node::Node;
@@ -21,7 +21,7 @@ pub(crate) struct Numbered {
 /// The number of a set, which is added at the end where it is new.
 fn number_of(sets: &mut IndexSet<Vec<usize>>, set: Vec<usize>) -> Result<usize, AllocError>
     ensures { IfOk result
-        (λ n. Numbers (sets_of sets.old.keys) (sets_of sets.new.keys) set.items n) }
+        (λ n. NumbersSet (sets_of sets.old.keys) (sets_of sets.new.keys) set.items n) }
 {
     let (number, _) = sets.insert_full(set)?;
     Ok(number)
@@ -64,7 +64,7 @@ fn next(
     ensures grows { OnOk result (Grew (sets_of sets.old.keys) (sets_of sets.new.keys)) }
     ensures next { IfOk result
         (λ m. (s : List ℕ) → slice_get (sets_of sets.old.keys) at ≡ Some s
-        → IsNext nodes.now (sets_of sets.new.keys) s c m) }
+        → IsNextSet nodes.now (sets_of sets.new.keys) s c m) }
 {
     let kernel = moved(alloc, nodes, set_at(sets, at), c)?;
     let set = set_of(alloc, nodes, kernel.as_slice())?;
@@ -104,7 +104,7 @@ fn firsts(
     ensures grows { OnOk result (Grew (sets_of sets.old.keys) (sets_of sets.new.keys)) }
     ensures size { IfOk result (λ r. length r.items ≡ length kernels.now) }
     ensures first { IfOk result
-        (λ r. Each
+        (λ r. EachAt
         (λ v n. (kernel : List ℕ) → slice_get (sets_of kernels.now) v ≡ Some kernel
         → IsFirst nodes.now (sets_of sets.new.keys) kernel n) r.items) }
 {

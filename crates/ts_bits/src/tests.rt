@@ -1,3 +1,4 @@
+//! Sets of bits by examples.
 ghost use Rattle.std.specs.Prelude.{◌<◌, IfOk};
 ghost use Rattle.ts_bits.specs.Members.{IsWide};
 

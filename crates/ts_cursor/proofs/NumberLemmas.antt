@@ -15,7 +15,7 @@ use Rattle.ts_core.specs.declared.flat.FlatRule.{FlatRule}
 use Rattle.ts_core.specs.declared.flat.FlatGrammar.{FlatGrammar}
 use Rattle.spec_grammar.specs.Symbols.{start_symbol, count_productions, productions_from, all_productions, first_production}
 use Rattle.spec_trees.specs.VisibleNodes.{steps_at}
-use Rattle.ts_cursor.specs.Numbered.{rule_steps, AreFirsts, AreNumbered}
+use Rattle.ts_cursor.specs.Numbered.{rule_steps, AreFirstProductions, AreNumbered}
 
 count_cons : (x : FlatRule) (rules : List FlatRule) → count_productions (x ∷ rules) ≡ length x.productions + count_productions rules
 count_cons x rules = sum_by-cons (λ (n : ℕ). n) (length x.productions) (map (λ (rule : FlatRule). length rule.productions) rules)
@@ -44,7 +44,7 @@ steps_are g number =
     ap (λ (o : Option (List Step)). unwrap_or o []) (sym (slice_get-map (λ (q : ℕ × Production). q.1.steps) (all_productions g) number))
     ∙ ap (λ (xs : List (List Step)). unwrap_or (slice_get xs number) []) (steps_from (start_symbol g) g.rules)
 
-pub firsts_more : (rules : List FlatRule) (firsts : List ℕ) (n : ℕ) → AreFirsts rules firsts → n ≡ count_productions (take (length firsts) rules) → AreFirsts rules (firsts ++ n ∷ [])
+pub firsts_more : (rules : List FlatRule) (firsts : List ℕ) (n : ℕ) → AreFirstProductions rules firsts → n ≡ count_productions (take (length firsts) rules) → AreFirstProductions rules (firsts ++ n ∷ [])
 firsts_more rules firsts n are is k m e = by (push_cases firsts n k m e)
   where
     by : ((k < length firsts) × (slice_get firsts k ≡ Some m)) ⊎ ((k ≡ length firsts) × (n ≡ m)) → m ≡ count_productions (take k rules)

@@ -20,7 +20,7 @@ use Rattle.ts_core.specs.declared.shown.Shown.{Shown}
 use Rattle.spec_trees.specs.Shown.{shown}
 use Rattle.spec_trees.specs.Family.{LieWithin}
 use Rattle.ts_cursor.specs.declared.nodes.Face.{Face}
-use Rattle.ts_cursor.specs.Marked.{seen_node, seen_nodes, fills, filled_after, window, among, part_nodes, inner_nodes, Appends}
+use Rattle.ts_cursor.specs.Marked.{seen_node, seen_nodes, fills, filled_after, window, among, part_nodes, inner_nodes, AppendsNodes}
 
 -- ---- a tree by its parts
 
@@ -211,13 +211,13 @@ shown_by g h s t alias b c e f is known = cc
 pub put_shown : (g : FlatGrammar) (t : Tree) (depth place : ℕ) (fields : List ℕ) (m : Marks) (old mid new : List VisibleNode) → is_shown g (symbol_of t) m.alias ≡ true
     → mid ≡ old ++ visible_node depth (shown_name g (symbol_of t) m.alias) (shown_named g (symbol_of t) m.alias) (with_field fields m.field) (place + pad_of t) (size_of t) ∷ []
     → all_spans (children_of t) ≤ span_of t
-    → Appends (place + all_spans (children_of t)) (inner_nodes g t (depth + 1) place []) mid new
-    → Appends (place + span_of t) (showing g t depth place fields m) old new
+    → AppendsNodes (place + all_spans (children_of t)) (inner_nodes g t (depth + 1) place []) mid new
+    → AppendsNodes (place + span_of t) (showing g t depth place fields m) old new
 put_shown g t depth place fields m old mid new e pushed within adds =
     let n : depth + 1 ≡ suc depth = omega arith in
     let v : VisibleNode = visible_node depth (shown_name g (symbol_of t) m.alias) (shown_named g (symbol_of t) m.alias) (with_field fields m.field) (place + pad_of t) (size_of t) in
     let s : v ∷ inner_nodes g t (depth + 1) place [] ≡ showing g t depth place fields m = ap (λ (d : ℕ). v ∷ inner_nodes g t d place []) n ∙ sym (showing_shown g t depth place fields m e) in
-    subst (λ (vs : List VisibleNode). Appends (place + span_of t) vs old new) s (record {
+    subst (λ (vs : List VisibleNode). AppendsNodes (place + span_of t) vs old new) s (record {
       nodes = adds.nodes ∙ ap (λ (vs : List VisibleNode). vs ++ inner_nodes g t (depth + 1) place []) pushed ∙ append_assoc old (v ∷ []) (inner_nodes g t (depth + 1) place []);
       lie = (omega arith, (omega arith, lie_more _ _ _ (omega (arith, within)) adds.lie));
     })
@@ -225,10 +225,10 @@ put_shown g t depth place fields m old mid new e pushed within adds =
 -- the children of a hidden node
 pub put_hidden : (g : FlatGrammar) (t : Tree) (depth place : ℕ) (fields : List ℕ) (m : Marks) (old new : List VisibleNode) → is_shown g (symbol_of t) m.alias ≡ false
     → all_spans (children_of t) ≤ span_of t
-    → Appends (place + all_spans (children_of t)) (inner_nodes g t depth place (with_field fields m.field)) old new
-    → Appends (place + span_of t) (showing g t depth place fields m) old new
+    → AppendsNodes (place + all_spans (children_of t)) (inner_nodes g t depth place (with_field fields m.field)) old new
+    → AppendsNodes (place + span_of t) (showing g t depth place fields m) old new
 put_hidden g t depth place fields m old new e within adds =
-    subst (λ (vs : List VisibleNode). Appends (place + span_of t) vs old new) (sym (showing_hidden g t depth place fields m e)) (record {
+    subst (λ (vs : List VisibleNode). AppendsNodes (place + span_of t) vs old new) (sym (showing_hidden g t depth place fields m e)) (record {
       nodes = adds.nodes;
       lie = lie_more _ _ _ (omega (arith, within)) adds.lie;
     })
@@ -264,7 +264,7 @@ after_few n false = omega arith
 
 pub parted_step : (g : FlatGrammar) (steps : List Step) (ts : List Tree) (from to depth place : ℕ) (fields : List ℕ) (old : List VisibleNode) (k filled at : ℕ) (found more : List VisibleNode) (t : Tree)
     → Parted g steps ts from to depth place fields old k filled at found → slice_get ts k ≡ Some t → k < to
-    → Appends (at + span_of t) (showing g t depth at fields (marks_at steps (fills filled (is_extra_node t)))) found more
+    → AppendsNodes (at + span_of t) (showing g t depth at fields (marks_at steps (fills filled (is_extra_node t)))) found more
     → Parted g steps ts from to depth place fields old (k + 1) (filled_after filled (is_extra_node t)) (at + span_of t) more
 parted_step g steps ts from to depth place fields old k filled at found more t p e h adds =
     let n : k + 1 ≡ suc k = omega arith in
@@ -284,14 +284,14 @@ parted_step g steps ts from to depth place fields old k filled at found more t p
 pub parted_next : (g : FlatGrammar) (steps : List Step) (ts : List Tree) (from to depth place : ℕ) (fields : List ℕ) (old : List VisibleNode) (k filled at : ℕ) (found more : List VisibleNode) (t : Tree) (extra : Bool) (m : Marks) (after next : ℕ)
     → Parted g steps ts from to depth place fields old k filled at found → slice_get ts k ≡ Some t → k < to
     → extra ≡ is_extra_node t → m ≡ marks_at steps (fills filled extra) → after ≡ filled_after filled extra → next ≡ at + span_of t
-    → Appends (at + span_of t) (showing g t depth at fields m) found more
+    → AppendsNodes (at + span_of t) (showing g t depth at fields m) found more
     → Parted g steps ts from to depth place fields old (k + 1) after next more
 parted_next g steps ts from to depth place fields old k filled at found more t extra m after next p e h is_extra is_marks is_after is_next adds =
     let m' : m ≡ marks_at steps (fills filled (is_extra_node t)) = is_marks ∙ ap (λ (b : Bool). marks_at steps (fills filled b)) is_extra in
     let a' : after ≡ filled_after filled (is_extra_node t) = is_after ∙ ap (λ (b : Bool). filled_after filled b) is_extra in
     subst (λ (j : ℕ). Parted g steps ts from to depth place fields old (k + 1) j next more) (sym a')
     (subst (λ (j : ℕ). Parted g steps ts from to depth place fields old (k + 1) (filled_after filled (is_extra_node t)) j more) (sym is_next)
-    (parted_step g steps ts from to depth place fields old k filled at found more t p e h (subst (λ (v : Marks). Appends (at + span_of t) (showing g t depth at fields v) found more) m' adds)))
+    (parted_step g steps ts from to depth place fields old k filled at found more t p e h (subst (λ (v : Marks). AppendsNodes (at + span_of t) (showing g t depth at fields v) found more) m' adds)))
 
 -- where the next child ends
 pub parted_fits : (g : FlatGrammar) (steps : List Step) (ts : List Tree) (from to depth place : ℕ) (fields : List ℕ) (old : List VisibleNode) (k filled at : ℕ) (found : List VisibleNode) (t : Tree)
@@ -301,7 +301,7 @@ parted_fits g steps ts from to depth place fields old k filled at found t p e h 
 
 pub parted_end : (g : FlatGrammar) (steps : List Step) (ts : List Tree) (from to depth place : ℕ) (fields : List ℕ) (old : List VisibleNode) (k filled at : ℕ) (found : List VisibleNode)
     → Parted g steps ts from to depth place fields old k filled at found → k ≡ to
-    → Appends (place + all_spans (window ts from to)) (part_nodes g steps 0 (window ts from to) depth place fields) old found × (at ≡ place + all_spans (window ts from to))
+    → AppendsNodes (place + all_spans (window ts from to)) (part_nodes g steps 0 (window ts from to) depth place fields) old found × (at ≡ place + all_spans (window ts from to))
 parted_end g steps ts from to depth place fields old k filled at found p e =
     let w : window ts k to ≡ [] = ap (λ (j : ℕ). window ts j to) e ∙ window_end ts to in
     let none : part_nodes g steps filled (window ts k to) depth at fields ≡ [] = ap (λ (us : List Tree). part_nodes g steps filled us depth at fields) w in
@@ -354,7 +354,7 @@ element_fits g symbol es ts depth place fields old e from at found el s at_e =
 
 pub elemented_step : (g : FlatGrammar) (symbol : ℕ) (es : List Element) (ts : List Tree) (depth place : ℕ) (fields : List ℕ) (old : List VisibleNode) (e from at : ℕ) (found more : List VisibleNode) (el : Element)
     → Elemented g symbol es ts depth place fields old e from at found → slice_get es e ≡ Some el
-    → Appends (at + all_spans (window ts from (from + el.children))) (part_nodes g (steps_at g (first_production g symbol + el.alternative)) 0 (window ts from (from + el.children)) depth at fields) found more
+    → AppendsNodes (at + all_spans (window ts from (from + el.children))) (part_nodes g (steps_at g (first_production g symbol + el.alternative)) 0 (window ts from (from + el.children)) depth at fields) found more
     → Elemented g symbol es ts depth place fields old (e + 1) (from + el.children) (at + all_spans (window ts from (from + el.children))) more
 elemented_step g symbol es ts depth place fields old e from at found more el s at_e adds =
     let n : e + 1 ≡ suc e = omega arith in
@@ -373,7 +373,7 @@ elemented_step g symbol es ts depth place fields old e from at found more el s a
 
 pub elemented_end : (g : FlatGrammar) (t : Tree) (depth place : ℕ) (fields : List ℕ) (old : List VisibleNode) (e from at : ℕ) (found : List VisibleNode) → production_of t ≡ None
     → Elemented g (symbol_of t) (elements_of t) (children_of t) depth place fields old e from at found → length (elements_of t) ≤ e
-    → Appends (place + all_spans (children_of t)) (inner_nodes g t depth place fields) old found
+    → AppendsNodes (place + all_spans (children_of t)) (inner_nodes g t depth place fields) old found
 elemented_end g t depth place fields old e from at found no_rule s h =
     let es : List Element = elements_of t in
     let ts : List Tree = children_of t in
@@ -382,7 +382,7 @@ elemented_end g t depth place fields old e from at found no_rule s h =
     let r : drop from ts ≡ [] = drop_all from ts (omega (arith, s.own, c)) in
     let none : among g (drop from ts) (elements_marks g (symbol_of t) (drop e es) (drop from ts)) depth at fields ≡ [] = ap (λ (us : List Tree). among g us (elements_marks g (symbol_of t) (drop e es) us) depth at fields) r in
     let all : inner_nodes g t depth place fields ≡ among g ts (elements_marks g (symbol_of t) es ts) depth place fields = ap (λ (o : Option ℕ). among g ts (children_marks g (symbol_of t) o es ts) depth place fields) no_rule in
-    subst (λ (vs : List VisibleNode). Appends (place + all_spans ts) vs old found) (sym all) (record {
+    subst (λ (vs : List VisibleNode). AppendsNodes (place + all_spans ts) vs old found) (sym all) (record {
       nodes = sym (append-nil found) ∙ ap (λ (vs : List VisibleNode). found ++ vs) (sym none) ∙ s.nodes;
       lie = s.lie (subst (λ (vs : List VisibleNode). LieWithin (place + all_spans ts) vs) (sym none) tt);
     })
@@ -394,13 +394,13 @@ nil_of (x ∷ es) n e h = absurd (omega (arith, e, h))
 -- the root, and then its children
 pub put_root : (g : FlatGrammar) (t : Tree) (mid new : List VisibleNode) → mid ≡ visible_node 0 (node_name g (symbol_of t)) true [] (pad_of t) (size_of t) ∷ []
     → all_spans (children_of t) ≤ span_of t
-    → Appends (0 + all_spans (children_of t)) (inner_nodes g t 1 0 []) mid new
+    → AppendsNodes (0 + all_spans (children_of t)) (inner_nodes g t 1 0 []) mid new
     → (new ≡ visible_nodes g t) × LieWithin (span_of t) new
 put_root g t mid new pushed within adds =
     let n : 0 + pad_of t ≡ pad_of t = omega arith in
     let s : 0 + span_of t ≡ span_of t = omega arith in
     let p : mid ≡ [] ++ visible_node 0 (node_name g (symbol_of t)) true [] (0 + pad_of t) (size_of t) ∷ [] = pushed ∙ ap (λ (k : ℕ). visible_node 0 (node_name g (symbol_of t)) true [] k (size_of t) ∷ []) (sym n) in
-    let a : Appends (0 + span_of t) (visible_nodes g t) [] new = put_shown g t 0 0 [] (root_marks g (symbol_of t)) [] mid new refl p within adds in
+    let a : AppendsNodes (0 + span_of t) (visible_nodes g t) [] new = put_shown g t 0 0 [] (root_marks g (symbol_of t)) [] mid new refl p within adds in
     (a.nodes, subst (λ (vs : List VisibleNode). LieWithin (span_of t) vs) (sym a.nodes) (subst (λ (k : ℕ). LieWithin k (visible_nodes g t)) s a.lie))
 
 pub few_seen : (g : FlatGrammar) (t : Tree) (vs : List Face) → seen_nodes vs ≡ visible_nodes g t → length vs ≤ node_count t

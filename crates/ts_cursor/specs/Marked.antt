@@ -50,7 +50,7 @@ abbrev pub filled_after : ℕ → Bool → ℕ
 filled_after filled extra = if extra then filled else suc filled
 
 -- these nodes come to those before, and end by a place
-pub record Appends (limit : ℕ) (part before after : List VisibleNode) : Type 0 where
+pub record AppendsNodes (limit : ℕ) (part before after : List VisibleNode) : Type 0 where
   pub nodes : after ≡ before ++ part
   pub lie : LieWithin limit part
 

@@ -11,12 +11,12 @@ abbrev pub rule_steps : FlatRule → List (List Step)
 rule_steps rule = map (λ production. production.steps) rule.productions
 
 -- for each of some rules the number of its first production
-abbrev pub AreFirsts : List FlatRule → List ℕ → Type 0
-AreFirsts rules firsts =
+abbrev pub AreFirstProductions : List FlatRule → List ℕ → Type 0
+AreFirstProductions rules firsts =
     (k n : ℕ) → slice_get firsts k ≡ Some n → n ≡ count_productions (take k rules)
 
 -- the first numbers of all rules, and the steps of all productions
 pub record AreNumbered (g : FlatGrammar) (firsts : List ℕ) (steps : List (List Step)) : Type 0 where
   pub many : length firsts ≡ length g.rules
-  pub each : AreFirsts g.rules firsts
+  pub each : AreFirstProductions g.rules firsts
   pub all : steps ≡ flat_map rule_steps g.rules

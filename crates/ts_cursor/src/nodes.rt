@@ -3,7 +3,7 @@ ghost use Rattle.std.specs.Prelude.{◌≡◌, ◌+◌, ◌<◌, ◌≤◌, ◌^
 ghost use Rattle.spec_grammar.specs.Symbols.{node_name};
 ghost use Rattle.spec_trees.specs.Trees.{symbol_of, pad_of, size_of, span_of, all_spans, tree_depth, greatest_depth, children_of, elements_of, production_of};
 ghost use Rattle.spec_trees.specs.VisibleNodes.{marks_at, showing, visible_nodes, visible_node, shown_name, shown_named, with_field};
-ghost use Rattle.ts_cursor.specs.Marked.{step_marks, seen_node, seen_nodes, fills, filled_after, window, part_nodes, inner_nodes, Appends};
+ghost use Rattle.ts_cursor.specs.Marked.{step_marks, seen_node, seen_nodes, fills, filled_after, window, part_nodes, inner_nodes, AppendsNodes};
 ghost use Rattle.spec_trees.specs.Family.{LieWithin};
 
 use crate::face::{is_named, name, shows, symbol_name};
@@ -77,7 +77,7 @@ fn put<'g>(
 ) -> Result<(), AllocError>
     requires deep { at.depth + tree_depth node.now < 2 ^ 32 }
     requires within { at.place + span_of node.now < 2 ^ 32 }
-    ensures { OnOk result (Appends (at.place + span_of node.now)
+    ensures { OnOk result (AppendsNodes (at.place + span_of node.now)
         (showing steps.now node.now at.depth at.place fields.now (step_marks step.entry))
         (seen_nodes nodes.old.items) (seen_nodes nodes.new.items)) }
 {
@@ -107,7 +107,7 @@ fn put_children<'g>(
 ) -> Result<(), AllocError>
     requires deep { at.depth + greatest_depth (children_of node.now) < 2 ^ 32 }
     requires within { at.place + all_spans (children_of node.now) < 2 ^ 32 }
-    ensures { OnOk result (Appends (at.place + all_spans (children_of node.now))
+    ensures { OnOk result (AppendsNodes (at.place + all_spans (children_of node.now))
         (inner_nodes steps.now node.now at.depth at.place fields.now)
         (seen_nodes nodes.old.items) (seen_nodes nodes.new.items)) }
 {
@@ -139,7 +139,7 @@ fn put_all<'g>(
 ) -> Result<(), AllocError>
     requires deep { at.depth + greatest_depth (children_of node.now) < 2 ^ 32 }
     requires within { at.place + all_spans (children_of node.now) < 2 ^ 32 }
-    ensures { OnOk result (Appends (at.place + all_spans (children_of node.now))
+    ensures { OnOk result (AppendsNodes (at.place + all_spans (children_of node.now))
         (part_nodes steps.now filled.now 0 (children_of node.now) at.depth at.place fields.now)
         (seen_nodes nodes.old.items) (seen_nodes nodes.new.items)) }
 {
@@ -166,7 +166,7 @@ fn put_elements<'g>(
     requires some { 0 < length (elements_of node.now) }
     requires deep { at.depth + greatest_depth (children_of node.now) < 2 ^ 32 }
     requires within { at.place + all_spans (children_of node.now) < 2 ^ 32 }
-    ensures { OnOk result (Appends (at.place + all_spans (children_of node.now))
+    ensures { OnOk result (AppendsNodes (at.place + all_spans (children_of node.now))
         (inner_nodes steps.now node.now at.depth at.place fields.now)
         (seen_nodes nodes.old.items) (seen_nodes nodes.new.items)) }
 {
@@ -208,7 +208,7 @@ fn put_part<'g>(
     requires deep { at.depth + greatest_depth (children_of node.now) < 2 ^ 32 }
     requires within { at.place
         + all_spans (window (children_of node.now) part.from part.to) < 2 ^ 32 }
-    ensures nodes { OnOk result (Appends
+    ensures nodes { OnOk result (AppendsNodes
         (at.place + all_spans (window (children_of node.now) part.entry.from part.entry.to))
         (part_nodes steps.now part.entry.steps.now 0
         (window (children_of node.now) part.entry.from part.entry.to)

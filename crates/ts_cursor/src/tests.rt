@@ -1,3 +1,4 @@
+//! The visible tree of small trees: moves, names, fields, ranges.
 ghost use Rattle.std.specs.Prelude.{◌≤◌, ◌↔◌, IsTrue, length};
 ghost use Rattle.spec_trees.specs.Trees.{span_of};
 

@@ -1,3 +1,4 @@
+//! Grammars that are not fit, by examples: each misfit, and what is counted.
 use crate::{
     first_bad_repetition, first_cyclic, first_empty_rule, first_empty_token, has_few_positions,
     matches_nothing, misfit, positions, positions_of_all,

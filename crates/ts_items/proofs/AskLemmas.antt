@@ -16,11 +16,11 @@ use Rattle.ts_items.specs.declared.flow.Edge.{Edge}
 use Rattle.ts_items.specs.declared.tables.Tables.{Tables}
 use Rattle.ts_items.specs.Productions.{right_of}
 use Rattle.ts_items.specs.Parts.{line_of, In}
-use Rattle.ts_items.specs.Rows.{Each}
-use Rattle.ts_items.specs.Sets.{HasAt, Gains}
+use Rattle.ts_items.specs.Rows.{FromOne}
+use Rattle.ts_items.specs.Sets.{HasAt, GainsTokens}
 use Rattle.ts_items.specs.Flow.{Spread, given, brought, Hands, Brings, IsNet, Spreads}
 use Rattle.ts_items.specs.Tables.{IsLineOf, IsTables}
-use Rattle.ts_items.specs.Closing.{Behind, Wants, Turns, Asked, Begun, Closed, Same, AskedBy, IsPart, AreParts, BeginsAt, AreBegun, Grows, IsPool, Closes}
+use Rattle.ts_items.specs.Closing.{Behind, Wants, Turns, Asked, Begun, Closed, SameItems, AskedBy, IsLinePart, AreLineParts, BeginsAt, AreBegun, AddsSets, IsPool, Closes}
 use Rattle.ts_items.proofs.ListLemmas.{there, at_of, one_at, some_at}
 use Rattle.ts_items.proofs.GainLemmas.{has_at}
 use Rattle.ts_items.proofs.EdgeLemmas.{ask_net}
@@ -89,7 +89,7 @@ module _ (g : FlatGrammar) (t : Tables) (tables : IsTables g t) where
   follow_of pool q v u has None b = subst (HasAt pool q.tokens) (sym b) has
   follow_of pool q v u has (Some x) b = b
 
-  asked_by : (pool : List BitSet) (kernel : List Part) (y u : ℕ) → Wants g (In pool kernel) y u → Each (AskedBy g pool) kernel y u
+  asked_by : (pool : List BitSet) (kernel : List Part) (y u : ℕ) → Wants g (In pool kernel) y u → FromOne (AskedBy g pool) kernel y u
   asked_by pool kernel y u w =
       let q = w.there.part in
       let is = w.there.is in
@@ -103,8 +103,8 @@ module _ (g : FlatGrammar) (t : Tables) (tables : IsTables g t) where
         };
       }
 
-pub asked_are : (g : FlatGrammar) (t : Tables) (pool : List BitSet) (kernel : List Part) (old a b : List BitSet) → IsTables g t → AreParts (length t.productions.items) pool kernel → length old ≡ length t.firsts.items → ((y u : ℕ) → HasAt old y u → ⊥)
-    → Gains (Each (AskedBy g pool) kernel) old a → Spreads t.edges.items t.firsts.items a b → (y u : ℕ) → HasAt b y u ↔ Asked g (In pool kernel) y u
+pub asked_are : (g : FlatGrammar) (t : Tables) (pool : List BitSet) (kernel : List Part) (old a b : List BitSet) → IsTables g t → AreLineParts (length t.productions.items) pool kernel → length old ≡ length t.firsts.items → ((y u : ℕ) → HasAt old y u → ⊥)
+    → GainsTokens (FromOne (AskedBy g pool) kernel) old a → Spreads t.edges.items t.firsts.items a b → (y u : ℕ) → HasAt b y u ↔ Asked g (In pool kernel) y u
 asked_are g t pool kernel old a b tables parts size none gains spreads y u = (
   (λ h. spread_more (Brings t.edges.items t.firsts.items) (Turns g) (HasAt a) (Wants g (In pool kernel)) from (λ v w x z e. turns_of g t tables v w x z e) y u ((spreads.members y u).0 h)),
   (λ h. (spreads.members y u).1 (spread_more (Turns g) (Brings t.edges.items t.firsts.items) (Wants g (In pool kernel)) (HasAt a) to (λ v w x z e. brings_of g t tables v w x z e) y u h)),
@@ -126,7 +126,7 @@ asked_are g t pool kernel old a b tables parts size none gains spreads y u = (
 
 -- ---- closed sets
 
-pub in_grown : (old new : List BitSet) (lines : ℕ) (parts : List Part) → Grows old new → AreParts lines old parts → Same (In new parts) (In old parts)
+pub in_grown : (old new : List BitSet) (lines : ℕ) (parts : List Part) → AddsSets old new → AreLineParts lines old parts → SameItems (In new parts) (In old parts)
 in_grown old new lines parts grows are i = (
   (λ h. let g = (grown_has old new h.part.tokens grows (are h.part h.there).tokens i.token).0 (record { set = h.is.set; at = h.is.at; has = h.is.has }) in
       record { part = h.part; there = h.there; is = record { line = h.is.line; dot = h.is.dot; set = g.set; at = g.at; has = g.has } }),
@@ -140,10 +140,10 @@ wants_more g K L more y t w = record { item = w.item; there = more w.item w.ther
 pub asked_more : (g : FlatGrammar) (K L : Item → Type 0) → ((i : Item) → K i → L i) → (y t : ℕ) → Asked g K y t → Asked g L y t
 asked_more g K L more = spread_more (Turns g) (Turns g) (Wants g K) (Wants g L) (wants_more g K L more) (λ y t z u h. h)
 
-pub part_grown : (old new : List BitSet) (lines : ℕ) (q : Part) → Grows old new → IsPart lines old q → IsPart lines new q
+pub part_grown : (old new : List BitSet) (lines : ℕ) (q : Part) → AddsSets old new → IsLinePart lines old q → IsLinePart lines new q
 part_grown old new lines q grows p = record { line = p.line; tokens = grown_length old new q.tokens grows p.tokens; some = (p.some.0, (grown_has old new q.tokens grows p.tokens p.some.0).1 p.some.1) }
 
-pub closes : (g : FlatGrammar) (t : Tables) (old pool asked : List BitSet) (kernel parts : List Part) → IsTables g t → AreParts (length t.productions.items) old kernel → Grows old pool → IsPool t.width pool
+pub closes : (g : FlatGrammar) (t : Tables) (old pool asked : List BitSet) (kernel parts : List Part) → IsTables g t → AreLineParts (length t.productions.items) old kernel → AddsSets old pool → IsPool t.width pool
     → ((n : ℕ) (a b : BitSet) → IsWide n a → IsWide n b → ((u : ℕ) → Has a u ↔ Has b u) → a.words.items ≡ b.words.items)
     → ((y u : ℕ) → HasAt asked y u ↔ Asked g (In old kernel) y u) → AreBegun t.lines.items asked pool (length asked) kernel parts → Closes g (length t.productions.items) pool kernel parts
 closes g t old pool asked kernel parts tables are grows is_pool law is begun = record {
@@ -164,14 +164,14 @@ closes g t old pool asked kernel parts tables are grows is_pool law is begun = r
     line_is : (y : ℕ) (q : Part) → BeginsAt t.lines.items asked pool y q → IsLineOf ps y q.line
     line_is y q b = (tables.lines.members y q.line).0 b.line
 
-    begun_is : (q : Part) → (y : ℕ) × BeginsAt t.lines.items asked pool y q → IsPart (length ps) pool q
+    begun_is : (q : Part) → (y : ℕ) × BeginsAt t.lines.items asked pool y q → IsLinePart (length ps) pool q
     begun_is q (y, b) =
         let l = line_is y q b in
         let lt = slice_get_within ps l.number l.production l.at in
         let e = l.is in
         record { line = omega (arith, lt, e); tokens = b.inside; some = (b.some.0, (b.same b.some.0).1 b.some.1) }
 
-    kernel_in : Same (In pool kernel) (In old kernel)
+    kernel_in : SameItems (In pool kernel) (In old kernel)
     kernel_in = in_grown old pool (length ps) kernel grows are
 
     to : (i : Item) → In pool parts i → Closed g (In pool kernel) i

@@ -4,7 +4,7 @@ use Rattle.ts_core.specs.declared.flat.FlatGrammar.{FlatGrammar}
 use Rattle.spec_tables.specs.Items.{Line, Item, line_steps, IsProductionOf, AsksFor, start_item, advanced, Valid, begun, asked, advanced_past}
 use Rattle.ts_items.specs.Productions.{right_of}
 use Rattle.ts_items.specs.Flow.{given, brought}
-use Rattle.ts_items.specs.Closing.{AtDot, Behind, Asked, Closed, Same, Moves}
+use Rattle.ts_items.specs.Closing.{AtDot, Behind, Asked, Closed, SameItems, MovesPast}
 use Rattle.ts_items.proofs.ListLemmas.{head_is, tail_is}
 use Rattle.ts_items.proofs.PlainLemmas.{dot_of, step_at, follow_to, follow_from}
 
@@ -59,7 +59,7 @@ closed_more g K i j c e = inr (record {
 })
 
 -- the items that are valid after no symbols
-pub first_valid : (g : FlatGrammar) (K : Item → Type 0) → Same K (λ i. i ≡ start_item) → Same (Closed g K) (Valid g [])
+pub first_valid : (g : FlatGrammar) (K : Item → Type 0) → SameItems K (λ i. i ≡ start_item) → SameItems (Closed g K) (Valid g [])
 first_valid g K start j = (closed_valid g K [] (λ i k. subst (Valid g []) (sym ((start i).0 k)) begun) j, (λ v. to [] j v refl))
   where
     to : (path : List ℕ) (i : Item) → Valid g path i → path ≡ [] → Closed g K i
@@ -68,7 +68,7 @@ first_valid g K start j = (closed_valid g K [] (λ i k. subst (Valid g []) (sym 
     to _ _ (advanced_past path i step v b) e = absurd (let x : ◌≡◌ {A = List ℕ} (step.symbol.0 ∷ path) [] = e in cc)
 
 -- the items that are valid after one symbol more
-pub next_valid : (g : FlatGrammar) (S K : Item → Type 0) (read : List ℕ) (x : ℕ) → Same S (Valid g read) → Same K (Moves g S x) → Same (Closed g K) (Valid g (x ∷ read))
+pub next_valid : (g : FlatGrammar) (S K : Item → Type 0) (read : List ℕ) (x : ℕ) → SameItems S (Valid g read) → SameItems K (MovesPast g S x) → SameItems (Closed g K) (Valid g (x ∷ read))
 next_valid g S K read x valid moves j = (closed_valid g K (x ∷ read) from j, (λ v. to (x ∷ read) j v refl))
   where
     from : (i : Item) → K i → Valid g (x ∷ read) i

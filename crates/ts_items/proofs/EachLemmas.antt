@@ -5,30 +5,30 @@ use Rattle.std.specs.List.{Contains}
 use Rattle.std.proofs.lemmas.List.{take_more, length-set}
 use Rattle.std.proofs.lemmas.List.Elements.{Contains-append_left, Contains-push, Contains-push_cases}
 use Rattle.std.proofs.lemmas.Bool.{cases_eq}
-use Rattle.ts_items.specs.Rows.{RowHas, Puts, Each}
+use Rattle.ts_items.specs.Rows.{RowHas, Puts, FromOne}
 use Rattle.ts_items.proofs.ListLemmas.{one_at, get_set_same, get_set_other, written, none_in_nil, none_at_nil, snoc_at}
 
 module _ {A X : Type 0} (P : A → ℕ → X → Type 0) where
   none_taken : (xs : List A) (y : A) → Contains (take 0 xs) y → ⊥
   none_taken xs y h = let lt = h.1 in omega arith
 
-  pub each_none : (xs : List A) (y : ℕ) (x : X) → Each P (take 0 xs) y x → ⊥
+  pub each_none : (xs : List A) (y : ℕ) (x : X) → FromOne P (take 0 xs) y x → ⊥
   each_none xs y x e = none_taken xs e.by e.there
 
   -- what the first elements give, and one more
-  pub each_old : (xs : List A) (k : ℕ) (d : A) → k < length xs → (y : ℕ) (x : X) → Each P (take k xs) y x → Each P (take (k + 1) xs) y x
+  pub each_old : (xs : List A) (k : ℕ) (d : A) → k < length xs → (y : ℕ) (x : X) → FromOne P (take k xs) y x → FromOne P (take (k + 1) xs) y x
   each_old xs k d below y x e = rw (take_more xs k d below) (record { by = e.by; there = Contains-append_left (take k xs) (get_or xs k d ∷ []) e.by e.there; gives = e.gives })
 
-  pub each_new : (xs : List A) (k : ℕ) (d : A) → k < length xs → (y : ℕ) (x : X) → P (get_or xs k d) y x → Each P (take (k + 1) xs) y x
+  pub each_new : (xs : List A) (k : ℕ) (d : A) → k < length xs → (y : ℕ) (x : X) → P (get_or xs k d) y x → FromOne P (take (k + 1) xs) y x
   each_new xs k d below y x p = rw (take_more xs k d below) (record { by = get_or xs k d; there = Contains-push (take k xs) (get_or xs k d); gives = p })
 
-  pub each_cases : (xs : List A) (k : ℕ) (d : A) → k < length xs → (y : ℕ) (x : X) → Each P (take (k + 1) xs) y x → Each P (take k xs) y x ⊎ P (get_or xs k d) y x
+  pub each_cases : (xs : List A) (k : ℕ) (d : A) → k < length xs → (y : ℕ) (x : X) → FromOne P (take (k + 1) xs) y x → FromOne P (take k xs) y x ⊎ P (get_or xs k d) y x
   each_cases xs k d below y x e =
       let there' : Contains (take k xs ++ get_or xs k d ∷ []) e.by = subst (λ (l : List A). Contains l e.by) (take_more xs k d below) e.there in
       ⊎_elim (λ w. inl (record { by = e.by; there = w; gives = e.gives })) (λ w. inr (subst (λ (a : A). P a y x) (sym w) e.gives)) (Contains-push_cases (take k xs) (get_or xs k d) e.by there')
 
-  pub each_all : (xs : List A) (k : ℕ) (y : ℕ) (x : X) → take k xs ≡ xs → Each P (take k xs) y x → Each P xs y x
-  each_all xs k y x e h = subst (λ (l : List A). Each P l y x) e h
+  pub each_all : (xs : List A) (k : ℕ) (y : ℕ) (x : X) → take k xs ≡ xs → FromOne P (take k xs) y x → FromOne P xs y x
+  each_all xs k y x e h = subst (λ (l : List A). FromOne P l y x) e h
 
 module _ {X : Type 0} where
   pub puts_none : (P : ℕ → X → Type 0) (rows : List (Vec X)) → ((y : ℕ) (x : X) → P y x → ⊥) → Puts P rows rows
@@ -80,22 +80,22 @@ module _ {X : Type 0} where
       )
 
 module _ {A X : Type 0} (P : A → ℕ → X → Type 0) where
-  pub puts_begin : (xs : List A) (rows : List (Vec X)) → Puts (Each P (take 0 xs)) rows rows
-  puts_begin xs rows = puts_none (Each P (take 0 xs)) rows (λ y x. each_none P xs y x)
+  pub puts_begin : (xs : List A) (rows : List (Vec X)) → Puts (FromOne P (take 0 xs)) rows rows
+  puts_begin xs rows = puts_none (FromOne P (take 0 xs)) rows (λ y x. each_none P xs y x)
 
-  pub puts_more : (xs : List A) (k : ℕ) (d : A) (a b c : List (Vec X)) → k < length xs → Puts (Each P (take k xs)) a b → Puts (P (get_or xs k d)) b c → Puts (Each P (take (k + 1) xs)) a c
+  pub puts_more : (xs : List A) (k : ℕ) (d : A) (a b c : List (Vec X)) → k < length xs → Puts (FromOne P (take k xs)) a b → Puts (P (get_or xs k d)) b c → Puts (FromOne P (take (k + 1) xs)) a c
   puts_more xs k d a b c below before one =
-      puts_both (Each P (take k xs)) (P (get_or xs k d)) (Each P (take (k + 1) xs)) a b c before one (λ y x. each_old P xs k d below y x) (λ y x. each_new P xs k d below y x) (λ y x. each_cases P xs k d below y x)
+      puts_both (FromOne P (take k xs)) (P (get_or xs k d)) (FromOne P (take (k + 1) xs)) a b c before one (λ y x. each_old P xs k d below y x) (λ y x. each_new P xs k d below y x) (λ y x. each_cases P xs k d below y x)
 
-  pub puts_all : (xs : List A) (k : ℕ) (a b : List (Vec X)) → take k xs ≡ xs → Puts (Each P (take k xs)) a b → Puts (Each P xs) a b
-  puts_all xs k a b e h = subst (λ (l : List A). Puts (Each P l) a b) e h
+  pub puts_all : (xs : List A) (k : ℕ) (a b : List (Vec X)) → take k xs ≡ xs → Puts (FromOne P (take k xs)) a b → Puts (FromOne P xs) a b
+  puts_all xs k a b e h = subst (λ (l : List A). Puts (FromOne P l) a b) e h
 
 module _ {A X : Type 0} (P : A → ℕ → X → Type 0) where
   -- the same through a slice of a vector of lists
-  pub puts_slice : (xs : List A) (k len : ℕ) (x : A) (a items now new : List (Vec X)) → k < length xs → x ≡ get_or xs k x → now ≡ items → length now ≡ len → Puts (Each P (take k xs)) a items → Puts (P x) now new
-      → Puts (Each P (take (k + 1) xs)) a (take len (new ++ drop (length new) items))
+  pub puts_slice : (xs : List A) (k len : ℕ) (x : A) (a items now new : List (Vec X)) → k < length xs → x ≡ get_or xs k x → now ≡ items → length now ≡ len → Puts (FromOne P (take k xs)) a items → Puts (P x) now new
+      → Puts (FromOne P (take (k + 1) xs)) a (take len (new ++ drop (length new) items))
   puts_slice xs k len x a items now new below is same size before one =
-      subst (Puts (Each P (take (k + 1) xs)) a) (sym (written items now new len same size one.count))
+      subst (Puts (FromOne P (take (k + 1) xs)) a) (sym (written items now new len same size one.count))
       (puts_more P xs k x a items new below before (subst (λ (l : List (Vec X)). Puts (P (get_or xs k x)) l new) same (subst (λ (z : A). Puts (P z) now new) is one)))
 
 -- ---- lists that are made empty

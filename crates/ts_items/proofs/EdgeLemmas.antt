@@ -11,11 +11,11 @@ use Rattle.spec_tables.specs.Items.{CanBeginWith, itself, by_first, line_steps}
 use Rattle.ts_bits.specs.declared.set.BitSet.{BitSet}
 use Rattle.ts_items.specs.declared.flow.Edge.{Edge}
 use Rattle.ts_items.specs.declared.plain.Plain.{Plain}
-use Rattle.ts_items.specs.Productions.{ArePlain}
-use Rattle.ts_items.specs.Rows.{RowHas, Puts, Each}
-use Rattle.ts_items.specs.Sets.{HasAt, AreWide, Gains}
+use Rattle.ts_items.specs.Productions.{ArePlainOf}
+use Rattle.ts_items.specs.Rows.{RowHas, Puts, FromOne}
+use Rattle.ts_items.specs.Sets.{HasAt, AreWide, GainsTokens}
 use Rattle.ts_items.specs.Flow.{Spread, given, brought, Hands, Brings, Spreads, Queued, IsNet}
-use Rattle.ts_items.specs.Edges.{IsFirstEdge, IsAskEdge, AreEdges, IsInside, AreInside, AreFirsts}
+use Rattle.ts_items.specs.Edges.{IsFirstEdge, IsAskEdge, AreEdges, IsPlainInside, AreInside, AreFirstSets}
 use Rattle.ts_items.specs.Tables.{IsLineOf, AreLines}
 use Rattle.ts_items.proofs.ListLemmas.{written, none_in_nil, there, at_of, snoc_at, at_snoc, at_front}
 use Rattle.ts_items.proofs.GainLemmas.{Selves}
@@ -58,14 +58,14 @@ ask_puts p right at edge old new same some is to behind puts =
     (λ y e h. (h.from ∙ sym is, edge_of e edge (one_some e.to edge.to (sym h.to ∙ here)) (h.behind ∙ sym second)))
 
 -- the first symbol of a production is inside
-pub first_inside : (p : Plain) (count : ℕ) (right : List ℕ) (at : ℕ) → IsInside count p → right ≡ p.right.items → 0 < length right → at ≡ get_or right 0 0 → at < count
+pub first_inside : (p : Plain) (count : ℕ) (right : List ℕ) (at : ℕ) → IsPlainInside count p → right ≡ p.right.items → 0 < length right → at ≡ get_or right 0 0 → at < count
 first_inside p count right at inside same some is = inside.right 0 at (first_at right p.right.items at same some is)
 
-pub inside_of : (p : Plain) (m n : ℕ) → n ≡ m → IsInside m p → IsInside n p
-inside_of p m n same i = subst (λ (k : ℕ). IsInside k p) (sym same) i
+pub inside_of : (p : Plain) (m n : ℕ) → n ≡ m → IsPlainInside m p → IsPlainInside n p
+inside_of p m n same i = subst (λ (k : ℕ). IsPlainInside k p) (sym same) i
 
 -- edges that were put into empty rows
-pub are_edges : (EdgeOf : Plain → ℕ → Edge → Type 0) (ps : List Plain) (count : ℕ) (rows edges : List (Vec Edge)) → length rows ≡ count → ((y : ℕ) (e : Edge) → RowHas rows y e → ⊥) → Puts (Each EdgeOf ps) rows edges → AreEdges EdgeOf ps count edges
+pub are_edges : (EdgeOf : Plain → ℕ → Edge → Type 0) (ps : List Plain) (count : ℕ) (rows edges : List (Vec Edge)) → length rows ≡ count → ((y : ℕ) (e : Edge) → RowHas rows y e → ⊥) → Puts (FromOne EdgeOf ps) rows edges → AreEdges EdgeOf ps count edges
 are_edges EdgeOf ps count rows edges size none puts = record {
   count_is = puts.count ∙ size;
   members = λ y e. ((λ h. ⊎_elim (λ w. absurd (none y e w)) (λ w. w) ((puts.members y e).0 h)), (λ h. (puts.members y e).1 (inr h)));
@@ -105,8 +105,8 @@ lines_all ps k a b e h = subst (λ (l : List Plain). Puts (IsLineOf l) a b) e h
 
 -- ---- what symbols can begin with
 
-module _ (g : FlatGrammar) (ps : List Plain) (count : ℕ) (edges : List (Vec Edge)) (gives old : List BitSet) (plain : ArePlain g ps) (are : AreEdges IsFirstEdge ps count edges) (selves : (y t : ℕ) → HasAt old y t ↔ Selves (length g.tokens) y t) where
-  over : (e : Edge) (y t z u : ℕ) → Each IsFirstEdge ps y e → e.to ≡ z → Hands gives e.behind t u → CanBeginWith g y t → CanBeginWith g z u
+module _ (g : FlatGrammar) (ps : List Plain) (count : ℕ) (edges : List (Vec Edge)) (gives old : List BitSet) (plain : ArePlainOf g ps) (are : AreEdges IsFirstEdge ps count edges) (selves : (y t : ℕ) → HasAt old y t ↔ Selves (length g.tokens) y t) where
+  over : (e : Edge) (y t z u : ℕ) → FromOne IsFirstEdge ps y e → e.to ≡ z → Hands gives e.behind t u → CanBeginWith g y t → CanBeginWith g z u
   over e y t z u each to hands c =
       let p = each.by in
       let w = each.there in
@@ -160,30 +160,30 @@ ask_net ps count edges gives inside are size = record {
       };
 }
   where
-    within : (p : Plain) → IsInside count p → (o : Option ℕ) → slice_get p.right.items 1 ≡ o → MatchOption o ⊤ (λ x. x < length gives)
+    within : (p : Plain) → IsPlainInside count p → (o : Option ℕ) → slice_get p.right.items 1 ≡ o → MatchOption o ⊤ (λ x. x < length gives)
     within p i None e = tt
     within p i (Some x) e = let lt = i.right 1 x e in omega (arith, lt, size)
 
 -- the tokens stand in the queue
-pub selves_queued : (k : ℕ) (sets old : List BitSet) (q r : List ℕ) → k < length old → ((y t : ℕ) → HasAt old y t → ⊥) → q ≡ [] → Gains (Selves k) old sets → ((y : ℕ) → Contains r y ↔ (Contains q y ⊎ ((0 < y) × (y ≤ k)))) → Queued sets r
+pub selves_queued : (k : ℕ) (sets old : List BitSet) (q r : List ℕ) → k < length old → ((y t : ℕ) → HasAt old y t → ⊥) → q ≡ [] → GainsTokens (Selves k) old sets → ((y : ℕ) → Contains r y ↔ (Contains q y ⊎ ((0 < y) × (y ≤ k)))) → Queued sets r
 selves_queued k sets old q r few none empty gains queue = record {
   inside = λ y h. ⊎_elim (λ w. absurd (none_in_nil y (subst (λ (l : List ℕ). Contains l y) empty w))) (λ w. let le = w.1 in let e = gains.count in omega (arith, le, few, e)) ((queue y).0 h);
   begun = λ y t h. ⊎_elim (λ w. absurd (none y t w)) (λ w. let a = w.1.0 in let b = w.1.1 in let e = w.1.2 in (queue y).1 (inr (omega (arith, a, e), omega (arith, b, e)))) ((gains.members y t).0 h);
 }
 
-pub selves_are : (k : ℕ) (sets old : List BitSet) → k < length old → ((y t : ℕ) → HasAt old y t → ⊥) → Gains (Selves k) old sets → (y t : ℕ) → HasAt sets y t ↔ Selves k y t
+pub selves_are : (k : ℕ) (sets old : List BitSet) → k < length old → ((y t : ℕ) → HasAt old y t → ⊥) → GainsTokens (Selves k) old sets → (y t : ℕ) → HasAt sets y t ↔ Selves k y t
 selves_are k sets old few none gains y t = (
   (λ h. ⊎_elim (λ w. absurd (none y t w)) (λ w. w.1) ((gains.members y t).0 h)),
   (λ h. (gains.members y t).1 (inr ((let a = h.1 in let e = h.2 in omega (arith, a, e, few)), h))),
 )
 
-pub inside_at : (ps : List Plain) (k m n : ℕ) (p : Plain) → AreInside m ps → k < length ps → p ≡ get_or ps k p → n ≡ m → IsInside n p
+pub inside_at : (ps : List Plain) (k m n : ℕ) (p : Plain) → AreInside m ps → k < length ps → p ≡ get_or ps k p → n ≡ m → IsPlainInside n p
 inside_at ps k m n p inside below is same = inside_of p m n same (inside p (k, below, sym is))
 
 -- the sets of first tokens, written through a slice
 pub firsts_of : (g : FlatGrammar) (width count len : ℕ) (items now new : List BitSet) → now ≡ items → length now ≡ len → length new ≡ length now → length items ≡ count → count ≡ symbol_count g → AreWide width items → ((n : ℕ) → AreWide n now → AreWide n new)
-    → ((y t : ℕ) → HasAt new y t ↔ CanBeginWith g y t) → AreFirsts g width (take len (new ++ drop (length new) items))
-firsts_of g width count len items now new same size kept all count_is wide keeps members = subst (AreFirsts g width) (sym (written items now new len same size kept)) (record {
+    → ((y t : ℕ) → HasAt new y t ↔ CanBeginWith g y t) → AreFirstSets g width (take len (new ++ drop (length new) items))
+firsts_of g width count len items now new same size kept all count_is wide keeps members = subst (AreFirstSets g width) (sym (written items now new len same size kept)) (record {
   count = let e = ap (λ (l : List BitSet). length l) same in omega (arith, kept, e, all, count_is);
   wide = keeps width (subst (AreWide width) (sym same) wide);
   members = members;

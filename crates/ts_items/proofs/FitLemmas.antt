@@ -10,7 +10,7 @@ use Rattle.ts_core.specs.declared.flat.Step.{Step}
 use Rattle.spec_grammar.specs.Symbols.{all_productions, productions_from, start_symbol, symbol_count}
 use Rattle.spec_tables.specs.Fit.{Fit, IsFitProduction, IsFitStep}
 use Rattle.ts_items.specs.declared.plain.Plain.{Plain}
-use Rattle.ts_items.specs.Productions.{symbols_in, plain, ArePlain, right_of}
+use Rattle.ts_items.specs.Productions.{symbols_in, plain, ArePlainOf, right_of}
 use Rattle.ts_items.specs.Edges.{AreInside}
 use Rattle.ts_items.proofs.ListLemmas.{append_at, at_of}
 use Rattle.ts_items.proofs.PlainLemmas.{plain_at, step_at}
@@ -45,7 +45,7 @@ from_at first (r ∷ rs) n y d h = ⊎_elim
     record { number = suc f.number; rule = f.rule; at = f.at; left = (let a = f.left in omega (arith, a)); place = f.place; there = f.there })
     (append_at (map (λ (p : Production). (first, p)) r.productions) (productions_from (suc first) rs) n (y, d) h)
 
-pub plain_inside : (g : FlatGrammar) (ps : List Plain) → Fit g → ArePlain g ps → AreInside (symbol_count g) ps
+pub plain_inside : (g : FlatGrammar) (ps : List Plain) → Fit g → ArePlainOf g ps → AreInside (symbol_count g) ps
 plain_inside g ps fit are p h =
     let at = plain_at g ps h.0 p are (at_of ps p h) in
     let d = at.production.0 in
@@ -75,7 +75,7 @@ counted first (r ∷ rs) =
     let d = fold_from (0 + length r.productions) (map (λ (q : FlatRule). length q.productions) rs) in
     omega (arith, a, b, c, d)
 
-pub few_plain : (g : FlatGrammar) (ps : List Plain) → Fit g → ArePlain g ps → length ps < 2 ^ 16
+pub few_plain : (g : FlatGrammar) (ps : List Plain) → Fit g → ArePlainOf g ps → length ps < 2 ^ 16
 few_plain g ps fit are =
     let a = length-map {B = ℕ × List ℕ} ps (λ (p : Plain). (p.left, p.right.items)) in
     let b = ap (λ (l : List (ℕ × List ℕ)). length l) are in

@@ -9,8 +9,8 @@ use Rattle.std.proofs.lemmas.List.Elements.{Contains-append_cases}
 use Rattle.ts_bits.specs.declared.set.BitSet.{BitSet}
 use Rattle.ts_bits.specs.Members.{Marked, Has, IsWide}
 use Rattle.ts_items.specs.declared.flow.Edge.{Edge}
-use Rattle.ts_items.specs.Rows.{Each}
-use Rattle.ts_items.specs.Sets.{HasAt, AreWide, Gains, Tells}
+use Rattle.ts_items.specs.Rows.{FromOne}
+use Rattle.ts_items.specs.Sets.{HasAt, AreWide, GainsTokens, QueuesGains}
 use Rattle.ts_items.specs.Flow.{Spread, given, brought, Hands, Brings, HandsOn, Brought, IsEdge, IsNet, Queued, Spreads}
 use Rattle.ts_items.proofs.ListLemmas.{at_front, at_back, at_of, one_at, read_at}
 use Rattle.ts_items.proofs.GainLemmas.{has_at, gains_same}
@@ -51,7 +51,7 @@ hands_on gives s (Some x) t u has h = h
 
 -- some token, and what an edge of the row brings
 abbrev pub FromSome : List BitSet → BitSet → List Edge → ℕ → ℕ → Type 0
-FromSome gives s row z u = ((t : ℕ) × Has s t) × Each (Brought gives s) row z u
+FromSome gives s row z u = ((t : ℕ) × Has s t) × FromOne (Brought gives s) row z u
 
 -- what is handed over, by the kinds of edges
 hands_same : (gives : List BitSet) (a b : BitSet) (o : Option ℕ) (u : ℕ) → a.words.items ≡ b.words.items → HandsOn gives a o u → HandsOn gives b o u
@@ -64,8 +64,8 @@ from_same gives a b es fs z u same rows h = (
   record { by = h.1.by; there = subst (λ (l : List Edge). Contains l h.1.by) rows h.1.there; gives = (h.1.gives.0, hands_same gives a b h.1.by.behind u same h.1.gives.1) },
 )
 
-pub hand_some : (gives : List BitSet) (from : BitSet) (e : Edge) (x at : ℕ) (s : BitSet) (sets new : List BitSet) → e.behind ≡ Some x → at ≡ x → MatchOption e.behind ⊤ (λ z. z < length gives) → s ≡ get_or gives at s → Gains (λ y t. (y ≡ e.to) × Has s t) sets new
-    → Gains (Brought gives from e) sets new
+pub hand_some : (gives : List BitSet) (from : BitSet) (e : Edge) (x at : ℕ) (s : BitSet) (sets new : List BitSet) → e.behind ≡ Some x → at ≡ x → MatchOption e.behind ⊤ (λ z. z < length gives) → s ≡ get_or gives at s → GainsTokens (λ y t. (y ≡ e.to) × Has s t) sets new
+    → GainsTokens (Brought gives from e) sets new
 hand_some gives from e x at s sets new is place inside read gains =
     let below : x < length gives = subst (λ (o : Option ℕ). MatchOption o ⊤ (λ z. z < length gives)) is inside in
     let here : slice_get gives x ≡ Some s = subst (λ (k : ℕ). slice_get gives k ≡ Some s) place (read_at gives at s (omega (arith, below, place)) read) in
@@ -73,7 +73,7 @@ hand_some gives from e x at s sets new is place inside read gains =
     (λ y t h. (h.0, subst (λ (o : Option ℕ). HandsOn gives from o t) (sym is) ((has_at gives x s here t).1 h.1)))
     (λ y t h. (h.0, (has_at gives x s here t).0 (subst (λ (o : Option ℕ). HandsOn gives from o t) is h.1)))
 
-pub hand_none : (gives : List BitSet) (from : BitSet) (e : Edge) (sets new : List BitSet) → e.behind ≡ None → Gains (λ y t. (y ≡ e.to) × Has from t) sets new → Gains (Brought gives from e) sets new
+pub hand_none : (gives : List BitSet) (from : BitSet) (e : Edge) (sets new : List BitSet) → e.behind ≡ None → GainsTokens (λ y t. (y ≡ e.to) × Has from t) sets new → GainsTokens (Brought gives from e) sets new
 hand_none gives from e sets new is gains =
     gains_same (λ y t. (y ≡ e.to) × Has from t) (Brought gives from e) sets new gains
     (λ y t h. (h.0, subst (λ (o : Option ℕ). HandsOn gives from o t) (sym is) h.1))
@@ -87,16 +87,16 @@ edge_there gives m n e same i = subst (λ (k : ℕ). IsEdge gives k e) (sym same
 
 module _ (edges : List (Vec Edge)) (gives old : List BitSet) where
   sound_more : (sets new : List BitSet) (y : ℕ) (s : BitSet) (row : Vec Edge) → ((z t : ℕ) → HasAt sets z t → Spread (Brings edges gives) (HasAt old) z t) → slice_get sets y ≡ Some s → slice_get edges y ≡ Some row
-      → Gains (FromSome gives s row.items) sets new → (z u : ℕ) → HasAt new z u → Spread (Brings edges gives) (HasAt old) z u
+      → GainsTokens (FromSome gives s row.items) sets new → (z u : ℕ) → HasAt new z u → Spread (Brings edges gives) (HasAt old) z u
   sound_more sets new y s row sound is at gains z u h = ⊎_elim (λ w. sound z u w) (λ w. more w.1.0 w.1.1) ((gains.members z u).0 h)
     where
-      more : ((t : ℕ) × Has s t) → Each (Brought gives s) row.items z u → Spread (Brings edges gives) (HasAt old) z u
+      more : ((t : ℕ) × Has s t) → FromOne (Brought gives s) row.items z u → Spread (Brings edges gives) (HasAt old) z u
       more some each =
           let v = hands_from gives s each.by.behind some.0 u some.1 each.gives.1 in
           brought y v.0 z u (sound y v.0 (record { set = s; at = is; has = v.1 })) (record { edge = each.by; there = record { row = row; at = at; has = each.there }; to = sym each.gives.0; hands = v.2 })
 
   pub flow_more : (sets new : List BitSet) (queue longer : List ℕ) (next y : ℕ) (s : BitSet) (row : Vec Edge) → IsNet edges gives (length old) → slice_get queue next ≡ Some y → slice_get sets y ≡ Some s → slice_get edges y ≡ Some row
-      → Flowing edges gives old sets queue next → Gains (FromSome gives s row.items) sets new → Tells sets new queue longer → Flowing edges gives old new longer (next + 1)
+      → Flowing edges gives old sets queue next → GainsTokens (FromSome gives s row.items) sets new → QueuesGains sets new queue longer → Flowing edges gives old new longer (next + 1)
   flow_more sets new queue longer next y s row net here is at before gains tells = record {
     count = gains.count ∙ before.count;
     wide = λ n w. gains.wide n (before.wide n w);
@@ -126,7 +126,7 @@ module _ (edges : List (Vec Edge)) (gives old : List BitSet) where
       brings_here t v u h b =
           let has : Has s t = (has_at sets y s is t).0 h in
           let same : b.there.row ≡ row = one_at edges y b.there.row row b.there.at at in
-          let each : Each (Brought gives s) row.items v u = record {
+          let each : FromOne (Brought gives s) row.items v u = record {
             by = b.edge;
             there = subst (λ (r : Vec Edge). Contains r.items b.edge) same b.there.has;
             gives = (sym b.to, hands_on gives s b.edge.behind t u has b.hands);
@@ -146,7 +146,7 @@ module _ (edges : List (Vec Edge)) (gives old : List BitSet) where
           (λ w. inr (kept v u w)) (before.done z t v u h b)
 
   pub flow_step : (sets new : List BitSet) (queue longer : List ℕ) (next y : ℕ) (s copy : BitSet) (row : Vec Edge) (es : List Edge) → IsNet edges gives (length old) → slice_get queue next ≡ Some y → slice_get sets y ≡ Some s → copy.words.items ≡ s.words.items
-      → slice_get edges y ≡ Some row → es ≡ row.items → Flowing edges gives old sets queue next → Gains (FromSome gives copy es) sets new → Tells sets new queue longer → Flowing edges gives old new longer (next + 1)
+      → slice_get edges y ≡ Some row → es ≡ row.items → Flowing edges gives old sets queue next → GainsTokens (FromSome gives copy es) sets new → QueuesGains sets new queue longer → Flowing edges gives old new longer (next + 1)
   flow_step sets new queue longer next y s copy row es net here is same at rows before gains tells =
       flow_more sets new queue longer next y s row net here is at before
       (gains_same (FromSome gives copy es) (FromSome gives s row.items) sets new gains (λ z u h. from_same gives copy s es row.items z u same rows h) (λ z u h. from_same gives s copy row.items es z u (sym same) (sym rows) h)) tells

@@ -7,8 +7,8 @@ use Rattle.std.proofs.lemmas.Option.{slice_get_within, slice_get-get_or}
 use Rattle.std.proofs.lemmas.Bool.{cases_eq}
 use Rattle.ts_bits.specs.declared.set.BitSet.{BitSet}
 use Rattle.ts_bits.specs.Members.{Marked, Has, IsWide}
-use Rattle.ts_items.specs.Rows.{Each}
-use Rattle.ts_items.specs.Sets.{HasAt, AreWide, Gains, Tells}
+use Rattle.ts_items.specs.Rows.{FromOne}
+use Rattle.ts_items.specs.Sets.{HasAt, AreWide, GainsTokens, QueuesGains}
 use Rattle.ts_items.proofs.ListLemmas.{one_at, get_set_same, get_set_other, none_in_nil, none_at_nil, snoc_at}
 use Rattle.ts_items.proofs.EachLemmas.{each_none, each_old, each_new, each_cases}
 
@@ -17,7 +17,7 @@ has_at sets y s at t = ((λ h. subst (λ (b : BitSet). Has b t) (one_at sets y h
 
 -- one set gains another
 pub gains_at : (old : List BitSet) (at : ℕ) (s r : BitSet) (More : ℕ → Type 0) → at < length old → slice_get old at ≡ Some s → ((t : ℕ) → Has r t ↔ (Has s t ⊎ More t)) → ((n : ℕ) → AreWide n old → IsWide n r)
-    → Gains (λ y t. (y ≡ at) × More t) old (set old at r)
+    → GainsTokens (λ y t. (y ≡ at) × More t) old (set old at r)
 gains_at old at s r More inside is members wide = record {
   count = length-set old at r;
   members = λ y t. ⊎_elim (λ e. here y t e) (λ f. elsewhere y t f) (cases_eq y at);
@@ -41,10 +41,10 @@ gains_at old at s r More inside is members wide = record {
       (λ h. ⊎_elim (λ a. record { set = a.set; at = get_set_other old at y r f ∙ a.at; has = a.has }) (λ b. absurd (f b.1.0)) h),
     )
 
-pub gains_none : (P : ℕ → ℕ → Type 0) (xs : List BitSet) → ((y t : ℕ) → P y t → ⊥) → Gains P xs xs
+pub gains_none : (P : ℕ → ℕ → Type 0) (xs : List BitSet) → ((y t : ℕ) → P y t → ⊥) → GainsTokens P xs xs
 gains_none P xs none = record { count = refl; members = λ y t. ((λ h. inl h), (λ h. ⊎_elim (λ a. a) (λ b. absurd (none y t b.1)) h)); wide = λ n w. w }
 
-pub gains_both : (P Q R : ℕ → ℕ → Type 0) (a b c : List BitSet) → Gains P a b → Gains Q b c → ((y t : ℕ) → P y t → R y t) → ((y t : ℕ) → Q y t → R y t) → ((y t : ℕ) → R y t → P y t ⊎ Q y t) → Gains R a c
+pub gains_both : (P Q R : ℕ → ℕ → Type 0) (a b c : List BitSet) → GainsTokens P a b → GainsTokens Q b c → ((y t : ℕ) → P y t → R y t) → ((y t : ℕ) → Q y t → R y t) → ((y t : ℕ) → R y t → P y t ⊎ Q y t) → GainsTokens R a c
 gains_both P Q R a b c p q first second either = record {
   count = q.count ∙ p.count;
   members = λ y t. (
@@ -54,7 +54,7 @@ gains_both P Q R a b c p q first second either = record {
   wide = λ n w. q.wide n (p.wide n w);
 }
 
-pub gains_same : (P Q : ℕ → ℕ → Type 0) (a b : List BitSet) → Gains P a b → ((y t : ℕ) → P y t → Q y t) → ((y t : ℕ) → Q y t → P y t) → Gains Q a b
+pub gains_same : (P Q : ℕ → ℕ → Type 0) (a b : List BitSet) → GainsTokens P a b → ((y t : ℕ) → P y t → Q y t) → ((y t : ℕ) → Q y t → P y t) → GainsTokens Q a b
 gains_same P Q a b p to from = record {
   count = p.count;
   members = λ y t. ((λ h. ⊎_elim (λ x. inl x) (λ x. inr (x.0, to y t x.1)) ((p.members y t).0 h)), (λ h. (p.members y t).1 (⊎_elim (λ x. inl x) (λ x. inr (x.0, from y t x.1)) h)));
@@ -62,22 +62,22 @@ gains_same P Q a b p to from = record {
 }
 
 module _ {A : Type 0} (P : A → ℕ → ℕ → Type 0) where
-  pub gains_begin : (xs : List A) (sets : List BitSet) → Gains (Each P (take 0 xs)) sets sets
-  gains_begin xs sets = gains_none (Each P (take 0 xs)) sets (λ y t. each_none P xs y t)
+  pub gains_begin : (xs : List A) (sets : List BitSet) → GainsTokens (FromOne P (take 0 xs)) sets sets
+  gains_begin xs sets = gains_none (FromOne P (take 0 xs)) sets (λ y t. each_none P xs y t)
 
-  pub gains_more : (xs : List A) (k : ℕ) (d : A) (a b c : List BitSet) → k < length xs → Gains (Each P (take k xs)) a b → Gains (P (get_or xs k d)) b c → Gains (Each P (take (k + 1) xs)) a c
+  pub gains_more : (xs : List A) (k : ℕ) (d : A) (a b c : List BitSet) → k < length xs → GainsTokens (FromOne P (take k xs)) a b → GainsTokens (P (get_or xs k d)) b c → GainsTokens (FromOne P (take (k + 1) xs)) a c
   gains_more xs k d a b c below before one =
-      gains_both (Each P (take k xs)) (P (get_or xs k d)) (Each P (take (k + 1) xs)) a b c before one (λ y t. each_old P xs k d below y t) (λ y t. each_new P xs k d below y t) (λ y t. each_cases P xs k d below y t)
+      gains_both (FromOne P (take k xs)) (P (get_or xs k d)) (FromOne P (take (k + 1) xs)) a b c before one (λ y t. each_old P xs k d below y t) (λ y t. each_new P xs k d below y t) (λ y t. each_cases P xs k d below y t)
 
-  pub gains_all : (xs : List A) (k : ℕ) (a b : List BitSet) → take k xs ≡ xs → Gains (Each P (take k xs)) a b → Gains (Each P xs) a b
-  gains_all xs k a b e h = subst (λ (l : List A). Gains (Each P l) a b) e h
+  pub gains_all : (xs : List A) (k : ℕ) (a b : List BitSet) → take k xs ≡ xs → GainsTokens (FromOne P (take k xs)) a b → GainsTokens (FromOne P xs) a b
+  gains_all xs k a b e h = subst (λ (l : List A). GainsTokens (FromOne P l) a b) e h
 
 -- ---- the queue
 
-pub tells_none : (sets : List BitSet) (queue : List ℕ) → Tells sets sets queue queue
+pub tells_none : (sets : List BitSet) (queue : List ℕ) → QueuesGains sets sets queue queue
 tells_none sets queue = record { more = []; is = sym (append-nil queue); inside = λ y h. absurd (none_in_nil y h); told = λ y. inr (λ t h. h) }
 
-pub tells_both : (a b c : List BitSet) (q r s : List ℕ) → length b ≡ length a → Tells a b q r → Tells b c r s → Tells a c q s
+pub tells_both : (a b c : List BitSet) (q r s : List ℕ) → length b ≡ length a → QueuesGains a b q r → QueuesGains b c r s → QueuesGains a c q s
 tells_both a b c q r s same one two = record {
   more = one.more ++ two.more;
   is = two.is ∙ ap (λ (l : List ℕ). l ++ two.more) one.is ∙ append_assoc q one.more two.more;
@@ -87,7 +87,7 @@ tells_both a b c q r s same one two = record {
 }
 
 -- a set that gained nothing
-pub tells_same : (old : List BitSet) (at : ℕ) (s r : BitSet) (queue : List ℕ) → at < length old → slice_get old at ≡ Some s → r.words.items ≡ s.words.items → Tells old (set old at r) queue queue
+pub tells_same : (old : List BitSet) (at : ℕ) (s r : BitSet) (queue : List ℕ) → at < length old → slice_get old at ≡ Some s → r.words.items ≡ s.words.items → QueuesGains old (set old at r) queue queue
 tells_same old at s r queue inside is same = record {
   more = [];
   is = sym (append-nil queue);
@@ -102,7 +102,7 @@ tells_same old at s r queue inside is same = record {
 }
 
 -- a set that may have gained something
-pub tells_more : (old : List BitSet) (at : ℕ) (r : BitSet) (queue : List ℕ) → at < length old → Tells old (set old at r) queue (queue ++ at ∷ [])
+pub tells_more : (old : List BitSet) (at : ℕ) (r : BitSet) (queue : List ℕ) → at < length old → QueuesGains old (set old at r) queue (queue ++ at ∷ [])
 tells_more old at r queue inside = record {
   more = at ∷ [];
   is = refl;
@@ -120,23 +120,23 @@ wide_more old at n m s more is w v h = subst (λ (k : ℕ). IsWide k more) (sym 
 
 -- a set that is joined to that of one symbol
 pub join_gains : (old : List BitSet) (at symbol : ℕ) (d r more : BitSet) → at ≡ symbol → symbol < length old → ((t : ℕ) → Has r t ↔ (Has (get_or old at d) t ⊎ Has more t)) → ((n : ℕ) → IsWide n (get_or old at d) → IsWide n more → IsWide n r)
-    → (n : ℕ) × AreWide n old × IsWide n more → Gains (λ y t. (y ≡ symbol) × Has more t) old (set old at r)
+    → (n : ℕ) × AreWide n old × IsWide n more → GainsTokens (λ y t. (y ≡ symbol) × Has more t) old (set old at r)
 join_gains old at symbol d r more same inside members wide w =
     let below : at < length old = omega (arith, same, inside) in
     let here = slice_get-get_or old at d below in
-    subst (λ (x : ℕ). Gains (λ y t. (y ≡ x) × Has more t) old (set old at r)) same
+    subst (λ (x : ℕ). GainsTokens (λ y t. (y ≡ x) × Has more t) old (set old at r)) same
     (gains_at old at (get_or old at d) r (λ t. Has more t) below here members (λ n v. wide n (v at (get_or old at d) here) (wide_more old at n w.0 (get_or old at d) more here v w.1 w.2)))
 
-pub join_grows : (old : List BitSet) (at symbol : ℕ) (r : BitSet) (queue longer : List ℕ) → at ≡ symbol → symbol < length old → longer ≡ queue ++ symbol ∷ [] → Tells old (set old at r) queue longer
+pub join_grows : (old : List BitSet) (at symbol : ℕ) (r : BitSet) (queue longer : List ℕ) → at ≡ symbol → symbol < length old → longer ≡ queue ++ symbol ∷ [] → QueuesGains old (set old at r) queue longer
 join_grows old at symbol r queue longer same inside is =
-    subst (λ (l : List ℕ). Tells old (set old at r) queue l) (ap (λ (x : ℕ). queue ++ x ∷ []) same ∙ sym is) (tells_more old at r queue (omega (arith, same, inside)))
+    subst (λ (l : List ℕ). QueuesGains old (set old at r) queue l) (ap (λ (x : ℕ). queue ++ x ∷ []) same ∙ sym is) (tells_more old at r queue (omega (arith, same, inside)))
 
-pub join_stays : (old : List BitSet) (at symbol : ℕ) (d r : BitSet) (queue : List ℕ) → at ≡ symbol → symbol < length old → r.words.items ≡ (get_or old at d).words.items → Tells old (set old at r) queue queue
+pub join_stays : (old : List BitSet) (at symbol : ℕ) (d r : BitSet) (queue : List ℕ) → at ≡ symbol → symbol < length old → r.words.items ≡ (get_or old at d).words.items → QueuesGains old (set old at r) queue queue
 join_stays old at symbol d r queue same inside words = let below : at < length old = omega (arith, same, inside) in tells_same old at (get_or old at d) r queue below (slice_get-get_or old at d below) words
 
 -- a token that is given to itself
 pub begin_gains : (old : List BitSet) (at n token : ℕ) (d r : BitSet) → at ≡ token → n ≡ token → token < length old → ((t : ℕ) → Has r t ↔ (Has (get_or old at d) t ⊎ (t ≡ n))) → ((m : ℕ) → IsWide m (get_or old at d) → IsWide m r)
-    → Gains (λ y t. (y ≡ token) × (t ≡ token)) old (set old at r)
+    → GainsTokens (λ y t. (y ≡ token) × (t ≡ token)) old (set old at r)
 begin_gains old at n token d r same one inside members wide =
     let below : at < length old = omega (arith, same, inside) in
     let here = slice_get-get_or old at d below in
@@ -147,10 +147,10 @@ begin_gains old at n token d r same one inside members wide =
 abbrev pub Selves : ℕ → ℕ → ℕ → Type 0
 Selves k y t = (0 < t) × (t ≤ k) × (y ≡ t)
 
-pub selves_none : (sets : List BitSet) → Gains (Selves 0) sets sets
+pub selves_none : (sets : List BitSet) → GainsTokens (Selves 0) sets sets
 selves_none sets = gains_none (Selves 0) sets (λ y t h. let a = h.0 in let b = h.1 in omega arith)
 
-pub selves_more : (k : ℕ) (a b c : List BitSet) → Gains (Selves k) a b → Gains (λ y t. (y ≡ k + 1) × (t ≡ k + 1)) b c → Gains (Selves (k + 1)) a c
+pub selves_more : (k : ℕ) (a b c : List BitSet) → GainsTokens (Selves k) a b → GainsTokens (λ y t. (y ≡ k + 1) × (t ≡ k + 1)) b c → GainsTokens (Selves (k + 1)) a c
 selves_more k a b c before one = gains_both (Selves k) (λ y t. (y ≡ k + 1) × (t ≡ k + 1)) (Selves (k + 1)) a b c before one
     (λ y t h. (h.0, (let le = h.1 in omega arith), h.2))
     (λ y t h. ((let e = h.1 in omega arith), (let e = h.1 in omega arith), h.0 ∙ sym h.1))

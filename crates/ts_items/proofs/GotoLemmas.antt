@@ -15,8 +15,8 @@ use Rattle.ts_items.specs.declared.part.Goto.{Goto}
 use Rattle.ts_items.specs.Productions.{right_of}
 use Rattle.ts_items.specs.Parts.{line_of, In}
 use Rattle.ts_items.specs.Sets.{HasAt}
-use Rattle.ts_items.specs.Closing.{AtDot, Closed, Same, Moves, IsPart, Closes, Grows}
-use Rattle.ts_items.specs.Numbers.{part_cmp, AreMoved, IsOrdered, IsState, AreStates, IsOver, AreGotos, AreOnce, Enters, EntersGoto, Collecting}
+use Rattle.ts_items.specs.Closing.{AtDot, Closed, SameItems, MovesPast, IsLinePart, Closes, AddsSets}
+use Rattle.ts_items.specs.Numbers.{part_cmp, AreMoved, IsOrdered, IsKernelOf, AreStates, HasRows, AreGotos, AreOnce, Enters, EntersGoto, Collecting}
 use Rattle.ts_items.proofs.ListLemmas.{cases_lt_or_eq, one_at, at_grown, snoc_at, none_in_nil, none_at_nil, there, some_at}
 use Rattle.ts_items.proofs.PoolLemmas.{grows_same}
 use Rattle.ts_items.proofs.StateLemmas.{row_moves, row_state, state_grown, same_both}
@@ -29,7 +29,7 @@ enters_none parts old new e = record {
   once = λ o. subst AreOnce (sym e) o;
 }
 
-pub enters_some : (parts : List Part) (kernel : Vec Part) (old new : List (Vec Part)) → ((parts ≡ []) → ⊥) → IsOrdered parts kernel.items → Grows old new
+pub enters_some : (parts : List Part) (kernel : Vec Part) (old new : List (Vec Part)) → ((parts ≡ []) → ⊥) → IsOrdered parts kernel.items → AddsSets old new
     → ((n : ℕ) (k : Vec Part) → slice_get new n ≡ Some k → (slice_get old n ≡ Some k) ⊎ (k.items ≡ kernel.items)) → (AreOnce old → AreOnce new) → Enters parts old new
 enters_some parts kernel old new some order grows of once = record {
   grows = grows;
@@ -48,7 +48,7 @@ goto_some kernels symbol n parts kernel old new some order w is = record {
 }
 
 -- the states after one more row
-pub states_step : (g : FlatGrammar) (lines x : ℕ) (pool : List BitSet) (parts : List Part) (rows old new : List (Vec Part)) (row : Vec Part) (items : List Part) → IsOver g lines pool parts rows → slice_get rows x ≡ Some row → items ≡ row.items → Enters items old new
+pub states_step : (g : FlatGrammar) (lines x : ℕ) (pool : List BitSet) (parts : List Part) (rows old new : List (Vec Part)) (row : Vec Part) (items : List Part) → HasRows g lines pool parts rows → slice_get rows x ≡ Some row → items ≡ row.items → Enters items old new
     → AreStates g lines pool old → AreStates g lines pool new
 states_step g lines x pool parts rows old new row items over at same enters are n k here = ⊎_elim (λ w. are n k w)
     (λ w. row_state g lines pool parts rows over x row k.items at (subst (λ (l : List Part). IsOrdered l k.items) same w.0) (λ e. w.1 (same ∙ e))) (enters.of n k here)
@@ -61,9 +61,9 @@ gotos_none g pool kernels parts gotos empty = record {
   rise = λ j k a b lt ha hb. absurd (none_at_nil j a (subst (λ (l : List Goto). slice_get l j ≡ Some a) empty ha));
 }
 
-module _ (g : FlatGrammar) (lines x : ℕ) (pool : List BitSet) (parts : List Part) (rows old new : List (Vec Part)) (row : Vec Part) (items : List Part) (over : IsOver g lines pool parts rows) (at : slice_get rows x ≡ Some row) (same : items ≡ row.items) (enters : Enters items old new)
+module _ (g : FlatGrammar) (lines x : ℕ) (pool : List BitSet) (parts : List Part) (rows old new : List (Vec Part)) (row : Vec Part) (items : List Part) (over : HasRows g lines pool parts rows) (at : slice_get rows x ≡ Some row) (same : items ≡ row.items) (enters : Enters items old new)
     (gs hs : List Goto) (enters_goto : EntersGoto new x items gs hs) (before : AreGotos g pool old parts x gs) where
-  kept : (e : Goto) → Contains gs e → (k : Vec Part) × (slice_get new e.state ≡ Some k) × Same (In pool k.items) (Moves g (In pool parts) e.symbol)
+  kept : (e : Goto) → Contains gs e → (k : Vec Part) × (slice_get new e.state ≡ Some k) × SameItems (In pool k.items) (MovesPast g (In pool parts) e.symbol)
   kept e h = let w = before.leads e h in (w.0, at_grown old new enters.grows.more e.state w.0 enters.grows.is w.1, w.2)
 
   -- a part with its dot before the symbol is in the row
@@ -91,7 +91,7 @@ module _ (g : FlatGrammar) (lines x : ℕ) (pool : List BitSet) (parts : List Pa
       let is : hs ≡ gs ++ one ∷ [] = w.4 in
       subst (AreGotos g pool new parts (x + 1)) (sym is) (record {
         leads = λ e h. ⊎_elim (λ v. kept e v)
-            (λ v. subst (λ (d : Goto). (k : Vec Part) × (slice_get new d.state ≡ Some k) × Same (In pool k.items) (Moves g (In pool parts) d.symbol)) v
+            (λ v. subst (λ (d : Goto). (k : Vec Part) × (slice_get new d.state ≡ Some k) × SameItems (In pool k.items) (MovesPast g (In pool parts) d.symbol)) v
             (w.1, w.2, row_moves g lines pool parts rows over x row w.1.items at (subst (λ (l : List Part). IsOrdered l w.1.items) same w.3)))
             (Contains-push_cases gs one e h);
         under = λ e h. ⊎_elim (λ v. let lt = before.under e v in omega (arith, lt)) (λ v. let s = ap (λ (d : Goto). d.symbol) v in omega (arith, s)) (Contains-push_cases gs one e h);
@@ -128,7 +128,7 @@ module _ (g : FlatGrammar) (lines count tokens : ℕ) (pool : List BitSet) (star
   only : (q : Part) → Contains (one ∷ []) q → one ≡ q
   only q h = ⊎_elim (λ w. absurd (none_in_nil q w)) (λ w. w) (Contains-push_cases [] one q h)
 
-  starts : (k : Vec Part) → k.items ≡ one ∷ [] → Same (In pool k.items) (λ i. i ≡ start_item)
+  starts : (k : Vec Part) → k.items ≡ one ∷ [] → SameItems (In pool k.items) (λ i. i ≡ start_item)
   starts k e i = (to, from)
     where
       to : In pool k.items i → i ≡ start_item
@@ -144,13 +144,13 @@ module _ (g : FlatGrammar) (lines count tokens : ℕ) (pool : List BitSet) (star
           let has = (set 0).1 refl in
           subst (In pool k.items) (sym s) (record { part = one; there = subst (λ (l : List Part). Contains l one) (sym e) (Contains-push [] one); is = record { line = refl; dot = refl; set = has.set; at = has.at; has = has.has } })
 
-  state : (sorted : IsStrictlySortedBy part_cmp (one ∷ [])) (k : Vec Part) → k.items ≡ one ∷ [] → IsState g lines pool k.items
+  state : (sorted : IsStrictlySortedBy part_cmp (one ∷ [])) (k : Vec Part) → k.items ≡ one ∷ [] → IsKernelOf g lines pool k.items
   state sorted k e = record {
     read = [];
     valid = first_valid g (In pool k.items) (starts k e);
     one = one;
     has = subst (λ (l : List Part). Contains l one) (sym e) (Contains-push [] one);
-    parts = λ q h. subst (IsPart lines pool) (only q (subst (λ (l : List Part). Contains l q) e h)) (record { line = omega arith; tokens = inside; some = (0, (set 0).1 refl) });
+    parts = λ q h. subst (IsLinePart lines pool) (only q (subst (λ (l : List Part). Contains l q) e h)) (record { line = omega arith; tokens = inside; some = (0, (set 0).1 refl) });
     kernel_is = record {
       dot = λ q h. inr (ap (λ (p : Part). p.line) (sym (only q (subst (λ (l : List Part). Contains l q) e h))));
       apart = λ p q hp hq line dot. sym (only p (subst (λ (l : List Part). Contains l p) e hp)) ∙ only q (subst (λ (l : List Part). Contains l q) e hq);
@@ -190,17 +190,17 @@ unfolding IsStrictlySortedBy
 single_sorted p = (tt, tt)
 
 -- the parts of a set, and those past each symbol
-pub over_of : (g : FlatGrammar) (lines : ℕ) (old new : List BitSet) (kernel parts : List Part) (rows : List (Vec Part)) → IsState g lines old kernel → Grows old new → Closes g lines new kernel parts → AreMoved g parts rows → IsOver g lines new parts rows
+pub over_of : (g : FlatGrammar) (lines : ℕ) (old new : List BitSet) (kernel parts : List Part) (rows : List (Vec Part)) → IsKernelOf g lines old kernel → AddsSets old new → Closes g lines new kernel parts → AreMoved g parts rows → HasRows g lines new parts rows
 over_of g lines old new kernel parts rows state grows closes moved =
     let s = state_grown g lines old new kernel grows state in
     record { read = s.read; valid = same_both (In new parts) (Closed g (In new kernel)) (Valid g s.read) closes.items s.valid; are = closes.parts_are; apart = closes.apart s.kernel_is; moved = moved }
 
-pub states_grown : (g : FlatGrammar) (lines : ℕ) (old new : List BitSet) (kernels : List (Vec Part)) → Grows old new → AreStates g lines old kernels → AreStates g lines new kernels
+pub states_grown : (g : FlatGrammar) (lines : ℕ) (old new : List BitSet) (kernels : List (Vec Part)) → AddsSets old new → AreStates g lines old kernels → AreStates g lines new kernels
 states_grown g lines old new kernels grows are n k at = state_grown g lines old new k.items grows (are n k at)
 
 -- the same, as it was read
-pub over_at : (g : FlatGrammar) (lines place : ℕ) (old new : List BitSet) (kernels : List (Vec Part)) (kernel parts slice : List Part) (items rows : List (Vec Part)) → (k : Vec Part) × (slice_get kernels place ≡ Some k) × (kernel ≡ k.items) → AreStates g lines old kernels → Grows old new
-    → Closes g lines new kernel parts → slice ≡ parts → rows ≡ items → AreMoved g slice items → IsOver g lines new parts rows
+pub over_at : (g : FlatGrammar) (lines place : ℕ) (old new : List BitSet) (kernels : List (Vec Part)) (kernel parts slice : List Part) (items rows : List (Vec Part)) → (k : Vec Part) × (slice_get kernels place ≡ Some k) × (kernel ≡ k.items) → AreStates g lines old kernels → AddsSets old new
+    → Closes g lines new kernel parts → slice ≡ parts → rows ≡ items → AreMoved g slice items → HasRows g lines new parts rows
 over_at g lines place old new kernels kernel parts slice items rows k are grows closes same read moved =
     over_of g lines old new k.0.items parts rows (are place k.0 k.1) grows (subst (λ (l : List Part). Closes g lines new l parts) k.2 closes)
     (subst (AreMoved g parts) (sym read) (subst (λ (l : List Part). AreMoved g l items) same moved))

@@ -5,7 +5,7 @@ use Rattle.indexmap.proofs.IndexTableLemmas.Probe.{pigeonhole}
 use Rattle.ts_core.specs.declared.flat.FlatGrammar.{FlatGrammar}
 use Rattle.spec_tables.specs.Items.{Item, Valid}
 use Rattle.ts_items.specs.declared.part.Items.{Items}
-use Rattle.ts_items.specs.Collection.{most_states, Holds, Leads, StandsFor, AreTooMany}
+use Rattle.ts_items.specs.Collection.{most_states, HoldsItem, IsReachedBy, StandsFor, AreTooMany}
 use Rattle.ts_items.proofs.StateLemmas.{same_both, same_back}
 
 abbrev AreSome : FlatGrammar → List (List ℕ) → Type 0
@@ -21,7 +21,7 @@ module _ (g : FlatGrammar) (items : Items) (stands : StandsFor g items) where
   record Led (reads : List (List ℕ)) (k n : ℕ) : Type 0 where
     read : List ℕ
     at : slice_get reads k ≡ Some read
-    leads : Leads items read n
+    leads : IsReachedBy items read n
     item : Item
     valid : Valid g read item
 
@@ -49,6 +49,6 @@ module _ (g : FlatGrammar) (items : Items) (stands : StandsFor g items) where
           let a = led reads different.some i li in
           let b = led reads different.some j lj in
           let n = numbers reads different.some j in
-          let va = stands.valid a.read n (subst (Leads items a.read) same a.leads) in
+          let va = stands.valid a.read n (subst (IsReachedBy items a.read) same a.leads) in
           let vb = stands.valid b.read n b.leads in
-          different.different i j a.read b.read a.at b.at (same_both (Valid g a.read) (Holds items n) (Valid g b.read) (same_back (Holds items n) (Valid g a.read) va) vb)
+          different.different i j a.read b.read a.at b.at (same_both (Valid g a.read) (HoldsItem items n) (Valid g b.read) (same_back (HoldsItem items n) (Valid g a.read) va) vb)

@@ -9,7 +9,7 @@ use Rattle.ts_bits.specs.declared.set.BitSet.{BitSet}
 use Rattle.ts_bits.specs.Members.{Has}
 use Rattle.ts_items.specs.declared.part.Part.{Part}
 use Rattle.ts_items.specs.Sets.{HasAt}
-use Rattle.ts_items.specs.Closing.{Adds, Begins, BeginsAt, AreBegun, Grows}
+use Rattle.ts_items.specs.Closing.{AddsParts, AddsBegun, BeginsAt, AreBegun, AddsSets}
 use Rattle.ts_items.proofs.ListLemmas.{cases_lt_or_eq, one_at, at_grown, some_at, none_in_nil}
 use Rattle.ts_items.proofs.GainLemmas.{has_at}
 
@@ -23,7 +23,7 @@ begun_part line tokens = record { line = line; dot = 0; tokens = tokens }
 abbrev pub OfLines : List ℕ → ℕ → Part → Type 0
 OfLines lines tokens q = Contains lines q.line × (q.dot ≡ 0) × (q.tokens ≡ tokens)
 
-pub lines_step : (lines : List ℕ) (k d tokens : ℕ) (old now new : List Part) → k < length lines → new ≡ now ++ (record { line = get_or lines k d; dot = 0; tokens = tokens }) ∷ [] → Adds (OfLines (take k lines) tokens) old now → Adds (OfLines (take (k + 1) lines) tokens) old new
+pub lines_step : (lines : List ℕ) (k d tokens : ℕ) (old now new : List Part) → k < length lines → new ≡ now ++ (record { line = get_or lines k d; dot = 0; tokens = tokens }) ∷ [] → AddsParts (OfLines (take k lines) tokens) old now → AddsParts (OfLines (take (k + 1) lines) tokens) old new
 lines_step lines k d tokens old now new below is adds = record {
   more = adds.more ++ one ∷ [];
   is = is ∙ ap (λ (l : List Part). l ++ one ∷ []) adds.is ∙ append_assoc old adds.more (one ∷ []);
@@ -49,10 +49,10 @@ lines_step lines k d tokens old now new below is adds = record {
     whole : take (k + 1) lines ≡ take k lines ++ get_or lines k d ∷ []
     whole = take_more lines k d below
 
-pub lines_end : (lines : List ℕ) (k tokens : ℕ) (old now : List Part) → take k lines ≡ lines → Adds (OfLines (take k lines) tokens) old now → Adds (OfLines lines tokens) old now
-lines_end lines k tokens old now e h = subst (λ (l : List ℕ). Adds (OfLines l tokens) old now) e h
+pub lines_end : (lines : List ℕ) (k tokens : ℕ) (old now : List Part) → take k lines ≡ lines → AddsParts (OfLines (take k lines) tokens) old now → AddsParts (OfLines lines tokens) old now
+lines_end lines k tokens old now e h = subst (λ (l : List ℕ). AddsParts (OfLines l tokens) old now) e h
 
-pub begins_lines : (pool : List BitSet) (lines : List ℕ) (set : BitSet) (t place : ℕ) (old new : List Part) → Has set t → place < length pool → ((u : ℕ) → HasAt pool place u ↔ Has set u) → Adds (OfLines lines place) old new → Begins pool lines set old new
+pub begins_lines : (pool : List BitSet) (lines : List ℕ) (set : BitSet) (t place : ℕ) (old new : List Part) → Has set t → place < length pool → ((u : ℕ) → HasAt pool place u ↔ Has set u) → AddsParts (OfLines lines place) old new → AddsBegun pool lines set old new
 begins_lines pool lines set t place old new has inside same adds = record {
   more = adds.more;
   is = adds.is;
@@ -63,10 +63,10 @@ begins_lines pool lines set t place old new has inside same adds = record {
   added = λ line u there h. let q = begun_part line place in (begun_part line place, (adds.members (begun_part line place)).1 (there, refl, refl), refl);
 }
 
-pub grows_both : {X : Type 0} (a b c : List X) → Grows a b → Grows b c → Grows a c
+pub grows_both : {X : Type 0} (a b c : List X) → AddsSets a b → AddsSets b c → AddsSets a c
 grows_both {X} a b c p q = record { more = p.more ++ q.more; is = q.is ∙ ap (λ (l : List X). l ++ q.more) p.is ∙ append_assoc a p.more q.more }
 
-pub grown_has : (old new : List BitSet) (k : ℕ) → Grows old new → k < length old → (t : ℕ) → HasAt new k t ↔ HasAt old k t
+pub grown_has : (old new : List BitSet) (k : ℕ) → AddsSets old new → k < length old → (t : ℕ) → HasAt new k t ↔ HasAt old k t
 grown_has old new k grows inside t =
     let s = some_at old k inside in
     let n = at_grown old new grows.more k s.0 grows.is s.1 in (
@@ -74,10 +74,10 @@ grown_has old new k grows inside t =
       (λ h. (has_at new k s.0 n t).1 ((has_at old k s.0 s.1 t).0 h)),
     )
 
-pub grown_length : {X : Type 0} (old new : List X) (k : ℕ) → Grows old new → k < length old → k < length new
+pub grown_length : {X : Type 0} (old new : List X) (k : ℕ) → AddsSets old new → k < length old → k < length new
 grown_length {X} old new k grows lt = let s = some_at old k lt in slice_get_within new k s.0 (at_grown old new grows.more k s.0 grows.is s.1)
 
-pub begins_grown : (lines : List (Vec ℕ)) (asked old new : List BitSet) (y : ℕ) (q : Part) → Grows old new → BeginsAt lines asked old y q → BeginsAt lines asked new y q
+pub begins_grown : (lines : List (Vec ℕ)) (asked old new : List BitSet) (y : ℕ) (q : Part) → AddsSets old new → BeginsAt lines asked old y q → BeginsAt lines asked new y q
 begins_grown lines asked old new y q grows b = record {
   line = b.line;
   dot = b.dot;
@@ -86,8 +86,8 @@ begins_grown lines asked old new y q grows b = record {
   same = λ t. let g = grown_has old new q.tokens grows b.inside t in let s = b.same t in ((λ h. s.0 (g.0 h)), (λ h. g.1 (s.1 h)));
 }
 
-pub begun_more : (lines : List (Vec ℕ)) (asked old new : List BitSet) (k : ℕ) (row : Vec ℕ) (items : List ℕ) (set : BitSet) (start now next : List Part) → slice_get lines k ≡ Some row → items ≡ row.items → slice_get asked k ≡ Some set → Grows old new
-    → AreBegun lines asked old k start now → Begins new items set now next → AreBegun lines asked new (k + 1) start next
+pub begun_more : (lines : List (Vec ℕ)) (asked old new : List BitSet) (k : ℕ) (row : Vec ℕ) (items : List ℕ) (set : BitSet) (start now next : List Part) → slice_get lines k ≡ Some row → items ≡ row.items → slice_get asked k ≡ Some set → AddsSets old new
+    → AreBegun lines asked old k start now → AddsBegun new items set now next → AreBegun lines asked new (k + 1) start next
 begun_more lines asked old new k row items set start now next at same here grows before adds = record {
   more = before.more ++ adds.more;
   is = adds.is ∙ ap (λ (l : List Part). l ++ adds.more) before.is ∙ append_assoc start before.more adds.more;

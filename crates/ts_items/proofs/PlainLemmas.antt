@@ -10,7 +10,7 @@ use Rattle.ts_core.specs.declared.flat.Step.{Step}
 use Rattle.spec_grammar.specs.Symbols.{production_at, all_productions, productions_from}
 use Rattle.spec_tables.specs.Items.{Item, line_steps, IsProductionOf, IsBefore, MayFollow, MayStandBehind}
 use Rattle.ts_items.specs.declared.plain.Plain.{Plain}
-use Rattle.ts_items.specs.Productions.{symbols_in, right_of, plain, ArePlain, plain_rule, plain_rules}
+use Rattle.ts_items.specs.Productions.{symbols_in, right_of, plain, ArePlainOf, plain_rule, plain_rules}
 use Rattle.ts_items.proofs.ListLemmas.{map_append}
 use Rattle.ts_items.specs.Closing.{AtDot, Behind}
 
@@ -25,7 +25,7 @@ seen p = (p.left, p.right.items)
 both_in : (y z : ℕ) (v w : List ℕ) → ◌≡◌ {A = Option (ℕ × List ℕ)} (Some (y, v)) (Some (z, w)) → (y ≡ z) × (v ≡ w)
 both_in y z v w h = (ap (λ (o : Option (ℕ × List ℕ)). (unwrap_or o (z, w)).0) h, ap (λ (o : Option (ℕ × List ℕ)). (unwrap_or o (z, w)).1) h)
 
-pub plain_at : (g : FlatGrammar) (ps : List Plain) (n : ℕ) (p : Plain) → ArePlain g ps → slice_get ps n ≡ Some p → PlainAt g n p
+pub plain_at : (g : FlatGrammar) (ps : List Plain) (n : ℕ) (p : Plain) → ArePlainOf g ps → slice_get ps n ≡ Some p → PlainAt g n p
 plain_at g ps n p are at = by (production_at g n) refl (sym (slice_get-map plain (all_productions g) n) ∙ ap (λ (l : List (ℕ × List ℕ)). slice_get l n) (sym are) ∙ slice_get-map seen ps n ∙ ap (option_map seen) at)
   where
     by : (o : Option (ℕ × Production)) → production_at g n ≡ o → option_map plain o ≡ Some (p.left, p.right.items) → PlainAt g n p
@@ -37,7 +37,7 @@ plain_at g ps n p are at = by (production_at g n) refl (sym (slice_get-map plain
           right = ap (λ (o : Option (ℕ × Production)). symbols_in (unwrap_or (option_map (λ (q : ℕ × Production). q.1.steps) o) [])) e ∙ m.1;
         }
 
-pub at_plain : (g : FlatGrammar) (ps : List Plain) (y n : ℕ) → ArePlain g ps → IsProductionOf g y n → (p : Plain) × (slice_get ps n ≡ Some p) × (p.left ≡ y)
+pub at_plain : (g : FlatGrammar) (ps : List Plain) (y n : ℕ) → ArePlainOf g ps → IsProductionOf g y n → (p : Plain) × (slice_get ps n ≡ Some p) × (p.left ≡ y)
 at_plain g ps y n are (d, e) = by (slice_get ps n) refl (sym (slice_get-map seen ps n) ∙ ap (λ (l : List (ℕ × List ℕ)). slice_get l n) are ∙ slice_get-map plain (all_productions g) n ∙ ap (option_map plain) e)
   where
     by : (o : Option Plain) → slice_get ps n ≡ o → option_map seen o ≡ Some (y, symbols_in d.steps) → (p : Plain) × (slice_get ps n ≡ Some p) × (p.left ≡ y)

@@ -16,7 +16,7 @@ use Rattle.ts_bits.specs.contracts.set.BitSetPartialEq.TheImpl as derived
 use Rattle.ts_items.specs.declared.part.Part.{Part}
 use Rattle.ts_items.specs.Numbers.{AreOnce as Kernels}
 use Rattle.ts_items.specs.Sets.{HasAt}
-use Rattle.ts_items.specs.Closing.{Grows, IsPool}
+use Rattle.ts_items.specs.Closing.{AddsSets, IsPool}
 use Rattle.ts_items.proofs.ListLemmas.{snoc_at}
 use Rattle.ts_items.proofs.OrderLemmas.{part_eq, part_decides}
 use Rattle.ts_items.proofs.GainLemmas.{has_at}
@@ -40,10 +40,10 @@ abbrev pub AreOnce : {X Y : Type 0} → (X → Y) → List X → Type 0
 AreOnce {X} {Y} f xs = (m n : ℕ) (a b : X) → slice_get xs m ≡ Some a → slice_get xs n ≡ Some b → f a ≡ f b → m ≡ n
 
 module _ {X Y : Type 0} (f : X → Y) (eq : X → X → Bool) (to : (a b : X) → eq a b ≡ true → f a ≡ f b) (from : (a b : X) → f a ≡ f b → eq a b ≡ true) where
-  pub grows_insert : (old new : List X) (x : X) → new ≡ insert_key eq old x → Grows old new
+  pub grows_insert : (old new : List X) (x : X) → new ≡ insert_key eq old x → AddsSets old new
   grows_insert old new x is = by (list_any (eq x) old) is
     where
-      by : (b : Bool) → new ≡ (if b then old else old ++ x ∷ []) → Grows old new
+      by : (b : Bool) → new ≡ (if b then old else old ++ x ∷ []) → AddsSets old new
       by true e = record { more = []; is = e ∙ sym (append-nil old) }
       by false e = record { more = x ∷ []; is = e }
 
@@ -91,7 +91,7 @@ words_same a b h = (words_decide a.words.items b.words.items).0 h
 same_set : (a b : BitSet) → a.words.items ≡ b.words.items → set_eq a b ≡ true
 same_set a b h = (words_decide a.words.items b.words.items).1 h
 
-pub pool_grows : (old new : List BitSet) (x : BitSet) → new ≡ insert_key set_eq old x → Grows old new
+pub pool_grows : (old new : List BitSet) (x : BitSet) → new ≡ insert_key set_eq old x → AddsSets old new
 pool_grows = grows_insert words_of set_eq words_same same_set
 
 pub pool_insert : (n : ℕ) (old new : List BitSet) (set copy : BitSet) → copy.words.items ≡ set.words.items → new ≡ insert_key set_eq old copy → IsPool n old → IsWide n set → IsPool n new
@@ -132,7 +132,7 @@ kernels_same a b h = (parts_decide a.items b.items).0 h
 same_kernel : (a b : Vec Part) → a.items ≡ b.items → kernel_eq a b ≡ true
 same_kernel a b h = (parts_decide a.items b.items).1 h
 
-pub kernel_grows : (old new : List (Vec Part)) (x : Vec Part) → new ≡ insert_key kernel_eq old x → Grows old new
+pub kernel_grows : (old new : List (Vec Part)) (x : Vec Part) → new ≡ insert_key kernel_eq old x → AddsSets old new
 kernel_grows = grows_insert parts_in kernel_eq kernels_same same_kernel
 
 pub kernel_of : (old new : List (Vec Part)) (x : Vec Part) → new ≡ insert_key kernel_eq old x → (n : ℕ) (k : Vec Part) → slice_get new n ≡ Some k → (slice_get old n ≡ Some k) ⊎ (k.items ≡ x.items)
@@ -141,5 +141,5 @@ kernel_of old new x is n k at = ⊎_elim (λ w. inl w) (λ e. inr (ap parts_in (
 pub kernel_once : (old new : List (Vec Part)) (x : Vec Part) → new ≡ insert_key kernel_eq old x → Kernels old → Kernels new
 kernel_once = once_insert parts_in kernel_eq kernels_same same_kernel
 
-pub grows_same : {X : Type 0} (old new : List X) → new ≡ old → Grows old new
+pub grows_same : {X : Type 0} (old new : List X) → new ≡ old → AddsSets old new
 grows_same old new e = record { more = []; is = e ∙ sym (append-nil old) }

@@ -19,9 +19,9 @@ use Rattle.ts_items.specs.Productions.{plain, right_of}
 use Rattle.ts_items.specs.Parts.{line_of, In}
 use Rattle.ts_items.specs.Sets.{HasAt}
 use Rattle.ts_items.specs.Tables.{IsTables}
-use Rattle.ts_items.specs.Closing.{AtDot, Begun, Closed, Same, AreParts, IsKernel, IsPool}
-use Rattle.ts_items.specs.Numbers.{IsState, AreStates, AreOnce, IsDone, Collecting}
-use Rattle.ts_items.specs.Collection.{most_states, Holds, Leads, here, step, StandsFor, AreDifferent, AreTooMany}
+use Rattle.ts_items.specs.Closing.{AtDot, Begun, Closed, SameItems, AreLineParts, IsKernel, IsPool}
+use Rattle.ts_items.specs.Numbers.{IsKernelOf, AreStates, AreOnce, IsDone, Collecting}
+use Rattle.ts_items.specs.Collection.{most_states, HoldsItem, IsReachedBy, here, step, StandsFor, AreDifferent, AreTooMany}
 use Rattle.ts_items.proofs.ListLemmas.{one_at, some_at}
 use Rattle.ts_items.proofs.GainLemmas.{has_at}
 use Rattle.ts_items.proofs.PlainLemmas.{dot_of}
@@ -52,7 +52,7 @@ over pool k l p q u kernel to hp hq line dot has =
     let same : w.part ≡ q = kernel.apart w.part q w.there hq (one_line w.part.line p.line (sym w.is.line) ∙ line) (sym w.is.dot ∙ dot) in
     subst (λ (z : Part). HasAt pool z.tokens u) same (record { set = w.is.set; at = w.is.at; has = w.is.has })
 
-part_over : (law : SameWords) (width lines : ℕ) (pool : List BitSet) (k l : List Part) → IsPool width pool → AreParts lines pool k → AreParts lines pool l → IsKernel k → IsKernel l → Same (In pool k) (In pool l) → (p : Part) → Contains k p → Contains l p
+part_over : (law : SameWords) (width lines : ℕ) (pool : List BitSet) (k l : List Part) → IsPool width pool → AreLineParts lines pool k → AreLineParts lines pool l → IsKernel k → IsKernel l → SameItems (In pool k) (In pool l) → (p : Part) → Contains k p → Contains l p
 part_over law width lines pool k l is ak al kk kl same p h =
     let some = (ak p h).some in
     let w = (same (record { line = line_of p.line; dot = p.dot; token = some.0 })).0 (item_in pool k p some.0 h some.1) in
@@ -70,7 +70,7 @@ part_over law width lines pool k l is ak al kk kl same p h =
     subst (Contains l) whole w.there
 
 -- an item of a kernel is no item that begins a production
-kernel_items : (g : FlatGrammar) (pool : List BitSet) (k l : List Part) → IsKernel k → Same (Closed g (In pool k)) (Closed g (In pool l)) → (i : Item) → In pool k i → In pool l i
+kernel_items : (g : FlatGrammar) (pool : List BitSet) (k l : List Part) → IsKernel k → SameItems (Closed g (In pool k)) (Closed g (In pool l)) → (i : Item) → In pool k i → In pool l i
 kernel_items g pool k l kk same i h = ⊎_elim (λ w. w) (λ b. absurd (apart b)) ((same i).0 (inl h))
   where
     apart : Begun g (In pool l) i → ⊥
@@ -78,9 +78,9 @@ kernel_items g pool k l kk same i h = ⊎_elim (λ w. w) (λ b. absurd (apart b)
         (λ z. let f : ◌≡◌ {A = Option ℕ} None (Some b.number) = sym (h.is.line ∙ ap line_of z) ∙ b.line in cc)
         (kk.dot h.part h.there)
 
-pub kernels_tell : (law : SameWords) (g : FlatGrammar) (width lines : ℕ) (pool : List BitSet) (k l : List Part) → IsPool width pool → IsState g lines pool k → IsState g lines pool l → Same (Closed g (In pool k)) (Closed g (In pool l)) → k ≡ l
+pub kernels_tell : (law : SameWords) (g : FlatGrammar) (width lines : ℕ) (pool : List BitSet) (k l : List Part) → IsPool width pool → IsKernelOf g lines pool k → IsKernelOf g lines pool l → SameItems (Closed g (In pool k)) (Closed g (In pool l)) → k ≡ l
 kernels_tell law g width lines pool k l is sk sl same =
-    let one : Same (In pool k) (In pool l) = λ i. (kernel_items g pool k l sk.kernel_is same i, kernel_items g pool l k sl.kernel_is (same_back (Closed g (In pool k)) (Closed g (In pool l)) same) i) in
+    let one : SameItems (In pool k) (In pool l) = λ i. (kernel_items g pool k l sk.kernel_is same i, kernel_items g pool l k sl.kernel_is (same_back (Closed g (In pool k)) (Closed g (In pool l)) same) i) in
     same_list k l sk.order sl.order (λ p. (
       part_over law width lines pool k l is sk.parts sl.parts sk.kernel_is sl.kernel_is one p,
       part_over law width lines pool l k is sl.parts sk.parts sl.kernel_is sk.kernel_is (same_back (In pool k) (In pool l) one) p,
@@ -95,7 +95,7 @@ reads_of g lines pool (k ∷ ks) are = (are 0 k refl).read ∷ reads_of g lines 
 record ReadAt (g : FlatGrammar) (lines : ℕ) (pool : List BitSet) (kernels : List (Vec Part)) (n : ℕ) (read : List ℕ) : Type 0 where
   kernel : Vec Part
   at : slice_get kernels n ≡ Some kernel
-  state : IsState g lines pool kernel.items
+  state : IsKernelOf g lines pool kernel.items
   is : state.read ≡ read
 
 read_at_of : (g : FlatGrammar) (lines : ℕ) (pool : List BitSet) (kernels : List (Vec Part)) (are : AreStates g lines pool kernels) (n : ℕ) (read : List ℕ) → slice_get (reads_of g lines pool kernels are) n ≡ Some read → ReadAt g lines pool kernels n read
@@ -114,8 +114,8 @@ reads_length g lines pool (k ∷ ks) are = ap suc (reads_length g lines pool ks 
 pub are_too_many : (law : SameWords) (g : FlatGrammar) (width lines : ℕ) (pool : List BitSet) (kernels : List (Vec Part)) → IsPool width pool → AreStates g lines pool kernels → AreOnce kernels → most_states < length kernels → AreTooMany g
 are_too_many law g width lines pool kernels is are once many = (reads_of g lines pool kernels are, different, let e = reads_length g lines pool kernels are in omega (arith, many, e))
   where
-    valid_of : (n : ℕ) (read : List ℕ) → (r : ReadAt g lines pool kernels n read) → Same (Closed g (In pool r.kernel.items)) (Valid g read)
-    valid_of n read r = subst (λ (w : List ℕ). Same (Closed g (In pool r.kernel.items)) (Valid g w)) r.is r.state.valid
+    valid_of : (n : ℕ) (read : List ℕ) → (r : ReadAt g lines pool kernels n read) → SameItems (Closed g (In pool r.kernel.items)) (Valid g read)
+    valid_of n read r = subst (λ (w : List ℕ). SameItems (Closed g (In pool r.kernel.items)) (Valid g w)) r.is r.state.valid
 
     different : AreDifferent g (reads_of g lines pool kernels are)
     different = record {
@@ -137,10 +137,10 @@ are_too_many law g width lines pool kernels is are once many = (reads_of g lines
 
 record Place (g : FlatGrammar) (items : Items) (read : List ℕ) : Type 0 where
   number : ℕ
-  leads : Leads items read number
+  leads : IsReachedBy items read number
   state : State
   at : slice_get items.states.items number ≡ Some state
-  valid : Same (In items.tokens.keys state.parts.items) (Valid g read)
+  valid : SameItems (In items.tokens.keys state.parts.items) (Valid g read)
 
 module _ (law : SameWords) (g : FlatGrammar) (t : Tables) (tables : IsTables g t) (items : Items) (kernels : List (Vec Part)) (next : ℕ) (width : ℕ) (narrow : 64 * width < 2 ^ 64) (is_pool : IsPool width items.tokens.keys)
     (c : Collecting g (length t.productions.items) (symbol_count g) items.tokens.keys kernels items.states.items next) (past : length kernels ≤ next) (count : next ≤ length kernels) where
@@ -148,7 +148,7 @@ module _ (law : SameWords) (g : FlatGrammar) (t : Tables) (tables : IsTables g t
   record Set (n : ℕ) (s : State) : Type 0 where
     kernel : Vec Part
     at : slice_get kernels n ≡ Some kernel
-    state : IsState g (length t.productions.items) items.tokens.keys kernel.items
+    state : IsKernelOf g (length t.productions.items) items.tokens.keys kernel.items
     done : IsDone g (length t.productions.items) (symbol_count g) items.tokens.keys kernels kernel s
 
   set_of : (n : ℕ) (s : State) → slice_get items.states.items n ≡ Some s → Set n s
@@ -161,8 +161,8 @@ module _ (law : SameWords) (g : FlatGrammar) (t : Tables) (tables : IsTables g t
   state_at n k at = let lt = slice_get_within kernels n k at in some_at items.states.items n (let e = c.size in omega (arith, lt, e, past))
 
   -- the set at which a goto leads
-  over_goto : (read : List ℕ) (n : ℕ) (s : State) → slice_get items.states.items n ≡ Some s → Same (In items.tokens.keys s.parts.items) (Valid g read) → (e : Goto) → Contains s.gotos.items e
-      → (r : State) × (slice_get items.states.items e.state ≡ Some r) × Same (In items.tokens.keys r.parts.items) (Valid g (e.symbol ∷ read))
+  over_goto : (read : List ℕ) (n : ℕ) (s : State) → slice_get items.states.items n ≡ Some s → SameItems (In items.tokens.keys s.parts.items) (Valid g read) → (e : Goto) → Contains s.gotos.items e
+      → (r : State) × (slice_get items.states.items e.state ≡ Some r) × SameItems (In items.tokens.keys r.parts.items) (Valid g (e.symbol ∷ read))
   over_goto read n s at valid e h =
       let set = set_of n s at in
       let w = set.done.gotos.leads e h in
@@ -174,13 +174,13 @@ module _ (law : SameWords) (g : FlatGrammar) (t : Tables) (tables : IsTables g t
             (next_valid g (In items.tokens.keys s.parts.items) (In items.tokens.keys w.0.items) read e.symbol valid w.2),
       )
 
-  first : (s : State) × (slice_get items.states.items 0 ≡ Some s) × Same (In items.tokens.keys s.parts.items) (Valid g [])
+  first : (s : State) × (slice_get items.states.items 0 ≡ Some s) × SameItems (In items.tokens.keys s.parts.items) (Valid g [])
   first =
       let s = state_at 0 c.first c.first_at in
       let d = c.done 0 s.0 c.first s.1 c.first_at in
       (s.0, s.1, same_both (In items.tokens.keys s.0.parts.items) (Closed g (In items.tokens.keys c.first.items)) (Valid g []) d.closes.items (first_valid g (In items.tokens.keys c.first.items) c.start))
 
-  led : (read : List ℕ) (n : ℕ) → Leads items read n → (s : State) × (slice_get items.states.items n ≡ Some s) × Same (In items.tokens.keys s.parts.items) (Valid g read)
+  led : (read : List ℕ) (n : ℕ) → IsReachedBy items read n → (s : State) × (slice_get items.states.items n ≡ Some s) × SameItems (In items.tokens.keys s.parts.items) (Valid g read)
   led _ _ here = first
   led _ _ (step read n symbol m before w) =
       let p = led read n before in
@@ -204,7 +204,7 @@ module _ (law : SameWords) (g : FlatGrammar) (t : Tables) (tables : IsTables g t
         leads = step read p.number x e.state p.leads (p.state, p.at, subst (Contains p.state.gotos.items) same w.1);
         state = r.0;
         at = r.1;
-        valid = subst (λ (z : ℕ). Same (In items.tokens.keys r.0.parts.items) (Valid g (z ∷ read))) w.2 r.2;
+        valid = subst (λ (z : ℕ). SameItems (In items.tokens.keys r.0.parts.items) (Valid g (z ∷ read))) w.2 r.2;
       }
 
   place : (read : List ℕ) (i : Item) → Valid g read i → Place g items read
@@ -212,7 +212,7 @@ module _ (law : SameWords) (g : FlatGrammar) (t : Tables) (tables : IsTables g t
   place read _ (asked _ i _ v e) = place read i v
   place _ _ (advanced_past read i s v b) = goes read i s.symbol.0 (place read i v) v (dot_of g i s b)
 
-  held : (n : ℕ) (s : State) → slice_get items.states.items n ≡ Some s → Same (Holds items n) (In items.tokens.keys s.parts.items)
+  held : (n : ℕ) (s : State) → slice_get items.states.items n ≡ Some s → SameItems (HoldsItem items n) (In items.tokens.keys s.parts.items)
   held n s at i = ((λ h. subst (λ (r : State). In items.tokens.keys r.parts.items i) (one_at items.states.items n h.0 s h.1 at) h.2), (λ h. (s, at, h)))
 
   lines_are : length t.productions.items ≡ length (all_productions g)
@@ -222,19 +222,19 @@ module _ (law : SameWords) (g : FlatGrammar) (t : Tables) (tables : IsTables g t
       let d = length-map (all_productions g) plain in
       omega (arith, a, b, d)
 
-  distinct : (m n : ℕ) → m < length items.states.items → n < length items.states.items → Same (Holds items m) (Holds items n) → m ≡ n
+  distinct : (m n : ℕ) → m < length items.states.items → n < length items.states.items → SameItems (HoldsItem items m) (HoldsItem items n) → m ≡ n
   distinct m n lm ln same =
       let r = some_at items.states.items m lm in
       let s = some_at items.states.items n ln in
       let a = set_of m r.0 r.1 in
       let b = set_of n s.0 s.1 in
-      let both = same_both (Closed g (In items.tokens.keys a.kernel.items)) (Holds items m) (Closed g (In items.tokens.keys b.kernel.items))
-      (same_both (Closed g (In items.tokens.keys a.kernel.items)) (In items.tokens.keys r.0.parts.items) (Holds items m) (same_back (In items.tokens.keys r.0.parts.items) (Closed g (In items.tokens.keys a.kernel.items)) a.done.closes.items) (same_back (Holds items m) (In items.tokens.keys r.0.parts.items) (held m r.0 r.1)))
-      (same_both (Holds items m) (Holds items n) (Closed g (In items.tokens.keys b.kernel.items)) same
-      (same_both (Holds items n) (In items.tokens.keys s.0.parts.items) (Closed g (In items.tokens.keys b.kernel.items)) (held n s.0 s.1) b.done.closes.items)) in
+      let both = same_both (Closed g (In items.tokens.keys a.kernel.items)) (HoldsItem items m) (Closed g (In items.tokens.keys b.kernel.items))
+      (same_both (Closed g (In items.tokens.keys a.kernel.items)) (In items.tokens.keys r.0.parts.items) (HoldsItem items m) (same_back (In items.tokens.keys r.0.parts.items) (Closed g (In items.tokens.keys a.kernel.items)) a.done.closes.items) (same_back (HoldsItem items m) (In items.tokens.keys r.0.parts.items) (held m r.0 r.1)))
+      (same_both (HoldsItem items m) (HoldsItem items n) (Closed g (In items.tokens.keys b.kernel.items)) same
+      (same_both (HoldsItem items n) (In items.tokens.keys s.0.parts.items) (Closed g (In items.tokens.keys b.kernel.items)) (held n s.0 s.1) b.done.closes.items)) in
       c.once m n a.kernel b.kernel a.at b.at (kernels_tell law g width (length t.productions.items) items.tokens.keys a.kernel.items b.kernel.items is_pool a.state b.state both)
 
-  reached : (n : ℕ) → n < length items.states.items → (read : List ℕ) × (i : Item) × Leads items read n × Valid g read i
+  reached : (n : ℕ) → n < length items.states.items → (read : List ℕ) × (i : Item) × IsReachedBy items read n × Valid g read i
   reached n lt =
       let s = some_at items.states.items n lt in
       let set = set_of n s.0 s.1 in
@@ -244,24 +244,24 @@ module _ (law : SameWords) (g : FlatGrammar) (t : Tables) (tables : IsTables g t
       let i : Item = record { line = line_of p.line; dot = p.dot; token = some.0 } in
       let v = (st.valid i).0 (inl (item_in items.tokens.keys set.kernel.items p some.0 st.has some.1)) in
       let w = place st.read i v in
-      let valid : Same (In items.tokens.keys s.0.parts.items) (Valid g st.read) = same_both (In items.tokens.keys s.0.parts.items) (Closed g (In items.tokens.keys set.kernel.items)) (Valid g st.read) set.done.closes.items st.valid in
-      let same : Same (Holds items w.number) (Holds items n) = same_both (Holds items w.number) (Valid g st.read) (Holds items n)
-      (same_both (Holds items w.number) (In items.tokens.keys w.state.parts.items) (Valid g st.read) (held w.number w.state w.at) w.valid)
-      (same_back (Holds items n) (Valid g st.read) (same_both (Holds items n) (In items.tokens.keys s.0.parts.items) (Valid g st.read) (held n s.0 s.1) valid)) in
+      let valid : SameItems (In items.tokens.keys s.0.parts.items) (Valid g st.read) = same_both (In items.tokens.keys s.0.parts.items) (Closed g (In items.tokens.keys set.kernel.items)) (Valid g st.read) set.done.closes.items st.valid in
+      let same : SameItems (HoldsItem items w.number) (HoldsItem items n) = same_both (HoldsItem items w.number) (Valid g st.read) (HoldsItem items n)
+      (same_both (HoldsItem items w.number) (In items.tokens.keys w.state.parts.items) (Valid g st.read) (held w.number w.state w.at) w.valid)
+      (same_back (HoldsItem items n) (Valid g st.read) (same_both (HoldsItem items n) (In items.tokens.keys s.0.parts.items) (Valid g st.read) (held n s.0 s.1) valid)) in
       let one : w.number ≡ n = distinct w.number n (slice_get_within items.states.items w.number w.state w.at) lt same in
-      (st.read, i, subst (Leads items st.read) one w.leads, v)
+      (st.read, i, subst (IsReachedBy items st.read) one w.leads, v)
 
   pub stands_for : StandsFor g items
   stands_for = record {
     complete = λ read i v. let p = place read i v in (p.number, p.leads);
-    valid = λ read n l. let p = led read n l in same_both (Holds items n) (In items.tokens.keys p.0.parts.items) (Valid g read) (held n p.0 p.1) p.2;
+    valid = λ read n l. let p = led read n l in same_both (HoldsItem items n) (In items.tokens.keys p.0.parts.items) (Valid g read) (held n p.0 p.1) p.2;
     reached = reached;
     distinct = distinct;
     laid_out = λ n s at.
         let set = set_of n s at in
         let closes = set.done.closes in
         record {
-          parts = subst (λ (m : ℕ). AreParts m items.tokens.keys s.parts.items) lines_are closes.parts_are;
+          parts = subst (λ (m : ℕ). AreLineParts m items.tokens.keys s.parts.items) lines_are closes.parts_are;
           apart = closes.apart set.state.kernel_is;
           rise = set.done.gotos.rise;
         };

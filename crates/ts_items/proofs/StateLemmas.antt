@@ -13,31 +13,31 @@ use Rattle.ts_items.specs.declared.part.Goto.{Goto}
 use Rattle.ts_items.specs.declared.part.State.{State}
 use Rattle.ts_items.specs.Productions.{right_of}
 use Rattle.ts_items.specs.Parts.{line_of, In}
-use Rattle.ts_items.specs.Rows.{Each}
+use Rattle.ts_items.specs.Rows.{FromOne}
 use Rattle.ts_items.specs.Sets.{HasAt}
-use Rattle.ts_items.specs.Closing.{Begun, Closed, Same, Moves, AreParts, Closes, Grows}
-use Rattle.ts_items.specs.Numbers.{MovesTo, IsOrdered, IsState, AreStates, IsOver, AreGotos, AreOnce, IsDone, Collecting}
+use Rattle.ts_items.specs.Closing.{Begun, Closed, SameItems, MovesPast, AreLineParts, Closes, AddsSets}
+use Rattle.ts_items.specs.Numbers.{MovesTo, IsOrdered, IsKernelOf, AreStates, HasRows, AreGotos, AreOnce, IsDone, Collecting}
 use Rattle.ts_items.proofs.ListLemmas.{one_at, at_grown, snoc_at, some_at}
 use Rattle.ts_items.proofs.AskLemmas.{in_grown, part_grown, asked_more}
 use Rattle.ts_items.proofs.ClosureLemmas.{next_valid}
 
-pub same_both : (P Q R : Item → Type 0) → Same P Q → Same Q R → Same P R
+pub same_both : (P Q R : Item → Type 0) → SameItems P Q → SameItems Q R → SameItems P R
 same_both P Q R a b i = ((λ h. (b i).0 ((a i).0 h)), (λ h. (a i).1 ((b i).1 h)))
 
-pub same_back : (P Q : Item → Type 0) → Same P Q → Same Q P
+pub same_back : (P Q : Item → Type 0) → SameItems P Q → SameItems Q P
 same_back P Q a i = ((a i).1, (a i).0)
 
 -- the closed sets of two kernels with the same items are the same
-begun_more : (g : FlatGrammar) (K L : Item → Type 0) → Same K L → (i : Item) → Begun g K i → Begun g L i
+begun_more : (g : FlatGrammar) (K L : Item → Type 0) → SameItems K L → (i : Item) → Begun g K i → Begun g L i
 begun_more g K L same i b = record { symbol = b.symbol; number = b.number; production = b.production; line = b.line; begins = b.begins; asked = asked_more g K L (λ j k. (same j).0 k) b.symbol i.token b.asked }
 
-pub closed_same : (g : FlatGrammar) (K L : Item → Type 0) → Same K L → Same (Closed g K) (Closed g L)
+pub closed_same : (g : FlatGrammar) (K L : Item → Type 0) → SameItems K L → SameItems (Closed g K) (Closed g L)
 closed_same g K L same i = (
   (λ h. ⊎_elim (λ k. inl ((same i).0 k)) (λ b. inr (begun_more g K L same i b)) h),
   (λ h. ⊎_elim (λ k. inl ((same i).1 k)) (λ b. inr (begun_more g L K (same_back K L same) i b)) h),
 )
 
-pub moves_same : (g : FlatGrammar) (S T : Item → Type 0) (x : ℕ) → Same S T → Same (Moves g S x) (Moves g T x)
+pub moves_same : (g : FlatGrammar) (S T : Item → Type 0) (x : ℕ) → SameItems S T → SameItems (MovesPast g S x) (MovesPast g T x)
 moves_same g S T x same i = (
   (λ m. record { from = m.from; there = (same m.from).0 m.there; before = m.before; is = m.is }),
   (λ m. record { from = m.from; there = (same m.from).1 m.there; before = m.before; is = m.is }),
@@ -45,9 +45,9 @@ moves_same g S T x same i = (
 
 -- ---- the set past a symbol
 
-module _ (g : FlatGrammar) (lines : ℕ) (pool : List BitSet) (parts : List Part) (rows : List (Vec Part)) (over : IsOver g lines pool parts rows) where
+module _ (g : FlatGrammar) (lines : ℕ) (pool : List BitSet) (parts : List Part) (rows : List (Vec Part)) (over : HasRows g lines pool parts rows) where
   -- from which part one past a symbol comes
-  from_of : (x : ℕ) (row : Vec Part) (ks : List Part) → slice_get rows x ≡ Some row → IsOrdered row.items ks → (p : Part) → Contains ks p → Each (MovesTo g) parts x p
+  from_of : (x : ℕ) (row : Vec Part) (ks : List Part) → slice_get rows x ≡ Some row → IsOrdered row.items ks → (p : Part) → Contains ks p → FromOne (MovesTo g) parts x p
   from_of x row ks at order p h = (over.moved x p).0 (record { row = row; at = at; has = (order.members p).0 h })
 
   past_of : (x : ℕ) (row : Vec Part) (ks : List Part) → slice_get rows x ≡ Some row → IsOrdered row.items ks → (q : Part) → Contains parts q → slice_get (right_of g (line_of q.line)) q.dot ≡ Some x → Contains ks (record q { dot = q.dot + 1 })
@@ -56,10 +56,10 @@ module _ (g : FlatGrammar) (lines : ℕ) (pool : List BitSet) (parts : List Part
       let w = (over.moved x p).1 (record { by = q; there = h; gives = (dot, refl) }) in
       (order.members p).1 (subst (λ (v : Vec Part). Contains v.items p) (one_at rows x w.row row w.at at) w.has)
 
-  pub row_moves : (x : ℕ) (row : Vec Part) (ks : List Part) → slice_get rows x ≡ Some row → IsOrdered row.items ks → Same (In pool ks) (Moves g (In pool parts) x)
+  pub row_moves : (x : ℕ) (row : Vec Part) (ks : List Part) → slice_get rows x ≡ Some row → IsOrdered row.items ks → SameItems (In pool ks) (MovesPast g (In pool parts) x)
   row_moves x row ks at order j = (to, from)
     where
-      to : In pool ks j → Moves g (In pool parts) x j
+      to : In pool ks j → MovesPast g (In pool parts) x j
       to h =
           let e = from_of x row ks at order h.part h.there in
           let q = e.by in
@@ -74,7 +74,7 @@ module _ (g : FlatGrammar) (lines : ℕ) (pool : List BitSet) (parts : List Part
             is = λ k. record { line = line k; dot = dot k; token = j.token };
           }
 
-      from : Moves g (In pool parts) x j → In pool ks j
+      from : MovesPast g (In pool parts) x j → In pool ks j
       from m =
           let q = m.there.part in
           let is = m.there.is in
@@ -91,7 +91,7 @@ module _ (g : FlatGrammar) (lines : ℕ) (pool : List BitSet) (parts : List Part
             };
           }
 
-  pub row_state : (x : ℕ) (row : Vec Part) (ks : List Part) → slice_get rows x ≡ Some row → IsOrdered row.items ks → ((row.items ≡ []) → ⊥) → IsState g lines pool ks
+  pub row_state : (x : ℕ) (row : Vec Part) (ks : List Part) → slice_get rows x ≡ Some row → IsOrdered row.items ks → ((row.items ≡ []) → ⊥) → IsKernelOf g lines pool ks
   row_state x row ks at order some =
       let one = some_of row.items some in
       record {
@@ -128,7 +128,7 @@ module _ (g : FlatGrammar) (lines : ℕ) (pool : List BitSet) (parts : List Part
 
 -- ---- sets that stay
 
-pub closes_grown : (g : FlatGrammar) (lines : ℕ) (old new : List BitSet) (kernel parts : List Part) → Grows old new → AreParts lines old kernel → Closes g lines old kernel parts → Closes g lines new kernel parts
+pub closes_grown : (g : FlatGrammar) (lines : ℕ) (old new : List BitSet) (kernel parts : List Part) → AddsSets old new → AreLineParts lines old kernel → Closes g lines old kernel parts → Closes g lines new kernel parts
 closes_grown g lines old new kernel parts grows are c = record {
   parts_are = λ q h. part_grown old new lines q grows (c.parts_are q h);
   items = same_both (In new parts) (In old parts) (Closed g (In new kernel)) (in_grown old new lines parts grows c.parts_are)
@@ -136,7 +136,7 @@ closes_grown g lines old new kernel parts grows are c = record {
   apart = c.apart;
 }
 
-pub state_grown : (g : FlatGrammar) (lines : ℕ) (old new : List BitSet) (kernel : List Part) → Grows old new → IsState g lines old kernel → IsState g lines new kernel
+pub state_grown : (g : FlatGrammar) (lines : ℕ) (old new : List BitSet) (kernel : List Part) → AddsSets old new → IsKernelOf g lines old kernel → IsKernelOf g lines new kernel
 state_grown g lines old new kernel grows s = record {
   read = s.read;
   valid = same_both (Closed g (In new kernel)) (Closed g (In old kernel)) (Valid g s.read) (closed_same g (In new kernel) (In old kernel) (in_grown old new lines kernel grows s.parts)) s.valid;
@@ -147,7 +147,7 @@ state_grown g lines old new kernel grows s = record {
   order = s.order;
 }
 
-pub gotos_grown : (g : FlatGrammar) (lines below : ℕ) (old new : List BitSet) (kernels more : List (Vec Part)) (parts : List Part) (gotos : List Goto) → Grows old new → Grows kernels more → AreStates g lines old kernels → AreParts lines old parts → AreGotos g old kernels parts below gotos
+pub gotos_grown : (g : FlatGrammar) (lines below : ℕ) (old new : List BitSet) (kernels more : List (Vec Part)) (parts : List Part) (gotos : List Goto) → AddsSets old new → AddsSets kernels more → AreStates g lines old kernels → AreLineParts lines old parts → AreGotos g old kernels parts below gotos
     → AreGotos g new more parts below gotos
 gotos_grown g lines below old new kernels more parts gotos grows wider states are a = record {
   leads = λ e h.
@@ -156,15 +156,15 @@ gotos_grown g lines below old new kernels more parts gotos grows wider states ar
       let s = states e.state k w.1 in (
         k,
         at_grown kernels more wider.more e.state k wider.is w.1,
-        same_both (In new k.items) (In old k.items) (Moves g (In new parts) e.symbol) (in_grown old new lines k.items grows s.parts)
-            (same_both (In old k.items) (Moves g (In old parts) e.symbol) (Moves g (In new parts) e.symbol) w.2 (moves_same g (In old parts) (In new parts) e.symbol (same_back (In new parts) (In old parts) (in_grown old new lines parts grows are)))),
+        same_both (In new k.items) (In old k.items) (MovesPast g (In new parts) e.symbol) (in_grown old new lines k.items grows s.parts)
+            (same_both (In old k.items) (MovesPast g (In old parts) e.symbol) (MovesPast g (In new parts) e.symbol) w.2 (moves_same g (In old parts) (In new parts) e.symbol (same_back (In new parts) (In old parts) (in_grown old new lines parts grows are)))),
       );
   under = a.under;
   all = λ x i lt h at. a.all x i lt ((in_grown old new lines parts grows are i).0 h) at;
   rise = a.rise;
 }
 
-pub collecting_more : (g : FlatGrammar) (lines count : ℕ) (old new : List BitSet) (kernels more : List (Vec Part)) (states : List State) (next : ℕ) (k : Vec Part) (s : State) → Collecting g lines count old kernels states next → Grows old new → Grows kernels more → AreStates g lines new more
+pub collecting_more : (g : FlatGrammar) (lines count : ℕ) (old new : List BitSet) (kernels more : List (Vec Part)) (states : List State) (next : ℕ) (k : Vec Part) (s : State) → Collecting g lines count old kernels states next → AddsSets old new → AddsSets kernels more → AreStates g lines new more
     → AreOnce more → slice_get kernels next ≡ Some k → IsDone g lines count new more k s → Collecting g lines count new more (states ++ s ∷ []) (next + 1)
 collecting_more g lines count old new kernels more states next k s c grows wider are once here one = record {
   first = c.first;

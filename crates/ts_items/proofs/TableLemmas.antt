@@ -10,9 +10,9 @@ use Rattle.spec_tables.specs.Items.{CanBeginWith}
 use Rattle.ts_bits.specs.declared.set.BitSet.{BitSet}
 use Rattle.ts_bits.specs.Members.{Has, IsWide}
 use Rattle.ts_items.specs.declared.part.Part.{Part}
-use Rattle.ts_items.specs.Sets.{HasAt, Gains, Tells}
+use Rattle.ts_items.specs.Sets.{HasAt, GainsTokens, QueuesGains}
 use Rattle.ts_items.specs.Flow.{Queued}
-use Rattle.ts_items.specs.Rows.{RowHas, Puts, Each}
+use Rattle.ts_items.specs.Rows.{RowHas, Puts, FromOne}
 use Rattle.ts_items.specs.Numbers.{MovesTo, AreMoved}
 use Rattle.ts_items.proofs.EachLemmas.{puts_none, puts_same}
 use Rattle.ts_items.specs.Closing.{AskedBy, CanFollow}
@@ -77,17 +77,17 @@ follow_none g pool q at s is place here u =
       (λ h. (has_at pool q.tokens s here u).0 (subst (λ (o : Option ℕ). MatchOption o (HasAt pool q.tokens u) (λ z. CanBeginWith g z u)) next h)),
     )
 
-pub ask_gains : (g : FlatGrammar) (pool : List BitSet) (q : Part) (at x : ℕ) (s : BitSet) (a b : List BitSet) → Some x ≡ slice_get (right_of g (line_of q.line)) at → at ≡ q.dot → ((u : ℕ) → Has s u ↔ CanFollow g pool q u) → Gains (λ y u. (y ≡ x) × Has s u) a b → Gains (AskedBy g pool q) a b
+pub ask_gains : (g : FlatGrammar) (pool : List BitSet) (q : Part) (at x : ℕ) (s : BitSet) (a b : List BitSet) → Some x ≡ slice_get (right_of g (line_of q.line)) at → at ≡ q.dot → ((u : ℕ) → Has s u ↔ CanFollow g pool q u) → GainsTokens (λ y u. (y ≡ x) × Has s u) a b → GainsTokens (AskedBy g pool q) a b
 ask_gains g pool q at x s a b is place follows gains =
     let here : slice_get (right_of g (line_of q.line)) q.dot ≡ Some x = ap (λ (k : ℕ). slice_get (right_of g (line_of q.line)) k) (sym place) ∙ sym is in
     gains_same (λ y u. (y ≡ x) × Has s u) (AskedBy g pool q) a b gains
     (λ y u h. record { before = here ∙ ap Some (sym h.0); follows = (follows u).0 h.1 })
     (λ y u h. ((let e : Some y ≡ Some x = sym h.before ∙ here in cc), (follows u).1 h.follows))
 
-pub ask_none : (g : FlatGrammar) (pool : List BitSet) (q : Part) (at : ℕ) (a : List BitSet) → ◌≡◌ {A = Option ℕ} None (slice_get (right_of g (line_of q.line)) at) → at ≡ q.dot → Gains (AskedBy g pool q) a a
+pub ask_none : (g : FlatGrammar) (pool : List BitSet) (q : Part) (at : ℕ) (a : List BitSet) → ◌≡◌ {A = Option ℕ} None (slice_get (right_of g (line_of q.line)) at) → at ≡ q.dot → GainsTokens (AskedBy g pool q) a a
 ask_none g pool q at a is place = gains_none (AskedBy g pool q) a (λ y u h. absurd (let e : ◌≡◌ {A = Option ℕ} None (Some y) = is ∙ ap (λ (k : ℕ). slice_get (right_of g (line_of q.line)) k) place ∙ h.before in cc))
 
-pub tells_queued : (old new : List BitSet) (q r : List ℕ) → ((y t : ℕ) → HasAt old y t → ⊥) → q ≡ [] → length new ≡ length old → Tells old new q r → Queued new r
+pub tells_queued : (old new : List BitSet) (q r : List ℕ) → ((y t : ℕ) → HasAt old y t → ⊥) → q ≡ [] → length new ≡ length old → QueuesGains old new q r → Queued new r
 tells_queued old new q r none empty size tells = record {
   inside = λ y h. (let lt = tells.inside y (in_more y h) in omega (arith, lt, size));
   begun = λ y t h. ⊎_elim (λ w. subst (λ (l : List ℕ). Contains l y) (sym whole) w) (λ s. absurd (none y t (s t h))) (tells.told y);
@@ -122,7 +122,7 @@ move_puts g q past at from symbol a b is place same one puts =
 pub move_none : (g : FlatGrammar) (q : Part) (at : ℕ) (a : List (Vec Part)) → ◌≡◌ {A = Option ℕ} None (slice_get (right_of g (line_of q.line)) at) → at ≡ q.dot → Puts (MovesTo g q) a a
 move_none g q at a is place = puts_none (MovesTo g q) a (λ y x h. absurd (let e : ◌≡◌ {A = Option ℕ} None (Some y) = is ∙ ap (λ (k : ℕ). slice_get (right_of g (line_of q.line)) k) place ∙ h.0 in cc))
 
-pub are_moved : (g : FlatGrammar) (parts : List Part) (len : ℕ) (items now new : List (Vec Part)) → now ≡ items → length now ≡ len → length new ≡ length now → ((y : ℕ) (x : Part) → RowHas items y x → ⊥) → Puts (Each (MovesTo g) parts) now new
+pub are_moved : (g : FlatGrammar) (parts : List Part) (len : ℕ) (items now new : List (Vec Part)) → now ≡ items → length now ≡ len → length new ≡ length now → ((y : ℕ) (x : Part) → RowHas items y x → ⊥) → Puts (FromOne (MovesTo g) parts) now new
     → AreMoved g parts (take len (new ++ drop (length new) items))
 are_moved g parts len items now new same size count none puts =
     subst (AreMoved g parts) (sym (written items now new len same size count))

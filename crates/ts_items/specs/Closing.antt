@@ -53,11 +53,11 @@ pub record Begun (g : FlatGrammar) (K : Item → Type 0) (j : Item) : Type 0 whe
 abbrev pub Closed : FlatGrammar → (Item → Type 0) → Item → Type 0
 Closed g K j = K j ⊎ Begun g K j
 
-abbrev pub Same : (Item → Type 0) → (Item → Type 0) → Type 0
-Same P Q = (i : Item) → P i ↔ Q i
+abbrev pub SameItems : (Item → Type 0) → (Item → Type 0) → Type 0
+SameItems P Q = (i : Item) → P i ↔ Q i
 
 -- an item of the set, with its dot past the symbol
-pub record Moves (g : FlatGrammar) (S : Item → Type 0) (x : ℕ) (j : Item) : Type 0 where
+pub record MovesPast (g : FlatGrammar) (S : Item → Type 0) (x : ℕ) (j : Item) : Type 0 where
   pub from : Item
   pub there : S from
   pub before : AtDot g from x
@@ -75,16 +75,16 @@ pub record AskedBy (g : FlatGrammar) (pool : List BitSet) (q : Part) (y token : 
   pub follows : CanFollow g pool q token
 
 -- the part has one of so many lines, and a set of the pool that has some token
-pub record IsPart (lines : ℕ) (pool : List BitSet) (q : Part) : Type 0 where
+pub record IsLinePart (lines : ℕ) (pool : List BitSet) (q : Part) : Type 0 where
   pub line : q.line ≤ lines
   pub tokens : q.tokens < length pool
   pub some : (t : ℕ) × HasAt pool q.tokens t
 
-abbrev pub AreParts : ℕ → List BitSet → List Part → Type 0
-AreParts lines pool parts = (q : Part) → Contains parts q → IsPart lines pool q
+abbrev pub AreLineParts : ℕ → List BitSet → List Part → Type 0
+AreLineParts lines pool parts = (q : Part) → Contains parts q → IsLinePart lines pool q
 
 -- the list goes on with parts of this kind, and has them all
-pub record Adds (P : Part → Type 0) (old new : List Part) : Type 0 where
+pub record AddsParts (P : Part → Type 0) (old new : List Part) : Type 0 where
   pub more : List Part
   pub is : new ≡ old ++ more
   pub members : (q : Part) → Contains more q ↔ P q
@@ -98,7 +98,7 @@ pub record BeginsLine (pool : List BitSet) (lines : List ℕ) (tokens : BitSet)
   pub same : (t : ℕ) → HasAt pool q.tokens t ↔ Has tokens t
 
 -- where there is some token, the list goes on with a part for each of the lines
-pub record Begins (pool : List BitSet) (lines : List ℕ) (tokens : BitSet)
+pub record AddsBegun (pool : List BitSet) (lines : List ℕ) (tokens : BitSet)
     (old new : List Part) : Type 0 where
   pub more : List Part
   pub is : new ≡ old ++ more
@@ -127,7 +127,7 @@ pub record AreBegun (lines : List (Vec ℕ)) (asked pool : List BitSet) (below :
       × Contains more q × (q.line ≡ line)
 
 -- sets were added at the end
-pub record Grows {X : Type 0} (old new : List X) : Type 0 where
+pub record AddsSets {X : Type 0} (old new : List X) : Type 0 where
   pub more : List X
   pub is : new ≡ old ++ more
 
@@ -138,18 +138,18 @@ pub record IsPool (width : ℕ) (pool : List BitSet) : Type 0 where
       → s.words.items ≡ r.words.items → m ≡ n
 
 -- no two parts have the same line and dot
-abbrev pub AreApart : List Part → Type 0
-AreApart parts = (p q : Part) → Contains parts p → Contains parts q → p.line ≡ q.line
+abbrev pub AreOneEach : List Part → Type 0
+AreOneEach parts = (p q : Part) → Contains parts p → Contains parts q → p.line ≡ q.line
     → p.dot ≡ q.dot → p ≡ q
 
 -- parts with which a set begins: their dots are past a step, or they begin the start item
 pub record IsKernel (kernel : List Part) : Type 0 where
   pub dot : (q : Part) → Contains kernel q → (0 < q.dot) ⊎ (q.line ≡ 0)
-  pub apart : AreApart kernel
+  pub apart : AreOneEach kernel
 
 -- the parts stand for the closed set of those of the kernel
 pub record Closes (g : FlatGrammar) (lines : ℕ) (pool : List BitSet)
     (kernel parts : List Part) : Type 0 where
-  pub parts_are : AreParts lines pool parts
-  pub items : Same (In pool parts) (Closed g (In pool kernel))
-  pub apart : IsKernel kernel → AreApart parts
+  pub parts_are : AreLineParts lines pool parts
+  pub items : SameItems (In pool parts) (Closed g (In pool kernel))
+  pub apart : IsKernel kernel → AreOneEach parts

@@ -8,7 +8,7 @@ use Rattle.spec_tables.specs.Items.{CanBeginWith}
 use Rattle.ts_bits.specs.declared.set.BitSet.{BitSet}
 use Rattle.ts_items.specs.declared.flow.Edge.{Edge}
 use Rattle.ts_items.specs.declared.plain.Plain.{Plain}
-use Rattle.ts_items.specs.Rows.{RowHas, Each}
+use Rattle.ts_items.specs.Rows.{RowHas, FromOne}
 use Rattle.ts_items.specs.Sets.{HasAt, AreWide}
 
 -- the edge leads from the first symbol of a production to its left side, and hands tokens on
@@ -28,19 +28,19 @@ pub record IsAskEdge (p : Plain) (y : ℕ) (e : Edge) : Type 0 where
 pub record AreEdges (EdgeOf : Plain → ℕ → Edge → Type 0) (ps : List Plain) (count : ℕ)
     (edges : List (Vec Edge)) : Type 0 where
   pub count_is : length edges ≡ count
-  pub members : (y : ℕ) (e : Edge) → RowHas edges y e ↔ Each EdgeOf ps y e
+  pub members : (y : ℕ) (e : Edge) → RowHas edges y e ↔ FromOne EdgeOf ps y e
 
 -- the symbols of the production are below the number of symbols, and a dot in it has 16 bits
-pub record IsInside (count : ℕ) (p : Plain) : Type 0 where
+pub record IsPlainInside (count : ℕ) (p : Plain) : Type 0 where
   pub left : p.left < count
   pub short : length p.right.items < 2 ^ 16
   pub right : (k x : ℕ) → slice_get p.right.items k ≡ Some x → x < count
 
 abbrev pub AreInside : ℕ → List Plain → Type 0
-AreInside count ps = (p : Plain) → Contains ps p → IsInside count p
+AreInside count ps = (p : Plain) → Contains ps p → IsPlainInside count p
 
 -- for each symbol the tokens with which it can begin
-pub record AreFirsts (g : FlatGrammar) (width : ℕ) (sets : List BitSet) : Type 0 where
+pub record AreFirstSets (g : FlatGrammar) (width : ℕ) (sets : List BitSet) : Type 0 where
   pub count : length sets ≡ symbol_count g
   pub wide : AreWide width sets
   pub members : (y t : ℕ) → HasAt sets y t ↔ CanBeginWith g y t

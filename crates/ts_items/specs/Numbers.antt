@@ -14,8 +14,8 @@ use Rattle.ts_items.specs.declared.tables.Tables.{Tables}
 use Rattle.ts_items.specs.contracts.part.PartOrd.TheImpl as derived
 use Rattle.ts_items.specs.Productions.{right_of}
 use Rattle.ts_items.specs.Parts.{line_of, In}
-use Rattle.ts_items.specs.Rows.{RowHas, Each}
-use Rattle.ts_items.specs.Closing.{Grows, AtDot, Closed, Same, Moves, AreParts, AreApart, IsKernel, Closes}
+use Rattle.ts_items.specs.Rows.{RowHas, FromOne}
+use Rattle.ts_items.specs.Closing.{AddsSets, AtDot, Closed, SameItems, MovesPast, AreLineParts, AreOneEach, IsKernel, Closes}
 
 abbrev pub part_cmp : Part → Part → Ordering
 part_cmp = (derived.cmp-value).it
@@ -27,7 +27,7 @@ MovesTo g q y x = (slice_get (right_of g (line_of q.line)) q.dot ≡ Some y)
 
 -- for each symbol the parts past it
 abbrev pub AreMoved : FlatGrammar → List Part → List (Vec Part) → Type 0
-AreMoved g parts rows = (y : ℕ) (x : Part) → RowHas rows y x ↔ Each (MovesTo g) parts y x
+AreMoved g parts rows = (y : ℕ) (x : Part) → RowHas rows y x ↔ FromOne (MovesTo g) parts y x
 
 -- the same parts in order, each once
 pub record IsOrdered (parts ordered : List Part) : Type 0 where
@@ -40,27 +40,27 @@ AreOnce kernels = (m n : ℕ) (a b : Vec Part) → slice_get kernels m ≡ Some 
     → slice_get kernels n ≡ Some b → a.items ≡ b.items → m ≡ n
 
 -- the parts begin the set of the items that are valid after some list of symbols
-pub record IsState (g : FlatGrammar) (lines : ℕ) (pool : List BitSet)
+pub record IsKernelOf (g : FlatGrammar) (lines : ℕ) (pool : List BitSet)
     (kernel : List Part) : Type 0 where
   pub read : List ℕ
-  pub valid : Same (Closed g (In pool kernel)) (Valid g read)
+  pub valid : SameItems (Closed g (In pool kernel)) (Valid g read)
   pub one : Part
   pub has : Contains kernel one
-  pub parts : AreParts lines pool kernel
+  pub parts : AreLineParts lines pool kernel
   pub kernel_is : IsKernel kernel
   pub order : IsStrictlySortedBy part_cmp kernel
 
 abbrev pub AreStates : FlatGrammar → ℕ → List BitSet → List (Vec Part) → Type 0
 AreStates g lines pool kernels = (n : ℕ) (k : Vec Part) → slice_get kernels n ≡ Some k
-    → IsState g lines pool k.items
+    → IsKernelOf g lines pool k.items
 
 -- the parts of a set, and those past each symbol
-pub record IsOver (g : FlatGrammar) (lines : ℕ) (pool : List BitSet) (parts : List Part)
+pub record HasRows (g : FlatGrammar) (lines : ℕ) (pool : List BitSet) (parts : List Part)
     (rows : List (Vec Part)) : Type 0 where
   pub read : List ℕ
-  pub valid : Same (In pool parts) (Valid g read)
-  pub are : AreParts lines pool parts
-  pub apart : AreApart parts
+  pub valid : SameItems (In pool parts) (Valid g read)
+  pub are : AreLineParts lines pool parts
+  pub apart : AreOneEach parts
   pub moved : AreMoved g parts rows
 
 -- each leads to the set that begins with the items past the symbol, and there is one for each
@@ -69,7 +69,7 @@ pub record AreGotos (g : FlatGrammar) (pool : List BitSet) (kernels : List (Vec 
     (parts : List Part) (below : ℕ) (gotos : List Goto) : Type 0 where
   pub leads : (e : Goto) → Contains gotos e → (k : Vec Part)
       × (slice_get kernels e.state ≡ Some k)
-      × Same (In pool k.items) (Moves g (In pool parts) e.symbol)
+      × SameItems (In pool k.items) (MovesPast g (In pool parts) e.symbol)
   pub under : (e : Goto) → Contains gotos e → e.symbol < below
   pub all : (x : ℕ) (i : Item) → x < below → In pool parts i → AtDot g i x → (e : Goto)
       × Contains gotos e × (e.symbol ≡ x)
@@ -78,7 +78,7 @@ pub record AreGotos (g : FlatGrammar) (pool : List BitSet) (kernels : List (Vec 
 
 -- a kernel was put at the end where it is new
 pub record Enters (parts : List Part) (old new : List (Vec Part)) : Type 0 where
-  pub grows : Grows old new
+  pub grows : AddsSets old new
   pub of : (n : ℕ) (k : Vec Part) → slice_get new n ≡ Some k → (slice_get old n ≡ Some k)
       ⊎ (IsOrdered parts k.items × ((parts ≡ [] → ⊥)))
   pub once : AreOnce old → AreOnce new
@@ -102,7 +102,7 @@ pub record Collecting (g : FlatGrammar) (lines count : ℕ) (pool : List BitSet)
     (Vec Part)) (states : List State) (next : ℕ) : Type 0 where
   pub first : Vec Part
   pub first_at : slice_get kernels 0 ≡ Some first
-  pub start : Same (In pool first.items) (λ i. i ≡ start_item)
+  pub start : SameItems (In pool first.items) (λ i. i ≡ start_item)
   pub are : AreStates g lines pool kernels
   pub once : AreOnce kernels
   pub size : length states ≡ next

@@ -31,5 +31,5 @@ abbrev pub seen_all : List Plain → List (ℕ × List ℕ)
 seen_all productions = map (λ p. (p.left, p.right.items)) productions
 
 -- these are the productions of the grammar, by their numbers
-abbrev pub ArePlain : FlatGrammar → List Plain → Type 0
-ArePlain g productions = seen_all productions ≡ map plain (all_productions g)
+abbrev pub ArePlainOf : FlatGrammar → List Plain → Type 0
+ArePlainOf g productions = seen_all productions ≡ map plain (all_productions g)

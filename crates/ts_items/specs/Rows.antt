@@ -15,7 +15,7 @@ pub record Puts {X : Type 0} (P : ℕ → X → Type 0) (old new : List (Vec X))
   pub members : (y : ℕ) (x : X) → RowHas new y x ↔ (RowHas old y x ⊎ P y x)
 
 -- one of the list gives this item for this place
-pub record Each {A X : Type 0} (P : A → ℕ → X → Type 0) (from : List A) (y : ℕ)
+pub record FromOne {A X : Type 0} (P : A → ℕ → X → Type 0) (from : List A) (y : ℕ)
     (x : X) : Type 0 where
   pub by : A
   pub there : Contains from by

@@ -5,9 +5,9 @@ use Rattle.ts_core.specs.declared.flat.FlatGrammar.{FlatGrammar}
 use Rattle.spec_grammar.specs.Symbols.{start_symbol, symbol_count}
 use Rattle.ts_items.specs.declared.plain.Plain.{Plain}
 use Rattle.ts_items.specs.declared.tables.Tables.{Tables}
-use Rattle.ts_items.specs.Productions.{ArePlain}
+use Rattle.ts_items.specs.Productions.{ArePlainOf}
 use Rattle.ts_items.specs.Rows.{RowHas}
-use Rattle.ts_items.specs.Edges.{IsAskEdge, AreEdges, AreInside, AreFirsts}
+use Rattle.ts_items.specs.Edges.{IsAskEdge, AreEdges, AreInside, AreFirstSets}
 
 -- the line is of a production with this left side
 pub record IsLineOf (ps : List Plain) (y line : ℕ) : Type 0 where
@@ -26,11 +26,11 @@ pub record IsTables (g : FlatGrammar) (t : Tables) : Type 0 where
   pub start : t.start.items ≡ start_symbol g ∷ []
   pub few : symbol_count g < 2 ^ 16
   pub some : start_symbol g < symbol_count g
-  pub plain : ArePlain g t.productions.items
+  pub plain : ArePlainOf g t.productions.items
   pub inside : AreInside (symbol_count g) t.productions.items
   pub few_productions : length t.productions.items < 2 ^ 16
   pub lines : AreLines t.productions.items (symbol_count g) t.lines.items
   pub edges : AreEdges IsAskEdge t.productions.items (symbol_count g) t.edges.items
-  pub firsts : AreFirsts g t.width t.firsts.items
+  pub firsts : AreFirstSets g t.width t.firsts.items
   pub room : 0 < t.width
   pub narrow : 64 * t.width < 2 ^ 64

@@ -4,10 +4,10 @@ ghost use Rattle.std.specs.List.{Contains};
 ghost use Rattle.ts_core.specs.declared.flat.FlatGrammar.{FlatGrammar};
 ghost use Rattle.ts_bits.specs.Members.{Has, IsWide};
 ghost use Rattle.ts_items.specs.Parts.{line_of, In};
-ghost use Rattle.ts_items.specs.Rows.{Each};
-ghost use Rattle.ts_items.specs.Sets.{HasAt, AreWide, Gains, Tells};
+ghost use Rattle.ts_items.specs.Rows.{FromOne};
+ghost use Rattle.ts_items.specs.Sets.{HasAt, AreWide, GainsTokens, QueuesGains};
 ghost use Rattle.ts_items.specs.Tables.{IsTables};
-ghost use Rattle.ts_items.specs.Closing.{Asked, AskedBy, CanFollow, IsPart, AreParts, Adds, Begins, AreBegun, Grows, IsPool, Closes};
+ghost use Rattle.ts_items.specs.Closing.{Asked, AskedBy, CanFollow, IsLinePart, AreLineParts, AddsParts, AddsBegun, AreBegun, AddsSets, IsPool, Closes};
 
 use crate::flow::flow;
 use crate::part::Part;
@@ -29,7 +29,7 @@ fn pool_at(pool: &IndexSet<BitSet>, at: usize) -> &BitSet
 
 /// The tokens that can come after the step at the dot.
 fn behind<'a>(tables: &'a Tables, pool: &'a IndexSet<BitSet>, part: Part) -> &'a BitSet
-    requires part { IsPart (length tables.now.productions.items) pool.now.keys part }
+    requires part { IsLinePart (length tables.now.productions.items) pool.now.keys part }
     requires tables { (g : FlatGrammar) × IsTables g tables.now }
     requires pool { AreWide tables.now.width pool.now.keys }
     ensures members { (g : FlatGrammar) → IsTables g tables.now → (t : ℕ) → Has result.now t
@@ -50,14 +50,14 @@ fn ask(
     queue: &mut Vec<u16>,
     part: Part,
 ) -> Result<(), AllocError>
-    requires part { IsPart (length tables.now.productions.items) pool.now.keys part }
+    requires part { IsLinePart (length tables.now.productions.items) pool.now.keys part }
     requires tables { (g : FlatGrammar) × IsTables g tables.now }
     requires pool { AreWide tables.now.width pool.now.keys }
     requires count { length asked.old ≡ length tables.now.firsts.items }
     requires wide { AreWide tables.now.width asked.old }
     ensures gains { (g : FlatGrammar) → IsTables g tables.now
-        → OnOk result (Gains (AskedBy g pool.now.keys part) asked.old asked.new) }
-    ensures tells { OnOk result (Tells asked.old asked.new queue.old.items queue.new.items) }
+        → OnOk result (GainsTokens (AskedBy g pool.now.keys part) asked.old asked.new) }
+    ensures tells { OnOk result (QueuesGains asked.old asked.new queue.old.items queue.new.items) }
 {
     match tables.symbol_at(part.line, usize::from(part.dot)) {
         Some(symbol) => join(asked, queue, symbol, behind(tables, pool, part)),
@@ -73,14 +73,14 @@ fn ask_all(
     queue: &mut Vec<u16>,
     kernel: &[Part],
 ) -> Result<(), AllocError>
-    requires parts { AreParts (length tables.now.productions.items) pool.now.keys kernel.now }
+    requires parts { AreLineParts (length tables.now.productions.items) pool.now.keys kernel.now }
     requires tables { (g : FlatGrammar) × IsTables g tables.now }
     requires pool { AreWide tables.now.width pool.now.keys }
     requires count { length asked.old ≡ length tables.now.firsts.items }
     requires wide { AreWide tables.now.width asked.old }
     ensures gains { (g : FlatGrammar) → IsTables g tables.now
-        → OnOk result (Gains (Each (AskedBy g pool.now.keys) kernel.now) asked.old asked.new) }
-    ensures tells { OnOk result (Tells asked.old asked.new queue.old.items queue.new.items) }
+        → OnOk result (GainsTokens (FromOne (AskedBy g pool.now.keys) kernel.now) asked.old asked.new) }
+    ensures tells { OnOk result (QueuesGains asked.old asked.new queue.old.items queue.new.items) }
 {
     for part in kernel {
         ask(tables, pool, asked, queue, *part)?;
@@ -94,7 +94,7 @@ pub(crate) fn place_of(
     pool: &mut IndexSet<BitSet>,
     set: &BitSet,
 ) -> Result<usize, AllocError>
-    ensures grows { OnOk result (Grows pool.old.keys pool.new.keys) }
+    ensures grows { OnOk result (AddsSets pool.old.keys pool.new.keys) }
     ensures pool { OnOk result ((n : ℕ) → IsPool n pool.old.keys → IsWide n set.now
         → IsPool n pool.new.keys) }
     ensures inside { IfOk result (λ place. place < length pool.new.keys) }
@@ -109,7 +109,7 @@ pub(crate) fn place_of(
 
 /// Adds the parts that begin some lines.
 fn add_lines(parts: &mut Vec<Part>, lines: &[u16], tokens: usize) -> Result<(), AllocError>
-    ensures { OnOk result (Adds (λ q. Contains lines.now q.line × (q.dot ≡ 0)
+    ensures { OnOk result (AddsParts (λ q. Contains lines.now q.line × (q.dot ≡ 0)
         × (q.tokens ≡ tokens)) parts.old.items parts.new.items) }
 {
     for line in lines {
@@ -131,11 +131,11 @@ fn add_symbol(
     tokens: &BitSet,
 ) -> Result<(), AllocError>
     requires { 64 * length tokens.now.words.items < 2 ^ 64 }
-    ensures grows { OnOk result (Grows pool.old.keys pool.new.keys) }
+    ensures grows { OnOk result (AddsSets pool.old.keys pool.new.keys) }
     ensures pool { OnOk result ((n : ℕ) → IsPool n pool.old.keys → IsWide n tokens.now
         → IsPool n pool.new.keys) }
     ensures adds { OnOk result
-        (Begins pool.new.keys lines.now tokens.now parts.old.items parts.new.items) }
+        (AddsBegun pool.new.keys lines.now tokens.now parts.old.items parts.new.items) }
 {
     if lines.is_empty() {
         return Ok(());
@@ -159,7 +159,7 @@ fn add_begun(
 ) -> Result<(), AllocError>
     requires lines { length lines.now ≡ length asked.now }
     requires wide { (n : ℕ) × (64 * n < 2 ^ 64) × AreWide n asked.now × IsPool n pool.old.keys }
-    ensures grows { OnOk result (Grows pool.old.keys pool.new.keys) }
+    ensures grows { OnOk result (AddsSets pool.old.keys pool.new.keys) }
     ensures pool { OnOk result ((n : ℕ) → IsPool n pool.old.keys → AreWide n asked.now
         → IsPool n pool.new.keys) }
     ensures begun { OnOk result (AreBegun lines.now asked.now pool.new.keys
@@ -179,7 +179,7 @@ fn ask_for(
     asked: &mut [BitSet],
     kernel: &[Part],
 ) -> Result<(), AllocError>
-    requires parts { AreParts (length tables.now.productions.items) pool.now.keys kernel.now }
+    requires parts { AreLineParts (length tables.now.productions.items) pool.now.keys kernel.now }
     requires tables { (g : FlatGrammar) × IsTables g tables.now }
     requires pool { AreWide tables.now.width pool.now.keys }
     requires count { length asked.old ≡ length tables.now.firsts.items }
@@ -210,14 +210,14 @@ pub(crate) fn close(
     asked: &mut [BitSet],
     kernel: &[Part],
 ) -> Result<Vec<Part>, AllocError>
-    requires parts { AreParts (length tables.now.productions.items) pool.old.keys kernel.now }
+    requires parts { AreLineParts (length tables.now.productions.items) pool.old.keys kernel.now }
     requires tables { (g : FlatGrammar) × IsTables g tables.now }
     requires pool { IsPool tables.now.width pool.old.keys }
     requires count { length asked.old ≡ length tables.now.firsts.items }
     requires wide { AreWide tables.now.width asked.old }
     ensures count { OnOk result (length asked.new ≡ length asked.old) }
     ensures wide { OnOk result (AreWide tables.now.width asked.new) }
-    ensures grows { OnOk result (Grows pool.old.keys pool.new.keys) }
+    ensures grows { OnOk result (AddsSets pool.old.keys pool.new.keys) }
     ensures pool { OnOk result (IsPool tables.now.width pool.new.keys) }
     ensures closes { IfOk result (λ v. (g : FlatGrammar) → IsTables g tables.now
         → Closes g (length tables.now.productions.items) pool.new.keys kernel.now v.items) }

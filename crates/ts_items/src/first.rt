@@ -2,11 +2,11 @@
 ghost use Rattle.std.specs.Prelude.{◌≡◌, ℕ, [], ◌∷◌, ◌++◌, ◌*◌, ◌/◌, ◌^◌, ◌<◌, ◌≤◌, ◌↔◌, ◌⊎◌, length, IfOk, OnOk};
 ghost use Rattle.spec_grammar.specs.Symbols.{symbol_count};
 ghost use Rattle.std.specs.List.{Contains};
-ghost use Rattle.ts_items.specs.Productions.{ArePlain};
+ghost use Rattle.ts_items.specs.Productions.{ArePlainOf};
 ghost use Rattle.ts_items.specs.Rows.{Puts};
 ghost use Rattle.spec_tables.specs.Items.{CanBeginWith};
-ghost use Rattle.ts_items.specs.Sets.{HasAt, AreWide, Gains};
-ghost use Rattle.ts_items.specs.Edges.{IsFirstEdge, AreEdges, IsInside, AreInside, AreFirsts};
+ghost use Rattle.ts_items.specs.Sets.{HasAt, AreWide, GainsTokens};
+ghost use Rattle.ts_items.specs.Edges.{IsFirstEdge, AreEdges, IsPlainInside, AreInside, AreFirstSets};
 
 use crate::flow::{Edge, flow};
 use crate::plain::Plain;
@@ -18,7 +18,7 @@ use ts_core::FlatGrammar;
 
 /// Puts in the edge from the first symbol of a production to its left side.
 fn put_edge(edges: &mut [Vec<Edge>], production: &Plain) -> Result<(), AllocError>
-    requires { IsInside (length edges.old) production.now }
+    requires { IsPlainInside (length edges.old) production.now }
     ensures { OnOk result (Puts (IsFirstEdge production.now) edges.old edges.new) }
 {
     let right = production.right.as_slice();
@@ -52,7 +52,7 @@ fn first_edges(
 fn begin_token(sets: &mut [BitSet], queue: &mut Vec<u16>, token: u16) -> Result<(), AllocError>
     requires inside { token < length sets.old }
     requires wide { (n : ℕ) × AreWide n sets.old × (token / 64 < n) }
-    ensures gains { OnOk result (Gains (λ y t. (y ≡ token) × (t ≡ token)) sets.old sets.new) }
+    ensures gains { OnOk result (GainsTokens (λ y t. (y ≡ token) × (t ≡ token)) sets.old sets.new) }
     ensures queue { OnOk result (queue.new.items ≡ queue.old.items ++ token ∷ []) }
 {
     sets[usize::from(token)].insert(usize::from(token));
@@ -64,7 +64,7 @@ fn begin_token(sets: &mut [BitSet], queue: &mut Vec<u16>, token: u16) -> Result<
 fn begin_tokens(sets: &mut [BitSet], queue: &mut Vec<u16>, tokens: u16) -> Result<(), AllocError>
     requires inside { tokens < length sets.old }
     requires wide { (n : ℕ) × AreWide n sets.old × (tokens / 64 < n) }
-    ensures gains { OnOk result (Gains (λ y t. (0 < t) × (t ≤ tokens)
+    ensures gains { OnOk result (GainsTokens (λ y t. (0 < t) × (t ≤ tokens)
         × (y ≡ t)) sets.old sets.new) }
     ensures queue { OnOk result ((y : ℕ) → Contains queue.new.items y
         ↔ (Contains queue.old.items y ⊎ ((0 < y) × (y ≤ tokens)))) }
@@ -82,7 +82,7 @@ fn fill_firsts(
     productions: &[Plain],
     sets: &mut [BitSet],
 ) -> Result<(), AllocError>
-    requires plain { ArePlain grammar.now productions.now }
+    requires plain { ArePlainOf grammar.now productions.now }
     requires inside { AreInside (length sets.old) productions.now }
     requires few { (length grammar.now.tokens < length sets.old) × (length sets.old < 2 ^ 16) }
     requires wide { (n : ℕ) × (64 * n < 2 ^ 64) × AreWide n sets.old
@@ -108,12 +108,12 @@ pub(crate) fn first_sets(
     count: usize,
     width: usize,
 ) -> Result<Vec<BitSet>, AllocError>
-    requires plain { ArePlain grammar.now productions.now }
+    requires plain { ArePlainOf grammar.now productions.now }
     requires inside { AreInside count productions.now }
     requires count { count ≡ symbol_count grammar.now }
     requires few { (length grammar.now.tokens < count) × (count < 2 ^ 16) }
     requires width { (length grammar.now.tokens / 64 < width) × (64 * width < 2 ^ 64) }
-    ensures { IfOk result (λ v. AreFirsts grammar.now width v.items) }
+    ensures { IfOk result (λ v. AreFirstSets grammar.now width v.items) }
 {
     let mut sets = empty_sets(alloc, count, width)?;
     fill_firsts(alloc, grammar, productions, sets.as_mut_slice())?;

@@ -3,10 +3,10 @@
 ghost use Rattle.std.specs.Prelude.{◌≡◌, ℕ, ◌*◌, ◌^◌, ◌<◌, length, OnOk};
 ghost use Rattle.std.specs.List.{Contains};
 ghost use Rattle.ts_bits.specs.Members.{Has, IsWide};
-ghost use Rattle.ts_items.specs.Sets.{AreWide, Gains, Tells};
+ghost use Rattle.ts_items.specs.Sets.{AreWide, GainsTokens, QueuesGains};
 ghost use Rattle.ts_items.specs.declared.flow.Edge.{Edge as Edges};
 ghost use Rattle.ts_items.specs.Flow.{IsEdge, IsNet, Queued, Brought, Spreads};
-ghost use Rattle.ts_items.specs.Rows.{Each};
+ghost use Rattle.ts_items.specs.Rows.{FromOne};
 
 use crate::sets::join;
 use std::alloc::{AllocError, Global};
@@ -29,8 +29,8 @@ fn hand(
 ) -> Result<(), AllocError>
     requires edge { IsEdge gives.now (length sets.old) edge }
     requires wide { (n : ℕ) × AreWide n sets.old × AreWide n gives.now × IsWide n from.now }
-    ensures gains { OnOk result (Gains (Brought gives.now from.now edge) sets.old sets.new) }
-    ensures tells { OnOk result (Tells sets.old sets.new queue.old.items queue.new.items) }
+    ensures gains { OnOk result (GainsTokens (Brought gives.now from.now edge) sets.old sets.new) }
+    ensures tells { OnOk result (QueuesGains sets.old sets.new queue.old.items queue.new.items) }
 {
     match edge.behind {
         Some(symbol) => join(sets, queue, edge.to, &gives[usize::from(symbol)]),
@@ -48,9 +48,9 @@ fn visit(
 ) -> Result<(), AllocError>
     requires edges { (e : Edges) → Contains edges.now e → IsEdge gives.now (length sets.old) e }
     requires wide { (n : ℕ) × AreWide n sets.old × AreWide n gives.now × IsWide n from.now }
-    ensures gains { OnOk result (Gains (Each
+    ensures gains { OnOk result (GainsTokens (FromOne
         (Brought gives.now from.now) edges.now) sets.old sets.new) }
-    ensures tells { OnOk result (Tells sets.old sets.new queue.old.items queue.new.items) }
+    ensures tells { OnOk result (QueuesGains sets.old sets.new queue.old.items queue.new.items) }
 {
     for edge in edges {
         hand(sets, queue, gives, from, *edge)?;
@@ -69,9 +69,9 @@ fn visit_some(
     requires edges { (e : Edges) → Contains edges.now e → IsEdge gives.now (length sets.old) e }
     requires narrow { 64 * length from.now.words.items < 2 ^ 64 }
     requires wide { (n : ℕ) × AreWide n sets.old × AreWide n gives.now × IsWide n from.now }
-    ensures gains { OnOk result (Gains (λ z u. ((t : ℕ) × Has from.now t)
-        × Each (Brought gives.now from.now) edges.now z u) sets.old sets.new) }
-    ensures tells { OnOk result (Tells sets.old sets.new queue.old.items queue.new.items) }
+    ensures gains { OnOk result (GainsTokens (λ z u. ((t : ℕ) × Has from.now t)
+        × FromOne (Brought gives.now from.now) edges.now z u) sets.old sets.new) }
+    ensures tells { OnOk result (QueuesGains sets.old sets.new queue.old.items queue.new.items) }
 {
     match from.least() {
         Some(_token) => visit(sets, queue, gives, from, edges),

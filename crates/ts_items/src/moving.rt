@@ -2,7 +2,7 @@
 ghost use Rattle.std.specs.Prelude.{◌≡◌, ◌≤◌, length, IfOk, OnOk};
 ghost use Rattle.std.specs.List.{Contains};
 ghost use Rattle.ts_core.specs.declared.flat.FlatGrammar.{FlatGrammar};
-ghost use Rattle.ts_items.specs.Rows.{Puts, Each};
+ghost use Rattle.ts_items.specs.Rows.{Puts, FromOne};
 ghost use Rattle.ts_items.specs.Tables.{IsTables};
 ghost use Rattle.ts_items.specs.declared.part.Part.{Part as Parts};
 ghost use Rattle.ts_items.specs.Numbers.{MovesTo, AreMoved, IsOrdered};
@@ -40,7 +40,7 @@ fn move_parts(moved: &mut [Vec<Part>], tables: &Tables, parts: &[Part]) -> Resul
     requires count { length moved.old ≡ length tables.now.firsts.items }
     ensures count { OnOk result (length moved.new ≡ length moved.old) }
     ensures moved { (g : FlatGrammar) → IsTables g tables.now
-        → OnOk result (Puts (Each (MovesTo g) parts.now) moved.old moved.new) }
+        → OnOk result (Puts (FromOne (MovesTo g) parts.now) moved.old moved.new) }
 {
     for part in parts {
         move_part(moved, tables, *part)?;

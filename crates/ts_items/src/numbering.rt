@@ -6,8 +6,8 @@ ghost use Rattle.spec_tables.specs.Fit.{Fit};
 ghost use Rattle.ts_bits.specs.declared.set.BitSet.{BitSet as Sets};
 ghost use Rattle.ts_items.specs.declared.part.Part.{Part as Parts};
 ghost use Rattle.ts_items.specs.declared.numbering.ItemFault.TheVariants.{Memory, TooManyStates};
-ghost use Rattle.ts_items.specs.Numbers.{AreStates, IsOver, AreGotos, Enters, EntersGoto, AreOnce, StatesBy, DoneBy, CollectedBy};
-ghost use Rattle.ts_items.specs.Closing.{Grows, IsPool};
+ghost use Rattle.ts_items.specs.Numbers.{AreStates, HasRows, AreGotos, Enters, EntersGoto, AreOnce, StatesBy, DoneBy, CollectedBy};
+ghost use Rattle.ts_items.specs.Closing.{AddsSets, IsPool};
 ghost use Rattle.ts_items.specs.Sets.{AreWide};
 ghost use Rattle.ts_items.specs.Tables.{IsTables};
 ghost use Rattle.ts_items.specs.Collection.{most_states, too_many, StandsFor, AreTooMany};
@@ -54,7 +54,7 @@ impl From<AllocError> for ItemFault {
 
 /// The number of a kernel, which is put at the end where it is new.
 fn number_of(kernels: &mut IndexSet<Vec<Part>>, kernel: Vec<Part>) -> Result<usize, AllocError>
-    ensures grows { Grows kernels.old.keys kernels.new.keys }
+    ensures grows { AddsSets kernels.old.keys kernels.new.keys }
     ensures of { (n : ℕ) (k : Vec Parts) → slice_get kernels.new.keys n ≡ Some k
         → (slice_get kernels.old.keys n ≡ Some k) ⊎ (k.items ≡ kernel.items) }
     ensures once { AreOnce kernels.old.keys → AreOnce kernels.new.keys }
@@ -103,13 +103,13 @@ fn gotos_of(
     moved: &[Vec<Part>],
 ) -> Result<Vec<Goto>, ItemFault>
     requires { length moved.now < 2 ^ 16 }
-    ensures grows { Grows kernels.old.keys kernels.new.keys }
+    ensures grows { AddsSets kernels.old.keys kernels.new.keys }
     ensures once { AreOnce kernels.old.keys → AreOnce kernels.new.keys }
     ensures states { (g : Flat) (lines : ℕ) (pool : List Sets) (parts : List Parts)
-        → IsOver g lines pool parts moved.now → AreStates g lines pool kernels.old.keys
+        → HasRows g lines pool parts moved.now → AreStates g lines pool kernels.old.keys
         → AreStates g lines pool kernels.new.keys }
     ensures gotos { IfOk result (λ v. (g : Flat) (lines : ℕ) (pool : List Sets) (parts : List Parts)
-        → IsOver g lines pool parts moved.now
+        → HasRows g lines pool parts moved.now
         → AreGotos g pool kernels.new.keys parts (length moved.now) v.items) }
     ensures few { OnOk result (length kernels.old.keys ≤ most_states
         → length kernels.new.keys ≤ most_states) }
@@ -184,8 +184,8 @@ fn state_of(
     ensures asked { OnOk result ((length asked.new ≡ length asked.old)
         × AreWide tables.now.width asked.new) }
     ensures pool { OnOk result (IsPool tables.now.width pool.new.keys
-        × Grows pool.old.keys pool.new.keys) }
-    ensures kernels { OnOk result (Grows kernels.old.keys kernels.new.keys) }
+        × AddsSets pool.old.keys pool.new.keys) }
+    ensures kernels { OnOk result (AddsSets kernels.old.keys kernels.new.keys) }
     ensures once { OnOk result (AreOnce kernels.old.keys → AreOnce kernels.new.keys) }
     ensures states { OnOk result ((g : Flat) → IsTables g tables.now
         → StatesBy g tables.now pool.old.keys kernels.old.keys

@@ -2,7 +2,7 @@
 
 ghost use Rattle.std.specs.Prelude.{◌≡◌, ◌+◌, ◌<◌, ◌^◌, ◌++◌, length, IfOk, OnOk};
 ghost use Rattle.spec_grammar.specs.Symbols.{symbol_count};
-ghost use Rattle.ts_items.specs.Productions.{symbols_in, seen_all, plain_rule, plain_rules, ArePlain};
+ghost use Rattle.ts_items.specs.Productions.{symbols_in, seen_all, plain_rule, plain_rules, ArePlainOf};
 
 use std::alloc::{AllocError, Global};
 use ts_core::{FlatGrammar, FlatRule, Step};
@@ -67,7 +67,7 @@ pub(crate) fn plain_productions(
     grammar: &FlatGrammar,
 ) -> Result<Vec<Plain>, AllocError>
     requires { symbol_count grammar.now < 2 ^ 16 }
-    ensures { IfOk result (λ v. ArePlain grammar.now v.items) }
+    ensures { IfOk result (λ v. ArePlainOf grammar.now v.items) }
 {
     let mut productions = Vec::new(alloc);
     let first = grammar.tokens.len() as u16 + 1;

@@ -1,7 +1,7 @@
 //! A set of tokens for each symbol: symbols and sets go in, and the sets gain what comes in.
 ghost use Rattle.std.specs.Prelude.{◌≡◌, ℕ, ◌<◌, length, IfOk, OnOk};
 ghost use Rattle.ts_bits.specs.Members.{Has, IsWide};
-ghost use Rattle.ts_items.specs.Sets.{HasAt, AreWide, Gains, Tells};
+ghost use Rattle.ts_items.specs.Sets.{HasAt, AreWide, GainsTokens, QueuesGains};
 
 use std::alloc::{AllocError, Global};
 use ts_bits::BitSet;
@@ -43,8 +43,9 @@ pub(crate) fn join(
 ) -> Result<(), AllocError>
     requires inside { symbol < length sets.old }
     requires wide { (n : ℕ) × AreWide n sets.old × IsWide n more.now }
-    ensures gains { OnOk result (Gains (λ y t. (y ≡ symbol) × Has more.now t) sets.old sets.new) }
-    ensures tells { OnOk result (Tells sets.old sets.new queue.old.items queue.new.items) }
+    ensures gains { OnOk result (GainsTokens (λ y t. (y ≡ symbol)
+        × Has more.now t) sets.old sets.new) }
+    ensures tells { OnOk result (QueuesGains sets.old sets.new queue.old.items queue.new.items) }
 {
     if sets[usize::from(symbol)].union_with(more) {
         queue.push(symbol)?;

@@ -3,10 +3,10 @@
 ghost use Rattle.std.specs.Prelude.{◌≡◌, ◌<◌, ◌≤◌, ◌^◌, length, slice_get, IfOk, OnOk};
 ghost use Rattle.ts_core.specs.declared.flat.FlatGrammar.{FlatGrammar as Flat};
 ghost use Rattle.spec_tables.specs.Fit.{Fit};
-ghost use Rattle.ts_items.specs.Productions.{ArePlain, right_of};
+ghost use Rattle.ts_items.specs.Productions.{ArePlainOf, right_of};
 ghost use Rattle.ts_items.specs.Parts.{line_of};
 ghost use Rattle.ts_items.specs.Rows.{Puts};
-ghost use Rattle.ts_items.specs.Edges.{IsAskEdge, AreEdges, IsInside, AreInside, AreFirsts};
+ghost use Rattle.ts_items.specs.Edges.{IsAskEdge, AreEdges, IsPlainInside, AreInside, AreFirstSets};
 ghost use Rattle.ts_items.specs.Tables.{IsLineOf, AreLines, IsTables};
 
 use crate::first::first_sets;
@@ -46,7 +46,7 @@ fn second(symbols: &[u16]) -> Option<u16>
 
 /// Puts in the edge from the left side of a production to its first symbol.
 fn put_edge(edges: &mut [Vec<Edge>], production: &Plain) -> Result<(), AllocError>
-    requires { IsInside (length edges.old) production.now }
+    requires { IsPlainInside (length edges.old) production.now }
     ensures { OnOk result (Puts (IsAskEdge production.now) edges.old edges.new) }
 {
     let right = production.right.as_slice();

@@ -1,3 +1,4 @@
+//! The item sets of the smallest grammar.
 ghost use Rattle.std.specs.Prelude.{◌≡◌, [], ◌∷◌, IfOk};
 ghost use Rattle.spec_tables.specs.Fit.{Fit};
 ghost use Rattle.ts_core.specs.declared.flat.Production.{Production as Productions};

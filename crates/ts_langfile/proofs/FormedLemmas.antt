@@ -22,12 +22,12 @@ use Rattle.ts_core.specs.declared.re.Re.TheFolds.{fold-roll-Re}
 use Rattle.ts_core.specs.declared.symbol.Kind.{Kind}
 use Rattle.ts_core.specs.declared.symbol.Symbol.{Symbol}
 use Rattle.spec_lexing.specs.Words.{Regular, empty, never, one_of, both, either, repeat, all_of, any_of, regular_step, regular_of}
-use Rattle.spec_tables.specs.Fit.{Never, IfThere, IsShort, AreShort, AreRising, AreApart, IsCharacter, IsRange, IsSet, IsInOrder, IsFormed, IsFitRe, IsFitStep, IsFitProduction, IsFitEntry, IsHiddenSymbol, IsPrec, IsSymbol, IsToken, lengths, lengths_step, symbols_of, rule_symbol, productions_of, most_symbols, most_steps, most_productions}
+use Rattle.spec_tables.specs.Fit.{Never, IfThere, IsShort, AreShort, AreRising, AreApartRanges, IsCharacter, IsRange, IsSet, IsInOrder, IsFormed, IsFitRe, IsFitStep, IsFitProduction, IsFitEntry, IsHiddenSymbol, IsPrec, IsSymbol, IsToken, lengths, lengths_step, symbols_of, rule_symbol, productions_of, most_symbols, most_steps, most_productions}
 use Rattle.ts_fit.specs.Misfits.{IsFormedToken, IsFormedRule, IsFormedGrammar}
 use Rattle.ts_langfile.specs.declared.known.Known.{Known}
 use Rattle.ts_langfile.specs.Spelling.{old_version}
 use Rattle.ts_langfile.specs.Parts.{is_character, ends_range, behind_range, behind_symbol, left_after, kind_there, is_hidden_kind, is_hidden, most_levels, may_be_keyword}
-use Rattle.ts_langfile.specs.Right.{InTurn, IsText, IsBetween, IsName, begins_range, RightRange, RightMost, ReBy, RightRe, RightToken, RightPrec, RightStep, RightProduction, RightRule, RightEntry, IsSupertype, RightSupertypes, RightBy, known_of, Right}
+use Rattle.ts_langfile.specs.Right.{InTurn, IsShortText, IsBetween, IsName, begins_range, RightRange, RightMost, ReBy, RightRe, RightToken, RightPrec, RightStep, RightProduction, RightRule, RightEntry, IsSupertypeSymbol, RightSupertypes, RightBy, known_of, Right}
 use Rattle.ts_langfile.proofs.PartLaws.{le_true, lt_true, and_true}
 
 or_true : (a b : Bool) → (a || b) ≡ true → (a ≡ true) ⊎ (b ≡ true)
@@ -74,7 +74,7 @@ range_right least r right =
 range_least : (least : ℕ) (r : ℕ × ℕ) → RightRange least r → least ≤ r.0
 range_least least r right = let low = and_true (is_character r.0) (nat_le least r.0) right.0.1 in le_true least r.0 low.1
 
-apart : (least : ℕ) (ranges : List (ℕ × ℕ)) → InTurn RightRange behind_range least ranges → AreApart ranges
+apart : (least : ℕ) (ranges : List (ℕ × ℕ)) → InTurn RightRange behind_range least ranges → AreApartRanges ranges
 apart least [] right = tt
 apart least (a ∷ []) right = tt
 apart least (a ∷ b ∷ ranges) right =
@@ -205,7 +205,7 @@ step_formed f s right = record {
   not_end = let least : 1 ≤ s.symbol.0 = right.symbol.1 in omega arith;
   prec = prec_formed f s.prec right.prec;
   field = if_there (IsName (Some (length f.fields))) (λ (n : ℕ). n < length f.fields) (λ n named. lt_true n (length f.fields) named.1) s.field right.field;
-  alias = if_there (λ (a : Alias). IsText a.name) (λ (a : Alias). IsShort a.name) (λ a named. named.0) s.alias right.alias;
+  alias = if_there (λ (a : Alias). IsShortText a.name) (λ (a : Alias). IsShort a.name) (λ a named. named.0) s.alias right.alias;
 }
 
 production_formed : (f : FlatGrammar) (p : Production) → RightProduction (symbols_of f) (known_of f) p → IsFitProduction f p
@@ -265,17 +265,17 @@ hidden_symbol f s (suc k) is e = by (nat_lt k (length f.tokens)) refl e
         let number : s.0 ≡ suc (length f.tokens + (k - length f.tokens)) = omega arith in
         inr (r.0, (k - length f.tokens, r.1, symbol_is s (suc (length f.tokens + (k - length f.tokens))) number), hidden_kind r.0.kind r.2)
 
-supertype_formed : (f : FlatGrammar) (least : ℕ) (s : Symbol) → IsSupertype f.tokens f.rules least s → IsHiddenSymbol f s
+supertype_formed : (f : FlatGrammar) (least : ℕ) (s : Symbol) → IsSupertypeSymbol f.tokens f.rules least s → IsHiddenSymbol f s
 supertype_formed f least s right =
     let w = and_true (nat_le least s.0) (is_hidden f.tokens f.rules s.0) right.1 in
     hidden_symbol f s s.0 refl w.1
 
-supertype_least : (tokens : List TokenDef) (rules : List FlatRule) (least : ℕ) (s : Symbol) → IsSupertype tokens rules least s → least ≤ s.0
+supertype_least : (tokens : List TokenDef) (rules : List FlatRule) (least : ℕ) (s : Symbol) → IsSupertypeSymbol tokens rules least s → least ≤ s.0
 supertype_least tokens rules least s right =
     let w = and_true (nat_le least s.0) (is_hidden tokens rules s.0) right.1 in
     le_true least s.0 w.0
 
-all_above : (tokens : List TokenDef) (rules : List FlatRule) (least : ℕ) (xs : List Symbol) → InTurn (IsSupertype tokens rules) behind_symbol least xs → (k : ℕ) (b : Symbol) → slice_get xs k ≡ Some b → least ≤ b.0
+all_above : (tokens : List TokenDef) (rules : List FlatRule) (least : ℕ) (xs : List Symbol) → InTurn (IsSupertypeSymbol tokens rules) behind_symbol least xs → (k : ℕ) (b : Symbol) → slice_get xs k ≡ Some b → least ≤ b.0
 all_above tokens rules least [] right k b e = absurd cc
 all_above tokens rules least (x ∷ xs) right zero b e =
     let is : x ≡ b = cc in subst (λ (b : Symbol). least ≤ b.0) is (supertype_least tokens rules least x right.0)
@@ -284,7 +284,7 @@ all_above tokens rules least (x ∷ xs) right (suc k) b e =
     let later : x.0 + 1 ≤ b.0 = all_above tokens rules (x.0 + 1) xs right.1 k b e in
     omega (arith, first, later)
 
-rising : (tokens : List TokenDef) (rules : List FlatRule) (least : ℕ) (xs : List Symbol) → InTurn (IsSupertype tokens rules) behind_symbol least xs → AreRising xs
+rising : (tokens : List TokenDef) (rules : List FlatRule) (least : ℕ) (xs : List Symbol) → InTurn (IsSupertypeSymbol tokens rules) behind_symbol least xs → AreRising xs
 rising tokens rules least [] right j k a b below one two = absurd cc
 rising tokens rules least (x ∷ xs) right zero zero a b below one two = absurd (omega arith)
 rising tokens rules least (x ∷ xs) right zero (suc k) a b below one two =
@@ -297,7 +297,7 @@ rising tokens rules least (x ∷ xs) right (suc j) (suc k) a b below one two = r
 supertypes_formed : (f : FlatGrammar) (old : Bool) → RightSupertypes old f.tokens f.rules f.supertypes → All (IsHiddenSymbol f) f.supertypes × AreRising f.supertypes
 supertypes_formed f true right = rw right (All-nil (IsHiddenSymbol f), rising f.tokens f.rules 1 [] tt)
 supertypes_formed f false right =
-    (All-from_recursion (IsHiddenSymbol f) f.supertypes (each_of (IsSupertype f.tokens f.rules) (IsHiddenSymbol f) behind_symbol (supertype_formed f) 1 f.supertypes right.1), rising f.tokens f.rules 1 f.supertypes right.1)
+    (All-from_recursion (IsHiddenSymbol f) f.supertypes (each_of (IsSupertypeSymbol f.tokens f.rules) (IsHiddenSymbol f) behind_symbol (supertype_formed f) 1 f.supertypes right.1), rising f.tokens f.rules 1 f.supertypes right.1)
 
 -- ---- the whole
 
@@ -325,8 +325,8 @@ right_formed version f right =
       separators = (right.separators.0, by_place (RightRe most_levels) IsFitRe (fit_re most_levels) f.separators right.separators.1);
       extras = (right.extras.0, by_place (IsBetween 1 (suc (length f.tokens))) (IsToken f) (is_token f) f.extras right.extras.1);
       word = if_there (IsBetween 1 (suc (length f.tokens))) (IsToken f) (is_token f) f.word right.word;
-      fields = (right.few_fields.0, by_place IsText (λ (t : Bytes). IsShort t) (λ t named. named.0) f.fields right.fields);
-      precs = (right.few_precs.0, by_place IsText (λ (t : Bytes). IsShort t) (λ t named. named.0) f.precs right.precs);
+      fields = (right.few_fields.0, by_place IsShortText (λ (t : Bytes). IsShort t) (λ t named. named.0) f.fields right.fields);
+      precs = (right.few_precs.0, by_place IsShortText (λ (t : Bytes). IsShort t) (λ t named. named.0) f.precs right.precs);
       conflicts = (
         (right.conflicts.0, by_place (λ (set : List Symbol). (length set < 2 ^ 32) × AllByRecursion (IsBetween 0 (symbols_of f)) set) (λ (set : List Symbol). IsShort set) (λ set is. is.0) f.conflicts right.conflicts.1),
         by_place (λ (set : List Symbol). (length set < 2 ^ 32) × AllByRecursion (IsBetween 0 (symbols_of f)) set) (λ (set : List Symbol). All (IsSymbol f) set) (λ set is. by_place (IsBetween 0 (symbols_of f)) (IsSymbol f) (λ s is. is.2) set is.1) f.conflicts right.conflicts.1,

@@ -18,7 +18,7 @@ use Rattle.ts_langfile.specs.Reader.{Reader, ◌>>=◌, give, tested, times, in_
 use Rattle.ts_langfile.specs.Spelling.{joined, number16, number32, flag, text, listed, optional, symbol, token, rule, re, entry, supertypes, front, back, fields, old_version}
 use Rattle.ts_langfile.specs.Parts.{number16_at, number32_at, optional_by, symbol_at, is_hidden, supertype_at, behind_symbol, left_after, most_levels}
 use Rattle.ts_langfile.specs.Reading.{rule_count_at, head_at, to_fields_at, to_precs_at, supertypes_at, symbols_in, fields_at}
-use Rattle.ts_langfile.specs.Right.{InTurn, IsText, IsBetween, RightRe, RightToken, RightRule, RightEntry, may_be_rules, IsSupertype, RightSupertypes, Right}
+use Rattle.ts_langfile.specs.Right.{InTurn, IsShortText, IsBetween, RightRe, RightToken, RightRule, RightEntry, may_be_rules, IsSupertypeSymbol, RightSupertypes, Right}
 use Rattle.ts_langfile.proofs.LawLemmas.{Law, then_law, after_law, as_law, spelled_law, alone_law, made_law, give_law, tested_law, times_law, turn_law, number16_law, number32_law}
 use Rattle.ts_langfile.proofs.PartLaws.{IsThere, inner_of, optional_by_law, le_true, true_le, and_true, true_and, text_law, count_law, flag_law, listed_law, symbol_law, symbols_law}
 use Rattle.ts_langfile.proofs.TokenLaws.{re_law, token_law}
@@ -31,7 +31,7 @@ unfolding rule_count_at
 rule_count_law tokens = tested_law (may_be_rules tokens) number32_law
 
 pub record RightHead (known : Known) (h : Head) : Type 0 where
-  pub name : IsText h.name
+  pub name : IsShortText h.name
   pub few_tokens : (length h.tokens < 2 ^ 32) × (length h.tokens ≤ most_symbols - 1)
   pub tokens : AllByRecursion (RightToken known) h.tokens
   pub few_rules : (length h.rules < 2 ^ 32) × (may_be_rules (length h.tokens) (length h.rules) ≡ true)
@@ -80,7 +80,7 @@ to_fields_law known = as_law
 
 pub record RightToPrecs (known : Known) (t : ToPrecs) : Type 0 where
   pub before : RightToFields known t.before
-  pub fields : (length t.fields ≡ t.before.field_count) × AllByRecursion IsText t.fields
+  pub fields : (length t.fields ≡ t.before.field_count) × AllByRecursion IsShortText t.fields
   pub count : (t.prec_count < 2 ^ 32) × (t.prec_count ≤ most_names)
 
 abbrev pub to_precs_spelled : ToPrecs → Bytes
@@ -100,7 +100,7 @@ to_precs_law known = as_law
 
 -- ---- supertypes
 
-supertype_law : (tokens : List TokenDef) (rules : List FlatRule) (least : ℕ) → Law (supertype_at tokens rules least) symbol (IsSupertype tokens rules least)
+supertype_law : (tokens : List TokenDef) (rules : List FlatRule) (least : ℕ) → Law (supertype_at tokens rules least) symbol (IsSupertypeSymbol tokens rules least)
 unfolding supertype_at
 supertype_law tokens rules least = as_law (made_law made symbol (tested_law test number16_law) (λ n right. refl)) to (λ s right. (s.0, refl, right))
   where
@@ -110,8 +110,8 @@ supertype_law tokens rules least = as_law (made_law made symbol (tested_law test
     test : ℕ → Bool
     test n = nat_le least n && is_hidden tokens rules n
 
-    to : (s : Symbol) → (n : ℕ) × (s ≡ made n) × ((n < 2 ^ 16) × (test n ≡ true)) → IsSupertype tokens rules least s
-    to s right = subst (IsSupertype tokens rules least) (sym right.1) right.2
+    to : (s : Symbol) → (n : ℕ) × (s ≡ made n) × ((n < 2 ^ 16) × (test n ≡ true)) → IsSupertypeSymbol tokens rules least s
+    to s right = subst (IsSupertypeSymbol tokens rules least) (sym right.1) right.2
 
 supertypes_law : (version : ℕ) (head : Head) → Law (supertypes_at version head) (supertypes version) (RightSupertypes (nat_eq version old_version) head.tokens head.rules)
 unfolding supertypes_at
@@ -151,7 +151,7 @@ grammar_of t precs conflicts precedences supertypes = record {
 
 pub record RightGrammar (version : ℕ) (known : Known) (f : FlatGrammar) : Type 0 where
   pub before : RightToPrecs known (to_precs_in f)
-  pub precs : AllByRecursion IsText f.precs
+  pub precs : AllByRecursion IsShortText f.precs
   pub conflicts : (length f.conflicts < 2 ^ 32) × AllByRecursion (λ (set : List Symbol). (length set < 2 ^ 32) × AllByRecursion (IsBetween 0 (symbols_in (head_in f))) set) f.conflicts
   pub precedences : (length f.precedences < 2 ^ 32) × AllByRecursion (λ (es : List Entry). (length es < 2 ^ 32) × AllByRecursion (RightEntry (symbols_in (head_in f)) (length f.precs)) es) f.precedences
   pub supertypes : RightSupertypes (nat_eq version old_version) f.tokens f.rules f.supertypes

@@ -8,7 +8,7 @@ use Rattle.std.proofs.lemmas.Nat.{be_bytes_2, be_bytes_4, from_be_bytes-to_be_by
 use Rattle.ts_base.specs.Bytes.{Bytes}
 use Rattle.ts_langfile.specs.declared.flaw.Flaw.{Flaw}
 use Rattle.ts_langfile.specs.declared.flaw.Flaw.TheVariants.{Short, Field}
-use Rattle.ts_langfile.specs.Reader.{Seen, Reader, going_on, ◌>>=◌, give, byte_at, bytes_at, number_at, passing, tested, times, in_turn}
+use Rattle.ts_langfile.specs.Reader.{SeenBytes, Reader, going_on, ◌>>=◌, give, byte_at, bytes_at, number_at, passing, tested, times, in_turn}
 use Rattle.ts_langfile.specs.Right.{InTurn}
 use Rattle.ts_langfile.specs.Spelling.{number16, number32}
 use Rattle.ts_langfile.specs.Parts.{number16_at, number32_at}
@@ -38,7 +38,7 @@ pub record Law {A : Type 0} (part : Reader A) (spelled : A → Bytes) (Right : A
 
 -- ---- putting laws together
 
-abbrev pub seen : {A : Type 0} → A → Bytes → Seen A
+abbrev pub seen : {A : Type 0} → A → Bytes → SeenBytes A
 seen x rest = Ok (x, rest)
 
 pub seen_is : {A : Type 0} (x y : A) (r s : Bytes) → seen x r ≡ seen y s → (x ≡ y) × (r ≡ s)
@@ -46,7 +46,7 @@ seen_is {A = A} x y r s e =
     let pair : ◌≡◌ {A = A × Bytes} (x, r) (y, s) = cc in
     (ap (λ (p : A × Bytes). p.0) pair, ap (λ (p : A × Bytes). p.1) pair)
 
-pub went_on : {A B : Type 0} (read : Seen A) (next : A → Reader B) (y : B) (rest : Bytes) → going_on read next ≡ Ok (y, rest)
+pub went_on : {A B : Type 0} (read : SeenBytes A) (next : A → Reader B) (y : B) (rest : Bytes) → going_on read next ≡ Ok (y, rest)
     → (x : A) × (middle : Bytes) × (read ≡ Ok (x, middle)) × (next x middle ≡ Ok (y, rest))
 went_on (Ok x) next y rest e = (x.0, x.1, refl, e)
 went_on (Err flaw) next y rest e = absurd cc
@@ -112,7 +112,7 @@ made_law {part = part} {spelled = spelled} {Right = Right} make all law same = r
       rw (right.1, same right.0 right.2, one) refl;
 }
 
-pub passed : {A : Type 0} (test : A → Bool) (place : Bytes) (read : Seen A) (x : A) (rest : Bytes) → passing test place read ≡ Ok (x, rest) → (read ≡ Ok (x, rest)) × (test x ≡ true)
+pub passed : {A : Type 0} (test : A → Bool) (place : Bytes) (read : SeenBytes A) (x : A) (rest : Bytes) → passing test place read ≡ Ok (x, rest) → (read ≡ Ok (x, rest)) × (test x ≡ true)
 passed {A = A} test place (Ok y) x rest e = by (test y.0) refl e
   where
     by : (b : Bool) → test y.0 ≡ b → cond b (seen y.0 y.1) (Err (Field (length place))) ≡ Ok (x, rest) → (seen y.0 y.1 ≡ Ok (x, rest)) × (test x ≡ true)

@@ -13,7 +13,7 @@ use Rattle.spec_tables.specs.Fit.{IfThere}
 use Rattle.ts_langfile.specs.Reader.{Reader, ◌>>=◌, give, bytes_at, tested}
 use Rattle.ts_langfile.specs.Spelling.{text, number16, number32, signed32, flag, kind, assoc, alias, optional, symbol, listed}
 use Rattle.ts_langfile.specs.Parts.{text_at, number16_at, number32_at, signed32_at, tag_at, flag_at, count_at, kind_at, kind_of, assoc_at, assoc_of, alias_at, optional_by, optional_at, symbol_at, symbols_at, listed_at}
-use Rattle.ts_langfile.specs.Right.{IsText, IsBetween}
+use Rattle.ts_langfile.specs.Right.{IsShortText, IsBetween}
 use Rattle.ts_langfile.proofs.LawLemmas.{AreBytes, Took, Law, went_on, then_law, as_law, spelled_law, alone_law, made_law, give_law, tested_law, times_law, number16_law, number32_law, byte_law, bytes_law}
 
 -- a test that is passed
@@ -38,7 +38,7 @@ true_and a b e f = rw (e, f) refl
 
 -- ---- texts and numbers
 
-pub text_law : Law text_at text IsText
+pub text_law : Law text_at text IsShortText
 unfolding text_at
 text_law = as_law (then_law (λ (t : Bytes). length t) number32_law (λ n right. alone_law (tested_law is_utf8 (bytes_law n))) (λ n t right. right.0))
     (λ t right. (right.0, right.1.1)) (λ t right. (right.0, (refl, right.1)))
@@ -180,7 +180,7 @@ pub symbols_law : (least bound : ℕ) → Law (symbols_at least bound) (listed s
 unfolding symbols_at
 symbols_law least bound = listed_law (symbol_law least bound)
 
-pub alias_law : Law alias_at alias (λ a. IsText a.name)
+pub alias_law : Law alias_at alias (λ a. IsShortText a.name)
 unfolding alias_at
 alias_law = as_law (then_law (λ (a : Alias). a.name) text_law (λ name rn. then_law (λ (a : Alias). a.named) flag_law (λ named rf. give_law (record { name = name; named = named })) (λ named a right. ap (λ (a : Alias). a.named) right))
     (λ name a right. ap (λ (a : Alias). a.name) right.1))

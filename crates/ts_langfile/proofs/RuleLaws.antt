@@ -19,7 +19,7 @@ use Rattle.ts_langfile.specs.declared.known.Known.{Known}
 use Rattle.ts_langfile.specs.Reader.{Reader, tested}
 use Rattle.ts_langfile.specs.Spelling.{text, kind, number16, signed32, prec, assoc, alias, optional, symbol, listed, step, production, rule, entry}
 use Rattle.ts_langfile.specs.Parts.{number16_at, signed32_at, may_name, prec_at, prec_by, field_at, step_at, production_at, rule_at, entry_at, entry_by}
-use Rattle.ts_langfile.specs.Right.{IsText, IsBetween, IsName, RightPrec, RightStep, RightProduction, RightRule, RightEntry}
+use Rattle.ts_langfile.specs.Right.{IsShortText, IsBetween, IsName, RightPrec, RightStep, RightProduction, RightRule, RightEntry}
 use Rattle.ts_langfile.proofs.LawLemmas.{Law, then_law, as_law, spelled_law, alone_law, made_law, give_law, tested_law, times_law, number16_law}
 use Rattle.ts_langfile.proofs.PartLaws.{text_law, count_law, tagged_law, kind_law, assoc_law, optional_law, listed_law, symbol_law, alias_law}
 use Rattle.ts_langfile.proofs.SignedLaws.{signed_law}

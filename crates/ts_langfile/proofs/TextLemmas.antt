@@ -6,7 +6,7 @@ use Rattle.std.proofs.lemmas.Bool.{false_from_ne_true}
 use Rattle.std.proofs.lemmas.Str.{IsUtf8-from_is_utf8, is_utf8-from_IsUtf8}
 use Rattle.ts_langfile.specs.declared.flaw.Flaw.{Flaw}
 use Rattle.ts_langfile.specs.declared.flaw.Flaw.TheVariants.{Field}
-use Rattle.ts_langfile.specs.Reader.{Seen, Reader, bytes_at}
+use Rattle.ts_langfile.specs.Reader.{SeenBytes, Reader, bytes_at}
 use Rattle.ts_langfile.specs.Parts.{number32_at, text_at}
 
 pub text_right : (w start t rest : List ℕ) (n : ℕ) → number32_at w ≡ Ok (n, start) → bytes_at n start ≡ Ok (t, rest) → IsUtf8 t → text_at w ≡ Ok (t, rest)

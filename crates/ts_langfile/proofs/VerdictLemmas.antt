@@ -22,7 +22,7 @@ use Rattle.spec_tables.specs.Fit.{Fit, IsCyclic, IsEmptyRule, IsFitToken, Derive
 use Rattle.ts_fit.specs.Misfits.{IsFirstPlace, IsBadRepetition, IsEmptyToken, AreFitRepetitions, IsFormedGrammar, Misfits, symbol_of_token}
 use Rattle.ts_fit.specs.Misfits as misfits
 use Rattle.ts_langfile.specs.Faults.{IsFault}
-use Rattle.ts_langfile.specs.Reader.{Seen}
+use Rattle.ts_langfile.specs.Reader.{SeenBytes}
 use Rattle.ts_langfile.specs.Spelling.{magic, number16, new_version, old_version, fields, file, spelling}
 use Rattle.ts_langfile.specs.Parts.{number16_at}
 use Rattle.ts_langfile.specs.Reading.{judged_at}
@@ -65,7 +65,7 @@ is_version : (v : ℕ) → IsVersion v → (nat_eq v old_version || nat_eq v new
 is_version v (inl e) = rw e refl
 is_version v (inr e) = rw e refl
 
-ended_takes : (w : Bytes) (read : Seen FlatGrammar) (f : FlatGrammar) → ended w read ≡ Ok f → read ≡ Ok (f, [])
+ended_takes : (w : Bytes) (read : SeenBytes FlatGrammar) (f : FlatGrammar) → ended w read ≡ Ok f → read ≡ Ok (f, [])
 unfolding ended
 ended_takes w (Ok x) f e =
     let c = chosen (nat_eq (length x.1) 0) (Ok x.0) (LangFault.Long (length w - length x.1)) f e in
@@ -74,7 +74,7 @@ ended_takes w (Ok x) f e =
     rw (same, nothing) refl
 ended_takes w (Err flaw) f e = absurd cc
 
-version_takes : (w : Bytes) (start : Bytes) (f : FlatGrammar) (read : Seen ℕ) → number16_at start ≡ read → AreBytes start → of_version w read ≡ Ok f
+version_takes : (w : Bytes) (start : Bytes) (f : FlatGrammar) (read : SeenBytes ℕ) → number16_at start ≡ read → AreBytes start → of_version w read ≡ Ok f
     → (v : ℕ) × IsVersion v × (start ≡ number16 v ++ (fields v f ++ [])) × Right v f
 unfolding of_version
 version_takes w start f (Ok x) is are e =
@@ -141,7 +141,7 @@ no_flaw : (w : Bytes) (flaw : Flaw) (u : Unfit) → fault_of w flaw ≡ LangFaul
 no_flaw w (flaws.Short left) u e = absurd cc
 no_flaw w (flaws.Field left) u e = absurd cc
 
-no_end : (w : Bytes) (read : Seen FlatGrammar) (u : Unfit) → ended w read ≡ Err (LangFault.Misfit u) → ⊥
+no_end : (w : Bytes) (read : SeenBytes FlatGrammar) (u : Unfit) → ended w read ≡ Err (LangFault.Misfit u) → ⊥
 unfolding ended
 no_end w (Ok x) u e = elim (refused (nat_eq (length x.1) 0) (Ok x.0) (LangFault.Long (length w - length x.1)) (LangFault.Misfit u) e) [
   | inl h ↦ absurd cc
@@ -149,7 +149,7 @@ no_end w (Ok x) u e = elim (refused (nat_eq (length x.1) 0) (Ok x.0) (LangFault.
 ]
 no_end w (Err flaw) u e = no_flaw w flaw u (same_fault (fault_of w flaw) (LangFault.Misfit u) e)
 
-no_version : (w : Bytes) (read : Seen ℕ) (u : Unfit) → of_version w read ≡ Err (LangFault.Misfit u) → ⊥
+no_version : (w : Bytes) (read : SeenBytes ℕ) (u : Unfit) → of_version w read ≡ Err (LangFault.Misfit u) → ⊥
 unfolding of_version
 no_version w (Ok x) u e = elim (refused (nat_eq x.0 old_version || nat_eq x.0 new_version) (ended w (judged_at x.0 x.1)) (LangFault.Version x.0) (LangFault.Misfit u) e) [
   | inl h ↦ no_end w (judged_at x.0 x.1) u h

@@ -9,13 +9,13 @@ use Rattle.ts_langfile.specs.declared.flaw.Stop.{Stop}
 use Rattle.ts_langfile.specs.declared.flaw.Stop.TheVariants as stop
 
 -- a value and the bytes behind it, or a flaw
-abbrev pub Seen : Type 0 → Type 0
-Seen A = Result (A × Bytes) Flaw
+abbrev pub SeenBytes : Type 0 → Type 0
+SeenBytes A = Result (A × Bytes) Flaw
 
 abbrev pub Reader : Type 0 → Type 0
-Reader A = Bytes → Seen A
+Reader A = Bytes → SeenBytes A
 
-abbrev pub going_on : {A B : Type 0} → Seen A → (A → Reader B) → Seen B
+abbrev pub going_on : {A B : Type 0} → SeenBytes A → (A → Reader B) → SeenBytes B
 going_on (Ok x) next = next x.0 x.1
 going_on (Err flaw) next = Err flaw
 
@@ -44,7 +44,7 @@ number_at w bytes = if nat_lt (length bytes) (byte_len w) then Err (Short (lengt
     else Ok (from_be_bytes w (take (byte_len w) bytes), drop (byte_len w) bytes)
 
 -- the value where it passes the test, else a flaw of the field at `place`
-abbrev pub passing : {A : Type 0} → (A → Bool) → Bytes → Seen A → Seen A
+abbrev pub passing : {A : Type 0} → (A → Bool) → Bytes → SeenBytes A → SeenBytes A
 passing test place (Ok x) = if test x.0 then Ok x else Err (Field (length place))
 passing test place (Err flaw) = Err flaw
 
@@ -73,11 +73,11 @@ in_turn part after (suc n) state = do
 -- ---- what a function of the code answers
 
 -- it stops so, unless memory runs out
-abbrev pub Stops : {A : Type 0} → Stop → Seen A → Type 0
-Stops stop.Memory read = Unit {0}
-Stops (stop.Flawed flaw) read = read ≡ Err flaw
+abbrev pub StopsWith : {A : Type 0} → Stop → SeenBytes A → Type 0
+StopsWith stop.Memory read = Unit {0}
+StopsWith (stop.Flawed flaw) read = read ≡ Err flaw
 
 -- what is returned, as `view` sees it, is what is read, unless memory runs out
-abbrev pub Gives : {A B : Type 0} → (A → B × Bytes) → Result A Stop → Seen B → Type 0
+abbrev pub Gives : {A B : Type 0} → (A → B × Bytes) → Result A Stop → SeenBytes B → Type 0
 Gives view (Ok x) read = read ≡ Ok (view x)
-Gives view (Err stop) read = Stops stop read
+Gives view (Err stop) read = StopsWith stop read

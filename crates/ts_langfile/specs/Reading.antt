@@ -14,7 +14,7 @@ use Rattle.ts_langfile.specs.declared.grammar.Head.{Head}
 use Rattle.ts_langfile.specs.declared.grammar.ToFields.{ToFields}
 use Rattle.ts_langfile.specs.declared.grammar.ToPrecs.{ToPrecs}
 use Rattle.ts_langfile.specs.Spelling.{magic, new_version, old_version}
-use Rattle.ts_langfile.specs.Reader.{Seen, Reader, ◌>>=◌, give, tested, times, in_turn}
+use Rattle.ts_langfile.specs.Reader.{SeenBytes, Reader, ◌>>=◌, give, tested, times, in_turn}
 use Rattle.ts_langfile.specs.Parts.{number16_at, number32_at, flag_at, text_at, count_at, listed_at, optional_by, symbol_at, re_at, most_levels, token_at, rule_at, left_after, symbols_at, entry_at, supertype_at, behind_symbol}
 
 -- ---- the grammar
@@ -105,7 +105,7 @@ abbrev pub nothing_known : Known
 nothing_known = record { word = None; fields = None; precs = None }
 
 -- what is seen of a part, where there is no flaw in it or before it
-abbrev pub seen_of : {A B : Type 0} → (A → B) → Seen A → Option B
+abbrev pub seen_of : {A B : Type 0} → (A → B) → SeenBytes A → Option B
 seen_of view (Ok x) = Some (view x.0)
 seen_of view (Err flaw) = None
 

@@ -30,8 +30,8 @@ InTurn Right after state (x ∷ xs) = Right state x × InTurn Right after (after
 -- ---- texts, symbols and names
 
 -- UTF-8, and short enough for its length
-abbrev pub IsText : Bytes → Type 0
-IsText t = (length t < 2 ^ 32) × (is_utf8 t ≡ true)
+abbrev pub IsShortText : Bytes → Type 0
+IsShortText t = (length t < 2 ^ 32) × (is_utf8 t ≡ true)
 
 -- from the least on, and below the bound
 abbrev pub IsBetween : ℕ → ℕ → Symbol → Type 0
@@ -74,7 +74,7 @@ RightRe (suc room) r = (tag : ℕ) × (tag ≤ 4) × ReBy (RightRe room) tag r
 -- ---- tokens and rules
 
 pub record RightToken (known : Known) (d : TokenDef) : Type 0 where
-  pub name : IsText d.name
+  pub name : IsShortText d.name
   pub re : RightRe most_levels d.re
   pub prec : FitsSigned w32 d.prec
   pub keyword : may_be_keyword known d.literal d.keyword ≡ true
@@ -87,7 +87,7 @@ RightPrec known (Prec.Name name) = IsName known.precs name
 pub record RightStep (symbols : ℕ) (known : Known) (s : Step) : Type 0 where
   pub symbol : IsBetween 1 symbols s.symbol
   pub prec : RightPrec known s.prec
-  pub alias : IfThere (λ (a : Alias). IsText a.name) s.alias
+  pub alias : IfThere (λ (a : Alias). IsShortText a.name) s.alias
   pub field : IfThere (IsName known.fields) s.field
 
 abbrev pub RightProduction : ℕ → Known → Production → Type 0
@@ -96,7 +96,7 @@ RightProduction symbols known p = FitsSigned w32 p.dynamic × (length p.steps �
 
 -- a rule where so many more productions may come
 pub record RightRule (symbols : ℕ) (known : Known) (left : ℕ) (r : FlatRule) : Type 0 where
-  pub name : IsText r.name
+  pub name : IsShortText r.name
   pub owner : IsBetween 0 symbols r.owner
   pub few : (length r.productions < 2 ^ 32) × (length r.productions ≤ left)
   pub productions : AllByRecursion (RightProduction symbols known) r.productions
@@ -111,18 +111,18 @@ RightEntry symbols precs (Entry.Rule s) = IsBetween 0 symbols s
 abbrev pub may_be_rules : ℕ → ℕ → Bool
 may_be_rules tokens n = nat_lt 0 n && nat_le (suc (tokens + n)) most_symbols
 
-abbrev pub IsSupertype : List TokenDef → List FlatRule → ℕ → Symbol → Type 0
-IsSupertype tokens rules least s = (s.0 < 2 ^ 16)
+abbrev pub IsSupertypeSymbol : List TokenDef → List FlatRule → ℕ → Symbol → Type 0
+IsSupertypeSymbol tokens rules least s = (s.0 < 2 ^ 16)
     × ((nat_le least s.0 && is_hidden tokens rules s.0) ≡ true)
 
 abbrev pub RightSupertypes : Bool → List TokenDef → List FlatRule → List Symbol → Type 0
 RightSupertypes true tokens rules xs = xs ≡ []
 RightSupertypes false tokens rules xs = (length xs < 2 ^ 32)
-    × InTurn (IsSupertype tokens rules) behind_symbol 1 xs
+    × InTurn (IsSupertypeSymbol tokens rules) behind_symbol 1 xs
 
 -- a grammar, where so much is known of its word and names
 pub record RightBy (version : ℕ) (known : Known) (f : FlatGrammar) : Type 0 where
-  pub name : IsText f.name
+  pub name : IsShortText f.name
   pub few_tokens : (length f.tokens < 2 ^ 32) × (length f.tokens ≤ most_symbols - 1)
   pub tokens : AllByRecursion (RightToken known) f.tokens
   pub few_rules : (length f.rules < 2 ^ 32)
@@ -135,9 +135,9 @@ pub record RightBy (version : ℕ) (known : Known) (f : FlatGrammar) : Type 0 wh
       × AllByRecursion (IsBetween 1 (suc (length f.tokens))) f.extras
   pub word : IfThere (IsBetween 1 (suc (length f.tokens))) f.word
   pub few_fields : (length f.fields < 2 ^ 32) × (length f.fields ≤ most_names)
-  pub fields : AllByRecursion IsText f.fields
+  pub fields : AllByRecursion IsShortText f.fields
   pub few_precs : (length f.precs < 2 ^ 32) × (length f.precs ≤ most_names)
-  pub precs : AllByRecursion IsText f.precs
+  pub precs : AllByRecursion IsShortText f.precs
   pub conflicts : (length f.conflicts < 2 ^ 32) × AllByRecursion (λ (set : List Symbol).
       (length set < 2 ^ 32) × AllByRecursion (IsBetween 0 (symbols_of f)) set) f.conflicts
   pub precedences : (length f.precedences < 2 ^ 32) × AllByRecursion (λ (es : List Entry).

@@ -10,7 +10,7 @@ use Rattle.ts_langfile.specs.declared.flaw.Flaw.TheVariants as flaw
 use Rattle.ts_langfile.specs.declared.flaw.Stop.{Stop}
 use Rattle.ts_langfile.specs.declared.flaw.Stop.TheVariants as stop
 use Rattle.ts_langfile.specs.Spelling.{magic, new_version, old_version}
-use Rattle.ts_langfile.specs.Reader.{Seen}
+use Rattle.ts_langfile.specs.Reader.{SeenBytes}
 use Rattle.ts_langfile.specs.Parts.{number16_at}
 use Rattle.ts_langfile.specs.Reading.{judged_at}
 
@@ -20,12 +20,12 @@ fault_of w (flaw.Short left) = LangFault.Short (length w - left)
 fault_of w (flaw.Field left) = LangFault.Field (length w - left)
 
 -- no byte may stand behind the grammar
-unfoldable pub ended : Bytes → Seen FlatGrammar → Result FlatGrammar LangFault
+unfoldable pub ended : Bytes → SeenBytes FlatGrammar → Result FlatGrammar LangFault
 ended w (Ok x) = if nat_eq (length x.1) 0 then Ok x.0
     else Err (LangFault.Long (length w - length x.1))
 ended w (Err flaw) = Err (fault_of w flaw)
 
-unfoldable pub of_version : Bytes → Seen ℕ → Result FlatGrammar LangFault
+unfoldable pub of_version : Bytes → SeenBytes ℕ → Result FlatGrammar LangFault
 of_version w (Ok x) = if nat_eq x.0 old_version || nat_eq x.0 new_version
     then ended w (judged_at x.0 x.1)
     else Err (LangFault.Version x.0)

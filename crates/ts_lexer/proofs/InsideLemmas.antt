@@ -15,7 +15,7 @@ use Rattle.ts_core.specs.declared.flat.FlatGrammar.{FlatGrammar}
 use Rattle.ts_core.specs.declared.flat.TokenDef.{TokenDef}
 use Rattle.ts_core.specs.declared.symbol.Symbol.{Symbol}
 use Rattle.spec_lexing.specs.Words.{Regular, regular_of}
-use Rattle.spec_lexing.specs.Matching.{Begins, MatchesRe, MatchesToken, plainly, as_keyword, MatchesSeparator}
+use Rattle.spec_lexing.specs.Matching.{BeginsSpelled, MatchesRe, MatchesToken, plainly, as_keyword, MatchesSeparator}
 use Rattle.spec_lexing.specs.Lexing.{NoneMatches, absent, Lex, stops}
 use Rattle.spec_lexing.specs.Seen.{is_inner, Seen, last}
 
@@ -54,7 +54,7 @@ inner_begins b c bs tail inner scalar_c e =
     let high = u.1 (omega arith) (omega arith) in
     omega (arith, high)
 
-begins_none : (b : ℕ) (bs : Bytes) (w : List ℕ) (n : ℕ) → is_inner b ≡ true → Begins (b ∷ bs) w n → n ≡ 0
+begins_none : (b : ℕ) (bs : Bytes) (w : List ℕ) (n : ℕ) → is_inner b ≡ true → BeginsSpelled (b ∷ bs) w n → n ≡ 0
 begins_none b bs [] n inner x = x.size
 begins_none b bs (c ∷ w) n inner x =
     absurd (inner_begins b c bs (encodes w ++ x.tail) inner (x.scalar c (0, (omega arith), refl)) (x.is ∙ append_assoc (encode c) (encodes w) x.tail))

@@ -12,7 +12,7 @@ use Rattle.ts_lexer.specs.declared.verdict.Verdict.{Verdict}
 use Rattle.ts_lexer.specs.Rules.{kind_of, Over, IsBetter}
 use Rattle.ts_lexer.specs.declared.view.Role.{Role}
 use Rattle.ts_lexer.specs.Views.{MayTake, IsRole}
-use Rattle.ts_lexer.specs.Judged.{IsTokenPart, Offered, IsPicked, IsPick, Judges, Wanted, IsWordPart, IsSeparatorPart, EndsIn, LivesIn}
+use Rattle.ts_lexer.specs.Judged.{IsTokenPart, Offered, IsPicked, IsPick, JudgesParts, Wanted, IsWordPart, IsSeparatorPart, EndsIn, LivesIn}
 use Rattle.ts_lexer.proofs.OverLemmas.{over_self, over_decides, over_then}
 
 symbol_same : (s t : Symbol) → s.0 ≡ t.0 → s ≡ t
@@ -163,8 +163,8 @@ any_more P E F part keeps only adds false false p o = (
 pub judges_more : (g : FlatGrammar) (valid : List Symbol) (first : Bool) (T : List Node) (owners seen : List ℕ) (node part : ℕ) (ends : Bool) (role : Role) (old : Verdict) (plain keyword : Option Symbol)
     → length g.tokens < 2 ^ 16 - 1 → IsRole g valid first part role → slice_get owners node ≡ Some part → IsTrue ends ↔ IsEnd T node
     → Picks g old.plain (role.plain && ends) part plain → Picks g old.keyword (role.keyword && ends) part keyword
-    → Judges g valid first (EndsIn T owners seen) (LivesIn owners seen) old
-    → Judges g valid first (EndsIn T owners (seen ++ node ∷ [])) (LivesIn owners (seen ++ node ∷ [])) (record {
+    → JudgesParts g valid first (EndsIn T owners seen) (LivesIn owners seen) old
+    → JudgesParts g valid first (EndsIn T owners (seen ++ node ∷ [])) (LivesIn owners (seen ++ node ∷ [])) (record {
       plain = plain;
       keyword = keyword;
       word = old.word || (role.word && ends);
@@ -191,8 +191,8 @@ judges_more g valid first T owners seen node part ends role old plain keyword fe
 
 -- a node without a part says nothing
 pub judges_same : (g : FlatGrammar) (valid : List Symbol) (first : Bool) (T : List Node) (owners seen : List ℕ) (node : ℕ) (old : Verdict)
-    → slice_get owners node ≡ None → Judges g valid first (EndsIn T owners seen) (LivesIn owners seen) old
-    → Judges g valid first (EndsIn T owners (seen ++ node ∷ [])) (LivesIn owners (seen ++ node ∷ [])) old
+    → slice_get owners node ≡ None → JudgesParts g valid first (EndsIn T owners seen) (LivesIn owners seen) old
+    → JudgesParts g valid first (EndsIn T owners (seen ++ node ∷ [])) (LivesIn owners (seen ++ node ∷ [])) old
 judges_same g valid first T owners seen node old none h = record {
   plain = same_pick false old.plain h.plain;
   keyword = same_pick true old.keyword h.keyword;
@@ -222,7 +222,7 @@ judges_same g valid first T owners seen node old none h = record {
 
 -- nothing is known of no nodes
 pub judges_none : (g : FlatGrammar) (valid : List Symbol) (first : Bool) (T : List Node) (owners : List ℕ)
-    → Judges g valid first (EndsIn T owners []) (LivesIn owners []) (record { plain = None; keyword = None; word = false; separator = false; lives = false })
+    → JudgesParts g valid first (EndsIn T owners []) (LivesIn owners []) (record { plain = None; keyword = None; word = false; separator = false; lives = false })
 judges_none g valid first T owners = record {
   plain = λ k s t o e. none e.node e.there;
   keyword = λ k s t o e. none e.node e.there;

@@ -29,7 +29,7 @@ module _ (g : FlatGrammar) (m : Machine) (is : IsAutomaton g m.automaton) (w : L
     there : slice_get (parts_of g) part ≡ Some expression
     entry : ℕ
     of_part : IsPart m.automaton.nodes.items (λ t. slice_get m.automaton.owners.items t ≡ Some part) expression entry
-    leads : Rattle.ts_automata.specs.Reads.Leads m.automaton.nodes.items entry w t
+    leads : Rattle.ts_automata.specs.Reads.LeadsOver m.automaton.nodes.items entry w t
 
   from : (t : ℕ) → Contains members t → From t
   from t h =
@@ -49,7 +49,7 @@ module _ (g : FlatGrammar) (m : Machine) (is : IsAutomaton g m.automaton) (w : L
       let e = find m.automaton.entries.items k (omega arith) in
       (e.0, e.1, is.part k e.0 p e.1 there)
 
-  has : (e k t : ℕ) → slice_get m.automaton.entries.items k ≡ Some e → Rattle.ts_automata.specs.Reads.Leads m.automaton.nodes.items e w t → Contains members t
+  has : (e k t : ℕ) → slice_get m.automaton.entries.items k ≡ Some e → Rattle.ts_automata.specs.Reads.LeadsOver m.automaton.nodes.items e w t → Contains members t
   has e k t entry leads =
       subst (λ (l : List ℕ). Contains l t) same_set ((read.holds t).1 (e, (k, slice_get_within m.automaton.entries.items k e entry, get_or_from_slice_get m.automaton.entries.items k e e entry), leads))
 

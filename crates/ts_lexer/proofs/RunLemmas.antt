@@ -11,7 +11,7 @@ use Rattle.ts_base.specs.Bytes.{Bytes}
 use Rattle.ts_core.specs.declared.flat.FlatGrammar.{FlatGrammar}
 use Rattle.ts_core.specs.declared.symbol.Symbol.{Symbol}
 use Rattle.spec_lexing.specs.Words.{Regular, Word, Front}
-use Rattle.spec_lexing.specs.Matching.{Begins}
+use Rattle.spec_lexing.specs.Matching.{BeginsSpelled}
 use Rattle.spec_lexing.specs.Seen.{CanBegin, HasFront, one_character, IsReach}
 use Rattle.ts_automata.specs.declared.machine.Machine.{Machine}
 use Rattle.ts_automata.specs.Machine.{HasRead}
@@ -25,18 +25,18 @@ use Rattle.ts_lexer.proofs.FrontLemmas.{can_begin, begin_part}
 pub record Laws : Type 0 where
   pub front_prefix : (p : Regular) (u v : List ℕ) → Front p (u ++ v) → Front p u
   pub word_front : (p : Regular) (w : List ℕ) → Word p w → Front p w
-  pub nothing : (rest : Bytes) → Begins rest [] 0
-  pub prefix : (rest : Bytes) (u w : List ℕ) (n m : ℕ) → Begins rest u n → Begins rest w m → n ≤ m → (v : List ℕ) × (w ≡ u ++ v)
-  pub longer : (rest : Bytes) (u v : List ℕ) (c n m : ℕ) → Begins rest u n → Begins rest (u ++ c ∷ v) m → n < m
-  pub more : (rest tail : Bytes) (u : List ℕ) (c n : ℕ) → IsScalar c → Begins rest u n → drop n rest ≡ encode_utf8 c ++ tail → Begins rest (u ++ c ∷ []) (n + length (encode_utf8 c))
-  pub follows : (rest tail : Bytes) (u v : List ℕ) (c d n m : ℕ) → Begins rest u n → drop n rest ≡ encode_utf8 c ++ tail → Begins rest (u ++ d ∷ v) m → d ≡ c
-  pub within : (rest : Bytes) (u : List ℕ) (n : ℕ) → Begins rest u n → n ≤ length rest
+  pub nothing : (rest : Bytes) → BeginsSpelled rest [] 0
+  pub prefix : (rest : Bytes) (u w : List ℕ) (n m : ℕ) → BeginsSpelled rest u n → BeginsSpelled rest w m → n ≤ m → (v : List ℕ) × (w ≡ u ++ v)
+  pub longer : (rest : Bytes) (u v : List ℕ) (c n m : ℕ) → BeginsSpelled rest u n → BeginsSpelled rest (u ++ c ∷ v) m → n < m
+  pub more : (rest tail : Bytes) (u : List ℕ) (c n : ℕ) → IsScalar c → BeginsSpelled rest u n → drop n rest ≡ encode_utf8 c ++ tail → BeginsSpelled rest (u ++ c ∷ []) (n + length (encode_utf8 c))
+  pub follows : (rest tail : Bytes) (u v : List ℕ) (c d n m : ℕ) → BeginsSpelled rest u n → drop n rest ≡ encode_utf8 c ++ tail → BeginsSpelled rest (u ++ d ∷ v) m → d ≡ c
+  pub within : (rest : Bytes) (u : List ℕ) (n : ℕ) → BeginsSpelled rest u n → n ≤ length rest
   pub one : (c : ℕ) (more : Bytes) → IsScalar c → IsUtf8 more → one_character (encode_utf8 c ++ more) ≡ length (encode_utf8 c)
 
 -- what has been read so far
 pub record Running (m : Machine) (g : FlatGrammar) (valid : List Symbol) (first : Bool) (rest tail : Bytes) (size state : ℕ) (p : Progress) : Type 0 where
   pub characters : List ℕ
-  pub begins : Begins rest characters size
+  pub begins : BeginsSpelled rest characters size
   pub rest_is : drop size rest ≡ tail
   pub utf8 : IsUtf8 tail
   pub read : HasRead m characters state
@@ -49,7 +49,7 @@ module _ (laws : Laws) (g : FlatGrammar) (valid : List Symbol) (first : Bool) (r
       let b = begin_part g valid (u ++ v) can in
       can_begin g valid u b.0 b.1 (record { expression = b.2.expression; at = b.2.at; front = laws.front_prefix b.2.expression u v b.2.front })
 
-  same_size : (u w : List ℕ) (n k : ℕ) → Begins rest u n → Begins rest w k → u ≡ w → n ≡ k
+  same_size : (u w : List ℕ) (n k : ℕ) → BeginsSpelled rest u n → BeginsSpelled rest w k → u ≡ w → n ≡ k
   same_size u w n k a b e = a.size ∙ ap (λ (l : List ℕ). length (encode_utf8_all l)) e ∙ sym b.size
 
   module _ (m : Machine) (tail : Bytes) (size state : ℕ) (p : Progress) (run : Running m g valid first rest tail size state p) where
@@ -101,7 +101,7 @@ module _ (laws : Laws) (g : FlatGrammar) (valid : List Symbol) (first : Bool) (r
       abbrev pub w : List ℕ
       w = run.characters ++ c ∷ []
 
-      begins_next : Begins rest w next
+      begins_next : BeginsSpelled rest w next
       begins_next = laws.more rest later run.characters c size scalar_c run.begins here
 
       rises : size < next
@@ -112,13 +112,13 @@ module _ (laws : Laws) (g : FlatGrammar) (valid : List Symbol) (first : Bool) (r
         short : n ≤ size → Other u n
         long : (v : List ℕ) → u ≡ w ++ v → Other u n
 
-      other : (u : List ℕ) (n : ℕ) → Begins rest u n → Other u n
+      other : (u : List ℕ) (n : ℕ) → BeginsSpelled rest u n → Other u n
       other u n b = by (leb_tells n size)
         where
           goes_on : size < n → (v : List ℕ) → u ≡ run.characters ++ v → Other u n
           goes_on lt [] e = absurd (let s = same_size u run.characters n size b run.begins (e ∙ append-nil run.characters) in omega arith)
           goes_on lt (d ∷ v) e =
-              let same = laws.follows rest later run.characters v c d size n run.begins here (subst (λ (l : List ℕ). Begins rest l n) e b) in
+              let same = laws.follows rest later run.characters v c d size n run.begins here (subst (λ (l : List ℕ). BeginsSpelled rest l n) e b) in
               long v (e ∙ ap (λ (x : ℕ). run.characters ++ x ∷ v) same ∙ sym (append_assoc run.characters (c ∷ []) v))
 
           by : ((leb n size ≡ true) × (n ≤ size)) ⊎ ((leb n size ≡ false) × (size < n)) → Other u n
@@ -138,7 +138,7 @@ module _ (laws : Laws) (g : FlatGrammar) (valid : List Symbol) (first : Bool) (r
                     same_size x.matches.characters w n next x.matches.begins begins_next f,
                     record { expression = x.expression; at = x.at; word = subst (λ (l : List ℕ). Word x.expression l) f x.matches.word },
                   )
-              exact (d ∷ v) e = absurd (let l = laws.longer rest w v d next n begins_next (subst (λ (y : List ℕ). Begins rest y n) e x.matches.begins) in omega arith)
+              exact (d ∷ v) e = absurd (let l = laws.longer rest w v d next n begins_next (subst (λ (y : List ℕ). BeginsSpelled rest y n) e x.matches.begins) in omega arith)
 
               by : Other x.matches.characters n → (n ≤ size) ⊎ ((n ≡ next) × PartWord g w k)
               by (short low) = inl low

@@ -11,7 +11,7 @@ use Rattle.ts_lexer.specs.declared.scanned.Match.{Match}
 use Rattle.ts_lexer.specs.declared.scanned.Progress.{Progress}
 use Rattle.ts_lexer.specs.declared.verdict.Verdict.{Verdict}
 use Rattle.ts_lexer.specs.Rules.{kind_of, Over}
-use Rattle.ts_lexer.specs.Judged.{Offered, IsTokenPart, IsPicked, IsPick, IsWordPart, IsSeparatorPart, Judges}
+use Rattle.ts_lexer.specs.Judged.{Offered, IsTokenPart, IsPicked, IsPick, IsWordPart, IsSeparatorPart, JudgesParts}
 use Rattle.ts_lexer.specs.Scanned.{IsFirstPlain, IsLonger, Sofar}
 use Rattle.ts_lexer.proofs.OverLemmas.{three_ways}
 
@@ -161,7 +161,7 @@ module _ (g : FlatGrammar) (valid : List Symbol) (first : Bool) (M : ℕ → ℕ
       (subst (λ (n : ℕ). IsPick g valid first true (λ k. (0 < n) × M k n) old) (sym (sized.no refl)) h)
 
   pub sofar_next : (L : ℕ → Type 0) (v : Verdict) (old : Progress) (plain : Option Match) (word : ℕ) (keyword : Option Symbol) (separator : ℕ)
-      → Judges g valid first E L v → Longer g old.plain v.plain next plain → Sized v.word old.word word → Kept v.word v.keyword old.keyword keyword → Sized v.separator old.separator separator
+      → JudgesParts g valid first E L v → Longer g old.plain v.plain next plain → Sized v.word old.word word → Kept v.word v.keyword old.keyword keyword → Sized v.separator old.separator separator
       → Sofar g valid first M bound old → Sofar g valid first M next (record { plain = plain; word = word; keyword = keyword; separator = separator })
   sofar_next L v old plain word keyword separator j longer sized kept parted h =
       let w = longest_next (IsWordPart g) v.word old.word word sized j.word (record { matches = h.word_matches; within = h.word_within; longest = h.word_longest }) in

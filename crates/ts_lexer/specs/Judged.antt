@@ -72,7 +72,8 @@ IsPick g valid first keyword Ends pick =
     (IsPicked g valid first keyword Ends)
 
 -- what is known where these parts end, and these are alive
-pub record Judges (g : FlatGrammar) (valid : List Symbol) (first : Bool) (Ends Lives : ℕ → Type 0)
+pub record JudgesParts (g : FlatGrammar) (valid : List Symbol) (first : Bool) (Ends Lives : ℕ
+    → Type 0)
     (v : Verdict) : Type 0 where
   pub plain : IsPick g valid first false Ends v.plain
   pub keyword : IsPick g valid first true Ends v.keyword
@@ -94,7 +95,7 @@ pub record PartFront (g : FlatGrammar) (w : List ℕ) (part : ℕ) : Type 0 wher
 
 -- what is known once these characters have been read
 abbrev pub Knows : FlatGrammar → List Symbol → Bool → List ℕ → Verdict → Type 0
-Knows g valid first w v = Judges g valid first (PartWord g w) (PartFront g w) v
+Knows g valid first w v = JudgesParts g valid first (PartWord g w) (PartFront g w) v
 
 -- the nodes have an end of the part
 pub record EndsIn (T : List Node) (owners seen : List ℕ) (part : ℕ) : Type 0 where
@@ -112,4 +113,5 @@ pub record LivesIn (owners seen : List ℕ) (part : ℕ) : Type 0 where
 -- what is known of these nodes of an automaton
 abbrev pub JudgesNodes : FlatGrammar → List Symbol → Bool → Automaton → List ℕ → Verdict → Type 0
 JudgesNodes g valid first a seen v =
-    Judges g valid first (EndsIn a.nodes.items a.owners.items seen) (LivesIn a.owners.items seen) v
+    JudgesParts g valid first (EndsIn a.nodes.items a.owners.items seen)
+    (LivesIn a.owners.items seen) v

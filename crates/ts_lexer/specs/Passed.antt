@@ -32,7 +32,7 @@ pub record IsKnown (g : FlatGrammar) (m : Machine) (r : Rules) (v : View) : Type
   pub marks : length v.marks.items ≡ length g.tokens
 
 -- what was passed and found ends in a text of so many bytes, and no more was looked at than its end
-pub record IsWithin (size : ℕ) (p : Passed) : Type 0 where
+pub record IsWithinText (size : ℕ) (p : Passed) : Type 0 where
   pub pad : p.pad ≤ size
   pub extent : p.extent ≤ size + 1
   pub found : MatchOption p.found (Unit {0}) (λ m. p.pad + m.size ≤ size)

@@ -7,7 +7,7 @@ ghost use Rattle.std.specs.Str.{IsCharBoundary};
 ghost use Rattle.ts_core.specs.declared.symbol.Symbol.{Symbol as AnySymbol};
 ghost use Rattle.ts_automata.specs.Machine.{IsMachine};
 ghost use Rattle.spec_lexing.specs.Seen.{is_inner as inner_byte};
-ghost use Rattle.ts_lexer.specs.Passed.{IsKnown, IsWithin, found_by};
+ghost use Rattle.ts_lexer.specs.Passed.{IsKnown, IsWithinText, found_by};
 ghost use Rattle.ts_lexer.specs.Answers.{IsAnswer, Says, extent_of};
 
 use crate::lexed::Lexed;
@@ -52,7 +52,7 @@ fn inner_bytes(rest: &[u8]) -> u32
 
 /// The answer that says what was found behind the separators.
 fn told(passed: &Passed, place: u32, size: u32) -> Lexed
-    requires within { IsWithin size passed.now }
+    requires within { IsWithinText size passed.now }
     requires small { place + size ≤ 2 ^ 31 }
     ensures says { Says place result (found_by passed.now.found passed.now.pad) }
     ensures extent { extent_of result ≡ passed.now.extent }

@@ -8,7 +8,7 @@ ghost use Rattle.ts_automata.specs.declared.node.Node.{Node as AnyNode};
 ghost use Rattle.ts_automata.specs.Reads.{IsEnd};
 ghost use Rattle.ts_lexer.specs.Rules.{kind_of, IsRules, IsBetter};
 ghost use Rattle.ts_lexer.specs.Views.{IsView, IsRole};
-ghost use Rattle.ts_lexer.specs.Judged.{IsTokenPart, Judges, JudgesNodes, EndsIn, LivesIn};
+ghost use Rattle.ts_lexer.specs.Judged.{IsTokenPart, JudgesParts, JudgesNodes, EndsIn, LivesIn};
 
 use crate::rules::{Kind, Rules, is_over};
 use crate::verdict::Verdict;
@@ -99,8 +99,8 @@ fn with_part(rules: &Rules, old: Verdict, role: &Role, part: usize, ends: bool) 
         → IsRules g rules.now → IsRole g valid first part role.now
         → slice_get owners node ≡ Some part
         → (IsTrue ends ↔ IsEnd T node)
-        → Judges g valid first (EndsIn T owners seen) (LivesIn owners seen) old
-        → Judges g valid first (EndsIn T owners (seen ++ node ∷ []))
+        → JudgesParts g valid first (EndsIn T owners seen) (LivesIn owners seen) old
+        → JudgesParts g valid first (EndsIn T owners (seen ++ node ∷ []))
         (LivesIn owners (seen ++ node ∷ [])) result }
 {
     let plain_ends = both_hold(role.plain, ends);

@@ -8,7 +8,7 @@ ghost use Rattle.ts_automata.specs.Automata.{IsAutomaton};
 ghost use Rattle.ts_automata.specs.Machine.{IsMachine};
 ghost use Rattle.ts_lexer.specs.Rules.{IsRules};
 ghost use Rattle.ts_lexer.specs.Views.{IsView};
-ghost use Rattle.ts_lexer.specs.Passed.{IsKnown, IsPassed, IsWithin};
+ghost use Rattle.ts_lexer.specs.Passed.{IsKnown, IsPassed, IsWithinText};
 
 use crate::marking::{has_keyword, mark};
 use crate::rules::Rules;
@@ -73,7 +73,7 @@ pub(crate) fn pass(
     requires made { IsMachine machine.now }
     requires size { length text.now < 2 ^ 32 }
     requires known { (g : AnyGrammar) × IsKnown g machine.now rules.now view.old }
-    ensures within { IsWithin (length text.now) result }
+    ensures within { IsWithinText (length text.now) result }
     ensures passed { (g : AnyGrammar) → IsRules g rules.now → IsAutomaton g machine.now.automaton
         → length view.old.marks.items ≡ length g.tokens
         → IsPassed g valid.now text.now view.new.marks.items result }

@@ -14,25 +14,25 @@ use Rattle.spec_trees.specs.Trees.{symbol_of, is_extra_node, elements_of, is_set
 use Rattle.spec_trees.specs.Made.{form_of, of_rule, of_first, of_next, value_of, EndsFilled, FitsProduction, EndBy, IsNode}
 use Rattle.ts_node.proofs.ReducedLemmas.{end_by_wider, end_by_both}
 use Rattle.ts_node.proofs.RunLemmas.{all_spans-append}
-use Rattle.ts_node.specs.Small.{IsSmall, production_over, rule_over, start_productions, repetition_productions}
+use Rattle.ts_node.specs.Small.{IsSmallGrammar, production_over, rule_over, start_productions, repetition_productions}
 
-abbrev rules_of : (g : FlatGrammar) → IsSmall g → List FlatRule
+abbrev rules_of : (g : FlatGrammar) → IsSmallGrammar g → List FlatRule
 rules_of g s = rule_over s.name s.kind start_productions ∷ rule_over s.other s.hidden repetition_productions ∷ []
 
-all_are : (g : FlatGrammar) (s : IsSmall g) → all_productions g ≡ productions_from 2 (rules_of g s)
+all_are : (g : FlatGrammar) (s : IsSmallGrammar g) → all_productions g ≡ productions_from 2 (rules_of g s)
 all_are g s = ap (λ (k : ℕ). productions_from (suc k) g.rules) s.tokens ∙ ap (λ (r : List FlatRule). productions_from 2 r) s.rules
 
-pub few_symbols : (g : FlatGrammar) → IsSmall g → symbol_count g ≤ 2 ^ 16
+pub few_symbols : (g : FlatGrammar) → IsSmallGrammar g → symbol_count g ≤ 2 ^ 16
 few_symbols g s =
     let r : length g.rules ≡ 2 = ap (λ (x : List FlatRule). length x) s.rules in
     omega (arith, s.tokens, r)
 
-pub few_productions : (g : FlatGrammar) → IsSmall g → length (all_productions g) < 2 ^ 32
+pub few_productions : (g : FlatGrammar) → IsSmallGrammar g → length (all_productions g) < 2 ^ 32
 few_productions g s =
     let r : length (all_productions g) ≡ 4 = ap (λ (x : List (ℕ × Production)). length x) (all_are g s) in
     omega (arith, r)
 
-there : (g : FlatGrammar) (s : IsSmall g) (number : ℕ) (p : ℕ × Production) → slice_get (productions_from 2 (rules_of g s)) number ≡ Some p → production_at g number ≡ Some p
+there : (g : FlatGrammar) (s : IsSmallGrammar g) (number : ℕ) (p : ℕ × Production) → slice_get (productions_from 2 (rules_of g s)) number ≡ Some p → production_at g number ≡ Some p
 there g s number p h = ap (λ (x : List (ℕ × Production)). slice_get x number) (all_are g s) ∙ h
 
 no_value : (g : FlatGrammar) (number left : ℕ) (symbols : List ℕ) → production_at g number ≡ Some (left, production_over symbols) → unsigned_abs (value_of g number) ≤ 2 ^ 31
@@ -41,16 +41,16 @@ no_value g number left symbols h =
     let a : unsigned_abs (value_of g number) ≡ 0 = ap unsigned_abs v in
     omega (arith, a)
 
-form_0 : (g : FlatGrammar) (s : IsSmall g) → form_of g 2 0 ≡ of_rule
+form_0 : (g : FlatGrammar) (s : IsSmallGrammar g) → form_of g 2 0 ≡ of_rule
 form_0 g s = rw (s.tokens, s.rules) refl
 
-form_1 : (g : FlatGrammar) (s : IsSmall g) → form_of g 2 1 ≡ of_rule
+form_1 : (g : FlatGrammar) (s : IsSmallGrammar g) → form_of g 2 1 ≡ of_rule
 form_1 g s = rw (s.tokens, s.rules) refl
 
-form_2 : (g : FlatGrammar) (s : IsSmall g) → form_of g 3 2 ≡ of_first 0
+form_2 : (g : FlatGrammar) (s : IsSmallGrammar g) → form_of g 3 2 ≡ of_first 0
 form_2 g s = rw (s.tokens, s.rules) refl
 
-form_3 : (g : FlatGrammar) (s : IsSmall g) → form_of g 3 3 ≡ of_next 0
+form_3 : (g : FlatGrammar) (s : IsSmallGrammar g) → form_of g 3 3 ≡ of_next 0
 form_3 g s = rw (s.tokens, s.rules) refl
 
 -- ---- the last child
@@ -77,7 +77,7 @@ nothing_ends before last e =
 
 -- ---- children that fit
 
-pub fits_empty : (g : FlatGrammar) → IsSmall g → FitsProduction g 1 []
+pub fits_empty : (g : FlatGrammar) → IsSmallGrammar g → FitsProduction g 1 []
 fits_empty g s = record {
   left = 2;
   production = production_over [];
@@ -88,7 +88,7 @@ fits_empty g s = record {
   lengthens = rw (form_1 g s) tt;
 }
 
-pub fits_start : (g : FlatGrammar) (t : Tree) → IsSmall g → symbol_of t ≡ 3 → is_extra_node t ≡ false → FitsProduction g 0 (t ∷ [])
+pub fits_start : (g : FlatGrammar) (t : Tree) → IsSmallGrammar g → symbol_of t ≡ 3 → is_extra_node t ≡ false → FitsProduction g 0 (t ∷ [])
 fits_start g t s symbol plain = record {
   left = 2;
   production = production_over (3 ∷ []);
@@ -99,7 +99,7 @@ fits_start g t s symbol plain = record {
   lengthens = rw (form_0 g s) tt;
 }
 
-pub fits_first : (g : FlatGrammar) (t : Tree) → IsSmall g → symbol_of t ≡ 1 → is_extra_node t ≡ false → FitsProduction g 2 (t ∷ [])
+pub fits_first : (g : FlatGrammar) (t : Tree) → IsSmallGrammar g → symbol_of t ≡ 1 → is_extra_node t ≡ false → FitsProduction g 2 (t ∷ [])
 fits_first g t s symbol plain = record {
   left = 3;
   production = production_over (1 ∷ []);
@@ -110,7 +110,7 @@ fits_first g t s symbol plain = record {
   lengthens = rw (form_2 g s) tt;
 }
 
-pub fits_next : (g : FlatGrammar) (run between t : Tree) → IsSmall g → symbol_of run ≡ 3 → is_extra_node run ≡ false → 0 < length (elements_of run) → is_extra_node between ≡ true → symbol_of t ≡ 1 → is_extra_node t ≡ false → FitsProduction g 3 (run ∷ between ∷ t ∷ [])
+pub fits_next : (g : FlatGrammar) (run between t : Tree) → IsSmallGrammar g → symbol_of run ≡ 3 → is_extra_node run ≡ false → 0 < length (elements_of run) → is_extra_node between ≡ true → symbol_of t ≡ 1 → is_extra_node t ≡ false → FitsProduction g 3 (run ∷ between ∷ t ∷ [])
 fits_next g run between t s of_run plain some extra symbol last = record {
   left = 3;
   production = production_over (3 ∷ 1 ∷ []);
@@ -122,7 +122,7 @@ fits_next g run between t s of_run plain some extra symbol last = record {
 }
 
 -- no production has a value
-pub small_value : (g : FlatGrammar) (number : ℕ) → IsSmall g → number < 4 → unsigned_abs (value_of g number) ≤ 2 ^ 31
+pub small_value : (g : FlatGrammar) (number : ℕ) → IsSmallGrammar g → number < 4 → unsigned_abs (value_of g number) ≤ 2 ^ 31
 small_value g zero s h = no_value g 0 2 (3 ∷ []) (there g s 0 (2, production_over (3 ∷ [])) refl)
 small_value g (suc zero) s h = no_value g 1 2 [] (there g s 1 (2, production_over []) refl)
 small_value g (suc (suc zero)) s h = no_value g 2 3 (1 ∷ []) (there g s 2 (3, production_over (1 ∷ [])) refl)

@@ -41,7 +41,7 @@ rule_over name kind productions = record {
 }
 
 -- the grammar has one token, and these two rules
-pub record IsSmall (g : FlatGrammar) : Type 0 where
+pub record IsSmallGrammar (g : FlatGrammar) : Type 0 where
   pub name : Bytes
   pub other : Bytes
   pub kind : Kind

@@ -1,6 +1,6 @@
 //! Each call once: nodes are made of tokens and children, and what they say is compared.
 ghost use Rattle.std.specs.Prelude.{◌≡◌, ◌<◌, ◌∷◌, [], ℕ, IfOk, Some, length};
-ghost use Rattle.ts_node.specs.Small.{IsSmall, production_over, rule_over, start_productions, repetition_productions};
+ghost use Rattle.ts_node.specs.Small.{IsSmallGrammar, production_over, rule_over, start_productions, repetition_productions};
 ghost use Rattle.spec_trees.specs.Made.{FitsProduction};
 ghost use Rattle.spec_trees.specs.Reducible.{CanBeChildren};
 
@@ -69,7 +69,7 @@ fn rule(
 
 /// Symbol 2 is the start rule: the repetition 3 of the token 1, or empty.
 fn grammar(alloc: Global) -> Result<FlatGrammar, AllocError>
-    ensures { IfOk result IsSmall }
+    ensures { IfOk result IsSmallGrammar }
 {
     let mut tokens = List::new(alloc);
     tokens.push(TokenDef {
@@ -133,7 +133,7 @@ fn made(
     number: u32,
     children: List<Node>,
 ) -> Result<Option<Node>, Fail>
-    requires small { IsSmall productions.now }
+    requires small { IsSmallGrammar productions.now }
     requires number { number < 4 }
     requires fits { FitsProduction productions.now number children }
 {
@@ -146,14 +146,14 @@ fn made(
 
 /// The start rule's empty node.
 fn empty(alloc: Global, productions: &Productions) -> Result<Option<Node>, Fail>
-    requires small { IsSmall productions.now }
+    requires small { IsSmallGrammar productions.now }
 {
     made(alloc, productions, 1, List::new(alloc))
 }
 
 /// The start rule's node over a repetition.
 fn start(alloc: Global, productions: &Productions, run: Node) -> Result<Option<Node>, Fail>
-    requires small { IsSmall productions.now }
+    requires small { IsSmallGrammar productions.now }
 {
     if run.symbol().0 != 3 || run.extra() {
         return Ok(None);
@@ -165,7 +165,7 @@ fn start(alloc: Global, productions: &Productions, run: Node) -> Result<Option<N
 
 /// A repetition of one token.
 fn first(alloc: Global, productions: &Productions, token: Node) -> Result<Option<Node>, Fail>
-    requires small { IsSmall productions.now }
+    requires small { IsSmallGrammar productions.now }
 {
     if token.symbol().0 != 1 || token.extra() {
         return Ok(None);
@@ -183,7 +183,7 @@ fn next(
     between: Node,
     token: Node,
 ) -> Result<Option<Node>, Fail>
-    requires small { IsSmall productions.now }
+    requires small { IsSmallGrammar productions.now }
 {
     if run.symbol().0 != 3 || run.extra() || run.elements() == 0 {
         return Ok(None);
@@ -237,7 +237,7 @@ fn a_run_keeps_its_elements(rt: HostRuntime) -> Result<(), Fail> {
 
 /// A repetition of so many tokens of one byte, each but the first behind an extra of one byte.
 fn repetition(alloc: Global, productions: &Productions, count: u32) -> Result<Option<Node>, Fail>
-    requires small { IsSmall productions.now }
+    requires small { IsSmallGrammar productions.now }
 {
     let token = Node::leaf(Symbol(1), 0, 1, 2, None);
     let extra = token.as_extra();

@@ -18,7 +18,7 @@ use Rattle.ts_core.specs.declared.rule.Rule.TheViews.{roll-Rule, out-Rule, out-r
 use Rattle.ts_core.specs.declared.symbol.Symbol.{Symbol}
 use Rattle.ts_rules.specs.Causes.{IsUndefined, names_used, listed, joined}
 use Rattle.ts_rules.specs.FirstSights.{Not, Picks, Each, end, both, First, Clear, AreFirstSights}
-use Rattle.ts_rules.specs.Normal.{IsNormal, ArePatterns, IsOwnRule, IsOwner, IsRepetition, IsTokenExtra, IsExtra, AreSeparators, AreSymbols, entry, IsKept, AreEntries, IsSupertype, Rising}
+use Rattle.ts_rules.specs.Normal.{IsNormal, ArePatterns, IsOwnRule, IsOwner, IsRepetition, IsTokenExtra, IsExtra, AreSeparators, AreSymbols, entry, IsKeptEntry, AreEntries, IsSupertype, Rising}
 use Rattle.ts_rules.specs.Numbers.{Numbers, Lists, AreLists, AreNumbers, IsRule, IsInlined, HasSymbol, IsRepeated, alts, start_of}
 use Rattle.ts_rules.specs.Productions.{symbol}
 use Rattle.ts_rules.specs.Sights.{NamedRule, Sight, Source, sights, below, rule_sights, extra_sights, walk, tokens_in, contents_in, symbols_in, symbol_layer, fields_in, patterns_in, pattern_layer, ranked_name, ranked_rule, ranked_names, ranked_rules, precs_in}
@@ -203,8 +203,8 @@ module _ (g : Grammar) (x : Lists) (n m : Numbers) (lists : AreLists g x) (first
   precedences_same : (fs hs : List (List Entry)) → Each (AreEntries g n) g.precedences fs → Each (AreEntries g m) g.precedences hs → fs ≡ hs
   precedences_same fs hs a b = each_same (AreEntries g n) (AreEntries g m) g.precedences fs hs a b (λ entries ys zs w c d.
       c.2
-      ∙ map_same (entry n) (entry m) c.0 (λ r v. entry_same entries r w (picked (IsKept g) entries c.0 r c.1 v).0)
-      ∙ ap (map (entry m)) (one_pick (IsKept g) entries c.0 d.0 c.1 d.1)
+      ∙ map_same (entry n) (entry m) c.0 (λ r v. entry_same entries r w (picked (IsKeptEntry g) entries c.0 r c.1 v).0)
+      ∙ ap (map (entry m)) (one_pick (IsKeptEntry g) entries c.0 d.0 c.1 d.1)
       ∙ sym d.2)
 
   supertype_too : (s : Symbol) → IsSupertype g n s → IsSupertype g m s

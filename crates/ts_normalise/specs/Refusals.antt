@@ -46,7 +46,8 @@ all_repetition_alternatives n contents = flat_map (repetition_alternatives n) co
 
 -- of all that have symbols: rules and repetitions
 abbrev pub symbol_alternatives : Numbers → Lists → Alternatives
-symbol_alternatives n x = all_rule_alternatives n x.rules ++ all_repetition_alternatives n x.contents
+symbol_alternatives n x = all_rule_alternatives n x.rules
+    ++ all_repetition_alternatives n x.contents
 
 -- and those of the inlined rules
 abbrev pub all_alternatives : Numbers → Lists → Alternatives

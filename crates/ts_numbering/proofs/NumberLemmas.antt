@@ -14,7 +14,7 @@ use Rattle.ts_rules.specs.declared.tree.Tree.{Tree}
 use Rattle.ts_rules.specs.declared.tree.Tree.TheVariants as tree
 use Rattle.ts_numbering.specs.Keys.{rules_told}
 use Rattle.ts_numbering.specs.Places.{number_or, place_of_name}
-use Rattle.ts_numbering.specs.Shapes.{HasShape}
+use Rattle.ts_numbering.specs.Shapes.{IsShapeOf}
 use Rattle.ts_numbering.specs.declared.shape.Shape.{Shape}
 
 module _ {K X : Type 0} (f : K → X) (eq : X → X → Bool) (x : X) where
@@ -55,13 +55,13 @@ leaf_is n rule leaf k is law e = ap tree.Step (e ∙ ap n.token is) ∙ sym law 
 pub tree_is : (n : Numbers) (rule other : Rule) (t u : Tree) → rule ≡ other → tree_of n other ≡ u → t ≡ u → t ≡ tree_of n rule
 tree_is n rule other t u is law e = e ∙ sym law ∙ ap (tree_of n) (sym is)
 
-pub any_times_is : (n : Numbers) (content : Rule) (number r : ℕ) (shape : Shape) → number ≡ r → ((n : Numbers) → HasShape (alternatives_of (tree_of n content)) shape)
+pub any_times_is : (n : Numbers) (content : Rule) (number r : ℕ) (shape : Shape) → number ≡ r → ((n : Numbers) → IsShapeOf (alternatives_of (tree_of n content)) shape)
     → tree.Choice (where_so shape.filled (tree.Step number) ++ where_so true tree.Blank) ≡ any_times r (tree_of n content)
 any_times_is n content number r shape is h =
     ap (λ (k : ℕ). tree.Choice (where_so shape.filled (tree.Step k) ++ where_so true tree.Blank)) is
     ∙ ap (λ (b : Bool). tree.Choice (where_so b (tree.Step r) ++ where_so true tree.Blank)) ((h n).filled outermost)
 
-pub many_times_is : (n : Numbers) (content : Rule) (number r : ℕ) (shape : Shape) → number ≡ r → ((n : Numbers) → HasShape (alternatives_of (tree_of n content)) shape)
+pub many_times_is : (n : Numbers) (content : Rule) (number r : ℕ) (shape : Shape) → number ≡ r → ((n : Numbers) → IsShapeOf (alternatives_of (tree_of n content)) shape)
     → tree.Choice (where_so shape.filled (tree.Step number) ++ where_so shape.blank tree.Blank) ≡ many_times r (tree_of n content)
 many_times_is n content number r shape is h =
     ap (λ (k : ℕ). tree.Choice (where_so shape.filled (tree.Step k) ++ where_so shape.blank tree.Blank)) is

@@ -13,7 +13,7 @@ use Rattle.ts_rules.specs.declared.tree.Around.{Around}
 use Rattle.ts_rules.specs.declared.tree.NumberedStep.{NumberedStep}
 use Rattle.ts_rules.specs.declared.tree.Tree.{Tree}
 use Rattle.ts_rules.specs.declared.tree.Tree.TheVariants as tree
-use Rattle.ts_numbering.specs.Shapes.{some_blank, some_filled, joined, joins_of, branches_of, HasShape}
+use Rattle.ts_numbering.specs.Shapes.{some_blank, some_filled, joined, joins_of, branches_of, IsShapeOf}
 use Rattle.ts_numbering.specs.declared.shape.Shape.{Shape}
 use Rattle.ts_numbering.proofs.TreeLemmas.{at_blank, at_step, at_field, at_alias, at_group, at_dynamic, at_seq, at_choice}
 
@@ -119,9 +119,9 @@ group_any f false around xs = left_any f around xs
 -- ---- the shape of a tree
 
 abbrev Shaped : Tree → Shape → Type 0
-Shaped t = HasShape (alternatives_of t)
+Shaped t = IsShapeOf (alternatives_of t)
 
-by_alternatives : (f g : Around → Alternatives) (shape : Shape) → ((a : Around) → f a ≡ g a) → HasShape g shape → HasShape f shape
+by_alternatives : (f g : Around → Alternatives) (shape : Shape) → ((a : Around) → f a ≡ g a) → IsShapeOf g shape → IsShapeOf f shape
 by_alternatives f g shape e h = record {
   blank = λ a. h.blank a ∙ ap some_blank (sym (e a));
   filled = λ a. h.filled a ∙ ap some_filled (sym (e a));
@@ -142,10 +142,10 @@ of_step t shape symbol b f e = record {
 at_tree : (t u : Tree) (a : Around) → t ≡ u → alternatives_of t a ≡ alternatives_of u a
 at_tree t u a e = ap (λ (v : Tree). alternatives_of v a) e
 
-pub of_seq : (t : Tree) (ts : List Tree) (shape : Shape) → t ≡ tree.Seq ts → HasShape (λ a. sequence (members_of ts a)) shape → Shaped t shape
+pub of_seq : (t : Tree) (ts : List Tree) (shape : Shape) → t ≡ tree.Seq ts → IsShapeOf (λ a. sequence (members_of ts a)) shape → Shaped t shape
 of_seq t ts shape e h = by_alternatives (alternatives_of t) (λ a. sequence (members_of ts a)) shape (λ a. at_tree t (tree.Seq ts) a e ∙ at_seq ts a) h
 
-pub of_choice : (t : Tree) (ts : List Tree) (shape : Shape) → t ≡ tree.Choice ts → HasShape (choice_of ts) shape → Shaped t shape
+pub of_choice : (t : Tree) (ts : List Tree) (shape : Shape) → t ≡ tree.Choice ts → IsShapeOf (choice_of ts) shape → Shaped t shape
 of_choice t ts shape e h = by_alternatives (alternatives_of t) (choice_of ts) shape (λ a. at_tree t (tree.Choice ts) a e ∙ at_choice ts a) h
 
 pub of_field : (t inner : Tree) (number : ℕ) (shape : Shape) → t ≡ tree.Field number inner → Shaped inner shape → Shaped t shape
@@ -205,16 +205,16 @@ of_many_times t content number shape e h =
 
 -- ---- lists
 
-pub joins_none : (n : Numbers) (shape : Shape) → shape.blank ≡ true → shape.filled ≡ false → HasShape (joins_of n []) shape
+pub joins_none : (n : Numbers) (shape : Shape) → shape.blank ≡ true → shape.filled ≡ false → IsShapeOf (joins_of n []) shape
 joins_none n shape b f = record { blank = λ a. b; filled = λ a. f }
 
-pub branches_none : (n : Numbers) (shape : Shape) → shape.blank ≡ false → shape.filled ≡ false → HasShape (branches_of n []) shape
+pub branches_none : (n : Numbers) (shape : Shape) → shape.blank ≡ false → shape.filled ≡ false → IsShapeOf (branches_of n []) shape
 branches_none n shape b f = record { blank = λ a. b; filled = λ a. f }
 
 -- one more member before the rest
 joins_before : (n : Numbers) (member : Rule) (rest : List Rule) (here now new : Shape)
     → Shaped (tree_of n member) here → new.blank ≡ here.blank && now.blank → new.filled ≡ joined here.blank here.filled now.blank now.filled
-    → HasShape (joins_of n rest) now → HasShape (joins_of n (member ∷ rest)) new
+    → IsShapeOf (joins_of n rest) now → IsShapeOf (joins_of n (member ∷ rest)) new
 joins_before n member rest here now new h b f before = record {
   blank = λ a.
       let first = alternatives_of (tree_of n member) (in_sequence (is_last (map (tree_of n) rest)) a) in
@@ -233,7 +233,7 @@ joins_before n member rest here now new h b f before = record {
 
 branches_before : (n : Numbers) (member : Rule) (rest : List Rule) (here now new : Shape)
     → Shaped (tree_of n member) here → new.blank ≡ here.blank || now.blank → new.filled ≡ here.filled || now.filled
-    → HasShape (branches_of n rest) now → HasShape (branches_of n (member ∷ rest)) new
+    → IsShapeOf (branches_of n rest) now → IsShapeOf (branches_of n (member ∷ rest)) new
 branches_before n member rest here now new h b f before = record {
   blank = λ a.
       let first = alternatives_of (tree_of n member) a in
@@ -247,20 +247,20 @@ branches_before n member rest here now new h b f before = record {
 
 pub joins_more : (n : Numbers) (all : List Rule) (i k : ℕ) (member : Rule) (here now new : Shape) → i < length all → k ≡ i + 1 → member ≡ get_or all i member
     → Shaped (tree_of n member) here → new.blank ≡ here.blank && now.blank → new.filled ≡ joined here.blank here.filled now.blank now.filled
-    → HasShape (joins_of n (drop k all)) now → HasShape (joins_of n (drop i all)) new
+    → IsShapeOf (joins_of n (drop k all)) now → IsShapeOf (joins_of n (drop i all)) new
 joins_more n all i k member here now new lt e at h b f before =
-    subst (λ (rest : List Rule). HasShape (joins_of n rest) new) (ap (λ (m : Rule). m ∷ drop (i + 1) all) at ∙ sym (drop_more all i member lt))
-    (joins_before n member (drop (i + 1) all) here now new h b f (subst (λ (j : ℕ). HasShape (joins_of n (drop j all)) now) e before))
+    subst (λ (rest : List Rule). IsShapeOf (joins_of n rest) new) (ap (λ (m : Rule). m ∷ drop (i + 1) all) at ∙ sym (drop_more all i member lt))
+    (joins_before n member (drop (i + 1) all) here now new h b f (subst (λ (j : ℕ). IsShapeOf (joins_of n (drop j all)) now) e before))
 
 pub branches_more : (n : Numbers) (all : List Rule) (i k : ℕ) (member : Rule) (here now new : Shape) → i < length all → k ≡ i + 1 → member ≡ get_or all i member
     → Shaped (tree_of n member) here → new.blank ≡ here.blank || now.blank → new.filled ≡ here.filled || now.filled
-    → HasShape (branches_of n (drop k all)) now → HasShape (branches_of n (drop i all)) new
+    → IsShapeOf (branches_of n (drop k all)) now → IsShapeOf (branches_of n (drop i all)) new
 branches_more n all i k member here now new lt e at h b f before =
-    subst (λ (rest : List Rule). HasShape (branches_of n rest) new) (ap (λ (m : Rule). m ∷ drop (i + 1) all) at ∙ sym (drop_more all i member lt))
-    (branches_before n member (drop (i + 1) all) here now new h b f (subst (λ (j : ℕ). HasShape (branches_of n (drop j all)) now) e before))
+    subst (λ (rest : List Rule). IsShapeOf (branches_of n rest) new) (ap (λ (m : Rule). m ∷ drop (i + 1) all) at ∙ sym (drop_more all i member lt))
+    (branches_before n member (drop (i + 1) all) here now new h b f (subst (λ (j : ℕ). IsShapeOf (branches_of n (drop j all)) now) e before))
 
-pub joins_whole : (n : Numbers) (all : List Rule) (i : ℕ) (shape : Shape) → i ≤ 0 → HasShape (joins_of n (drop i all)) shape → HasShape (joins_of n all) shape
-joins_whole n all i shape low h = let e : i ≡ 0 = omega arith in subst (λ (k : ℕ). HasShape (joins_of n (drop k all)) shape) e h
+pub joins_whole : (n : Numbers) (all : List Rule) (i : ℕ) (shape : Shape) → i ≤ 0 → IsShapeOf (joins_of n (drop i all)) shape → IsShapeOf (joins_of n all) shape
+joins_whole n all i shape low h = let e : i ≡ 0 = omega arith in subst (λ (k : ℕ). IsShapeOf (joins_of n (drop k all)) shape) e h
 
-pub branches_whole : (n : Numbers) (all : List Rule) (i : ℕ) (shape : Shape) → i ≤ 0 → HasShape (branches_of n (drop i all)) shape → HasShape (branches_of n all) shape
-branches_whole n all i shape low h = let e : i ≡ 0 = omega arith in subst (λ (k : ℕ). HasShape (branches_of n (drop k all)) shape) e h
+pub branches_whole : (n : Numbers) (all : List Rule) (i : ℕ) (shape : Shape) → i ≤ 0 → IsShapeOf (branches_of n (drop i all)) shape → IsShapeOf (branches_of n all) shape
+branches_whole n all i shape low h = let e : i ≡ 0 = omega arith in subst (λ (k : ℕ). IsShapeOf (branches_of n (drop k all)) shape) e h

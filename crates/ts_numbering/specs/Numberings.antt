@@ -16,4 +16,5 @@ lists_of n = record {
 }
 
 abbrev pub numbers_of : Numbering → Numbers
-numbers_of n = numbers_by (lists_of n) (rules_told n.survey.named.entries) (aliases_told n.aliases.keys)
+numbers_of n = numbers_by (lists_of n) (rules_told n.survey.named.entries)
+    (aliases_told n.aliases.keys)

@@ -30,6 +30,6 @@ abbrev pub branches_of : Numbers → List Rule → Around → Alternatives
 branches_of n members around = choice_of (map (tree_of n) members) around
 
 -- The two answers about alternatives are right wherever these stand.
-pub record HasShape (alternatives : Around → Alternatives) (shape : Shape) : Type 0 where
+pub record IsShapeOf (alternatives : Around → Alternatives) (shape : Shape) : Type 0 where
   pub blank : (around : Around) → shape.blank ≡ some_blank (alternatives around)
   pub filled : (around : Around) → shape.filled ≡ some_filled (alternatives around)

@@ -4,7 +4,7 @@
 ghost use Rattle.std.specs.Prelude.{◌≡◌, ◌&&◌, ◌||◌, true};
 ghost use Rattle.ts_rules.specs.Alternatives.{alternatives_of};
 ghost use Rattle.ts_rules.specs.Numbers.{Numbers, tree_of};
-ghost use Rattle.ts_numbering.specs.Shapes.{joined, joins_of, branches_of, HasShape};
+ghost use Rattle.ts_numbering.specs.Shapes.{joined, joins_of, branches_of, IsShapeOf};
 
 use ts_core::Rule;
 
@@ -74,7 +74,7 @@ impl Shape {
 /// the tree.
 #[cycle(shape)]
 pub fn shape_of(rule: &Rule) -> Shape
-    ensures { (n : Numbers) → HasShape (alternatives_of (tree_of n rule.now)) result }
+    ensures { (n : Numbers) → IsShapeOf (alternatives_of (tree_of n rule.now)) result }
 {
     match rule {
         Rule::Blank => BLANK,
@@ -105,7 +105,7 @@ pub fn shape_of(rule: &Rule) -> Shape
 
 #[cycle(shape)]
 fn joined_shape(members: &[Rule]) -> Shape
-    ensures { (n : Numbers) → HasShape (joins_of n members.now) result }
+    ensures { (n : Numbers) → IsShapeOf (joins_of n members.now) result }
 {
     let mut all = BLANK;
     let mut left = members.len();
@@ -118,7 +118,7 @@ fn joined_shape(members: &[Rule]) -> Shape
 
 #[cycle(shape)]
 fn branched_shape(members: &[Rule]) -> Shape
-    ensures { (n : Numbers) → HasShape (branches_of n members.now) result }
+    ensures { (n : Numbers) → IsShapeOf (branches_of n members.now) result }
 {
     let mut all = ABSENT;
     let mut left = members.len();

@@ -10,14 +10,14 @@ use Rattle.ts_pattern.specs.declared.sight.Flaw.TheVariants.{Syntax, Unsupported
 use Rattle.ts_pattern.specs.Characters.{Text}
 use Rattle.ts_pattern.specs.Signs.{IsNoSign}
 use Rattle.ts_pattern.specs.Trees.{Token, Pattern, spelling, re_of, passed_limit}
-use Rattle.ts_pattern.specs.Reads.{IsToken, Tokens, IsTree, Reads, Begins, GoesWrong, Stops, IsFlawed, IsFault, bytes_before, fault_of}
+use Rattle.ts_pattern.specs.Reads.{IsTokenAt, Tokens, IsTree, Reads, Begins, GoesWrong, Stops, IsFlawed, IsFault, bytes_before, fault_of}
 use Rattle.ts_pattern.proofs.MachineLemmas.{one_spelled}
 use Rattle.ts_pattern.proofs.TokenLemmas.{one_token, token_within, no_sign_within, sign_or_flaw, one_flaw}
 
 module _ (ignore_case : Bool) (w : Text) where
   -- after one run of tokens the other goes on
   abbrev pub Longer : List Token → ℕ → List Token → ℕ → Type 0
-  Longer ts j us k = (t : Token) × (n : ℕ) × (rest : List Token) × IsToken ignore_case w j t n × Tokens ignore_case w n rest k × (us ≡ ts ++ t ∷ rest)
+  Longer ts j us k = (t : Token) × (n : ℕ) × (rest : List Token) × IsTokenAt ignore_case w j t n × Tokens ignore_case w n rest k × (us ≡ ts ++ t ∷ rest)
 
   abbrev pub Compared : List Token → ℕ → List Token → ℕ → Type 0
   Compared ts j us k = ((ts ≡ us) × (j ≡ k)) ⊎ (Longer ts j us k ⊎ Longer us k ts j)
@@ -35,7 +35,7 @@ module _ (ignore_case : Bool) (w : Text) where
       ]
 
   -- no token stands at the end
-  past_end : (t : Token) (n : ℕ) → IsToken ignore_case w (length w) t n → ⊥
+  past_end : (t : Token) (n : ℕ) → IsTokenAt ignore_case w (length w) t n → ⊥
   past_end t n g = let h = token_within ignore_case w (length w) t n g in omega (arith, h)
 
   pub one_tree : (p q : Pattern) → IsTree ignore_case w p → IsTree ignore_case w q → p ≡ q
@@ -46,7 +46,7 @@ module _ (ignore_case : Bool) (w : Text) where
   ]
 
   -- where the text goes wrong, no token goes on with a pattern
-  goes_on : (ts : List Token) (i : ℕ) (f : Flaw) (p : ℕ) (t : Token) (n : ℕ) → GoesWrong ignore_case w ts i f p → IsToken ignore_case w i t n → Begins (ts ++ t ∷ []) → ⊥
+  goes_on : (ts : List Token) (i : ℕ) (f : Flaw) (p : ℕ) (t : Token) (n : ℕ) → GoesWrong ignore_case w ts i f p → IsTokenAt ignore_case w i t n → Begins (ts ++ t ∷ []) → ⊥
   goes_on ts i f p t n (inl absent) g b = sign_or_flaw w i g.0 n f p g.1 absent
   goes_on ts i f p t n (inr (inl x)) g b = x.3 (subst (λ (u : Token). Begins (ts ++ u ∷ [])) (one_token ignore_case w i t x.0 n x.1 g x.2).0 b)
   goes_on ts i f p t n (inr (inr x)) g b = let h = token_within ignore_case w i t n g in omega (arith, h, x.0)

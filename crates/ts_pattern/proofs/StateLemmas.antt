@@ -9,13 +9,13 @@ use Rattle.ts_pattern.specs.declared.state.State.{State}
 use Rattle.ts_pattern.specs.Characters.{Text, peek}
 use Rattle.ts_pattern.specs.Signs.{IsSign, IsNoSign}
 use Rattle.ts_pattern.specs.Trees.{Token, Pattern}
-use Rattle.ts_pattern.specs.Reads.{Means, IsToken, Tokens, IsTree, is_quantifier, ends_quantified, Stops}
+use Rattle.ts_pattern.specs.Reads.{Means, IsTokenAt, Tokens, IsTree, is_quantifier, ends_quantified, Stops}
 use Rattle.ts_pattern.specs.Machine.{Open, step, run_from, start, level_of, Follows}
 use Rattle.ts_pattern.specs.States.{IsState}
 use Rattle.ts_pattern.proofs.MachineLemmas.{run_append, begins, stuck, unfinished, finished}
 
-tokens_push : (ignore_case : Bool) (w : Text) (ts : List Token) (i j k : ℕ) (t : Token) → Tokens ignore_case w i ts j → IsToken ignore_case w j t k → Tokens ignore_case w i (ts ++ t ∷ []) k
-tokens_push ignore_case w [] i j k t g h = (k, subst (λ (n : ℕ). IsToken ignore_case w n t k) (sym g) h, refl)
+tokens_push : (ignore_case : Bool) (w : Text) (ts : List Token) (i j k : ℕ) (t : Token) → Tokens ignore_case w i ts j → IsTokenAt ignore_case w j t k → Tokens ignore_case w i (ts ++ t ∷ []) k
+tokens_push ignore_case w [] i j k t g h = (k, subst (λ (n : ℕ). IsTokenAt ignore_case w n t k) (sym g) h, refl)
 tokens_push ignore_case w (x ∷ xs) i j k t g h = (g.0, g.1, tokens_push ignore_case w xs g.0 j k t g.2 h)
 
 quantified_push : (before : Bool) (ts : List Token) (t : Token) → ends_quantified before (ts ++ t ∷ []) ≡ is_quantifier t

@@ -15,7 +15,7 @@ use Rattle.ts_pattern.specs.Classes.{Items, item, is_class, opens_after, is_inve
 use Rattle.ts_pattern.specs.Sets.{InSet, AreRangesOf}
 use Rattle.ts_pattern.specs.Signs.{IsSign, IsNoSign}
 use Rattle.ts_pattern.specs.Trees.{Token, one_of}
-use Rattle.ts_pattern.specs.Reads.{Means, IsToken}
+use Rattle.ts_pattern.specs.Reads.{Means, IsTokenAt}
 
 -- ---- sights
 
@@ -155,7 +155,7 @@ one_meaning ignore_case sign.Close t u g h = g ∙ sym h
 one_meaning ignore_case sign.Bar t u g h = g ∙ sym h
 one_meaning ignore_case (sign.Times n m) t u g h = g ∙ sym h
 
-pub one_token : (ignore_case : Bool) (w : Text) (i : ℕ) (t u : Token) (j k : ℕ) → IsToken ignore_case w i t j → IsToken ignore_case w i u k → (t ≡ u) × (j ≡ k)
+pub one_token : (ignore_case : Bool) (w : Text) (i : ℕ) (t u : Token) (j k : ℕ) → IsTokenAt ignore_case w i t j → IsTokenAt ignore_case w i u k → (t ≡ u) × (j ≡ k)
 one_token ignore_case w i t u j k g h =
     let both = one_sign w i g.0 h.0 j k g.1 h.1 in
     (one_meaning ignore_case g.0 t u g.2 (subst (λ (s : Sign). Means ignore_case s u) (sym both.0) h.2), both.1)
@@ -167,7 +167,7 @@ peek_within w i n e lt = elim (cases_lt i (length w)) [
   | inr h ↦ let past : peek w i ≡ ending = get_or_past w i ending h in omega (arith, e, lt, past)
 ]
 
-pub token_within : (ignore_case : Bool) (w : Text) (i : ℕ) (t : Token) (j : ℕ) → IsToken ignore_case w i t j → i < length w
+pub token_within : (ignore_case : Bool) (w : Text) (i : ℕ) (t : Token) (j : ℕ) → IsTokenAt ignore_case w i t j → i < length w
 token_within ignore_case w i t j g = elim g.1 [ inl h ↦ h.1 | inr h ↦ peek_within w i 91 (eqb-true _ _ h.0) (omega arith) ]
 
 pub no_sign_within : (w : Text) (i : ℕ) (f : Flaw) (p : ℕ) → IsNoSign w i f p → i < length w

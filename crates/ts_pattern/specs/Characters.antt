@@ -91,6 +91,6 @@ is_scalar c = nat_lt c 0xD800 || (nat_le 0xE000 c && nat_le c 0x10FFFF)
 
 -- what is seen at place i ends after it, and what is wrong stands no earlier; both are within the
 -- text
-abbrev pub IsWithin : {T : Type 0} → Text → ℕ → Sight T → Type 0
-IsWithin w i (Sees x j) = (i < j) × (j ≤ length w)
-IsWithin w i (Wrong flaw p) = (i ≤ p) × (p ≤ length w)
+abbrev pub IsSightWithin : {T : Type 0} → Text → ℕ → Sight T → Type 0
+IsSightWithin w i (Sees x j) = (i < j) × (j ≤ length w)
+IsSightWithin w i (Wrong flaw p) = (i ≤ p) × (p ≤ length w)

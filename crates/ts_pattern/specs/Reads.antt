@@ -25,14 +25,14 @@ Means ignore_case sign.Bar t = t ≡ bar
 Means ignore_case (sign.Times n m) t = t ≡ quantifier n m
 
 -- from place i to place j stands this token
-abbrev pub IsToken : Bool → Text → ℕ → Token → ℕ → Type 0
-IsToken ignore_case w i t j = (s : Sign) × IsSign w i s j × Means ignore_case s t
+abbrev pub IsTokenAt : Bool → Text → ℕ → Token → ℕ → Type 0
+IsTokenAt ignore_case w i t j = (s : Sign) × IsSign w i s j × Means ignore_case s t
 
 -- from place i to place j stand these tokens
 abbrev pub Tokens : Bool → Text → ℕ → List Token → ℕ → Type 0
 Tokens ignore_case w i [] j = i ≡ j
 Tokens ignore_case w i (t ∷ ts) j =
-    (k : ℕ) × IsToken ignore_case w i t k × Tokens ignore_case w k ts j
+    (k : ℕ) × IsTokenAt ignore_case w i t k × Tokens ignore_case w k ts j
 
 -- the text spells the tree
 abbrev pub IsTree : Bool → Text → Pattern → Type 0
@@ -71,7 +71,7 @@ abbrev pub IsMisplaced : Bool → Text → List Token → ℕ → Flaw → ℕ �
 IsMisplaced ignore_case w ts i flaw p =
     (t : Token)
     × (j : ℕ)
-    × IsToken ignore_case w i t j
+    × IsTokenAt ignore_case w i t j
     × (Begins (ts ++ t ∷ []) → ⊥)
     × (flaw ≡ misplaced ts w i)
     × (p ≡ i)

@@ -11,8 +11,8 @@ use Rattle.ts_pattern.specs.Reads.{Means, Tokens, IsOutcome, ends_quantified}
 use Rattle.ts_pattern.specs.Machine.{step, run_from, start, level_of, Follows}
 
 -- what is kept of the open patterns after a sign
-abbrev pub IsTaken : Bool → Sign → Level → List Level → Option Level → List Level → Type 0
-IsTaken ignore_case sign level outer after round =
+abbrev pub IsTakenBy : Bool → Sign → Level → List Level → Option Level → List Level → Type 0
+IsTakenBy ignore_case sign level outer after round =
     (t : Token) × Means ignore_case sign t
     × ((p : Pattern) (k : List Pattern) → level ≡ level_of p → outer ≡ map level_of k
     → Follows (step p k t) after round)

@@ -1,6 +1,6 @@
 //! Classes: from an opening bracket to the items up to the closing one.
 ghost use Rattle.std.specs.Prelude.{◌≡◌, ◌≢◌, false, ◌≤◌, ◌<◌, ◌+◌, IfOk, length};
-ghost use Rattle.ts_pattern.specs.Characters.{close_bracket, peek, IsWithin};
+ghost use Rattle.ts_pattern.specs.Characters.{close_bracket, peek, IsSightWithin};
 ghost use Rattle.ts_pattern.specs.Classes.{is_itself, hyphen_mark, mark, is_joined, range_to, item_from, item, is_class, inside, IsClassSight};
 
 use crate::chars::{BACKSLASH, CARET, CLOSE_BRACKET, ENDING, HYPHEN, peek};
@@ -21,7 +21,7 @@ fn is_itself(text: &[char], opens: bool, at: usize) -> bool
 fn hyphen_mark(text: &[char], opens: bool, at: usize) -> Sight<Mark>
     requires { at < length text.now }
     ensures value { result ≡ hyphen_mark text.now opens at }
-    ensures within { IsWithin text.now at result }
+    ensures within { IsSightWithin text.now at result }
 {
     if is_itself(text, opens, at) {
         Sight::Sees(Mark::Char(HYPHEN), at + 1)
@@ -35,7 +35,7 @@ fn hyphen_mark(text: &[char], opens: bool, at: usize) -> Sight<Mark>
 fn mark(alloc: Global, text: &[char], opens: bool, at: usize) -> Result<Sight<Mark>, AllocError>
     requires { at ≤ length text.now }
     ensures value { IfOk result (λ s. s ≡ mark text.now opens at) }
-    ensures within { IfOk result (IsWithin text.now at) }
+    ensures within { IfOk result (IsSightWithin text.now at) }
 {
     match peek(text, at) {
         BACKSLASH => escape(alloc, text, at),
@@ -77,7 +77,7 @@ fn range_to(at: usize, first: u32, second: usize, mark: Sight<Mark>) -> Sight<It
 fn item(alloc: Global, text: &[char], opens: bool, at: usize) -> Result<Sight<Item>, AllocError>
     requires { at ≤ length text.now }
     ensures value { IfOk result (λ s. s ≡ item text.now opens at) }
-    ensures within { IfOk result (IsWithin text.now at) }
+    ensures within { IfOk result (IsSightWithin text.now at) }
 {
     match mark(alloc, text, opens, at)? {
         Sight::Sees(Mark::Char(first), next) => {
@@ -123,7 +123,7 @@ fn inside(text: &[char], at: usize) -> usize
 pub(crate) fn class(alloc: Global, text: &[char], at: usize) -> Result<Sight<CharSet>, AllocError>
     requires { at < length text.now }
     ensures value { IfOk result (IsClassSight text.now at) }
-    ensures within { IfOk result (IsWithin text.now at) }
+    ensures within { IfOk result (IsSightWithin text.now at) }
 {
     let start = inside(text, at);
     if peek(text, start) == CLOSE_BRACKET {
@@ -144,7 +144,7 @@ fn items(
     requires inside { start ≡ inside text.now at }
     requires some { peek text.now start ≢ close_bracket }
     ensures value { IfOk result (IsClassSight text.now at) }
-    ensures within { IfOk result (IsWithin text.now at) }
+    ensures within { IfOk result (IsSightWithin text.now at) }
 {
     let mut items = List::new(alloc);
     let mut opens = true;

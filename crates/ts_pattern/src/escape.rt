@@ -1,6 +1,6 @@
 //! Escapes: from a backslash to the character or the class that it stands for.
 ghost use Rattle.std.specs.Prelude.{◌≡◌, ◌≤◌, ◌<◌, ◌+◌, ◌^◌, IfOk, IfSome, IsTrue, length, take, drop};
-ghost use Rattle.ts_pattern.specs.Characters.{number as number_of, IsWithin};
+ghost use Rattle.ts_pattern.specs.Characters.{number as number_of, IsSightWithin};
 ghost use Rattle.ts_pattern.specs.Escapes.{shorthand, escaped_char, coded, fixed_code, braced_code, unicode_code, short_escape, escape, is_class_escape};
 
 use crate::chars::{
@@ -102,7 +102,7 @@ fn fixed_code(text: &[char], at: usize, count: usize) -> Sight<Mark>
     requires start { at + 2 ≤ length text.now }
     requires count { 1 ≤ count }
     ensures value { result ≡ fixed_code text.now at count }
-    ensures within { IsWithin text.now at result }
+    ensures within { IsSightWithin text.now at result }
 {
     let start = at + 2;
     if run(text, start, Test::Hex) < count {
@@ -114,7 +114,7 @@ fn fixed_code(text: &[char], at: usize, count: usize) -> Sight<Mark>
 fn braced_code(text: &[char], at: usize, count: usize) -> Sight<Mark>
     requires { at + 3 + count ≤ length text.now }
     ensures value { result ≡ braced_code text.now at count }
-    ensures within { IsWithin text.now at result }
+    ensures within { IsSightWithin text.now at result }
 {
     let start = at + 3;
     if count < 1 || count > 6 || peek(text, start + count) != CLOSE_BRACE {
@@ -126,7 +126,7 @@ fn braced_code(text: &[char], at: usize, count: usize) -> Sight<Mark>
 fn unicode_code(text: &[char], at: usize) -> Sight<Mark>
     requires { at + 2 ≤ length text.now }
     ensures value { result ≡ unicode_code text.now at }
-    ensures within { IsWithin text.now at result }
+    ensures within { IsSightWithin text.now at result }
 {
     if peek(text, at + 2) == OPEN_BRACE {
         let count = run(text, at + 3, Test::Hex);
@@ -157,7 +157,7 @@ fn short_escape(at: usize, letter: u32) -> Sight<Mark>
 pub(crate) fn escape(alloc: Global, text: &[char], at: usize) -> Result<Sight<Mark>, AllocError>
     requires { at < length text.now }
     ensures value { IfOk result (λ s. s ≡ escape text.now at) }
-    ensures within { IfOk result (IsWithin text.now at) }
+    ensures within { IfOk result (IsSightWithin text.now at) }
 {
     match peek(text, at + 1) {
         LETTER_X => Ok(fixed_code(text, at, 2)),

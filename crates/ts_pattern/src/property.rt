@@ -1,7 +1,7 @@
 //! Properties of Unicode: from the name in an escape to the set in the tables.
 ghost use Rattle.std.specs.Prelude.{◌≡◌, ◌≤◌, ◌<◌, ◌+◌, ◌^◌, IfOk, IsTrue, length, codes, take, drop};
 ghost use Rattle.ucd_sets.specs.Lookup.{by_name, by_value};
-ghost use Rattle.ts_pattern.specs.Characters.{IsWithin};
+ghost use Rattle.ts_pattern.specs.Characters.{IsSightWithin};
 ghost use Rattle.ts_pattern.specs.Escapes.{named, prefix, found, braced_name, short_name, property};
 
 use crate::chars::{CLOSE_BRACE, OPEN_BRACE, Test, goes_on, is_name_char, part, peek, run};
@@ -100,7 +100,7 @@ fn braced_name(
     requires count { start + count ≤ length text.now }
     ensures value { IfOk result
         (λ s. s ≡ braced_name text.now at lacking table start count) }
-    ensures within { IfOk result (IsWithin text.now at) }
+    ensures within { IfOk result (IsSightWithin text.now at) }
 {
     if count < 1 || peek(text, start + count) != CLOSE_BRACE {
         return Ok(Sight::Wrong(Flaw::Syntax, at));
@@ -118,7 +118,7 @@ fn short_name(
 ) -> Result<Sight<Mark>, AllocError>
     requires { at + 2 ≤ length text.now }
     ensures value { IfOk result (λ s. s ≡ short_name text.now at lacking) }
-    ensures within { IfOk result (IsWithin text.now at) }
+    ensures within { IfOk result (IsSightWithin text.now at) }
 {
     if !is_name_char(peek(text, at + 2)) {
         return Ok(Sight::Wrong(Flaw::Syntax, at));
@@ -137,7 +137,7 @@ pub(crate) fn property(
 ) -> Result<Sight<Mark>, AllocError>
     requires { at + 2 ≤ length text.now }
     ensures value { IfOk result (λ s. s ≡ property text.now at lacking) }
-    ensures within { IfOk result (IsWithin text.now at) }
+    ensures within { IfOk result (IsSightWithin text.now at) }
 {
     if peek(text, at + 2) != OPEN_BRACE {
         return short_name(alloc, text, at, lacking);

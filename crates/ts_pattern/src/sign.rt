@@ -1,6 +1,6 @@
 //! Signs: what a pattern is written with, one sign after another.
 ghost use Rattle.std.specs.Prelude.{◌≡◌, ◌≤◌, ◌<◌, ◌+◌, ◌^◌, length, IfOk};
-ghost use Rattle.ts_pattern.specs.Characters.{IsWithin, run, is_decimal};
+ghost use Rattle.ts_pattern.specs.Characters.{IsSightWithin, run, is_decimal};
 ghost use Rattle.ts_pattern.specs.Signs.{count, set_of, char, dot, brace, two_counts, counts, opened, escaped, plain, bracketed, IsSight};
 
 use crate::chars::{
@@ -76,7 +76,7 @@ fn two_counts(
     requires least { least ≡ run is_decimal text.now (at + 1) }
     requires most { most ≡ run is_decimal text.now start }
     ensures value { IfOk result (λ s. s ≡ two_counts text.now at least start most) }
-    ensures within { IfOk result (IsWithin text.now at) }
+    ensures within { IfOk result (IsSightWithin text.now at) }
 {
     let end = start + most;
     if peek(text, end) != CLOSE_BRACE {
@@ -98,7 +98,7 @@ fn counts(alloc: Global, text: &[char], at: usize, least: usize) -> Result<Sight
     requires within { at + 1 + least ≤ length text.now }
     requires least { least ≡ run is_decimal text.now (at + 1) }
     ensures value { IfOk result (λ s. s ≡ counts text.now at least) }
-    ensures within { IfOk result (IsWithin text.now at) }
+    ensures within { IfOk result (IsSightWithin text.now at) }
 {
     if least == 0 {
         return brace(alloc, at);
@@ -120,7 +120,7 @@ fn counts(alloc: Global, text: &[char], at: usize, least: usize) -> Result<Sight
 fn opened(text: &[char], at: usize) -> Sight<Sign>
     requires { at < length text.now }
     ensures value { result ≡ opened text.now at }
-    ensures within { IsWithin text.now at result }
+    ensures within { IsSightWithin text.now at result }
 {
     if peek(text, at + 1) != QUESTION {
         Sight::Sees(Sign::Open, at + 1)
@@ -156,7 +156,7 @@ fn dot(alloc: Global) -> Result<Sign, AllocError>
 fn plain(alloc: Global, text: &[char], at: usize) -> Result<Sight<Sign>, AllocError>
     requires { at < length text.now }
     ensures value { IfOk result (λ s. s ≡ plain text.now at) }
-    ensures within { IfOk result (IsWithin text.now at) }
+    ensures within { IfOk result (IsSightWithin text.now at) }
 {
     match peek(text, at) {
         BACKSLASH => {
@@ -193,7 +193,7 @@ fn bracketed(set: Sight<CharSet>) -> Sight<Sign>
 pub(crate) fn sign_at(alloc: Global, text: &[char], at: usize) -> Result<Sight<Sign>, AllocError>
     requires { at < length text.now }
     ensures value { IfOk result (IsSight text.now at) }
-    ensures within { IfOk result (IsWithin text.now at) }
+    ensures within { IfOk result (IsSightWithin text.now at) }
 {
     if peek(text, at) == OPEN_BRACKET {
         let set = class(alloc, text, at)?;

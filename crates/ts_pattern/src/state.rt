@@ -2,7 +2,7 @@
 ghost use Rattle.std.specs.Prelude.{◌≡◌, ◌<◌, ◌==◌, ◌&&◌, length, IfOk, if◌then◌else◌};
 ghost use Rattle.ts_pattern.specs.Trees.{Token};
 ghost use Rattle.ts_pattern.specs.Reads.{Means, is_quantifier, flaw_at, IsOutcome};
-ghost use Rattle.ts_pattern.specs.States.{IsTaken, IsState, IsTurn};
+ghost use Rattle.ts_pattern.specs.States.{IsTakenBy, IsState, IsTurn};
 
 use crate::chars::{QUESTION, peek};
 use crate::level::{Finished, Level, Part};
@@ -50,7 +50,7 @@ fn take(
     outer: &mut Stack<Level>,
     ignore_case: bool,
 ) -> Result<Option<Level>, AllocError>
-    ensures { IfOk result (λ r. IsTaken ignore_case sign level outer.old r outer.new) }
+    ensures { IfOk result (λ r. IsTakenBy ignore_case sign level outer.old r outer.new) }
 {
     match sign {
         Sign::Set(set) => {

@@ -12,7 +12,7 @@ use Rattle.ts_rules.specs.Productions.{marked_by}
 use Rattle.ts_productions.specs.declared.expansion.Expansion.{Expansion}
 use Rattle.ts_productions.specs.declared.spread.Inlined.{Inlined}
 use Rattle.ts_productions.specs.Expansions.{Expansions, Table, last_by, spread, spread_of, spread_all, onward}
-use Rattle.ts_productions.specs.Sizes.{Agrees, IsUsable, look, weights_of, weigh, many_of, count_in}
+use Rattle.ts_productions.specs.Sizes.{IsWeighed, IsUsable, look, weights_of, weigh, many_of, count_in}
 use Rattle.ts_productions.proofs.SpreadLemmas.{flat_append, spread_same}
 use Rattle.ts_productions.proofs.SpreadSizeLemmas.{void_spread, cap_weigh}
 

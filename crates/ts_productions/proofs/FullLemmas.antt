@@ -15,8 +15,8 @@ use Rattle.ts_rules.specs.Alternatives.{Alternatives}
 use Rattle.ts_productions.specs.declared.sources.Sources.{Sources}
 use Rattle.ts_productions.specs.declared.spread.Inlined.{Inlined}
 use Rattle.ts_productions.specs.Expansions.{Expansions, Table, IsFull, by_option, entry_at, spread_all}
-use Rattle.ts_productions.specs.Roots.{AreOrdered, StepsTo, whole, inlined_at}
-use Rattle.ts_productions.specs.Sizes.{Agrees, AllAgree, IsUsable, IsWithin, IsSizeOf, SizesHold, FullHold, look, weights_of, count_in, length_in, longest_in, weigh, span, tall, total, reach}
+use Rattle.ts_productions.specs.Roots.{AreOrderedSources, StepsTo, whole, inlined_at}
+use Rattle.ts_productions.specs.Sizes.{IsWeighed, AllAgree, IsUsable, AreWithin, IsSizeOf, SizesHold, FullHold, look, weights_of, count_in, length_in, longest_in, weigh, span, tall, total, reach}
 use Rattle.ts_productions.proofs.EntryLemmas.{entry_miss, entry_cases, entry_there}
 use Rattle.ts_productions.proofs.SizeLemmas.{both_some, tall_some}
 use Rattle.ts_productions.proofs.SpreadSizeLemmas.{all_count, all_length}
@@ -61,7 +61,7 @@ look_at s F t done symbol first full hold known light = ⊎_elim there away (ent
           full symbol ∙ ap (option_map (spread_all F)) (entry_there s.first_inlined (map whole s.inlined.now) symbol v.0 (whole u.0) v.1 (slice_get-map whole s.inlined.now v.0 ∙ ap (option_map whole) u.2)) in
           let a : count_in F symbol ≡ length (spread_all F (whole u.0)) = ap (λ (o : Option Expansions). by_option o 1 (λ (found : Expansions). length found)) e in
           let b : length_in F symbol ≡ longest_in (spread_all F (whole u.0)) = ap (λ (o : Option Expansions). by_option o 1 longest_in) e in
-          let within : IsWithin (spread_all F (whole u.0)) = (let l = light.0 in omega (arith, a, l), let l = light.1 in omega (arith, b, l)) in
+          let within : AreWithin (spread_all F (whole u.0)) = (let l = light.0 in omega (arith, a, l), let l = light.1 in omega (arith, b, l)) in
           let built = hold.tell F v.0 (spread_all F (whole u.0)) full (known v.0 v.1 v.2) (ap F (sym v.1) ∙ e) within in
           e ∙ sym (entry_there t.first t.full.now symbol v.0 (spread_all F (whole u.0)) (v.1 ∙ ap (λ (n : ℕ). n + v.0) (sym first)) built)
       | inr u ↦ absurd (let a = u.0 in let b = v.2 in omega (arith, a, b))
@@ -73,9 +73,9 @@ look_at s F t done symbol first full hold known light = ⊎_elim there away (ent
         e ∙ sym (entry_miss t.first t.full.now symbol (⊎_elim (λ a. inl (omega (arith, a, first))) (λ a. inr (let b = hold.one_each in omega (arith, a, b, first))) v))
 
 usable_by : (s : Sources) (F : Table) (t : Inlined) (done : List ℕ) (xs : Alternatives) → t.first ≡ s.first_inlined → IsFull (inlined_at s) F → FullHold s done t.full.now → AllAgree F (weights_of t) xs
-    → IsWithin (spread_all F xs) → All (λ (x : Alternative). All (λ (step : NumberedStep). Known s done step.symbol) x.steps) xs → All (IsUsable F t) xs
+    → AreWithin (spread_all F xs) → All (λ (x : Alternative). All (λ (step : NumberedStep). Known s done step.symbol) x.steps) xs → All (IsUsable F t) xs
 usable_by s F t done xs first full hold agree within known =
-    zip_all (λ (x : Alternative). All (λ (step : NumberedStep). Agrees F (weights_of t) step.symbol) x.steps) Built (IsUsable F t) (λ x a b. record { agree = a; built = b }) xs agree
+    zip_all (λ (x : Alternative). All (λ (step : NumberedStep). IsWeighed F (weights_of t) step.symbol) x.steps) Built (IsUsable F t) (λ x a b. record { agree = a; built = b }) xs agree
     (zip_all (λ (x : Alternative). All (λ (step : NumberedStep). Known s done step.symbol) x.steps) (λ (x : Alternative). 1 ≤ weigh (count_in F) x.steps → All (Light (count_in F) (length_in F) 65535 255) x.steps) Built
     (λ x k l some. zip_all (λ (step : NumberedStep). Known s done step.symbol) (Light (count_in F) (length_in F) 65535 255) (λ (step : NumberedStep). F step.symbol ≡ look t step.symbol)
     (λ step a b. look_at s F t done step.symbol first full hold a b) x.steps k (l some))
@@ -85,7 +85,7 @@ usable_by s F t done xs first full hold agree within known =
     Built : Alternative → Type 0
     Built x = 1 ≤ weigh (count_in F) x.steps → All (λ (step : NumberedStep). F step.symbol ≡ look t step.symbol) x.steps
 
-known_before : (s : Sources) (place k : ℕ) (tree : Tree) → AreOrdered s → slice_get s.order.now place ≡ Some k → slice_get s.inlined.now k ≡ Some tree
+known_before : (s : Sources) (place k : ℕ) (tree : Tree) → AreOrderedSources s → slice_get s.order.now place ≡ Some k → slice_get s.inlined.now k ≡ Some tree
     → All (λ (x : Alternative). All (λ (step : NumberedStep). Known s (take place s.order.now) step.symbol) x.steps) (whole tree)
 known_before s place k tree ordered here is =
     All-weaker (Contains (whole tree)) (λ (x : Alternative). All (λ (step : NumberedStep). Known s (take place s.order.now) step.symbol) x.steps)
@@ -95,8 +95,8 @@ known_before s place k tree ordered here is =
     (whole tree) (All-contains_itself (whole tree))
 
 -- where all is built
-pub usable_all : (s : Sources) (F : Table) (t : Inlined) (xs : Alternatives) → t.first ≡ s.first_inlined → IsFull (inlined_at s) F → AreOrdered s → SizesHold s s.order.now t.sizes.now → FullHold s s.order.now t.full.now
-    → IsWithin (spread_all F xs) → All (IsUsable F t) xs
+pub usable_all : (s : Sources) (F : Table) (t : Inlined) (xs : Alternatives) → t.first ≡ s.first_inlined → IsFull (inlined_at s) F → AreOrderedSources s → SizesHold s s.order.now t.sizes.now → FullHold s s.order.now t.full.now
+    → AreWithin (spread_all F xs) → All (IsUsable F t) xs
 usable_all s F t xs first full ordered sizes hold within =
     usable_by s F t s.order.now xs first full hold (agree_all s F (weights_of t) xs first full ordered sizes) within
     (everywhere (λ (x : Alternative). All (λ (step : NumberedStep). Known s s.order.now step.symbol) x.steps)
@@ -108,9 +108,9 @@ full_begins s full e = record { one_each = e; tell = λ F k found all has is wit
 pub full_ends : (s : Sources) (full : List Expansions) (i : ℕ) → length s.order.now ≤ i → FullHold s (take i s.order.now) full → FullHold s s.order.now full
 full_ends s full i past hold = subst (λ (done : List ℕ). FullHold s done full) (take_all i s.order.now past) hold
 
-full_more : (s : Sources) (t : Inlined) (place k d : ℕ) (tree : Tree) (size : Size) (new : Expansions) → AreOrdered s → t.first ≡ s.first_inlined → SizesHold s s.order.now t.sizes.now
+full_more : (s : Sources) (t : Inlined) (place k d : ℕ) (tree : Tree) (size : Size) (new : Expansions) → AreOrderedSources s → t.first ≡ s.first_inlined → SizesHold s s.order.now t.sizes.now
     → FullHold s (take place s.order.now) t.full.now → place < length s.order.now → k ≡ get_or s.order.now place d → slice_get s.inlined.now k ≡ Some tree → slice_get t.sizes.now k ≡ Some size
-    → ((F : Table) → IsSizeOf (spread_all F (whole tree)) size → IsWithin (spread_all F (whole tree)) → All (IsUsable F t) (whole tree) → new ≡ spread_all F (whole tree))
+    → ((F : Table) → IsSizeOf (spread_all F (whole tree)) size → AreWithin (spread_all F (whole tree)) → All (IsUsable F t) (whole tree) → new ≡ spread_all F (whole tree))
     → FullHold s (take (place + 1) s.order.now) (set t.full.now k new)
 full_more s t place k d tree size new ordered first sizes hold lt at is sized made = record {
   one_each = length-set t.full.now k new ∙ hold.one_each;
@@ -129,13 +129,13 @@ full_more s t place k d tree size new ordered first sizes hold lt at is sized ma
     ordered_here : slice_get s.order.now place ≡ Some k
     ordered_here = slice_get-get_or s.order.now place d lt ∙ ap (λ (n : ℕ). Some n) (sym at)
 
-    same : (F : Table) (found : Expansions) (j : ℕ) → IsFull (inlined_at s) F → j ≡ k → F (s.first_inlined + j) ≡ Some found → IsWithin found → new ≡ found
+    same : (F : Table) (found : Expansions) (j : ℕ) → IsFull (inlined_at s) F → j ≡ k → F (s.first_inlined + j) ≡ Some found → AreWithin found → new ≡ found
     same F found j full e here within =
         let f : F (s.first_inlined + k) ≡ Some (spread_all F (whole tree)) =
         full (s.first_inlined + k) ∙ ap (option_map (spread_all F)) (entry_there s.first_inlined (map whole s.inlined.now) (s.first_inlined + k) k (whole tree) refl (slice_get-map whole s.inlined.now k ∙ ap (option_map whole) is)) in
         let g : Some found ≡ Some (spread_all F (whole tree)) = sym here ∙ ap (λ (n : ℕ). F (s.first_inlined + n)) e ∙ f in
         let equal : found ≡ spread_all F (whole tree) = cc in
-        let inside : IsWithin (spread_all F (whole tree)) = subst IsWithin equal within in
+        let inside : AreWithin (spread_all F (whole tree)) = subst AreWithin equal within in
         let told = sizes.tell F k (spread_all F (whole tree)) full (ordered.every k (slice_get_within s.inlined.now k tree is)) f in
         let one : Some told.0 ≡ Some size = sym told.1 ∙ sized in
         let size_same : told.0 ≡ size = cc in
@@ -144,10 +144,10 @@ full_more s t place k d tree size new ordered first sizes hold lt at is sized ma
         (agree_all s F (weights_of t) (whole tree) first full ordered sizes) inside (known_before s place k tree ordered ordered_here is))
         ∙ sym equal
 
-pub full_next : (s : Sources) (t : Inlined) (place d : ℕ) (new : Expansions) → AreOrdered s → t.first ≡ s.first_inlined → SizesHold s s.order.now t.sizes.now
+pub full_next : (s : Sources) (t : Inlined) (place d : ℕ) (new : Expansions) → AreOrderedSources s → t.first ≡ s.first_inlined → SizesHold s s.order.now t.sizes.now
     → FullHold s (take place s.order.now) t.full.now → place < length s.order.now
     → ((F : Table) (tree : Tree) (size : Size) → slice_get s.inlined.now (get_or s.order.now place d) ≡ Some tree → slice_get t.sizes.now (get_or s.order.now place d) ≡ Some size
-    → IsSizeOf (spread_all F (whole tree)) size → IsWithin (spread_all F (whole tree)) → All (IsUsable F t) (whole tree) → new ≡ spread_all F (whole tree))
+    → IsSizeOf (spread_all F (whole tree)) size → AreWithin (spread_all F (whole tree)) → All (IsUsable F t) (whole tree) → new ≡ spread_all F (whole tree))
     → FullHold s (take (place + 1) s.order.now) (set t.full.now (get_or s.order.now place d) new)
 full_next s t place d new ordered first sizes hold lt made = elim (slice_get_cases s.inlined.now (get_or s.order.now place d)).1 [
   | inl u ↦ elim (slice_get_cases t.sizes.now (get_or s.order.now place d)).1 [

@@ -18,9 +18,9 @@ use Rattle.ts_productions.specs.declared.sources.Sources.{Sources}
 use Rattle.ts_productions.specs.declared.spread.Inlined.{Inlined}
 use Rattle.ts_productions.specs.Expansions.{Expansions, Table, IsFull, plain, spread_all}
 use Rattle.ts_productions.specs.Flat.{aliased, flat}
-use Rattle.ts_productions.specs.Limits.{Replaces, AllGive, AreMany, AreFew, SomeIsLong, AllAreShort, BecomeFew, AreInlinedProductions}
-use Rattle.ts_productions.specs.Roots.{AreOrdered, StepsTo, whole, inlined_at, roots_of, before_of}
-use Rattle.ts_productions.specs.Sizes.{IsSizeOf, IsWithin, longest_in}
+use Rattle.ts_productions.specs.Limits.{Replaces, AllGive, AreMany, AreFewSources, SomeIsLong, AllAreShort, BecomeFew, AreInlinedProductions}
+use Rattle.ts_productions.specs.Roots.{AreOrderedSources, StepsTo, whole, inlined_at, roots_of, before_of}
+use Rattle.ts_productions.specs.Sizes.{IsSizeOf, AreWithin, longest_in}
 use Rattle.ts_productions.proofs.BecomeLemmas.{expand_all, plain_all, all_became, all_become, deep, deep_full}
 use Rattle.ts_productions.proofs.EntryLemmas.{entry_place}
 use Rattle.ts_productions.proofs.TotalLemmas.{everywhere}
@@ -38,7 +38,7 @@ inner_same a b e = cc
 none_inner : (a : Alternatives) → None ≡ Some a → ⊥
 none_inner a e = cc
 
-module _ (s : Sources) (ordered : AreOrdered s) where
+module _ (s : Sources) (ordered : AreOrderedSources s) where
   whole_at : (symbol : ℕ) (inner : Alternatives) → inlined_at s symbol ≡ Some inner → (k : ℕ) × (tree : Tree) × (symbol ≡ s.first_inlined + k) × (slice_get s.inlined.now k ≡ Some tree) × (whole tree ≡ inner)
   whole_at symbol inner is =
       let v = entry_place s.first_inlined (map whole s.inlined.now) symbol inner is in
@@ -131,7 +131,7 @@ module _ (s : Sources) (ordered : AreOrdered s) where
         (λ a. inr (expand_all table (roots_of s), gives (roots_of s), let b = many_after in omega (arith, a, b)))
         h
 
-    pub are_few : before.many ≢ 65536 → after.many ≢ 65536 → AreFew s
+    pub are_few : before.many ≢ 65536 → after.many ≢ 65536 → AreFewSources s
     are_few h k = (omega (arith, h, many_before), (expand_all table (roots_of s), gives (roots_of s), let b = many_after in omega (arith, k, b)))
 
     pub some_long : (before.longest ≡ 256) ⊎ (after.longest ≡ 256) → SomeIsLong s
@@ -143,7 +143,7 @@ module _ (s : Sources) (ordered : AreOrdered s) where
     pub all_short : before.longest ≢ 256 → after.longest ≢ 256 → AllAreShort s
     all_short h k = (omega (arith, h, long_before), (expand_all table (roots_of s), gives (roots_of s), let b = long_after in omega (arith, k, b)))
 
-  pub few_not_many : AreFew s → AreMany s → ⊥
+  pub few_not_many : AreFewSources s → AreMany s → ⊥
   few_not_many few many = ⊎_elim
       (λ a. let f : ⊥ = (let b = few.0 in omega (arith, a, b)) in f)
       (λ a.
@@ -163,7 +163,7 @@ module _ (s : Sources) (ordered : AreOrdered s) where
 
   -- ---- productions
 
-  pub within : (xs : Alternatives) → BecomeFew s xs → IsWithin (spread_all table xs)
+  pub within : (xs : Alternatives) → BecomeFew s xs → AreWithin (spread_all table xs)
   within xs few =
       let w = few (expand_all table xs) (gives xs) in
       let a = count_same xs in

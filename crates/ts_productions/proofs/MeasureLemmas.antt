@@ -12,7 +12,7 @@ use Rattle.ts_rules.specs.declared.tree.Tree.TheVariants.{Step, Seq, Choice, Gro
 use Rattle.ts_rules.specs.Alternatives.{Alternatives, alternatives_of, sequence, members_of, choice_of, is_last, in_sequence, in_group, left, group, single, joins}
 use Rattle.ts_productions.specs.declared.weights.Weights.{Weights}
 use Rattle.ts_productions.specs.declared.measure.Measure.{Measure}
-use Rattle.ts_productions.specs.Sizes.{many_of, longest_by, weigh, total, blanks, heavy, reach, reach_together, IsMeasure, IsJoined, IsSmall}
+use Rattle.ts_productions.specs.Sizes.{many_of, longest_by, weigh, total, blanks, heavy, reach, reach_together, IsMeasure, IsJoined, IsSmallMeasure}
 use Rattle.ts_productions.proofs.AlikeLemmas.{Alike, alike_cap, alike_times, alike_plus}
 use Rattle.ts_productions.proofs.SizeLemmas.{weigh_append, total_append, total_joins, total_apart, blanks_append, blanks_joins, blanks_left, heavy_append, heavy_joins, heavy_left, reach_append, reach_none, reach_sequence, reach_left, times_none, none_times}
 use Rattle.ts_productions.proofs.TreeLemmas.{alternatives_step, alternatives_seq, alternatives_choice, alternatives_group, next_of}
@@ -141,7 +141,7 @@ joining_member w inner i tree acc m new around lt at is before blank filled long
     (subst (λ (ts : List Tree). Joining w acc (members_of inner around) (members_of ts around)) (next_of inner i tree lt at) before)
     (is (in_sequence (is_last (drop (i + 1) inner)) around)) blank filled longest
 
-pub joining_ends : (w : Weights) (inner : List Tree) (i : ℕ) (acc : Measure) (around : Around) → length inner ≤ i → IsSmall acc
+pub joining_ends : (w : Weights) (inner : List Tree) (i : ℕ) (acc : Measure) (around : Around) → length inner ≤ i → IsSmallMeasure acc
     → Joining w acc (members_of inner around) (members_of (drop i inner) around) → IsJoined w (members_of inner around) acc
 joining_ends w inner i acc around past small before =
     let done : Joining w acc (members_of inner around) [] = subst (λ (ts : List Tree). Joining w acc (members_of inner around) (members_of ts around)) (drop_all i inner past) before in
@@ -180,7 +180,7 @@ choosing_branch w inner i tree acc m new around lt at is before blank filled lon
     choosing_more w acc m new (choice_of inner around) (choice_of (drop (i + 1) inner) around) (alternatives_of tree around)
     (subst (λ (ts : List Tree). Choosing w acc (choice_of inner around) (choice_of ts around)) (next_of inner i tree lt at) before) (is around) blank filled longest
 
-pub choosing_ends : (w : Weights) (inner : List Tree) (i : ℕ) (acc : Measure) (around : Around) → length inner ≤ i → IsSmall acc
+pub choosing_ends : (w : Weights) (inner : List Tree) (i : ℕ) (acc : Measure) (around : Around) → length inner ≤ i → IsSmallMeasure acc
     → Choosing w acc (choice_of inner around) (choice_of (drop i inner) around) → IsMeasure w (choice_of inner around) acc
 choosing_ends w inner i acc around past small before =
     let done : Choosing w acc (choice_of inner around) [] = subst (λ (ts : List Tree). Choosing w acc (choice_of inner around) (choice_of ts around)) (drop_all i inner past) before in

@@ -12,7 +12,7 @@ use Rattle.ts_rules.specs.Productions.{marked_by}
 use Rattle.ts_productions.specs.declared.expansion.Expansion.{Expansion}
 use Rattle.ts_productions.specs.declared.weights.Weights.{Weights}
 use Rattle.ts_productions.specs.Expansions.{Expansions, close, plain, last_by, Table, by_option, spread, spread_of, spread_all, onward}
-use Rattle.ts_productions.specs.Sizes.{many_of, longest_by, longest_in, count_in, length_in, weigh, span, tall, total, reach, IsSize, IsSizeOf, Agrees, AllAgree}
+use Rattle.ts_productions.specs.Sizes.{many_of, longest_by, longest_in, count_in, length_in, weigh, span, tall, total, reach, IsSizeBy, IsSizeOf, IsWeighed, AllAgree}
 use Rattle.ts_productions.proofs.AlikeLemmas.{Alike, alike_cap, alike_times, alike_plus}
 use Rattle.ts_productions.proofs.SizeLemmas.{times_none, none_times, zero_or, tall_some, tall_none, both_some}
 
@@ -111,26 +111,26 @@ module _ (F : Table) where
 -- ---- counts that stop at the bounds
 
 module _ (F : Table) (w : Weights) where
-  pub cap_weigh : (steps : List NumberedStep) → All (λ (t : NumberedStep). Agrees F w t.symbol) steps → Alike 65536 (weigh (many_of w) steps) (weigh (count_in F) steps)
+  pub cap_weigh : (steps : List NumberedStep) → All (λ (t : NumberedStep). IsWeighed F w t.symbol) steps → Alike 65536 (weigh (many_of w) steps) (weigh (count_in F) steps)
   cap_weigh [] all = refl
   cap_weigh (s ∷ steps) all =
-      let here : Agrees F w s.symbol = All-head (λ (t : NumberedStep). Agrees F w t.symbol) s steps all in
+      let here : IsWeighed F w s.symbol = All-head (λ (t : NumberedStep). IsWeighed F w t.symbol) s steps all in
       alike_times 65536 (many_of w s.symbol) (count_in F s.symbol) (weigh (many_of w) steps) (weigh (count_in F) steps)
-      (ap (min 65536) here.0 ∙ alike_cap 65536 (count_in F s.symbol)) (cap_weigh steps (All-tail (λ (t : NumberedStep). Agrees F w t.symbol) s steps all))
+      (ap (min 65536) here.0 ∙ alike_cap 65536 (count_in F s.symbol)) (cap_weigh steps (All-tail (λ (t : NumberedStep). IsWeighed F w t.symbol) s steps all))
 
-  cap_span : (steps : List NumberedStep) → All (λ (t : NumberedStep). Agrees F w t.symbol) steps → Alike 256 (span (longest_by w) steps) (span (length_in F) steps)
+  cap_span : (steps : List NumberedStep) → All (λ (t : NumberedStep). IsWeighed F w t.symbol) steps → Alike 256 (span (longest_by w) steps) (span (length_in F) steps)
   cap_span [] all = refl
   cap_span (s ∷ steps) all =
-      let here : Agrees F w s.symbol = All-head (λ (t : NumberedStep). Agrees F w t.symbol) s steps all in
+      let here : IsWeighed F w s.symbol = All-head (λ (t : NumberedStep). IsWeighed F w t.symbol) s steps all in
       alike_plus 256 (longest_by w s.symbol) (length_in F s.symbol) (span (longest_by w) steps) (span (length_in F) steps)
-      (ap (min 256) here.1 ∙ alike_cap 256 (length_in F s.symbol)) (cap_span steps (All-tail (λ (t : NumberedStep). Agrees F w t.symbol) s steps all))
+      (ap (min 256) here.1 ∙ alike_cap 256 (length_in F s.symbol)) (cap_span steps (All-tail (λ (t : NumberedStep). IsWeighed F w t.symbol) s steps all))
 
   cap_total : (xs : Alternatives) → AllAgree F w xs → Alike 65536 (total (many_of w) xs) (total (count_in F) xs)
   cap_total [] all = refl
   cap_total (x ∷ xs) all =
       alike_plus 65536 (weigh (many_of w) x.steps) (weigh (count_in F) x.steps) (total (many_of w) xs) (total (count_in F) xs)
-      (cap_weigh x.steps (All-head (λ (y : Alternative). All (λ (t : NumberedStep). Agrees F w t.symbol) y.steps) x xs all))
-      (cap_total xs (All-tail (λ (y : Alternative). All (λ (t : NumberedStep). Agrees F w t.symbol) y.steps) x xs all))
+      (cap_weigh x.steps (All-head (λ (y : Alternative). All (λ (t : NumberedStep). IsWeighed F w t.symbol) y.steps) x xs all))
+      (cap_total xs (All-tail (λ (y : Alternative). All (λ (t : NumberedStep). IsWeighed F w t.symbol) y.steps) x xs all))
 
   cap_tall : (a b s t : ℕ) → Alike 65536 a b → Alike 256 s t → Alike 256 (tall a s) (tall b t)
   cap_tall zero zero s t e f = refl
@@ -141,20 +141,20 @@ module _ (F : Table) (w : Weights) where
   cap_reach : (xs : Alternatives) → AllAgree F w xs → Alike 256 (reach (many_of w) (longest_by w) xs) (reach (count_in F) (length_in F) xs)
   cap_reach [] all = refl
   cap_reach (x ∷ xs) all =
-      let here : All (λ (t : NumberedStep). Agrees F w t.symbol) x.steps = All-head (λ (y : Alternative). All (λ (t : NumberedStep). Agrees F w t.symbol) y.steps) x xs all in
+      let here : All (λ (t : NumberedStep). IsWeighed F w t.symbol) x.steps = All-head (λ (y : Alternative). All (λ (t : NumberedStep). IsWeighed F w t.symbol) y.steps) x xs all in
       let one : Alike 256 (tall (weigh (many_of w) x.steps) (span (longest_by w) x.steps)) (tall (weigh (count_in F) x.steps) (span (length_in F) x.steps)) =
       cap_tall (weigh (many_of w) x.steps) (weigh (count_in F) x.steps) (span (longest_by w) x.steps) (span (length_in F) x.steps) (cap_weigh x.steps here) (cap_span x.steps here) in
-      let rest : Alike 256 (reach (many_of w) (longest_by w) xs) (reach (count_in F) (length_in F) xs) = cap_reach xs (All-tail (λ (y : Alternative). All (λ (t : NumberedStep). Agrees F w t.symbol) y.steps) x xs all) in
+      let rest : Alike 256 (reach (many_of w) (longest_by w) xs) (reach (count_in F) (length_in F) xs) = cap_reach xs (All-tail (λ (y : Alternative). All (λ (t : NumberedStep). IsWeighed F w t.symbol) y.steps) x xs all) in
       omega (arith, one, rest)
 
   -- what is counted by the bounded weights is the size of the expansions
-  pub size_of_spread : (xs : Alternatives) (z : Size) → AllAgree F w xs → IsSize w xs z → IsSizeOf (spread_all F xs) z
+  pub size_of_spread : (xs : Alternatives) (z : Size) → AllAgree F w xs → IsSizeBy w xs z → IsSizeOf (spread_all F xs) z
   size_of_spread xs z all is = record {
     many = is.many ∙ cap_total xs all ∙ ap (min 65536) (sym (all_count F xs));
     longest = is.longest ∙ cap_reach xs all ∙ ap (min 256) (sym (all_length F xs));
   }
 
-  pub void_spread : (x : Alternative) → All (λ (t : NumberedStep). Agrees F w t.symbol) x.steps → weigh (many_of w) x.steps ≡ 0 → spread_of F x ≡ []
+  pub void_spread : (x : Alternative) → All (λ (t : NumberedStep). IsWeighed F w t.symbol) x.steps → weigh (many_of w) x.steps ≡ 0 → spread_of F x ≡ []
   void_spread x all none = empty (spread_of F x) (spread_count F x.dynamic [] None x.steps ∙ (let e = cap_weigh x.steps all in omega (arith, e, none)))
     where
       empty : (xs : Expansions) → length xs ≡ 0 → xs ≡ []

@@ -17,8 +17,8 @@ use Rattle.ts_productions.specs.declared.measure.Measure.{Measure}
 use Rattle.ts_productions.specs.declared.sources.Sources.{Sources}
 use Rattle.ts_productions.specs.declared.weights.Weights.{Weights}
 use Rattle.ts_productions.specs.Expansions.{Expansions, Table, IsFull, by_option, entry_at, spread_all}
-use Rattle.ts_productions.specs.Roots.{AreOrdered, StepsTo, whole, whole_all, filled_all, repeated_all, roots_of, before_of, inlined_at}
-use Rattle.ts_productions.specs.Sizes.{size_at, one_step, many_of, longest_by, count_in, length_in, weigh, span, tall, total, blanks, heavy, reach, IsMeasure, IsSize, IsSizeOf, SizesHold, longest_in, Agrees, AllAgree}
+use Rattle.ts_productions.specs.Roots.{AreOrderedSources, StepsTo, whole, whole_all, filled_all, repeated_all, roots_of, before_of, inlined_at}
+use Rattle.ts_productions.specs.Sizes.{size_at, one_step, many_of, longest_by, count_in, length_in, weigh, span, tall, total, blanks, heavy, reach, IsMeasure, IsSizeBy, IsSizeOf, SizesHold, longest_in, IsWeighed, AllAgree}
 use Rattle.ts_productions.proofs.EntryLemmas.{entry_hit, entry_miss, entry_cases, entry_there}
 use Rattle.ts_productions.proofs.SizeLemmas.{total_append, total_apart, total_filled, reach_append, reach_filled, reach_none, zero_or, tall_some, tall_none}
 use Rattle.ts_productions.proofs.SpreadLemmas.{flat_append}
@@ -26,22 +26,22 @@ use Rattle.ts_productions.proofs.SpreadSizeLemmas.{size_of_spread}
 
 -- ---- lists, one after another
 
-pub size_append : (w : Weights) (xs ys : Alternatives) (a b c : Size) → IsSize w xs a → IsSize w ys b → c.many ≡ min 65536 (a.many + b.many) → c.longest ≡ max a.longest b.longest → IsSize w (xs ++ ys) c
+pub size_append : (w : Weights) (xs ys : Alternatives) (a b c : Size) → IsSizeBy w xs a → IsSizeBy w ys b → c.many ≡ min 65536 (a.many + b.many) → c.longest ≡ max a.longest b.longest → IsSizeBy w (xs ++ ys) c
 size_append w xs ys a b c one two many longest = record {
   many = let e = one.many in let f = two.many in let g = total_append (many_of w) xs ys in omega (arith, e, f, g, many);
   longest = let e = one.longest in let f = two.longest in let g = reach_append (many_of w) (longest_by w) xs ys in omega (arith, e, f, g, longest);
 }
 
-pub size_none : (w : Weights) (a : Size) → a.many ≡ 0 → a.longest ≡ 0 → IsSize w [] a
+pub size_none : (w : Weights) (a : Size) → a.many ≡ 0 → a.longest ≡ 0 → IsSizeBy w [] a
 size_none w a many longest = record { many = omega (arith, many); longest = omega (arith, longest) }
 
-pub measure_size : (w : Weights) (xs : Alternatives) (m : Measure) (z : Size) → IsMeasure w xs m → z.many ≡ min 65536 (m.blank + m.filled) → z.longest ≡ m.longest → IsSize w xs z
+pub measure_size : (w : Weights) (xs : Alternatives) (m : Measure) (z : Size) → IsMeasure w xs m → z.many ≡ min 65536 (m.blank + m.filled) → z.longest ≡ m.longest → IsSizeBy w xs z
 measure_size w xs m z is many longest = record {
   many = let e = is.blank in let f = is.filled in let g = total_apart (many_of w) xs in omega (arith, e, f, g, many);
   longest = longest ∙ is.longest;
 }
 
-pub measure_filled : (w : Weights) (xs : Alternatives) (m : Measure) (z : Size) → IsMeasure w xs m → z.many ≡ m.filled → z.longest ≡ m.longest → IsSize w (filled xs) z
+pub measure_filled : (w : Weights) (xs : Alternatives) (m : Measure) (z : Size) → IsMeasure w xs m → z.many ≡ m.filled → z.longest ≡ m.longest → IsSizeBy w (filled xs) z
 measure_filled w xs m z is many longest = record {
   many = many ∙ is.filled ∙ ap (min 65536) (sym (total_filled (many_of w) xs));
   longest = longest ∙ is.longest ∙ ap (min 256) (sym (reach_filled (many_of w) (longest_by w) xs));
@@ -54,13 +54,13 @@ flat_more f trees i tree lt at =
     ∙ ap (λ (xs : Alternatives). flat_map f (take i trees) ++ xs) (append-nil (f tree))
 
 pub size_more : (w : Weights) (f : Tree → Alternatives) (trees : List Tree) (i : ℕ) (tree : Tree) (acc z new : Size) → i < length trees → tree ≡ get_or trees i tree
-    → IsSize w (flat_map f (take i trees)) acc → IsSize w (f tree) z → new.many ≡ min 65536 (acc.many + z.many) → new.longest ≡ max acc.longest z.longest
-    → IsSize w (flat_map f (take (i + 1) trees)) new
+    → IsSizeBy w (flat_map f (take i trees)) acc → IsSizeBy w (f tree) z → new.many ≡ min 65536 (acc.many + z.many) → new.longest ≡ max acc.longest z.longest
+    → IsSizeBy w (flat_map f (take (i + 1) trees)) new
 size_more w f trees i tree acc z new lt at before one many longest =
-    subst (λ (xs : Alternatives). IsSize w xs new) (sym (flat_more f trees i tree lt at)) (size_append w (flat_map f (take i trees)) (f tree) acc z new before one many longest)
+    subst (λ (xs : Alternatives). IsSizeBy w xs new) (sym (flat_more f trees i tree lt at)) (size_append w (flat_map f (take i trees)) (f tree) acc z new before one many longest)
 
-pub size_ends : (w : Weights) (f : Tree → Alternatives) (trees : List Tree) (i : ℕ) (acc : Size) → length trees ≤ i → IsSize w (flat_map f (take i trees)) acc → IsSize w (flat_map f trees) acc
-size_ends w f trees i acc past before = subst (λ (ts : List Tree). IsSize w (flat_map f ts) acc) (take_all i trees past) before
+pub size_ends : (w : Weights) (f : Tree → Alternatives) (trees : List Tree) (i : ℕ) (acc : Size) → length trees ≤ i → IsSizeBy w (flat_map f (take i trees)) acc → IsSizeBy w (flat_map f trees) acc
+size_ends w f trees i acc past before = subst (λ (ts : List Tree). IsSizeBy w (flat_map f ts) acc) (take_all i trees past) before
 
 -- ---- repetitions
 
@@ -157,8 +157,8 @@ module _ (W L : ℕ → ℕ) where
           there)
           here
 
-pub repeated_size : (w : Weights) (n : ℕ) (trees : List Tree) (f z : Size) → n + length trees ≤ w.first → IsSize w (filled_all trees) f
-    → z.many ≡ min 65536 (f.many + f.many) → (f.many ≡ 0 → z.longest ≡ f.longest) → (1 ≤ f.many → z.longest ≡ min 256 (f.longest + 1)) → IsSize w (repeated_all n trees) z
+pub repeated_size : (w : Weights) (n : ℕ) (trees : List Tree) (f z : Size) → n + length trees ≤ w.first → IsSizeBy w (filled_all trees) f
+    → z.many ≡ min 65536 (f.many + f.many) → (f.many ≡ 0 → z.longest ≡ f.longest) → (1 ≤ f.many → z.longest ≡ min 256 (f.longest + 1)) → IsSizeBy w (repeated_all n trees) z
 repeated_size w n trees f z apart is many none some = record {
   many = let e = is.many in let g = repeated_total (many_of w) (longest_by w) n trees ones in omega (arith, e, g, many);
   longest = ⊎_elim
@@ -203,7 +203,7 @@ unit_reach W L one step (x ∷ xs) =
     ∙ ap (λ (n : ℕ). max n (reach W L xs)) (unit_span L step x.steps)
     ∙ ap (λ (n : ℕ). max (length x.steps) n) (unit_reach W L one step xs)
 
-pub unit_size : (w : Weights) (xs : Alternatives) (z : Size) → w.sizes.now ≡ [] → IsSize w xs z → (z.many ≡ min 65536 (length xs)) × (z.longest ≡ min 256 (longest_of xs))
+pub unit_size : (w : Weights) (xs : Alternatives) (z : Size) → w.sizes.now ≡ [] → IsSizeBy w xs z → (z.many ≡ min 65536 (length xs)) × (z.longest ≡ min 256 (longest_of xs))
 unit_size w xs z none is = (
   is.many ∙ ap (min 65536) (unit_total (many_of w) (λ k. ap (λ (s : Size). s.many) (plain k)) xs),
   is.longest ∙ ap (min 256) (unit_reach (many_of w) (longest_by w) (λ k. ap (λ (s : Size). s.many) (plain k)) (λ k. ap (λ (s : Size). s.longest) (plain k)) xs),
@@ -221,10 +221,10 @@ everywhere P all [] = All-nil P
 everywhere P all (x ∷ xs) = All-cons P x xs (all x) (everywhere P all xs)
 
 agree_at : (s : Sources) (F : Table) (w : Weights) (done : List ℕ) (t : ℕ) → w.first ≡ s.first_inlined → IsFull (inlined_at s) F → SizesHold s done w.sizes.now
-    → ((j : ℕ) → t ≡ s.first_inlined + j → j < length s.inlined.now → Contains done j) → Agrees F w t
+    → ((j : ℕ) → t ≡ s.first_inlined + j → j < length s.inlined.now → Contains done j) → IsWeighed F w t
 agree_at s F w done t first full hold known = ⊎_elim there away (entry_cases s.first_inlined s.inlined.now t)
   where
-    there : (j : ℕ) × (t ≡ s.first_inlined + j) × (j < length s.inlined.now) → Agrees F w t
+    there : (j : ℕ) × (t ≡ s.first_inlined + j) × (j < length s.inlined.now) → IsWeighed F w t
     there v = elim (slice_get_cases s.inlined.now v.0).1 [
       | inl u ↦
           let e : F t ≡ Some (spread_all F (whole u.0)) =
@@ -237,7 +237,7 @@ agree_at s F w done t first full hold known = ⊎_elim there away (entry_cases s
       | inr u ↦ absurd (let a = u.0 in let b = v.2 in omega (arith, a, b))
     ]
 
-    away : (t < s.first_inlined) ⊎ (s.first_inlined + length s.inlined.now ≤ t) → Agrees F w t
+    away : (t < s.first_inlined) ⊎ (s.first_inlined + length s.inlined.now ≤ t) → IsWeighed F w t
     away v =
         let e : F t ≡ None = full t ∙ ap (option_map (spread_all F)) (entry_miss s.first_inlined (map whole s.inlined.now) t (⊎_elim (λ a. inl a) (λ a. inr (let b = length-map s.inlined.now whole in omega (arith, a, b))) v)) in
         let f : size_at w t ≡ one_step = ap (λ (o : Option Size). by_option o one_step (λ (z : Size). z)) (entry_miss w.first w.sizes.now t (⊎_elim (λ a. inl (omega (arith, a, first))) (λ a. inr (let b = hold.one_each in omega (arith, a, b, first))) v)) in (
@@ -246,17 +246,17 @@ agree_at s F w done t first full hold known = ⊎_elim there away (entry_cases s
         )
 
 -- where all sizes are known
-pub agree_all : (s : Sources) (F : Table) (w : Weights) (xs : Alternatives) → w.first ≡ s.first_inlined → IsFull (inlined_at s) F → AreOrdered s → SizesHold s s.order.now w.sizes.now → AllAgree F w xs
+pub agree_all : (s : Sources) (F : Table) (w : Weights) (xs : Alternatives) → w.first ≡ s.first_inlined → IsFull (inlined_at s) F → AreOrderedSources s → SizesHold s s.order.now w.sizes.now → AllAgree F w xs
 agree_all s F w xs first full ordered hold =
-    everywhere (λ (x : Alternative). All (λ (t : NumberedStep). Agrees F w t.symbol) x.steps)
-    (λ x. everywhere (λ (t : NumberedStep). Agrees F w t.symbol) (λ t. agree_at s F w s.order.now t.symbol first full hold (λ j e lt. ordered.every j lt)) x.steps) xs
+    everywhere (λ (x : Alternative). All (λ (t : NumberedStep). IsWeighed F w t.symbol) x.steps)
+    (λ x. everywhere (λ (t : NumberedStep). IsWeighed F w t.symbol) (λ t. agree_at s F w s.order.now t.symbol first full hold (λ j e lt. ordered.every j lt)) x.steps) xs
 
 -- where those before a place are known
-pub agree_before : (s : Sources) (F : Table) (w : Weights) (place k : ℕ) (tree : Tree) → w.first ≡ s.first_inlined → IsFull (inlined_at s) F → AreOrdered s → SizesHold s (take place s.order.now) w.sizes.now
+pub agree_before : (s : Sources) (F : Table) (w : Weights) (place k : ℕ) (tree : Tree) → w.first ≡ s.first_inlined → IsFull (inlined_at s) F → AreOrderedSources s → SizesHold s (take place s.order.now) w.sizes.now
     → slice_get s.order.now place ≡ Some k → slice_get s.inlined.now k ≡ Some tree → AllAgree F w (whole tree)
 agree_before s F w place k tree first full ordered hold here is =
-    All-weaker (Contains (whole tree)) (λ (x : Alternative). All (λ (t : NumberedStep). Agrees F w t.symbol) x.steps)
-    (λ x has. All-weaker (Contains x.steps) (λ (t : NumberedStep). Agrees F w t.symbol)
+    All-weaker (Contains (whole tree)) (λ (x : Alternative). All (λ (t : NumberedStep). IsWeighed F w t.symbol) x.steps)
+    (λ x has. All-weaker (Contains x.steps) (λ (t : NumberedStep). IsWeighed F w t.symbol)
     (λ t steps. agree_at s F w (take place s.order.now) t.symbol first full hold
     (λ j e lt. ordered.before place k j here (record { tree = tree; is = is; alternative = x; has = has; step = t; steps = steps; symbol = e; there = lt })))
     x.steps (All-contains_itself x.steps))
@@ -272,8 +272,8 @@ only_one x y w = one w.0 w.1 w.2
 pub sizes_begin : (s : Sources) (sizes : List Size) → length sizes ≡ length s.inlined.now → SizesHold s [] sizes
 sizes_begin s sizes e = record { one_each = e; tell = λ F k found full has is. absurd (let w = has.1 in omega (arith, w)) }
 
-sizes_more : (s : Sources) (w : Weights) (place k d : ℕ) (tree : Tree) (z : Size) → AreOrdered s → w.first ≡ s.first_inlined → SizesHold s (take place s.order.now) w.sizes.now
-    → place < length s.order.now → k ≡ get_or s.order.now place d → slice_get s.inlined.now k ≡ Some tree → IsSize w (whole tree) z
+sizes_more : (s : Sources) (w : Weights) (place k d : ℕ) (tree : Tree) (z : Size) → AreOrderedSources s → w.first ≡ s.first_inlined → SizesHold s (take place s.order.now) w.sizes.now
+    → place < length s.order.now → k ≡ get_or s.order.now place d → slice_get s.inlined.now k ≡ Some tree → IsSizeBy w (whole tree) z
     → SizesHold s (take (place + 1) s.order.now) (set w.sizes.now k z)
 sizes_more s w place k d tree z ordered first hold lt at is size = record {
   one_each = length-set w.sizes.now k z ∙ hold.one_each;
@@ -300,11 +300,11 @@ sizes_more s w place k d tree z ordered first hold lt at is size = record {
         subst (λ (xs : Expansions). IsSizeOf xs z) (sym same)
         (size_of_spread F w (whole tree) z (agree_before s F w place k tree first full ordered hold (slice_get-get_or s.order.now place d lt ∙ ap (λ (n : ℕ). Some n) (sym at)) is) size)
 
-pub place_within : (s : Sources) (place d : ℕ) → AreOrdered s → place < length s.order.now → get_or s.order.now place d < length s.inlined.now
+pub place_within : (s : Sources) (place d : ℕ) → AreOrderedSources s → place < length s.order.now → get_or s.order.now place d < length s.inlined.now
 place_within s place d ordered lt = ordered.within (get_or s.order.now place d) (Contains-get_or s.order.now place d lt)
 
-pub sizes_next : (s : Sources) (w : Weights) (place d : ℕ) (z : Size) → AreOrdered s → w.first ≡ s.first_inlined → SizesHold s (take place s.order.now) w.sizes.now
-    → place < length s.order.now → ((tree : Tree) → slice_get s.inlined.now (get_or s.order.now place d) ≡ Some tree → IsSize w (whole tree) z)
+pub sizes_next : (s : Sources) (w : Weights) (place d : ℕ) (z : Size) → AreOrderedSources s → w.first ≡ s.first_inlined → SizesHold s (take place s.order.now) w.sizes.now
+    → place < length s.order.now → ((tree : Tree) → slice_get s.inlined.now (get_or s.order.now place d) ≡ Some tree → IsSizeBy w (whole tree) z)
     → SizesHold s (take (place + 1) s.order.now) (set w.sizes.now (get_or s.order.now place d) z)
 sizes_next s w place d z ordered first hold lt size = elim (slice_get_cases s.inlined.now (get_or s.order.now place d)).1 [
   | inl u ↦ sizes_more s w place (get_or s.order.now place d) d u.0 z ordered first hold lt refl u.2 (size u.0 u.2)

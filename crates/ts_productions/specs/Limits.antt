@@ -24,8 +24,8 @@ abbrev pub AreMany : Sources → Type 0
 AreMany s = (most_productions < length (before_of s))
     ⊎ ((all : Alternatives) × AllGive s all × (most_productions < length all))
 
-abbrev pub AreFew : Sources → Type 0
-AreFew s = (length (before_of s) ≤ most_productions)
+abbrev pub AreFewSources : Sources → Type 0
+AreFewSources s = (length (before_of s) ≤ most_productions)
     × ((all : Alternatives) × AllGive s all × (length all ≤ most_productions))
 
 abbrev pub SomeIsLong : Sources → Type 0

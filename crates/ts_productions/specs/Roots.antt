@@ -27,7 +27,7 @@ pub record StepsTo (s : Sources) (from to : ℕ) : Type 0 where
 
 -- the order has the places of all inlined rules, and before each those of the inlined rules that it
 -- steps to; the symbols of the repetitions are below those of the inlined rules
-pub record AreOrdered (s : Sources) : Type 0 where
+pub record AreOrderedSources (s : Sources) : Type 0 where
   pub within : (k : ℕ) → Contains s.order.now k → k < length s.inlined.now
   pub every : (k : ℕ) → k < length s.inlined.now → Contains s.order.now k
   pub before : (place from to : ℕ) → slice_get s.order.now place ≡ Some from → StepsTo s from to

@@ -98,10 +98,10 @@ pub record IsJoined (w : Weights) (parts : List Alternatives) (m : Measure) : Ty
   pub filled : m.filled ≡ min many (heavy (many_of w) (sequence parts))
   pub longest : m.longest ≡ min long (reach_together (many_of w) (longest_by w) parts)
 
-abbrev pub IsSmall : Measure → Type 0
-IsSmall m = (m.blank ≤ many) × (m.filled ≤ many) × (m.longest ≤ long)
+abbrev pub IsSmallMeasure : Measure → Type 0
+IsSmallMeasure m = (m.blank ≤ many) × (m.filled ≤ many) × (m.longest ≤ long)
 
-pub record IsSize (w : Weights) (xs : Alternatives) (size : Size) : Type 0 where
+pub record IsSizeBy (w : Weights) (xs : Alternatives) (size : Size) : Type 0 where
   pub many : size.many ≡ min many (total (many_of w) xs)
   pub longest : size.longest ≡ min long (reach (many_of w) (longest_by w) xs)
 
@@ -114,13 +114,13 @@ pub record IsSizeOf (found : Expansions) (size : Size) : Type 0 where
   pub longest : size.longest ≡ min long (longest_in found)
 
 -- the symbol weighs what it has, up to the bounds
-abbrev pub Agrees : Table → Weights → ℕ → Type 0
-Agrees F w symbol = (many_of w symbol ≡ min many (count_in F symbol))
+abbrev pub IsWeighed : Table → Weights → ℕ → Type 0
+IsWeighed F w symbol = (many_of w symbol ≡ min many (count_in F symbol))
     × (longest_by w symbol ≡ min long (length_in F symbol))
 
 abbrev pub AllAgree : Table → Weights → Alternatives → Type 0
 AllAgree F w =
-    All (λ (x : Alternative). All (λ (step : NumberedStep). Agrees F w step.symbol) x.steps)
+    All (λ (x : Alternative). All (λ (step : NumberedStep). IsWeighed F w step.symbol) x.steps)
 
 -- the sizes of the inlined rules whose places are told
 pub record SizesHold (s : Sources) (done : List ℕ) (sizes : List Size) : Type 0 where
@@ -141,25 +141,25 @@ look t = entry_at t.first t.full.now
 -- the alternative's steps weigh what they have, and where it has expansions those of its steps are
 -- built
 pub record IsUsable (F : Table) (t : Inlined) (x : Alternative) : Type 0 where
-  pub agree : All (λ (step : NumberedStep). Agrees F (weights_of t) step.symbol) x.steps
+  pub agree : All (λ (step : NumberedStep). IsWeighed F (weights_of t) step.symbol) x.steps
   pub built : 1 ≤ weigh (count_in F) x.steps
       → All (λ (step : NumberedStep). F step.symbol ≡ look t step.symbol) x.steps
 
-abbrev pub IsWithin : Expansions → Type 0
-IsWithin found = (length found ≤ most_productions) × (longest_in found ≤ most_steps)
+abbrev pub AreWithin : Expansions → Type 0
+AreWithin found = (length found ≤ most_productions) × (longest_in found ≤ most_steps)
 
 -- the expansions of the inlined rules whose places are told, as far as they are within the limits
 pub record FullHold (s : Sources) (done : List ℕ) (full : List Expansions) : Type 0 where
   pub one_each : length full ≡ length s.inlined.now
   pub tell : (F : Table) (k : ℕ) (found : Expansions) → IsFull (inlined_at s) F
-      → Contains done k → F (s.first_inlined + k) ≡ Some found → IsWithin found
+      → Contains done k → F (s.first_inlined + k) ≡ Some found → AreWithin found
       → slice_get full k ≡ Some found
 
 -- ---- the limits
 
-abbrev pub Judges : Size → Size → Verdict → Type 0
-Judges before after Verdict.Many = (before.many ≡ many) ⊎ (after.many ≡ many)
-Judges before after Verdict.Long = (before.many ≢ many) × (after.many ≢ many)
+abbrev pub JudgesSize : Size → Size → Verdict → Type 0
+JudgesSize before after Verdict.Many = (before.many ≡ many) ⊎ (after.many ≡ many)
+JudgesSize before after Verdict.Long = (before.many ≢ many) × (after.many ≢ many)
     × ((before.longest ≡ long) ⊎ (after.longest ≡ long))
-Judges before after Verdict.Fits = (before.many ≢ many) × (after.many ≢ many)
+JudgesSize before after Verdict.Fits = (before.many ≢ many) × (after.many ≢ many)
     × (before.longest ≢ long) × (after.longest ≢ long)

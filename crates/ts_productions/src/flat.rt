@@ -74,7 +74,8 @@ fn add_steps(
     steps: &mut List<Step>,
     more: &[NumberedStep],
 ) -> Result<(), AllocError>
-    ensures { OnOk result (steps.new ≡ steps.old ++ map (flat_step (aliased aliases.now)) more.now) }
+    ensures { OnOk result (steps.new ≡ steps.old
+        ++ map (flat_step (aliased aliases.now)) more.now) }
 {
     for step in more {
         let made = step_of(alloc, aliases, step)?;

@@ -7,8 +7,8 @@ ghost use Rattle.ts_rules.specs.Numbers.{outermost};
 ghost use Rattle.ts_rules.specs.declared.size.Size.{Size as SizeValue};
 ghost use Rattle.ts_rules.specs.declared.tree.Tree.{Tree as TreeValue};
 ghost use Rattle.ts_productions.specs.Expansions.{Table, spread_all};
-ghost use Rattle.ts_productions.specs.Roots.{AreOrdered, whole};
-ghost use Rattle.ts_productions.specs.Sizes.{IsSizeOf, IsUsable, IsWithin, SizesHold, FullHold};
+ghost use Rattle.ts_productions.specs.Roots.{AreOrderedSources, whole};
+ghost use Rattle.ts_productions.specs.Sizes.{IsSizeOf, IsUsable, AreWithin, SizesHold, FullHold};
 
 use crate::expansion::Expansion;
 use crate::measure::{LONG, MANY};
@@ -47,7 +47,7 @@ fn tree_expansions(
     tree: &Tree,
 ) -> Result<List<Expansion>, AllocError>
     ensures { (F : Table) → IsSizeOf (spread_all F (whole tree.now)) size
-        → IsWithin (spread_all F (whole tree.now))
+        → AreWithin (spread_all F (whole tree.now))
         → All (IsUsable F inlined.now) (whole tree.now)
         → IfOk result (λ found. found ≡ spread_all F (whole tree.now)) }
 {
@@ -70,7 +70,7 @@ fn place_expansions(
     requires size { place < length inlined.now.sizes.now }
     ensures { (F : Table) (tree : TreeValue) (size : SizeValue)
         → slice_get trees.now place ≡ Some tree → slice_get inlined.now.sizes.now place ≡ Some size
-        → IsSizeOf (spread_all F (whole tree)) size → IsWithin (spread_all F (whole tree))
+        → IsSizeOf (spread_all F (whole tree)) size → AreWithin (spread_all F (whole tree))
         → All (IsUsable F inlined.now) (whole tree)
         → IfOk result (λ found. found ≡ spread_all F (whole tree)) }
 {
@@ -95,7 +95,7 @@ pub(crate) fn inlined_expansions(
     sources: &Sources,
     sizes: &[Size],
 ) -> Result<Vec<List<Expansion>>, AllocError>
-    requires ordered { AreOrdered sources.now }
+    requires ordered { AreOrderedSources sources.now }
     requires sizes { SizesHold sources.now sources.now.order.now sizes.now }
     ensures { IfOk result (λ full. FullHold sources.now sources.now.order.now full.items) }
 {

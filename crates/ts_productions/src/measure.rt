@@ -5,7 +5,7 @@ ghost use Rattle.std.specs.Prelude.{◌≡◌, ◌+◌, ◌*◌, ◌≤◌, ◌�
 ghost use Rattle.ts_rules.specs.Alternatives.{alternatives_of, members_of, choice_of, single};
 ghost use Rattle.ts_rules.specs.Counts.{many, long};
 ghost use Rattle.ts_rules.specs.declared.tree.Around.{Around};
-ghost use Rattle.ts_productions.specs.Sizes.{IsMeasure, IsJoined, IsSmall};
+ghost use Rattle.ts_productions.specs.Sizes.{IsMeasure, IsJoined, IsSmallMeasure};
 
 use crate::weights::{Weights, weight};
 use ts_rules::Tree;
@@ -30,7 +30,7 @@ pub(crate) struct Measure {
 /// The measure of a step.
 fn step_measure(weights: &Weights, symbol: u16) -> Measure
     ensures measure { (around : Around) → IsMeasure weights.now (single symbol around ∷ []) result }
-    ensures small { IsSmall result }
+    ensures small { IsSmallMeasure result }
 {
     let size = weight(weights, symbol);
     Measure {
@@ -46,12 +46,12 @@ fn step_measure(weights: &Weights, symbol: u16) -> Measure
 
 /// The measure of joins, as far as their counts go.
 fn joined(first: Measure, second: Measure) -> Measure
-    requires { IsSmall first × IsSmall second }
+    requires { IsSmallMeasure first × IsSmallMeasure second }
     ensures blank { result.blank ≡ min many (first.blank * second.blank) }
     ensures filled { result.filled ≡ min many (first.filled * (second.blank + second.filled)
         + first.blank * second.filled) }
     ensures longest { result.longest ≡ min long (first.longest + second.longest) }
-    ensures small { IsSmall result }
+    ensures small { IsSmallMeasure result }
 {
     Measure {
         blank: (first.blank * second.blank).min(MANY),
@@ -64,11 +64,11 @@ fn joined(first: Measure, second: Measure) -> Measure
 
 /// The measure of two lists, one after the other.
 fn chosen(first: Measure, second: Measure) -> Measure
-    requires { IsSmall first × IsSmall second }
+    requires { IsSmallMeasure first × IsSmallMeasure second }
     ensures blank { result.blank ≡ min many (first.blank + second.blank) }
     ensures filled { result.filled ≡ min many (first.filled + second.filled) }
     ensures longest { result.longest ≡ max first.longest second.longest }
-    ensures small { IsSmall result }
+    ensures small { IsSmallMeasure result }
 {
     Measure {
         blank: (first.blank + second.blank).min(MANY),
@@ -79,12 +79,12 @@ fn chosen(first: Measure, second: Measure) -> Measure
 
 /// Where there is no alternative, none has steps.
 fn settled(measure: Measure) -> Measure
-    requires { IsSmall measure }
+    requires { IsSmallMeasure measure }
     ensures blank { result.blank ≡ measure.blank }
     ensures filled { result.filled ≡ measure.filled }
     ensures none { measure.blank + measure.filled ≡ 0 → result.longest ≡ 0 }
     ensures some { 1 ≤ measure.blank + measure.filled → result.longest ≡ measure.longest }
-    ensures small { IsSmall result }
+    ensures small { IsSmallMeasure result }
 {
     if measure.blank == 0 && measure.filled == 0 {
         Measure {
@@ -101,7 +101,7 @@ fn settled(measure: Measure) -> Measure
 pub(crate) fn measure_of(tree: &Tree, weights: &Weights) -> Measure
     ensures measure { (around : Around) → IsMeasure weights.now
         (alternatives_of tree.now around) result }
-    ensures small { IsSmall result }
+    ensures small { IsSmallMeasure result }
 {
     match tree {
         Tree::Blank => Measure {
@@ -122,8 +122,9 @@ pub(crate) fn measure_of(tree: &Tree, weights: &Weights) -> Measure
 /// The counts of the joins of members' alternatives, and how long the longest of each are together.
 #[cycle(measure)]
 fn sequence_measure(inner: &[Tree], weights: &Weights) -> Measure
-    ensures measure { (around : Around) → IsJoined weights.now (members_of inner.now around) result }
-    ensures small { IsSmall result }
+    ensures measure { (around : Around)
+        → IsJoined weights.now (members_of inner.now around) result }
+    ensures small { IsSmallMeasure result }
 {
     let mut all = Measure {
         blank: 1,
@@ -138,8 +139,9 @@ fn sequence_measure(inner: &[Tree], weights: &Weights) -> Measure
 
 #[cycle(measure)]
 fn choice_measure(inner: &[Tree], weights: &Weights) -> Measure
-    ensures measure { (around : Around) → IsMeasure weights.now (choice_of inner.now around) result }
-    ensures small { IsSmall result }
+    ensures measure { (around : Around)
+        → IsMeasure weights.now (choice_of inner.now around) result }
+    ensures small { IsSmallMeasure result }
 {
     let mut all = Measure {
         blank: 0,

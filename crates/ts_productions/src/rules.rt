@@ -4,9 +4,9 @@
 ghost use Rattle.std.specs.Prelude.{◌≡◌, ◌<◌, ◌≤◌, ◌↔◌, ◌⊎◌, IfOk};
 ghost use Rattle.std.specs.Result.{IsErrOf, IsOkUnless};
 ghost use Rattle.ts_rules.specs.Counts.{many, long};
-ghost use Rattle.ts_productions.specs.Limits.{AreMany, AreFew, SomeIsLong, AllAreShort, AreInlined, AreInlinedProductions, BecomeFew};
-ghost use Rattle.ts_productions.specs.Roots.{AreOrdered};
-ghost use Rattle.ts_productions.specs.Sizes.{Judges};
+ghost use Rattle.ts_productions.specs.Limits.{AreMany, AreFewSources, SomeIsLong, AllAreShort, AreInlined, AreInlinedProductions, BecomeFew};
+ghost use Rattle.ts_productions.specs.Roots.{AreOrderedSources};
+ghost use Rattle.ts_productions.specs.Sizes.{JudgesSize};
 
 use crate::expansion::Expansion;
 use crate::fault::ProductionFault;
@@ -36,7 +36,7 @@ enum Verdict {
 }
 
 fn judge(before: Size, after: Size) -> Verdict
-    ensures { Judges before after result }
+    ensures { JudgesSize before after result }
 {
     if before.many == MANY || after.many == MANY {
         Verdict::Many
@@ -56,13 +56,13 @@ fn judge(before: Size, after: Size) -> Verdict
 /// after inlining; both before any is built and before equal ones are dropped. `Memory` where memory
 /// runs out.
 pub fn inlined_rules(alloc: Global, sources: &Sources) -> Result<InlinedRules, ProductionFault>
-    requires { AreOrdered sources.now }
+    requires { AreOrderedSources sources.now }
     ensures inlined { IfOk result (AreInlined sources.now) }
     ensures many { IsErrOf result ProductionFault.Productions → AreMany sources.now }
     ensures long { IsErrOf result ProductionFault.Steps
-        → AreFew sources.now × SomeIsLong sources.now }
-    ensures fits { IfOk result (λ _. AreFew sources.now × AllAreShort sources.now) }
-    ensures accepts { AreFew sources.now × AllAreShort sources.now
+        → AreFewSources sources.now × SomeIsLong sources.now }
+    ensures fits { IfOk result (λ _. AreFewSources sources.now × AllAreShort sources.now) }
+    ensures accepts { AreFewSources sources.now × AllAreShort sources.now
         → IsOkUnless result ProductionFault.Memory }
 {
     let sizes = inlined_sizes(alloc, sources)?;
@@ -89,7 +89,7 @@ pub fn productions_of(
     rules: &InlinedRules,
     alternatives: &[Alternative],
 ) -> Result<List<Production>, AllocError>
-    requires ordered { AreOrdered sources.now }
+    requires ordered { AreOrderedSources sources.now }
     requires inlined { AreInlined sources.now rules.now }
     requires few { BecomeFew sources.now alternatives.now }
     ensures { IfOk result (AreInlinedProductions sources.now alternatives.now) }

@@ -143,7 +143,8 @@ fn insert(
     step: &NumberedStep,
     inner: &[NumberedStep],
 ) -> Result<(), AllocError>
-    ensures { OnOk result (steps.new.items ≡ steps.old.items ++ map (marked_by step.now) inner.now) }
+    ensures { OnOk result (steps.new.items ≡ steps.old.items
+        ++ map (marked_by step.now) inner.now) }
 {
     for added in inner {
         steps.push(marked(step, added))?;

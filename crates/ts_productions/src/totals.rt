@@ -6,8 +6,8 @@ ghost use Rattle.ts_rules.specs.Alternatives.{longest_of};
 ghost use Rattle.ts_rules.specs.declared.tree.Tree.{Tree as TreeValue};
 ghost use Rattle.ts_rules.specs.Counts.{many, long};
 ghost use Rattle.ts_productions.specs.Expansions.{Table, IsFull, spread_all};
-ghost use Rattle.ts_productions.specs.Roots.{AreOrdered, inlined_at, whole, whole_all, filled_all, repeated_all, roots_of, before_of};
-ghost use Rattle.ts_productions.specs.Sizes.{IsSmall, IsSmallSize, IsSize, IsSizeOf, SizesHold};
+ghost use Rattle.ts_productions.specs.Roots.{AreOrderedSources, inlined_at, whole, whole_all, filled_all, repeated_all, roots_of, before_of};
+ghost use Rattle.ts_productions.specs.Sizes.{IsSmallMeasure, IsSmallSize, IsSizeBy, IsSizeOf, SizesHold};
 
 use crate::measure::{LONG, MANY, Measure, measure_of};
 use crate::sources::Sources;
@@ -17,7 +17,7 @@ use ts_rules::{Size, Tree};
 
 /// The size of what a measure counts.
 fn size_of(measure: Measure) -> Size
-    requires { IsSmall measure }
+    requires { IsSmallMeasure measure }
     ensures many { result.many ≡ min many (measure.blank + measure.filled) }
     ensures longest { result.longest ≡ measure.longest }
     ensures small { IsSmallSize result }
@@ -43,7 +43,7 @@ fn both(first: Size, second: Size) -> Size
 
 /// The size of all alternatives of trees.
 fn trees_size(trees: &[Tree], weights: &Weights) -> Size
-    ensures size { IsSize weights.now (whole_all trees.now) result }
+    ensures size { IsSizeBy weights.now (whole_all trees.now) result }
     ensures small { IsSmallSize result }
 {
     let mut all = Size {
@@ -58,7 +58,7 @@ fn trees_size(trees: &[Tree], weights: &Weights) -> Size
 
 /// The size of all alternatives of trees that are not empty.
 fn filled_size(trees: &[Tree], weights: &Weights) -> Size
-    ensures size { IsSize weights.now (filled_all trees.now) result }
+    ensures size { IsSizeBy weights.now (filled_all trees.now) result }
     ensures small { IsSmallSize result }
 {
     let mut all = Size {
@@ -99,7 +99,7 @@ fn repeated_size(filled: Size) -> Size
 /// The size of all productions of rules and repetitions.
 fn roots_size(sources: &Sources, weights: &Weights) -> Size
     requires { sources.now.first_repetition + length sources.now.contents.now ≤ weights.now.first }
-    ensures size { IsSize weights.now (roots_of sources.now) result }
+    ensures size { IsSizeBy weights.now (roots_of sources.now) result }
     ensures small { IsSmallSize result }
 {
     both(
@@ -110,7 +110,7 @@ fn roots_size(sources: &Sources, weights: &Weights) -> Size
 
 /// The size of all productions before inlining, those of the inlined rules among them.
 pub(crate) fn size_before(sources: &Sources) -> Size
-    requires { AreOrdered sources.now }
+    requires { AreOrderedSources sources.now }
     ensures many { result.many ≡ min many (length (before_of sources.now)) }
     ensures longest { result.longest ≡ min long (longest_of (before_of sources.now)) }
 {
@@ -128,14 +128,14 @@ pub(crate) fn size_before(sources: &Sources) -> Size
 fn place_size(trees: &[Tree], place: usize, weights: &Weights) -> Size
     requires { place < length trees.now }
     ensures { (tree : TreeValue) → slice_get trees.now place ≡ Some tree
-        → IsSize weights.now (whole tree) result }
+        → IsSizeBy weights.now (whole tree) result }
 {
     size_of(measure_of(&trees[place], weights))
 }
 
 /// The sizes of the inlined rules once inlined themselves.
 pub(crate) fn inlined_sizes(alloc: Global, sources: &Sources) -> Result<Vec<Size>, AllocError>
-    requires { AreOrdered sources.now }
+    requires { AreOrderedSources sources.now }
     ensures { IfOk result (λ sizes. SizesHold sources.now sources.now.order.now sizes.items) }
 {
     let none = Size {
@@ -156,7 +156,7 @@ pub(crate) fn inlined_sizes(alloc: Global, sources: &Sources) -> Result<Vec<Size
 
 /// The size of all productions after inlining.
 pub(crate) fn size_after(sources: &Sources, sizes: &[Size]) -> Size
-    requires ordered { AreOrdered sources.now }
+    requires ordered { AreOrderedSources sources.now }
     requires sizes { SizesHold sources.now sources.now.order.now sizes.now }
     ensures { (F : Table) → IsFull (inlined_at sources.now) F
         → IsSizeOf (spread_all F (roots_of sources.now)) result }

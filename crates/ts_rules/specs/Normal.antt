@@ -70,13 +70,13 @@ abbrev pub entry : Numbers → Ranked → Entry
 entry n (Ranked.Name name) = Entry.Name (n.prec name)
 entry n (Ranked.Rule name) = Entry.Rule (symbol (n.rule name))
 
-abbrev pub IsKept : Grammar → Ranked → Type 0
-IsKept g (Ranked.Name name) = Unit {0}
-IsKept g (Ranked.Rule name) = Not (IsInlined g name)
+abbrev pub IsKeptEntry : Grammar → Ranked → Type 0
+IsKeptEntry g (Ranked.Name name) = Unit {0}
+IsKeptEntry g (Ranked.Rule name) = Not (IsInlined g name)
 
 abbrev pub AreEntries : Grammar → Numbers → List Ranked → List Entry → Type 0
 AreEntries g n entries found =
-    (kept : List Ranked) × Picks (IsKept g) entries kept × (found ≡ map (entry n) kept)
+    (kept : List Ranked) × Picks (IsKeptEntry g) entries kept × (found ≡ map (entry n) kept)
 
 -- ---- supertypes
 

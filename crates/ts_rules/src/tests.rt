@@ -1,3 +1,4 @@
+//! Rule trees by examples: sights, alternatives, counts, names, tokens.
 use crate::{
     Around, CoreTree, Tree, WalkFault, alternatives_within, core_of, first_inside, first_undefined,
     is_immediate, lexical_precedence, rule_names, used_names, walk_of,

@@ -42,7 +42,7 @@ word_ends p m w state members made read at = (forward, backward)
     forward h =
         let come = (read.holds h.node).0 (subst (λ (xs : List ℕ). Contains xs h.node) (sym same) h.member) in
         let is : come.0 ≡ one.0 = only one.0 come.0 (subst (λ (xs : List ℕ). Contains xs come.0) one.1 come.1) in
-        part.ends w h.node (subst (λ (e : ℕ). Rattle.ts_automata.specs.Reads.Leads m.automaton.nodes.items e w h.node) is come.2) h.ends
+        part.ends w h.node (subst (λ (e : ℕ). Rattle.ts_automata.specs.Reads.LeadsOver m.automaton.nodes.items e w h.node) is come.2) h.ends
 
     backward : Word p w → HasEnd m.automaton.nodes.items members
     backward word =

@@ -8,7 +8,7 @@ use Rattle.spec_trees.specs.declared.visible.VisibleNode.{VisibleNode}
 use Rattle.spec_grammar.specs.Symbols.{first_production}
 use Rattle.spec_trees.specs.Trees.{symbol_of, pad_of, size_of, all_spans, children_of, elements_of}
 use Rattle.spec_trees.specs.VisibleNodes.{Marks, steps_at, is_shown, shown_name, shown_named, with_field, visible_node}
-use Rattle.ts_cursor.specs.Marked.{step_marks, seen_node, seen_nodes, window, part_nodes, inner_nodes, Appends}
+use Rattle.ts_cursor.specs.Marked.{step_marks, seen_node, seen_nodes, window, part_nodes, inner_nodes, AppendsNodes}
 use Rattle.ts_cursor.proofs.WalkLemmas.{depth_is, child_depth, shown_by, seen_push, put_shown, put_hidden, inner_none, nil_of, parted_next, parted_fits, Elemented, elemented_step, element_fits}
 use Rattle.ts_cursor.proofs.nodes.+walk.Goals as goal
 
@@ -48,7 +48,7 @@ put-returns-else-shows t c =
     let e : is_shown g (symbol_of node) m.alias ≡ false = shown_by g c.grammar.result.now c.symbol.result.0 (symbol_of node) m.alias c.shows.result false c.grammar.ensures c.symbol.ensures c.shows.ensures c.if-shows.false in
     let fs : c.as_slice.result.now ≡ with_field c.args.fields.now m.field = c.as_slice.ensures ∙ c.in_ok-own.ensures in
     on_ok_weaker c.put_children-else-shows.result (λ adds. put_hidden g node c.args.at.depth c.args.at.place c.args.fields.now m before _ e c.nodes.ensures.node.sized.within
-    (subst (λ (xs : List ℕ). Appends (c.args.at.place + all_spans (children_of node)) (inner_nodes g node c.args.at.depth c.args.at.place xs) before (seen_nodes c.put_children-else-shows.new.nodes.items)) fs adds)) c.put_children-else-shows.ensures
+    (subst (λ (xs : List ℕ). AppendsNodes (c.args.at.place + all_spans (children_of node)) (inner_nodes g node c.args.at.depth c.args.at.place xs) before (seen_nodes c.put_children-else-shows.new.nodes.items)) fs adds)) c.put_children-else-shows.ensures
 
 pub put_children-returns-else-elements-gt0 : goal.put_children-returns-else-elements-gt0
 put_children-returns-else-elements-gt0 t c =
@@ -57,7 +57,7 @@ put_children-returns-else-elements-gt0 t c =
     let i : inner_nodes c.args.steps.now node c.args.at.depth c.args.at.place c.args.fields.now ≡ part_nodes c.args.steps.now [] 0 (children_of node) c.args.at.depth c.args.at.place c.args.fields.now =
     inner_none c.args.steps.now node c.args.at.depth c.args.at.place c.args.fields.now (sym c.in-None.is ∙ c.production.ensures) none in
     on_ok_weaker c.put_all-else-elements-gt0.result (λ adds.
-    subst (λ (vs : List VisibleNode). Appends (c.args.at.place + all_spans (children_of node)) vs (seen_nodes c.args.nodes.now.items) (seen_nodes c.put_all-else-elements-gt0.new.nodes.items)) (sym i) adds) c.put_all-else-elements-gt0.ensures
+    subst (λ (vs : List VisibleNode). AppendsNodes (c.args.at.place + all_spans (children_of node)) vs (seen_nodes c.args.nodes.now.items) (seen_nodes c.put_all-else-elements-gt0.new.nodes.items)) (sym i) adds) c.put_all-else-elements-gt0.ensures
 
 pub put_elements-overflow_add-part : goal.put_elements-overflow_add-part
 put_elements-overflow_add-part t c =
@@ -81,8 +81,8 @@ put_elements-loop-e-preserved t c =
     let more : List VisibleNode = seen_nodes c.put_part.new.nodes.items in
     let st : c.alternative.result.now ≡ steps_at g (first_production g (symbol_of node) + el.alternative) =
     c.alternative.ensures ∙ ap (λ (n : ℕ). steps_at g (n + el.alternative)) (c.first-first.ensures ∙ ap (first_production g) c.symbol.ensures) in
-    let adds : Appends (c.loop-e.place + all_spans own) (part_nodes g (steps_at g (first_production g (symbol_of node) + el.alternative)) 0 own c.args.at.depth c.loop-e.place c.args.fields.now) found more =
-    subst (λ (ss : List Step). Appends (c.loop-e.place + all_spans own) (part_nodes g ss 0 own c.args.at.depth c.loop-e.place c.args.fields.now) found more) st c.in_ok-place.ensures.nodes in
+    let adds : AppendsNodes (c.loop-e.place + all_spans own) (part_nodes g (steps_at g (first_production g (symbol_of node) + el.alternative)) 0 own c.args.at.depth c.loop-e.place c.args.fields.now) found more =
+    subst (λ (ss : List Step). AppendsNodes (c.loop-e.place + all_spans own) (part_nodes g ss 0 own c.args.at.depth c.loop-e.place c.args.fields.now) found more) st c.in_ok-place.ensures.nodes in
     subst (λ (k : ℕ). Elemented g (symbol_of node) (elements_of node) ts c.args.at.depth c.args.at.place c.args.fields.now before (c.loop-e.e + 1) (c.loop-e.from + el.children) k more) (sym c.in_ok-place.ensures.place)
     (elemented_step g (symbol_of node) (elements_of node) ts c.args.at.depth c.args.at.place c.args.fields.now before c.loop-e.e c.loop-e.from c.loop-e.place found more el c.loop-e.invariant c.element-element.ensures adds)
 

@@ -1,5 +1,5 @@
 use Rattle.std.proofs.Common.{◌≡◌, arith, subst, ℕ}
-use Rattle.ts_items.specs.Sets.{Gains}
+use Rattle.ts_items.specs.Sets.{GainsTokens}
 use Rattle.ts_items.proofs.GainLemmas.{Selves, selves_none, selves_more, queue_none, queue_more}
 use Rattle.ts_items.proofs.first.begin_tokens.Goals as goal
 
@@ -18,7 +18,7 @@ loop-token-preserved c = record {
 pub returns-clause-gains : goal.returns-clause-gains
 returns-clause-gains c =
     let e : c.loop-token.token ≡ c.args.tokens = let a = c.loop-token-test.false in let b = c.loop-token.auto.token-end in omega arith in
-    subst (λ (k : ℕ). Gains (Selves k) c.args.sets.now c.loop-token.sets) e c.loop-token.invariant.gains
+    subst (λ (k : ℕ). GainsTokens (Selves k) c.args.sets.now c.loop-token.sets) e c.loop-token.invariant.gains
 
 pub returns-clause-queue : goal.returns-clause-queue
 returns-clause-queue c =

@@ -4,7 +4,7 @@ use Rattle.ts_bits.specs.declared.set.BitSet.{BitSet}
 use Rattle.ts_items.specs.declared.flow.Edge.{Edge}
 use Rattle.ts_items.specs.Edges.{IsFirstEdge, AreEdges, AreInside}
 use Rattle.ts_items.specs.Flow.{IsNet}
-use Rattle.ts_items.specs.Sets.{Gains}
+use Rattle.ts_items.specs.Sets.{GainsTokens}
 use Rattle.ts_items.proofs.GainLemmas.{Selves}
 use Rattle.ts_items.proofs.EdgeLemmas.{first_net, selves_queued, selves_are, begins_are}
 use Rattle.ts_items.proofs.first.fill_firsts.Goals as goal
@@ -28,7 +28,7 @@ flow-requires-clause-queue c =
 pub returns-clause-firsts : goal.returns-clause-firsts
 returns-clause-firsts c =
     let few = c.requires.few.0 in
-    let gains : Gains (Selves (length c.args.grammar.now.tokens)) c.args.sets.now c.begin_tokens.new.sets = subst (λ (k : ℕ). Gains (Selves k) c.args.sets.now c.begin_tokens.new.sets) c.len-tokens.ensures c.in_ok-begin_tokens.ensures.gains in
+    let gains : GainsTokens (Selves (length c.args.grammar.now.tokens)) c.args.sets.now c.begin_tokens.new.sets = subst (λ (k : ℕ). GainsTokens (Selves k) c.args.sets.now c.begin_tokens.new.sets) c.len-tokens.ensures c.in_ok-begin_tokens.ensures.gains in
     let are = subst (λ (l : List (Vec Edge)). AreEdges IsFirstEdge c.args.productions.now (length c.begin_tokens.new.sets) l) (sym c.as_slice.ensures.value) c.in_ok-edges.ensures in
     begins_are c.args.grammar.now c.args.productions.now (length c.begin_tokens.new.sets) c.as_slice.result.now [] c.begin_tokens.new.sets c.requires.plain are
     (selves_are (length c.args.grammar.now.tokens) c.begin_tokens.new.sets c.args.sets.now few c.requires.empty gains) c.flow.new.sets c.in_ok-flow.ensures

@@ -3,7 +3,7 @@ use Rattle.std.specs.Global.{Vec}
 use Rattle.std.specs.List.{Contains}
 use Rattle.std.proofs.lemmas.Result.{err_from_is_err_and}
 use Rattle.ts_items.specs.declared.part.Part.{Part}
-use Rattle.ts_items.specs.Closing.{AreParts, Closes}
+use Rattle.ts_items.specs.Closing.{AreLineParts, Closes}
 use Rattle.ts_items.proofs.ListLemmas.{one_at}
 use Rattle.ts_items.proofs.GotoLemmas.{over_at, states_grown, gotos_end}
 use Rattle.ts_items.proofs.StandLemmas.{are_too_many}
@@ -13,7 +13,7 @@ pub close-requires-clause-parts : goal.close-requires-clause-parts
 close-requires-clause-parts c =
     let t = c.requires.tables in
     let k = c.kernel_at.ensures in
-    subst (AreParts (length c.args.tables.now.productions.items) c.args.pool.now.keys) (sym k.2) (t.2 c.args.at k.0 k.1).parts
+    subst (AreLineParts (length c.args.tables.now.productions.items) c.args.pool.now.keys) (sym k.2) (t.2 c.args.at k.0 k.1).parts
 
 pub moved-requires-clause-lines : goal.moved-requires-clause-lines
 moved-requires-clause-lines c q h = let t = c.requires.tables in ((c.in_ok-parts.ensures.closes t.0 t.1).parts_are q (subst (λ (l : List Part). Contains l q) c.as_slice.ensures.value h)).line

@@ -1,6 +1,6 @@
 use Rattle.std.proofs.Common.{◌≡◌, Ok, sym, ap, ◌∙◌, List, ℕ}
 use Rattle.ts_langfile.specs.declared.flaw.Stop.{Stop}
-use Rattle.ts_langfile.specs.Reader.{Stops}
+use Rattle.ts_langfile.specs.Reader.{StopsWith}
 use Rattle.ts_langfile.specs.Parts.{text_at}
 use Rattle.ts_langfile.proofs.TextLemmas.{text_right, text_wrong}
 use Rattle.ts_langfile.proofs.part.text.Goals as goal

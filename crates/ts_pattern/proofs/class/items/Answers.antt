@@ -1,7 +1,7 @@
 use Rattle.std.proofs.Common.{Bool, true, List, sym, ap, subst, ◌∙◌, arith}
 use Rattle.ts_pattern.specs.declared.sight.Sight.{Sight}
 use Rattle.ts_pattern.specs.declared.item.Item.{Item}
-use Rattle.ts_pattern.specs.Characters.{IsWithin}
+use Rattle.ts_pattern.specs.Characters.{IsSightWithin}
 use Rattle.ts_pattern.specs.Classes.{Items, item, opens_after}
 use Rattle.ts_pattern.proofs.ClassLemmas.{items_push, opens_push, class_wrong}
 use Rattle.ts_pattern.proofs.class.items.Goals as goal
@@ -11,7 +11,7 @@ items-preserved c =
     let w = c.args.text.now in
     let x = c.in-Sees.item in
     let seen = ap (λ (o : Bool). item w o c.items.next) (sym c.items.invariant.opens) ∙ sym c.in_ok-item.ensures.value ∙ c.in-Sees.is in
-    let ends = subst (λ (s : Sight Item). IsWithin w c.items.next s) c.in-Sees.is c.in_ok-item.ensures.within in
+    let ends = subst (λ (s : Sight Item). IsSightWithin w c.items.next s) c.in-Sees.is c.in_ok-item.ensures.within in
     let pushed = c.in_ok-push-in-Sees.ensures.ok in
     let more = items_push w c.items.items true c.args.start c.items.next c.in-Sees.after x c.items.invariant.items (λ e. omega (arith, c.peek.ensures.value, e)) seen in
     record {

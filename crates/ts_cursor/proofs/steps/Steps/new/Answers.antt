@@ -4,7 +4,7 @@ use Rattle.ts_core.specs.declared.flat.Step.{Step}
 use Rattle.ts_core.specs.declared.flat.Production.{Production}
 use Rattle.ts_core.specs.declared.flat.FlatRule.{FlatRule}
 use Rattle.spec_grammar.specs.Symbols.{count_productions}
-use Rattle.ts_cursor.specs.Numbered.{AreFirsts}
+use Rattle.ts_cursor.specs.Numbered.{AreFirstProductions}
 use Rattle.ts_cursor.proofs.NumberLemmas.{count_steps, firsts_more, steps_more}
 use Rattle.ts_cursor.proofs.steps.Steps.new.Goals as goal
 
@@ -23,7 +23,7 @@ loop-rule-preserved c =
     let whole : take c.loop-production.production-index ps ≡ ps = take_all c.loop-production.production-index ps (omega (arith, c.loop-production-test.false)) in
     record {
       many = ap length o ∙ omega (arith, length-append firsts (length c.as_slice.result.now ∷ []), c.loop-rule.invariant.many);
-      each = subst (λ (xs : List ℕ). AreFirsts rules xs) (sym o) (firsts_more rules firsts (length c.as_slice.result.now) c.loop-rule.invariant.each at);
+      each = subst (λ (xs : List ℕ). AreFirstProductions rules xs) (sym o) (firsts_more rules firsts (length c.as_slice.result.now) c.loop-rule.invariant.each at);
       all =
           steps_more rules i c.rule-item.result steps (map (λ x. x.now) c.loop-production.steps.items) c.loop-rule.invariant.all c.loop-rule-test.true c.rule-item.is
           (c.loop-production.invariant ∙ ap (λ (xs : List Production). steps ++ map (λ (p : Production). p.steps) xs) (whole ∙ own));
