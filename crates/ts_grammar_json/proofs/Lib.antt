@@ -6,3 +6,5 @@ pub mod ListLemmas
 pub mod RuleLemmas
 pub mod FileLemmas
 pub mod WellFormedLemmas
+pub mod TextLemmas
+pub mod ShortLemmas

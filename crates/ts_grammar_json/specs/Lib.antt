@@ -7,3 +7,4 @@ pub mod File
 pub mod Found
 pub mod Shape
 pub mod WellFormed
+pub mod ShortParts

@@ -1,9 +1,13 @@
 //! Laws of the definitions, for crates above.
-ghost use Rattle.std.specs.Prelude.{◌≡◌, ◌≢◌};
+ghost use Rattle.std.specs.Prelude.{◌≡◌, ◌≢◌, length};
 ghost use Rattle.ts_core.specs.declared.rule.Grammar.{Grammar as AnyGrammar};
-ghost use Rattle.ts_ojson.specs.Json.{Json, HasDistinctNames};
+ghost use Rattle.ts_base.specs.Bytes.{Bytes};
+ghost use Rattle.ts_ojson.specs.Json.{Json, HasDistinctNames, json_of};
+ghost use Rattle.ts_ojson.specs.Reads.{Reads};
+ghost use Rattle.ts_ojson.specs.declared.value.OJson.{OJson as AnyJson};
 ghost use Rattle.ts_grammar_json.specs.declared.fault.GFault.{GFault as AnyFault};
 ghost use Rattle.ts_grammar_json.specs.File.{IsGrammar, IsFault};
+ghost use Rattle.ts_grammar_json.specs.ShortParts.{HasPartsWithin};
 ghost use Rattle.ts_grammar_json.specs.WellFormed.{IsWellFormed};
 
 use crate::fault::GFault;
@@ -30,4 +34,11 @@ pub fn refused_is_no_grammar()
 pub fn grammars_are_well_formed()
     ensures { (g : AnyGrammar) (value : Json) → HasDistinctNames value
         → IsGrammar value g → IsWellFormed g }
+{}
+
+/// No text and no list of a grammar is longer than the file that it was read from.
+
+pub fn grammars_have_parts_within()
+    ensures { (w : Bytes) (v : AnyJson) (g : AnyGrammar) → Reads v w → IsGrammar (json_of v) g
+        → HasPartsWithin (length w) g }
 {}

@@ -18,4 +18,7 @@ mod tests;
 
 pub use fault::GFault;
 pub use file::grammar;
-pub use laws::{grammars_are_well_formed, one_fault, one_grammar, refused_is_no_grammar};
+pub use laws::{
+    grammars_are_well_formed, grammars_have_parts_within, one_fault, one_grammar,
+    refused_is_no_grammar,
+};

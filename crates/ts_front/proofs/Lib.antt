@@ -1,0 +1,2 @@
+pub mod SmallLemmas
+pub mod FileLemmas
