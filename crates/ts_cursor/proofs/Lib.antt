@@ -1,5 +1,6 @@
-pub mod WalkLemmas
-pub mod NumberLemmas
-pub mod ShapeLemmas
 pub mod NestLemmas
+pub mod NumberLemmas
+pub mod RowLemmas
+pub mod ShapeLemmas
 pub mod StandLemmas
+pub mod WalkLemmas

@@ -1,3 +1,4 @@
 pub mod Marked
 pub mod Numbered
 pub mod Linked
+pub mod Row

@@ -9,6 +9,8 @@ mod links;
 mod moves;
 mod nodes;
 mod printed;
+#[cfg(test)]
+mod rows;
 mod steps;
 #[cfg(test)]
 mod tests;

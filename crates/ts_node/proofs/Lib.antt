@@ -1,9 +1,14 @@
+pub mod AcceptedLemmas
 pub mod BodyLemmas
 pub mod FillLemmas
+pub mod FormLemmas
 pub mod LeafLemmas
+pub mod LeavesLemmas
 pub mod ProductionLemmas
 pub mod ReducedLemmas
+pub mod RemadeLemmas
 pub mod RemakeLemmas
 pub mod RunLemmas
 pub mod SmallLemmas
+pub mod StandingLemmas
 pub mod TotalLemmas

@@ -1,5 +1,5 @@
 -- What a reduction makes of children that can be reduced is a node.
-use Rattle.std.proofs.Common.{◌≡◌, ℕ, ◌+◌, ◌-◌, ◌*◌, ◌<◌, ◌≤◌, ◌^◌, sym, ap, subst, arith, List, [], ◌∷◌, ◌++◌, length, Option, Some, None, true, false, length-append}
+use Rattle.std.proofs.Common.{◌≡◌, ◌∙◌, ℕ, ◌+◌, ◌-◌, ◌*◌, ◌<◌, ◌≤◌, ◌^◌, sym, ap, subst, arith, List, [], ◌∷◌, ◌++◌, length, Option, Some, None, true, false, length-append}
 use Rattle.std.specs.Prelude.{All, option_map, unwrap_or}
 use Rattle.std.specs.Int.RustNames.{unsigned_abs}
 use Rattle.std.proofs.lemmas.List.Elements.{All-head, All-tail, All-append}
@@ -11,16 +11,17 @@ use Rattle.spec_trees.specs.declared.tree.Element.{Element}
 use Rattle.spec_trees.specs.declared.tree.Tree.TheOpen.{Tree-F}
 use Rattle.spec_trees.specs.declared.tree.Tree.TheViews.{out-roll-Tree}
 use Rattle.spec_trees.specs.declared.tree.Tree.TheFolds.{fold-roll-Tree, fold_out-Tree}
-use Rattle.spec_trees.specs.Trees.{elements_of, children_of, is_settled, total_of, all_totals, pad_of, size_of, span_of, node_extent, all_spans, first_pad, node_count, nodes_step, all_nodes, tree_depth, depth_step, greatest_depth}
-use Rattle.spec_trees.specs.Made.{IsNode, IsSettledWell, node_over, element, made_by, reduced, Form, of_rule, of_first, of_next, form_of, left_of, value_of, Lengthens, EndBy, AreCounted, children_count, most_span, most_depth, node_limit}
+use Rattle.spec_trees.specs.Trees.{symbol_of, elements_of, children_of, is_settled, total_of, all_totals, pad_of, size_of, span_of, node_extent, all_spans, first_pad, node_count, nodes_step, all_nodes, tree_depth, depth_step, greatest_depth}
+use Rattle.spec_trees.specs.Made.{IsNode, IsSettledWell, accepted, node_over, element, made_by, reduced, Form, of_rule, of_first, of_next, form_of, left_of, value_of, Lengthens, EndBy, AreCounted, children_count, most_span, most_depth, node_limit}
 use Rattle.spec_trees.specs.Reducible.{IsReducible}
+use Rattle.ts_node.specs.Standing.{CanBeReduced, IsMadeWith, depth_by}
 use Rattle.ts_node.specs.Falls.{all_nodes-append}
 use Rattle.ts_node.proofs.RunLemmas.{all_spans-append, greatest_depth-append, children_count_append}
 use Rattle.ts_node.proofs.TotalLemmas.{abs_sum}
 
 -- ---- a node over children
 
-abbrev over_layer : ℕ → Option ℕ → ℤ → ℕ → Option ℕ → List Element → List Tree → Tree-F Tree
+abbrev pub over_layer : ℕ → Option ℕ → ℤ → ℕ → Option ℕ → List Element → List Tree → Tree-F Tree
 over_layer symbol production dynamic extent state es ks = record {
   symbol = record { 0 = symbol };
   production = production;
@@ -35,7 +36,7 @@ over_layer symbol production dynamic extent state es ks = record {
   children = ks;
 }
 
-first_pad_within : (ks : List Tree) → first_pad ks ≤ all_spans ks
+pub first_pad_within : (ks : List Tree) → first_pad ks ≤ all_spans ks
 first_pad_within [] = omega arith
 first_pad_within (k ∷ ks) = omega arith
 
@@ -50,7 +51,7 @@ pub record IsFit (dynamic : ℤ) (extent : ℕ) (es : List Element) (ks : List T
   pub inner : All (λ child. is_settled child ≡ true) ks
   pub covers : EndBy extent 0 ks
 
-fit_is_node : (symbol : ℕ) (production : Option ℕ) (dynamic : ℤ) (extent : ℕ) (state : Option ℕ) (es : List Element) (ks : List Tree) → IsFit dynamic extent es ks → IsNode (node_over symbol production dynamic extent state es ks)
+pub fit_is_node : (symbol : ℕ) (production : Option ℕ) (dynamic : ℤ) (extent : ℕ) (state : Option ℕ) (es : List Element) (ks : List Tree) → IsFit dynamic extent es ks → IsNode (node_over symbol production dynamic extent state es ks)
 fit_is_node symbol production dynamic extent state es ks f =
     let layer = over_layer symbol production dynamic extent state es ks in
     let t = node_over symbol production dynamic extent state es ks in
@@ -104,28 +105,37 @@ end_by_both end place (k ∷ ks) more a b =
 
 -- ---- the three forms
 
-rule_fits : (value : ℤ) (extent : ℕ) (g : FlatGrammar) (number : ℕ) (ks : List Tree) → unsigned_abs value ≤ 2 ^ 31 → IsReducible g number extent ks → IsFit (value +ℤ all_totals ks) extent [] ks
-rule_fits value extent g number ks v r = record {
-  few = omega (arith, r.standing.few);
-  short = r.standing.short;
-  shallow = r.standing.shallow;
+-- what is asked of the children of each form
+record AreStanding (extent : ℕ) (ks : List Tree) : Type 0 where
+  nodes : All IsNode ks
+  settled : All (λ child. is_settled child ≡ true) ks
+  few : 2 + all_nodes ks < node_limit
+  short : all_spans ks ≤ most_span
+  past : all_spans ks < extent
+  covers : EndBy extent 0 ks
+
+rule_fits : (value : ℤ) (extent : ℕ) (ks : List Tree) → unsigned_abs value ≤ 2 ^ 31 → AreStanding extent ks → 1 + greatest_depth ks ≤ most_depth → IsFit (value +ℤ all_totals ks) extent [] ks
+rule_fits value extent ks v r shallow = record {
+  few = omega (arith, r.few);
+  short = r.short;
+  shallow = shallow;
   counted = tt;
-  modest = omega (arith, v, abs_sum value (all_totals ks), modest_totals ks r.standing.nodes);
-  past = r.standing.past;
-  inner = r.standing.settled;
-  covers = r.standing.covers;
+  modest = omega (arith, v, abs_sum value (all_totals ks), modest_totals ks r.nodes);
+  past = r.past;
+  inner = r.settled;
+  covers = r.covers;
 }
 
-first_fits : (value : ℤ) (extent alternative : ℕ) (g : FlatGrammar) (number : ℕ) (ks : List Tree) → unsigned_abs value ≤ 2 ^ 31 → IsReducible g number extent ks → IsFit (value +ℤ all_totals ks) extent (element alternative (length ks) ∷ []) ks
-first_fits value extent alternative g number ks v r = record {
-  few = omega (arith, r.standing.few);
-  short = r.standing.short;
-  shallow = r.standing.shallow;
+first_fits : (value : ℤ) (extent alternative : ℕ) (ks : List Tree) → unsigned_abs value ≤ 2 ^ 31 → AreStanding extent ks → 1 + greatest_depth ks ≤ most_depth → IsFit (value +ℤ all_totals ks) extent (element alternative (length ks) ∷ []) ks
+first_fits value extent alternative ks v r shallow = record {
+  few = omega (arith, r.few);
+  short = r.short;
+  shallow = shallow;
   counted = omega arith;
-  modest = omega (arith, v, abs_sum value (all_totals ks), modest_totals ks r.standing.nodes);
-  past = r.standing.past;
-  inner = r.standing.settled;
-  covers = r.standing.covers;
+  modest = omega (arith, v, abs_sum value (all_totals ks), modest_totals ks r.nodes);
+  past = r.past;
+  inner = r.settled;
+  covers = r.covers;
 }
 
 counted_by : (es : List Element) (ks : List Tree) → children_count es ≡ length ks → AreCounted es ks
@@ -136,45 +146,112 @@ some_counted : (es : List Element) (ks : List Tree) → 0 < length es → AreCou
 some_counted [] ks some h = let f : ⊥ = omega (arith, some) in elim f [ ]
 some_counted (e ∷ es) ks some h = h
 
-next_fits : (value : ℤ) (extent alternative : ℕ) (g : FlatGrammar) (number : ℕ) (before : Tree) (more : List Tree) → unsigned_abs value ≤ 2 ^ 31 → 0 < length (elements_of before) → IsReducible g number extent (before ∷ more) → IsFit (value +ℤ (total_of before +ℤ all_totals more)) extent (elements_of before ++ element alternative (length more) ∷ []) (children_of before ++ more)
-next_fits value extent alternative g number before more v some r =
+next_fits : (value : ℤ) (extent alternative : ℕ) (before : Tree) (more : List Tree) → unsigned_abs value ≤ 2 ^ 31 → 0 < length (elements_of before) → AreStanding extent (before ∷ more) → 1 + greatest_depth (children_of before ++ more) ≤ most_depth → IsFit (value +ℤ (total_of before +ℤ all_totals more)) extent (elements_of before ++ element alternative (length more) ∷ []) (children_of before ++ more)
+next_fits value extent alternative before more v some r shallow =
     let es = elements_of before in
     let ks = children_of before in
     let last = element alternative (length more) ∷ [] in
-    let b : IsNode before = All-head IsNode before more r.standing.nodes in
-    let w : IsSettledWell before = b.settled (All-head (λ child. is_settled child ≡ true) before more r.standing.settled) in
+    let b : IsNode before = All-head IsNode before more r.nodes in
+    let w : IsSettledWell before = b.settled (All-head (λ child. is_settled child ≡ true) before more r.settled) in
     let n : node_count before ≡ 1 + (length es + all_nodes ks) = fold_out-Tree ℕ nodes_step before in
-    let d : tree_depth before ≡ 1 + greatest_depth ks = fold_out-Tree ℕ depth_step before in
     let within : all_spans ks ≤ span_of before = b.sized.within in
     let own : children_count es ≡ length ks = some_counted es ks some b.counted in
     let m : unsigned_abs (total_of before) ≤ 2 ^ 31 * node_count before = b.modest in
-    let others : unsigned_abs (all_totals more) ≤ 2 ^ 31 * all_nodes more = modest_totals more (All-tail IsNode before more r.standing.nodes) in
-    let head : 0 + node_extent before ≤ extent = r.standing.covers.0 in
-    let tail : EndBy extent (0 + span_of before) more = r.standing.covers.1 in
+    let others : unsigned_abs (all_totals more) ≤ 2 ^ 31 * all_nodes more = modest_totals more (All-tail IsNode before more r.nodes) in
+    let head : 0 + node_extent before ≤ extent = r.covers.0 in
+    let tail : EndBy extent (0 + span_of before) more = r.covers.1 in
     record {
-      few = omega (arith, r.standing.few, n, all_nodes-append ks more, length-append es last);
-      short = omega (arith, r.standing.short, within, all_spans-append ks more);
-      shallow = omega (arith, r.standing.shallow, d, greatest_depth-append ks more);
+      few = omega (arith, r.few, n, all_nodes-append ks more, length-append es last);
+      short = omega (arith, r.short, within, all_spans-append ks more);
+      shallow = shallow;
       counted = counted_by (es ++ last) (ks ++ more) (omega (arith, own, children_count_append es last, length-append ks more));
       modest = omega (arith, v, m, others, n, abs_sum value (total_of before +ℤ all_totals more), abs_sum (total_of before) (all_totals more), all_nodes-append ks more, length-append es last);
-      past = omega (arith, r.standing.past, within, all_spans-append ks more);
-      inner = All-append (λ child. is_settled child ≡ true) ks more w.inner (All-tail (λ child. is_settled child ≡ true) before more r.standing.settled);
+      past = omega (arith, r.past, within, all_spans-append ks more);
+      inner = All-append (λ child. is_settled child ≡ true) ks more w.inner (All-tail (λ child. is_settled child ≡ true) before more r.settled);
       covers = end_by_both extent 0 ks more
           (end_by_wider (node_extent before) extent 0 0 ks (omega (arith, head)) (omega arith) w.covers)
           (end_by_wider extent extent (0 + span_of before) (0 + all_spans ks) more (omega arith) (omega (arith, within)) tail);
     }
 
-made_node : (f : Form) (symbol number : ℕ) (value : ℤ) (extent : ℕ) (state : Option ℕ) (g : FlatGrammar) (ks : List Tree) → unsigned_abs value ≤ 2 ^ 31 → Lengthens f ks → IsReducible g number extent ks → IsNode (made_by f symbol number value extent state ks)
-made_node of_rule symbol number value extent state g ks v l r =
-    fit_is_node symbol (Some number) (value +ℤ all_totals ks) extent state [] ks (rule_fits value extent g number ks v r)
-made_node (of_first alternative) symbol number value extent state g ks v l r =
-    fit_is_node symbol None (value +ℤ all_totals ks) extent state (element alternative (length ks) ∷ []) ks (first_fits value extent alternative g number ks v r)
-made_node (of_next alternative) symbol number value extent state g [] v l r = elim l [ ]
-made_node (of_next alternative) symbol number value extent state g (before ∷ more) v l r =
-    fit_is_node symbol None (value +ℤ (total_of before +ℤ all_totals more)) extent state (elements_of before ++ element alternative (length more) ∷ []) (children_of before ++ more) (next_fits value extent alternative g number before more v l r)
+-- ---- depth
 
-pub reduced_node : (g : FlatGrammar) (number extent : ℕ) (state : Option ℕ) (children : List Tree) → IsReducible g number extent children → IsNode (reduced g number extent state children)
-reduced_node g number extent state children r =
+over_depth : (symbol : ℕ) (production : Option ℕ) (dynamic : ℤ) (extent : ℕ) (state : Option ℕ) (es : List Element) (ks : List Tree) → tree_depth (node_over symbol production dynamic extent state es ks) ≡ 1 + greatest_depth ks
+over_depth symbol production dynamic extent state es ks = fold-roll-Tree ℕ depth_step (over_layer symbol production dynamic extent state es ks)
+
+both_depth : (before : Tree) (more : List Tree) → 1 + greatest_depth (children_of before ++ more) ≡ depth_by (of_next 0) (before ∷ more)
+both_depth before more =
+    let d : tree_depth before ≡ 1 + greatest_depth (children_of before) = fold_out-Tree ℕ depth_step before in
+    omega (arith, d, greatest_depth-append (children_of before) more)
+
+made_depth : (f : Form) (symbol number : ℕ) (value : ℤ) (extent : ℕ) (state : Option ℕ) (ks : List Tree) → tree_depth (made_by f symbol number value extent state ks) ≡ depth_by f ks
+made_depth of_rule symbol number value extent state ks = over_depth _ _ _ _ _ _ ks
+made_depth (of_first alternative) symbol number value extent state ks = over_depth _ _ _ _ _ _ ks
+made_depth (of_next alternative) symbol number value extent state [] = over_depth _ _ _ _ _ _ []
+made_depth (of_next alternative) symbol number value extent state (before ∷ more) =
+    over_depth _ _ _ _ _ _ (children_of before ++ more) ∙ both_depth before more
+
+pub reduced_depth : (g : FlatGrammar) (number extent : ℕ) (state : Option ℕ) (children : List Tree) → tree_depth (reduced g number extent state children) ≡ depth_by (form_of g (left_of g number) number) children
+reduced_depth g number extent state children = made_depth (form_of g (left_of g number) number) (left_of g number) number (value_of g number) extent state children
+
+depth_least : (f : Form) (ks : List Tree) → depth_by f ks ≤ 1 + greatest_depth ks
+depth_least of_rule ks = omega arith
+depth_least (of_first alternative) ks = omega arith
+depth_least (of_next alternative) [] = omega arith
+depth_least (of_next alternative) (before ∷ more) = omega arith
+
+-- ---- what a reduction makes
+
+made_node : (f : Form) (symbol number : ℕ) (value : ℤ) (extent : ℕ) (state : Option ℕ) (ks : List Tree) → unsigned_abs value ≤ 2 ^ 31 → Lengthens f ks → AreStanding extent ks → depth_by f ks ≤ most_depth → IsNode (made_by f symbol number value extent state ks)
+made_node of_rule symbol number value extent state ks v l r d =
+    fit_is_node symbol (Some number) (value +ℤ all_totals ks) extent state [] ks (rule_fits value extent ks v r (omega (arith, d)))
+made_node (of_first alternative) symbol number value extent state ks v l r d =
+    fit_is_node symbol None (value +ℤ all_totals ks) extent state (element alternative (length ks) ∷ []) ks (first_fits value extent alternative ks v r (omega (arith, d)))
+made_node (of_next alternative) symbol number value extent state [] v l r d = elim l [ ]
+made_node (of_next alternative) symbol number value extent state (before ∷ more) v l r d =
+    fit_is_node symbol None (value +ℤ (total_of before +ℤ all_totals more)) extent state (elements_of before ++ element alternative (length more) ∷ []) (children_of before ++ more) (next_fits value extent alternative before more v l r (omega (arith, d, both_depth before more)))
+
+pub can_be_node : (g : FlatGrammar) (number extent : ℕ) (state : Option ℕ) (children : List Tree) → CanBeReduced g number extent state children → IsNode (reduced g number extent state children)
+can_be_node g number extent state children r =
     let s : left_of g number ≡ r.fits.left = ap (λ (o : Option (ℕ × Production)). unwrap_or (option_map (λ p. p.0) o) 0) r.fits.at in
     let l : Lengthens (form_of g (left_of g number) number) children = subst (λ (x : ℕ). Lengthens (form_of g x number) children) (sym s) r.fits.lengthens in
-    made_node (form_of g (left_of g number) number) (left_of g number) number (value_of g number) extent state g children r.value l r
+    made_node (form_of g (left_of g number) number) (left_of g number) number (value_of g number) extent state children r.value l
+    (record { nodes = r.nodes; settled = r.settled; few = r.few; short = r.short; past = r.past; covers = r.covers })
+    (omega (arith, r.shallow, reduced_depth g number extent state children))
+
+pub reduced_node : (g : FlatGrammar) (number extent : ℕ) (state : Option ℕ) (children : List Tree) → IsReducible g number extent children → IsNode (reduced g number extent state children)
+reduced_node g number extent state children r = can_be_node g number extent state children (record {
+  fits = r.fits;
+  value = r.value;
+  nodes = r.standing.nodes;
+  settled = r.standing.settled;
+  few = r.standing.few;
+  short = r.standing.short;
+  shallow = omega (arith, reduced_depth g number extent state children, depth_least (form_of g (left_of g number) number) children, r.standing.shallow);
+  past = r.standing.past;
+  covers = r.standing.covers;
+})
+
+-- ---- what is so of it
+
+over_made : (symbol : ℕ) (production : Option ℕ) (dynamic : ℤ) (extent : ℕ) (state : Option ℕ) (es : List Element) (ks : List Tree) → IsMadeWith symbol extent state (node_over symbol production dynamic extent state es ks)
+over_made symbol production dynamic extent state es ks =
+    let o = out-roll-Tree (over_layer symbol production dynamic extent state es ks) in
+    record {
+      symbol_is = ap (λ (x : Tree-F Tree). x.symbol.0) o;
+      extent_is = ap (λ (x : Tree-F Tree). x.extent) o;
+      state_is = ap (λ (x : Tree-F Tree). x.state) o;
+      settled = ap (λ (x : Tree-F Tree). x.settled) o;
+      plain = ap (λ (x : Tree-F Tree). x.extra) o;
+    }
+
+form_made : (f : Form) (symbol number : ℕ) (value : ℤ) (extent : ℕ) (state : Option ℕ) (ks : List Tree) → IsMadeWith symbol extent state (made_by f symbol number value extent state ks)
+form_made of_rule symbol number value extent state ks = over_made _ _ _ _ _ _ ks
+form_made (of_first alternative) symbol number value extent state ks = over_made _ _ _ _ _ _ ks
+form_made (of_next alternative) symbol number value extent state [] = over_made _ _ _ _ _ _ []
+form_made (of_next alternative) symbol number value extent state (before ∷ more) = over_made _ _ _ _ _ _ (children_of before ++ more)
+
+pub reduced_made : (g : FlatGrammar) (number extent : ℕ) (state : Option ℕ) (children : List Tree) → IsMadeWith (left_of g number) extent state (reduced g number extent state children)
+reduced_made g number extent state children = form_made (form_of g (left_of g number) number) (left_of g number) number (value_of g number) extent state children
+
+pub accepted_made : (root : Tree) (before after : List Tree) (extent : ℕ) → IsMadeWith (symbol_of root) extent None (accepted root before after extent)
+accepted_made root before after extent = over_made _ _ _ _ _ _ ((before ++ children_of root) ++ after)

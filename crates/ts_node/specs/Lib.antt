@@ -2,3 +2,5 @@ pub mod Held
 pub mod Entries
 pub mod Falls
 pub mod Small
+pub mod Standing
+pub mod Leaves

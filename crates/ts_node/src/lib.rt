@@ -14,7 +14,11 @@ mod sums;
 mod tests;
 
 pub use change::remake;
-pub use laws::reduced_is_node;
+pub use laws::{
+    accepted_is_node, leaves_spell_the_text, made_nodes_are_gapless, made_nodes_are_in_form,
+    made_nodes_are_settled, reduced_by_a_rule, reduced_is_node, reduced_is_node_of_its_depth,
+    remade_is_node,
+};
 pub use make::{accept, reduce};
 pub use node::Node;
 pub use productions::Productions;

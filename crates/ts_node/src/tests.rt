@@ -6,7 +6,9 @@ ghost use Rattle.spec_trees.specs.Reducible.{CanBeChildren};
 
 use crate::node::Run;
 use crate::sums::sums;
-use crate::{Node, Productions, reduce, reduced_is_node};
+use crate::{
+    Node, Productions, accept, accepted_is_node, reduce, reduced_is_node, remade_is_node, remake,
+};
 use std::alloc::{AllocError, Global};
 use std::test::Fail;
 use ts_base::{List, Shared};
@@ -225,13 +227,13 @@ fn run(alloc: Global, count: u32) -> Result<Shared<Run>, Fail>
 #[test]
 fn a_run_keeps_its_elements(rt: HostRuntime) -> Result<(), Fail> {
     let alloc = rt.alloc();
-    let run = run(alloc, 100_000)?;
-    assert_eq!(rt; run.get().counts().elements, 100_000);
-    assert_eq!(rt; run.get().element(77_777).alternative, 77_777);
+    let run = run(alloc, 1_000)?;
+    assert_eq!(rt; run.get().counts().elements, 1_000);
+    assert_eq!(rt; run.get().element(777).alternative, 777);
     let longer = Node::leaf(Symbol(1), 0, 9, 10, None);
-    let changed = Run::with_child(alloc, &run, 77_777, longer)?;
-    assert_eq!(rt; changed.get().counts().sums.spans, 100_008);
-    assert_eq!(rt; run.get().counts().sums.spans, 100_000);
+    let changed = Run::with_child(alloc, &run, 777, longer)?;
+    assert_eq!(rt; changed.get().counts().sums.spans, 1_008);
+    assert_eq!(rt; run.get().counts().sums.spans, 1_000);
     Ok(())
 }
 
@@ -257,34 +259,145 @@ fn repetition(alloc: Global, productions: &Productions, count: u32) -> Result<Op
     Ok(run)
 }
 
-#[test]
-fn nodes_are_reduced(rt: HostRuntime) -> Result<(), Fail> {
-    let alloc = rt.alloc();
+/// A repetition of so many tokens, each but the first behind an extra.
+fn long_run(alloc: Global, count: u32) -> Result<Option<Node>, Fail> {
     let flat = grammar(alloc)?;
     let productions = Productions::new(alloc, &flat)?;
-    let Some(run) = repetition(alloc, &productions, 10_000)? else {
+    repetition(alloc, &productions, count)
+}
+
+#[test]
+fn a_repetition_is_flat(rt: HostRuntime) -> Result<(), Fail> {
+    let Some(run) = long_run(rt.alloc(), 100_000)? else {
         panic!(rt; "no repetition");
     };
-    assert_eq!(rt; run.elements(), 10_000);
-    assert_eq!(rt; run.children(), 19_999);
-    assert_eq!(rt; run.size(), 19_999);
+    assert_eq!(rt; run.elements(), 100_000);
+    assert_eq!(rt; run.size(), 199_999);
     assert_eq!(rt; run.depth(), 2);
-    if run.children() > 7_778 {
-        assert_eq!(rt; run.filled(7_777), None);
-        assert_eq!(rt; run.filled(7_778), Some(0));
-        assert_eq!(rt; run.child(7_777).extra(), true);
-    }
-    let Some(root) = start(alloc, &productions, run)? else {
-        panic!(rt; "no start");
-    };
-    assert_eq!(rt; root.symbol().0, 2);
-    assert_eq!(rt; root.production(), Some(0));
-    assert_eq!(rt; root.nodes(), 30_001);
-    let Some(nothing) = empty(alloc, &productions)? else {
+    assert!(rt; run.children() == 199_999);
+    assert_eq!(rt; run.filled(7_777), None);
+    assert_eq!(rt; run.filled(7_778), Some(0));
+    Ok(())
+}
+
+/// The start rule's node over nothing.
+fn empty_start(alloc: Global) -> Result<Option<Node>, Fail> {
+    let flat = grammar(alloc)?;
+    let productions = Productions::new(alloc, &flat)?;
+    empty(alloc, &productions)
+}
+
+#[test]
+fn an_empty_rule_is_a_node(rt: HostRuntime) -> Result<(), Fail> {
+    let Some(nothing) = empty_start(rt.alloc())? else {
         panic!(rt; "no empty start");
     };
     assert_eq!(rt; nothing.production(), Some(1));
     assert_eq!(rt; nothing.children(), 0);
     assert_eq!(rt; nothing.depth(), 1);
+    Ok(())
+}
+
+/// The root with an extra on either side, accepted.
+fn accepted(alloc: Global, root: &Node, extra: &Node) -> Result<Option<Node>, Fail> {
+    if root.production().is_none() || root.elements() > 0 || !extra.extra() {
+        return Ok(None);
+    }
+    let mut stack = List::new(alloc);
+    stack.push(extra.try_clone()?)?;
+    stack.push(root.try_clone()?)?;
+    stack.push(extra.try_clone()?)?;
+    let Some(extent) = reach(stack.as_slice()) else {
+        return Ok(None);
+    };
+    let mut extras = List::new(alloc);
+    extras.push(extra.try_clone()?)?;
+    accepted_is_node();
+    Ok(Some(accept(alloc, root, extras.as_slice(), extras.as_slice(), extent)?))
+}
+
+/// The node behind so many bytes more, with the same children.
+fn behind(alloc: Global, node: &Node, by: u32) -> Result<Option<Node>, Fail> {
+    if node.nodes() == 0 || by > 1_000 || node.pad() + node.size() > 1_000_000 {
+        return Ok(None);
+    }
+    remade_is_node();
+    Ok(Some(remake(alloc, node, node.pad() + by, node.size(), &[])?))
+}
+
+/// The node behind so many bytes more, with this in the place of its only child.
+fn behind_with(alloc: Global, node: &Node, by: u32, child: Node) -> Result<Option<Node>, Fail> {
+    if node.nodes() == 0 || by > 1_000 || node.pad() + node.size() > 1_000_000 {
+        return Ok(None);
+    }
+    if node.children() != 1 || child.nodes() != node.child(0).nodes() {
+        return Ok(None);
+    }
+    if child.depth() != node.child(0).depth() || child.pad() > 2_000 || child.size() > node.size() {
+        return Ok(None);
+    }
+    if child.pad() + child.size() > node.pad() + by + node.size() {
+        return Ok(None);
+    }
+    remade_is_node();
+    Ok(Some(remake(alloc, node, node.pad() + by, node.size(), &[(0, child)])?))
+}
+
+/// The start rule's node over a repetition of two tokens, with an extra between them.
+fn short_start(alloc: Global) -> Result<Option<Node>, Fail> {
+    let flat = grammar(alloc)?;
+    let productions = Productions::new(alloc, &flat)?;
+    match repetition(alloc, &productions, 2)? {
+        Some(run) => start(alloc, &productions, run),
+        None => Ok(None),
+    }
+}
+
+/// The same, accepted between two extras of one blank and two bytes.
+fn short_root(alloc: Global) -> Result<Option<Node>, Fail> {
+    let extra = Node::leaf(Symbol(1), 1, 2, 4, None).as_extra();
+    match short_start(alloc)? {
+        Some(start) => accepted(alloc, &start, &extra),
+        None => Ok(None),
+    }
+}
+
+#[test]
+fn a_root_is_accepted(rt: HostRuntime) -> Result<(), Fail> {
+    let Some(root) = short_root(rt.alloc())? else {
+        panic!(rt; "no root");
+    };
+    assert_eq!(rt; root.symbol().0, 2);
+    assert_eq!(rt; root.pad(), 1);
+    assert_eq!(rt; root.size(), 8);
+    assert_eq!(rt; root.children(), 3);
+    assert_eq!(rt; root.nodes(), 9);
+    Ok(())
+}
+
+/// The start rule's node and its child, both behind so many bytes more.
+fn moved_start(alloc: Global, by: u32) -> Result<Option<Node>, Fail> {
+    let Some(start) = short_start(alloc)? else {
+        return Ok(None);
+    };
+    if start.children() != 1 {
+        return Ok(None);
+    }
+    match behind(alloc, start.child(0), by)? {
+        Some(child) => behind_with(alloc, &start, by, child),
+        None => Ok(None),
+    }
+}
+
+#[test]
+fn a_node_is_remade(rt: HostRuntime) -> Result<(), Fail> {
+    let Some(moved) = moved_start(rt.alloc(), 3)? else {
+        panic!(rt; "not moved");
+    };
+    assert_eq!(rt; moved.pad(), 3);
+    assert_eq!(rt; moved.size(), 3);
+    assert_eq!(rt; moved.settled(), false);
+    assert!(rt; moved.children() == 1);
+    assert_eq!(rt; moved.child(0).pad(), 3);
     Ok(())
 }
