@@ -1,4 +1,7 @@
+pub mod ApartLemmas
 pub mod FirstSightLemmas
+pub mod GrammarLemmas
+pub mod LimitLemmas
 pub mod NumberLemmas
 pub mod SameLemmas
 pub mod ShapeLemmas

@@ -1,7 +1,8 @@
 -- The test of two rule trees decides whether they are equal.
 use Rattle.std.proofs.Common.{◌≡◌, ◌∙◌, sym, ap, subst, refl, Bool, true, false, List, [], ◌∷◌, map}
 use Rattle.std.specs.Prelude.{◌&&◌}
-use Rattle.std.specs.Cmp.{signed_Decides, booleans_Decides}
+use Rattle.std.specs.Cmp.{IsEquivalence, bool_eq_equiv, signed_Decides, booleans_Decides}
+use Rattle.std.proofs.lemmas.Cmp.{nat_list_eq_equiv}
 use Rattle.std.specs.Bool.{beq}
 use Rattle.std.specs.Ordering.{int_eq}
 use Rattle.std.specs.Cmp.Lexicographic.{pointwise}
@@ -14,7 +15,7 @@ use Rattle.ts_core.specs.contracts.rule.RuleEq.TheImpl.Laws.{laws-law}
 use Rattle.ts_base.specs.Bytes.{Bytes}
 use Rattle.ts_core.specs.declared.flat.Alias.{Alias}
 use Rattle.ts_rules.specs.Sights.{alias}
-use Rattle.ts_numbering.specs.Places.{same_alias}
+use Rattle.ts_numbering.specs.Places.{same_tree, same_alias}
 use Rattle.ts_core.specs.declared.rule.PrecValue.{PrecValue}
 use Rattle.ts_core.specs.declared.rule.PrecValue.TheVariants.{Number, Name}
 use Rattle.ts_core.specs.declared.rule.Rule.{Rule}
@@ -199,3 +200,17 @@ pub alias_itself : (a : Alias) → same_alias a a ≡ true
 alias_itself a =
     let d = booleans_Decides a.named a.named in
     ap (λ (x : Bool). x && beq a.named a.named) (bytes_same a.name a.name refl) ∙ d.1 refl
+
+-- ---- both tests are equivalences
+
+pub tree_laws : IsEquivalence same_tree
+tree_laws = laws-law
+
+pub alias_laws : IsEquivalence same_alias
+alias_laws = record { refl = alias_itself; symm = turned; congr = carried }
+  where
+    turned : (a b : Alias) → same_alias a b ≡ same_alias b a
+    turned a b = ap (λ (t : Bool). t && beq a.named b.named) (nat_list_eq_equiv.symm a.name b.name) ∙ ap (λ (t : Bool). bytes_eq b.name a.name && t) (bool_eq_equiv.symm a.named b.named)
+
+    carried : (a b c : Alias) → same_alias a b ≡ true → same_alias a c ≡ same_alias b c
+    carried a b c h = ap (λ (x : Alias). same_alias x c) (alias_same a b h)

@@ -13,7 +13,7 @@ use Rattle.ts_rules.specs.declared.tree.Around.{Around}
 use Rattle.ts_rules.specs.declared.tree.NumberedStep.{NumberedStep}
 use Rattle.ts_rules.specs.declared.tree.Tree.{Tree}
 use Rattle.ts_rules.specs.declared.tree.Tree.TheVariants as tree
-use Rattle.ts_numbering.specs.Shapes.{some_blank, some_filled, joined, joins_of, branches_of, IsShapeOf}
+use Rattle.ts_numbering.specs.Shapes.{some_blank, some_filled, join_filled, joins_of, branches_of, IsShapeOf}
 use Rattle.ts_numbering.specs.declared.shape.Shape.{Shape}
 use Rattle.ts_numbering.proofs.TreeLemmas.{at_blank, at_step, at_field, at_alias, at_group, at_dynamic, at_seq, at_choice}
 
@@ -50,7 +50,7 @@ filled_none : (a : Bool) → false ≡ (not a && false) || (a && false)
 filled_none true = refl
 filled_none false = refl
 
-pub filled_before : (x : Alternative) (ys : Alternatives) → some_filled (map (λ y. followed x y) ys) ≡ joined (is_blank x.steps) (not (is_blank x.steps)) (some_blank ys) (some_filled ys)
+pub filled_before : (x : Alternative) (ys : Alternatives) → some_filled (map (λ y. followed x y) ys) ≡ join_filled (is_blank x.steps) (not (is_blank x.steps)) (some_blank ys) (some_filled ys)
 filled_before x [] = filled_none (is_blank x.steps)
 filled_before x (y ∷ ys) =
     ap (λ (b : Bool). not b || some_filled (map (λ y. followed x y) ys)) (blank_append x.steps y.steps)
@@ -71,7 +71,7 @@ blank_joins (x ∷ xs) ys =
     ∙ ap (λ (b : Bool). (is_blank x.steps && some_blank ys) || b) (blank_joins xs ys)
     ∙ spread_first (is_blank x.steps) (some_blank xs) (some_blank ys)
 
-joined_first : (a c d e f : Bool) → joined a (not a) e f || joined c d e f ≡ joined (a || c) (not a || d) e f
+joined_first : (a c d e f : Bool) → join_filled a (not a) e f || join_filled c d e f ≡ join_filled (a || c) (not a || d) e f
 joined_first true true true true true = refl
 joined_first true true true true false = refl
 joined_first true true true false true = refl
@@ -91,12 +91,12 @@ joined_first false true false false false = refl
 joined_first false false true false false = refl
 joined_first false false false false false = refl
 
-pub filled_joins : (xs ys : Alternatives) → some_filled (joins xs ys) ≡ joined (some_blank xs) (some_filled xs) (some_blank ys) (some_filled ys)
+pub filled_joins : (xs ys : Alternatives) → some_filled (joins xs ys) ≡ join_filled (some_blank xs) (some_filled xs) (some_blank ys) (some_filled ys)
 filled_joins [] ys = refl
 filled_joins (x ∷ xs) ys =
     list_any-append (λ (z : Alternative). not (is_blank z.steps)) (map (λ y. followed x y) ys) (joins xs ys)
     ∙ ap (λ (b : Bool). b || some_filled (joins xs ys)) (filled_before x ys)
-    ∙ ap (λ (b : Bool). joined (is_blank x.steps) (not (is_blank x.steps)) (some_blank ys) (some_filled ys) || b) (filled_joins xs ys)
+    ∙ ap (λ (b : Bool). join_filled (is_blank x.steps) (not (is_blank x.steps)) (some_blank ys) (some_filled ys) || b) (filled_joins xs ys)
     ∙ joined_first (is_blank x.steps) (some_blank xs) (some_filled xs) (some_blank ys) (some_filled ys)
 
 -- ---- groups
@@ -213,7 +213,7 @@ branches_none n shape b f = record { blank = λ a. b; filled = λ a. f }
 
 -- one more member before the rest
 joins_before : (n : Numbers) (member : Rule) (rest : List Rule) (here now new : Shape)
-    → Shaped (tree_of n member) here → new.blank ≡ here.blank && now.blank → new.filled ≡ joined here.blank here.filled now.blank now.filled
+    → Shaped (tree_of n member) here → new.blank ≡ here.blank && now.blank → new.filled ≡ join_filled here.blank here.filled now.blank now.filled
     → IsShapeOf (joins_of n rest) now → IsShapeOf (joins_of n (member ∷ rest)) new
 joins_before n member rest here now new h b f before = record {
   blank = λ a.
@@ -224,10 +224,10 @@ joins_before n member rest here now new h b f before = record {
   filled = λ a.
       let around = in_sequence (is_last (map (tree_of n) rest)) a in
       let first = alternatives_of (tree_of n member) around in
-      f ∙ ap (λ (x : Bool). joined x here.filled now.blank now.filled) (h.blank around)
-      ∙ ap (λ (x : Bool). joined (some_blank first) x now.blank now.filled) (h.filled around)
-      ∙ ap (λ (x : Bool). joined (some_blank first) (some_filled first) x now.filled) (before.blank a)
-      ∙ ap (λ (x : Bool). joined (some_blank first) (some_filled first) (some_blank (joins_of n rest a)) x) (before.filled a)
+      f ∙ ap (λ (x : Bool). join_filled x here.filled now.blank now.filled) (h.blank around)
+      ∙ ap (λ (x : Bool). join_filled (some_blank first) x now.blank now.filled) (h.filled around)
+      ∙ ap (λ (x : Bool). join_filled (some_blank first) (some_filled first) x now.filled) (before.blank a)
+      ∙ ap (λ (x : Bool). join_filled (some_blank first) (some_filled first) (some_blank (joins_of n rest a)) x) (before.filled a)
       ∙ sym (filled_joins first (joins_of n rest a));
 }
 
@@ -246,7 +246,7 @@ branches_before n member rest here now new h b f before = record {
 }
 
 pub joins_more : (n : Numbers) (all : List Rule) (i k : ℕ) (member : Rule) (here now new : Shape) → i < length all → k ≡ i + 1 → member ≡ get_or all i member
-    → Shaped (tree_of n member) here → new.blank ≡ here.blank && now.blank → new.filled ≡ joined here.blank here.filled now.blank now.filled
+    → Shaped (tree_of n member) here → new.blank ≡ here.blank && now.blank → new.filled ≡ join_filled here.blank here.filled now.blank now.filled
     → IsShapeOf (joins_of n (drop k all)) now → IsShapeOf (joins_of n (drop i all)) new
 joins_more n all i k member here now new lt e at h b f before =
     subst (λ (rest : List Rule). IsShapeOf (joins_of n rest) new) (ap (λ (m : Rule). m ∷ drop (i + 1) all) at ∙ sym (drop_more all i member lt))

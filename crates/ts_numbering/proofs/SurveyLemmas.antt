@@ -18,7 +18,7 @@ use Rattle.ts_rules.specs.FileGrammar.{IsFileGrammar}
 use Rattle.ts_rules.specs.FirstSights.{Not, AreFirstSights, Picks, end, taken, left}
 use Rattle.ts_rules.specs.Numbers.{NamesToken, NamesSome, HasSymbol, IsRepeated, start_of}
 use Rattle.ts_rules.specs.Sights.{NamedRule, Sight, sights, below, seen_rules, rule_sights, tokens_in, contents_in, content_at, token_at, if_token, is_token}
-use Rattle.ts_numbering.specs.Keys.{trees, told_tree, rules_told, AreTokens, is_repeated, repeated_at, repeated_in}
+use Rattle.ts_numbering.specs.Keys.{trees, told_tree, rules_told, AreSeenTokens, is_repeated, repeated_at, repeated_in}
 use Rattle.ts_numbering.specs.Places.{same_tree}
 use Rattle.ts_numbering.proofs.SameLemmas.{tree_same, tree_itself}
 use Rattle.indexmap.proofs.CallerLemmas.{Contains-list_any}
@@ -75,14 +75,21 @@ module _ {X : Type 0} where
 
 -- ---- names of rules
 
+-- a name at a place is that of the rule there
+pub named_at : (rules : List NamedRule) (k : ℕ) (name : Bytes) → slice_get (names_of rules) k ≡ Some name → (rule : NamedRule) × (slice_get rules k ≡ Some rule) × (rule.0 ≡ name)
+named_at [] k name e = absurd (let lt : k < 0 = slice_get_within {A = Bytes} [] k name e in omega arith)
+named_at (r ∷ rules) zero name e = let f : Some r.0 ≡ Some name = e in (r, refl, (let g : r.0 ≡ name = cc in g))
+named_at (r ∷ rules) (suc k) name e = named_at rules k name e
+
+pub name_at : (rules : List NamedRule) (k : ℕ) (rule : NamedRule) → slice_get rules k ≡ Some rule → slice_get (names_of rules) k ≡ Some rule.0
+name_at rules k rule e = slice_get-map (λ (r : NamedRule). r.0) rules k ∙ ap (option_map (λ (r : NamedRule). r.0)) e
+
 -- a name in a list is the name of a rule in it
-named_rule : (rules : List NamedRule) (name : Bytes) → Contains (names_of rules) name → (rule : NamedRule) × Contains rules rule × (rule.0 ≡ name)
-named_rule rules name w = at rules w.0 (at_of (names_of rules) name w)
-  where
-    at : (rules : List NamedRule) (k : ℕ) → slice_get (names_of rules) k ≡ Some name → (rule : NamedRule) × Contains rules rule × (rule.0 ≡ name)
-    at [] k e = absurd (let lt : k < 0 = slice_get_within {A = Bytes} [] k name e in omega arith)
-    at (r ∷ rules) zero e = let f : Some r.0 ≡ Some name = e in (r, there (r ∷ rules) 0 r refl, (let g : r.0 ≡ name = cc in g))
-    at (r ∷ rules) (suc k) e = let w = at rules k e in (w.0, Contains-append_right (r ∷ []) rules w.0 w.1, w.2)
+pub named_rule : (rules : List NamedRule) (name : Bytes) → Contains (names_of rules) name → (rule : NamedRule) × Contains rules rule × (rule.0 ≡ name)
+named_rule rules name w = let r = named_at rules w.0 name (at_of (names_of rules) name w) in (r.0, there rules w.0 r.0 r.1, r.2)
+
+pub name_of_rule : (rules : List NamedRule) (rule : NamedRule) → Contains rules rule → Contains (names_of rules) rule.0
+name_of_rule rules rule w = there (names_of rules) w.0 rule.0 (name_at rules w.0 rule (at_of rules rule w))
 
 -- a rule is known by its name
 one_rule : (g : Grammar) → IsFileGrammar g → (name : Bytes) (t u : Rule) → Contains g.rules (name, t) → Contains g.rules (name, u) → t ≡ u
@@ -249,7 +256,7 @@ start_is g rule at = by g.rules at
     by (r ∷ rules) e = let f : Some r ≡ Some rule = e in cc
 
 pub test_named : (g : Grammar) → IsFileGrammar g → (k : ℕ) (rule : NamedRule) (tokens repeats : List Rule) (b : Bool) → slice_get g.rules k ≡ Some rule
-    → AreTokens (tokens_in (rule_sights g)) tokens repeats
+    → AreSeenTokens (tokens_in (rule_sights g)) tokens repeats
     → IsTrue b ↔ ((0 < k) × (is_token rule.1 ≡ true) × Not (Contains repeats rule.1)) → IsTrue b ↔ NamesItsToken g rule
 test_named g file k rule tokens repeats b at are h = (
   λ t. let w = h.0 t in record {
@@ -283,14 +290,11 @@ test_own g file k rule b named inlined at n i h = (
 
 -- ---- one more rule
 
-names_picked : (P : NamedRule → Type 0) (xs ys : List NamedRule) (name : Bytes) → Picks P xs ys → Contains (names_of ys) name → Contains (names_of xs) name
+pub names_picked : (P : NamedRule → Type 0) (xs ys : List NamedRule) (name : Bytes) → Picks P xs ys → Contains (names_of ys) name → Contains (names_of xs) name
 names_picked P xs ys name p w =
     let r = named_rule ys name w in
     let old = picked P xs ys r.0 p r.1 in
     subst (λ (n : Bytes). Contains (names_of xs) n) r.2 (name_of_rule xs r.0 old.0)
-  where
-    name_of_rule : (rules : List NamedRule) (rule : NamedRule) → Contains rules rule → Contains (names_of rules) rule.0
-    name_of_rule rules rule v = there (names_of rules) v.0 rule.0 (slice_get-map (λ (r : NamedRule). r.0) rules v.0 ∙ ap (option_map (λ (r : NamedRule). r.0)) (at_of rules rule v))
 
 pub place_in : (g : Grammar) (all : List NamedRule) (k : ℕ) (rule : NamedRule) → all ≡ g.rules → k < length all → rule ≡ get_or all k rule → slice_get g.rules k ≡ Some rule
 place_in g all k rule is lt at = subst (λ (xs : List NamedRule). slice_get xs k ≡ Some rule) is (slice_get_read all (length all) k rule refl lt at)
@@ -333,3 +337,8 @@ are_contents g rules slice items contents same lent is firsts = (
   where
     whole : trees slice ≡ repeated_in (rule_sights g)
     whole = ap trees lent ∙ is ∙ ap (λ (rs : List NamedRule). repeated_in (seen_rules rs)) same
+
+pub are_tokens : (g : Grammar) (rules : List NamedRule) (slice items : List (Bor Rule)) (tokens repeats : List Rule) → rules ≡ g.rules → slice ≡ items
+    → trees items ≡ tokens_in (seen_rules rules) → AreSeenTokens (trees slice) tokens repeats → AreFirstSights (tokens_in (rule_sights g)) tokens
+are_tokens g rules slice items tokens repeats same lent is are =
+    subst (λ (seen : List Rule). AreFirstSights seen tokens) (ap trees lent ∙ is ∙ ap (λ (rs : List NamedRule). tokens_in (seen_rules rs)) same) are.first

@@ -8,7 +8,7 @@ use Rattle.std.proofs.lemmas.Option.{slice_get_within}
 use Rattle.ts_base.proofs.PlaceLemmas.{in_prefix, at_end}
 use Rattle.ts_core.specs.declared.rule.Rule.{Rule}
 use Rattle.ts_rules.specs.FirstSights.{Not, Once}
-use Rattle.ts_numbering.specs.Keys.{Twice, AreTokens, trees}
+use Rattle.ts_numbering.specs.Keys.{Twice, AreSeenTokens, trees}
 use Rattle.ts_numbering.specs.Places.{same_tree}
 use Rattle.ts_numbering.proofs.FirstSightLemmas.{there, at_of, only_one, any_at, sights_begin, sights_insert, any_map, insert_map}
 use Rattle.ts_numbering.proofs.SameLemmas.{tree_same, tree_itself}
@@ -57,7 +57,7 @@ module _ {X : Type 0} where
   once_new : (xs : List X) (x : X) → Not (Contains xs x) → Once (xs ++ x ∷ []) x
   once_new xs x unseen = record { before = xs; after = []; is = refl; not_before = unseen; not_after = nothing_in x }
 
-pub tokens_begin : AreTokens [] [] []
+pub tokens_begin : AreSeenTokens [] [] []
 tokens_begin = record {
   first = sights_begin;
   again = λ t w. absurd (nothing_in t w);
@@ -68,8 +68,8 @@ in_list : (xs : List Rule) (x : Rule) → Contains xs x → list_any (same_tree 
 in_list xs x w = any_at same_tree tree_same tree_itself xs x w.0 (at_of xs x w)
 
 -- a token that was not seen before
-pub note_new : (seen tokens repeats : List Rule) (y : Rule) → list_any (same_tree y) tokens ≡ false → AreTokens seen tokens repeats
-    → AreTokens (seen ++ y ∷ []) (insert_key same_tree tokens y) repeats
+pub note_new : (seen tokens repeats : List Rule) (y : Rule) → list_any (same_tree y) tokens ≡ false → AreSeenTokens seen tokens repeats
+    → AreSeenTokens (seen ++ y ∷ []) (insert_key same_tree tokens y) repeats
 note_new seen tokens repeats y new before = record {
   first = sights_insert same_tree tree_same tree_itself seen tokens y before.first;
   again = λ t w. twice_longer seen t y (before.again t w);
@@ -97,8 +97,8 @@ insert_keeps xs y t w = by (list_any (same_tree y) xs) refl
     by false e = subst (λ (b : Bool). Contains (if b then xs else xs ++ y ∷ []) t) (sym e) (Contains-append_left xs (y ∷ []) t w)
 
 -- a token that was seen before
-pub note_again : (seen tokens repeats : List Rule) (y : Rule) → list_any (same_tree y) tokens ≡ true → AreTokens seen tokens repeats
-    → AreTokens (seen ++ y ∷ []) (insert_key same_tree tokens y) (insert_key same_tree repeats y)
+pub note_again : (seen tokens repeats : List Rule) (y : Rule) → list_any (same_tree y) tokens ≡ true → AreSeenTokens seen tokens repeats
+    → AreSeenTokens (seen ++ y ∷ []) (insert_key same_tree tokens y) (insert_key same_tree repeats y)
 note_again seen tokens repeats y old before = record {
   first = sights_insert same_tree tree_same tree_itself seen tokens y before.first;
   again = λ t w. ⊎_elim
@@ -132,15 +132,15 @@ told keys y added b is e = sym (any_map (λ (t : Bor Rule). t.now) same_tree y.n
 
 pub lent_new : (seen : List Rule) (tokens new repeats : List (Bor Rule)) (y : Bor Rule) (added : Bool) → added ≡ not (list_any (alike y) tokens) → added ≡ true
     → new ≡ insert_key alike tokens y
-    → AreTokens seen (trees tokens) (trees repeats) → AreTokens (seen ++ y.now ∷ []) (trees new) (trees repeats)
+    → AreSeenTokens seen (trees tokens) (trees repeats) → AreSeenTokens (seen ++ y.now ∷ []) (trees new) (trees repeats)
 lent_new seen tokens new repeats y added is e keys before =
-    subst (λ (ts : List Rule). AreTokens (seen ++ y.now ∷ []) ts (trees repeats)) (sym (keys_are tokens new y keys))
+    subst (λ (ts : List Rule). AreSeenTokens (seen ++ y.now ∷ []) ts (trees repeats)) (sym (keys_are tokens new y keys))
     (note_new seen (trees tokens) (trees repeats) y.now (told tokens y added false is e) before)
 
 pub lent_again : (seen : List Rule) (tokens new repeats more : List (Bor Rule)) (y : Bor Rule) (added : Bool) → added ≡ not (list_any (alike y) tokens) → added ≡ false
     → new ≡ insert_key alike tokens y → more ≡ insert_key alike repeats y
-    → AreTokens seen (trees tokens) (trees repeats) → AreTokens (seen ++ y.now ∷ []) (trees new) (trees more)
+    → AreSeenTokens seen (trees tokens) (trees repeats) → AreSeenTokens (seen ++ y.now ∷ []) (trees new) (trees more)
 lent_again seen tokens new repeats more y added is e keys more_keys before =
-    subst (λ (ts : List Rule). AreTokens (seen ++ y.now ∷ []) ts (trees more)) (sym (keys_are tokens new y keys))
-    (subst (λ (rs : List Rule). AreTokens (seen ++ y.now ∷ []) (insert_key same_tree (trees tokens) y.now) rs) (sym (keys_are repeats more y more_keys))
+    subst (λ (ts : List Rule). AreSeenTokens (seen ++ y.now ∷ []) ts (trees more)) (sym (keys_are tokens new y keys))
+    (subst (λ (rs : List Rule). AreSeenTokens (seen ++ y.now ∷ []) (insert_key same_tree (trees tokens) y.now) rs) (sym (keys_are repeats more y more_keys))
     (note_again seen (trees tokens) (trees repeats) y.now (told tokens y added true is e) before))

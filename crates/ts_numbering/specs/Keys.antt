@@ -52,7 +52,7 @@ Twice xs x = (j k : ℕ) × (j < k) × (slice_get xs j ≡ Some x) × (slice_get
 
 -- the lists have each of the tokens that were seen, by first sight, and those of them that stand
 -- more than once
-pub record AreTokens (seen tokens repeats : List Rule) : Type 0 where
+pub record AreSeenTokens (seen tokens repeats : List Rule) : Type 0 where
   pub first : AreFirstSights seen tokens
   pub again : (tree : Rule) → Contains repeats tree → Twice seen tree
   pub once : (tree : Rule) → Contains seen tree → Not (Contains repeats tree) → Once seen tree

@@ -1,18 +1,16 @@
 -- Numbers by places in lists.
-use Rattle.std.specs.Prelude.{ℕ, ◌+◌, ◌<◌, ◌≤◌, Bool, false, ◌&&◌, ◌⊎◌, List, [], length, get_or, Option, Some, None}
+use Rattle.std.specs.Prelude.{ℕ, ◌+◌, Bool, false, ◌&&◌, List, [], get_or, Option, Some, None}
 use Rattle.std.specs.Bool.{beq}
 use Rattle.std.specs.List.{position}
 use Rattle.std.specs.Str.{bytes_eq}
 use Rattle.ts_base.specs.Bytes.{Bytes}
 use Rattle.ts_core.specs.contracts.rule.RulePartialEq.TheImpl as rule_eq
 use Rattle.ts_core.specs.declared.flat.Alias.{Alias}
-use Rattle.ts_core.specs.declared.rule.Grammar.{Grammar}
 use Rattle.ts_core.specs.declared.rule.Rule.{Rule}
 use Rattle.ts_rules.specs.Causes.{names_of}
-use Rattle.ts_rules.specs.Numbers.{Numbers, Lists, AreLists, first_rule, first_repetition, first_inlined}
+use Rattle.ts_rules.specs.Numbers.{Numbers, Lists, first_rule, first_repetition, first_inlined}
 use Rattle.ts_rules.specs.Sights.{NamedRule, alias}
 use Rattle.ts_numbering.specs.Surveys.{tree_named}
-use Rattle.spec_tables.specs.Fit.{most_symbols, most_names}
 
 -- whether two trees are the same
 abbrev pub same_tree : Rule → Rule → Bool
@@ -56,14 +54,3 @@ numbers_by x named aliases = record {
   alias = λ a. number_or 0 0 (position (same_alias a) aliases);
   alias_at = λ k. get_or aliases k (alias [] false);
 }
-
--- ---- limits
-
--- a grammar has more symbols than may be, the end among them
-abbrev pub HasManySymbols : Grammar → Type 0
-HasManySymbols g = (x : Lists) × AreLists g x × (most_symbols < first_inlined x)
-
--- a grammar has more field names, or else more precedence names, than may be
-abbrev pub HasManyNames : Grammar → Type 0
-HasManyNames g = (x : Lists) × AreLists g x × (first_inlined x ≤ most_symbols)
-    × ((most_names < length x.fields) ⊎ (most_names < length x.precs))

@@ -17,8 +17,8 @@ abbrev pub some_filled : Alternatives → Bool
 some_filled xs = list_any (λ (x : Alternative). not (is_blank x.steps)) xs
 
 -- whether some join has a step: of one with steps and any, or of an empty one and one with steps
-abbrev pub joined : Bool → Bool → Bool → Bool → Bool
-joined blank filled next_blank next_filled =
+abbrev pub join_filled : Bool → Bool → Bool → Bool → Bool
+join_filled blank filled next_blank next_filled =
     (filled && (next_blank || next_filled)) || (blank && next_filled)
 
 -- the alternatives of rule trees in a SEQ

@@ -7,7 +7,7 @@ ghost use Rattle.ts_core.specs.declared.rule.Rule.TheViews.{out-Rule};
 ghost use Rattle.ts_rules.specs.FirstSights.{AreFirstSights};
 ghost use Rattle.ts_rules.specs.Sights as sights;
 ghost use Rattle.ts_numbering.specs.Keys as keys;
-ghost use Rattle.ts_numbering.specs.Keys.{trees, told_tree, aliases_told, told_alias, repeated_in, AreTokens};
+ghost use Rattle.ts_numbering.specs.Keys.{trees, told_tree, aliases_told, told_alias, repeated_in, AreSeenTokens};
 
 use crate::shape::shape_of;
 use indexmap::IndexSet;
@@ -229,8 +229,8 @@ pub(crate) struct Tokens<'a> {
 /// One more token.
 fn note<'a>(tokens: &mut Tokens<'a>, tree: &'a Rule) -> Result<(), AllocError>
     ensures { OnOk result ((seen : Values Rule)
-        → AreTokens seen (trees tokens.old.first.keys) (trees tokens.old.again.keys)
-        → AreTokens (seen ++ tree.now ∷ []) (trees tokens.new.first.keys)
+        → AreSeenTokens seen (trees tokens.old.first.keys) (trees tokens.old.again.keys)
+        → AreSeenTokens (seen ++ tree.now ∷ []) (trees tokens.new.first.keys)
         (trees tokens.new.again.keys)) }
 {
     if !tokens.first.insert(tree)? {
@@ -241,7 +241,7 @@ fn note<'a>(tokens: &mut Tokens<'a>, tree: &'a Rule) -> Result<(), AllocError>
 
 /// Tokens by first sight, and which stand more than once.
 pub(crate) fn tokens_of<'a>(alloc: Global, seen: &[&'a Rule]) -> Result<Tokens<'a>, AllocError>
-    ensures { IfOk result (λ found. AreTokens (trees seen.now) (trees found.first.keys)
+    ensures { IfOk result (λ found. AreSeenTokens (trees seen.now) (trees found.first.keys)
         (trees found.again.keys)) }
 {
     let mut tokens = Tokens {
@@ -341,11 +341,7 @@ fn first_aliases<'a>(
 }
 
 /// The aliases of a walk by first sight, each by its name and whether it is named.
-///
-/// # Errors
-///
-/// `AllocError` where memory runs out.
-pub fn aliases_of<'a>(
+pub(crate) fn aliases_of<'a>(
     alloc: Global,
     walk: &[Spot<'a>],
 ) -> Result<IndexSet<(&'a Str, bool)>, AllocError>

@@ -10,8 +10,7 @@ mod shape;
 mod survey;
 mod trees;
 
-pub use gather::aliases_of;
-pub use limits::{NumberFault, number};
+pub use limits::{NumberFault, numbering_of};
 pub use numbering::Numbering;
 pub use shape::{Shape, shape_of};
 pub use survey::{Survey, survey_of};

@@ -1,17 +1,28 @@
-//! The numbers of a grammar: what comes in is what its rules have and its names, and what goes out
-//! are its numbers, or why there are too many.
+//! The numbers of a grammar: what comes in is a grammar file with what its rules have, and what
+//! goes out are its numbers, or why there are too many.
 
-ghost use Rattle.std.specs.Prelude.{◌≡◌, ◌<◌, ◌≤◌, ◌+◌, ◌↔◌, ◌⊎◌, IsTrue, length, IfOk, IsOk};
+ghost use Rattle.std.specs.Prelude.{◌≡◌, ◌<◌, ◌↔◌, ◌⊎◌, ◌++◌, IsTrue, length, IfOk};
 ghost use Rattle.std.specs.Result.{IsErrOf};
 ghost use Rattle.spec_tables.specs.Fit.{most_symbols, most_names};
-ghost use Rattle.ts_rules.specs.FileGrammar.{most_rules};
-ghost use Rattle.ts_numbering.specs.Limits.{symbol_count};
+ghost use Rattle.ts_rules.specs.Causes as causes;
+ghost use Rattle.ts_rules.specs.FileGrammar.{IsFileGrammar};
+ghost use Rattle.ts_rules.specs.FirstSights.{Not, Clear, AreFirstSights};
+ghost use Rattle.ts_rules.specs.Names.{told};
+ghost use Rattle.ts_rules.specs.Numbers.{AreLists, AreNumbers};
+ghost use Rattle.ts_rules.specs.Sights as sights;
+ghost use Rattle.ts_numbering.specs.Keys.{aliases_told};
+ghost use Rattle.ts_numbering.specs.Limits.{count_with_end, HasManySymbols, HasManyNames};
+ghost use Rattle.ts_numbering.specs.Numberings.{lists_of, numbers_of};
+ghost use Rattle.ts_numbering.specs.Surveys.{IsSurvey};
 
+use crate::gather::aliases_of;
 use crate::numbering::Numbering;
 use crate::survey::Survey;
 use indexmap::IndexSet;
+use std::alloc::{AllocError, Global};
 use thiserror::Error;
-use ts_core::Str;
+use ts_core::{Grammar, Str};
+use ts_rules::{Spot, field_names, prec_names};
 
 /// The most symbols, the end among them.
 const MOST_SYMBOLS: usize = 16_384;
@@ -28,11 +39,25 @@ pub enum NumberFault {
     /// There are more than 16,384 field names, or as many precedence names.
     #[error("too many names")]
     Names,
+    /// Memory runs out.
+    #[error("out of memory")]
+    Memory,
+}
+
+impl From<AllocError> for NumberFault {
+    ghost use Rattle.std.specs.Prelude.{◌≡◌};
+    ghost use Rattle.ts_numbering.specs.declared.limits.NumberFault.TheVariants.{Memory};
+
+    ghost from_gives = { λ _ e. e ≡ Memory };
+
+    fn from(_fault: AllocError) -> NumberFault {
+        NumberFault::Memory
+    }
 }
 
 /// Whether there are too many symbols, the end among them.
 fn are_many_symbols(tokens: usize, rules: usize, contents: usize) -> bool
-    ensures { IsTrue result ↔ (most_symbols < symbol_count tokens rules contents) }
+    ensures { IsTrue result ↔ (most_symbols < count_with_end tokens rules contents) }
 {
     if tokens > MOST_SYMBOLS {
         return true;
@@ -48,7 +73,7 @@ fn are_many_symbols(tokens: usize, rules: usize, contents: usize) -> bool
 
 /// Whether the rules of a grammar have too many symbols.
 fn has_many_symbols(survey: &Survey) -> bool
-    ensures { IsTrue result ↔ (most_symbols < symbol_count (length survey.now.tokens.keys)
+    ensures { IsTrue result ↔ (most_symbols < count_with_end (length survey.now.tokens.keys)
         (length survey.now.rules.entries) (length survey.now.contents.keys)) }
 {
     are_many_symbols(
@@ -69,38 +94,103 @@ fn are_many_names(fields: &IndexSet<&Str>, precs: &IndexSet<&Str>) -> bool
     precs.len() > MOST_NAMES
 }
 
-/// The numbers of a grammar, from what its rules have, and its field names, precedence names and
-/// aliases. Nothing is copied.
-///
-/// # Errors
-///
-/// `Symbols` exactly where there are more than 16,384 symbols, the end among them, and else `Names`
-/// exactly where there are more than 16,384 field names or precedence names.
-pub fn number<'a>(
-    survey: Survey<'a>,
+/// The names of a grammar, by first sight.
+#[derive(Drop)]
+struct Names<'a> {
     fields: IndexSet<&'a Str>,
     precs: IndexSet<&'a Str>,
     aliases: IndexSet<(&'a Str, bool)>,
-) -> Result<Numbering<'a>, NumberFault>
-    requires few { length survey.inlined.entries ≤ most_rules }
-    ensures survey { IfOk result (λ n. n.survey ≡ survey.entry) }
-    ensures fields { IfOk result (λ n. n.fields ≡ fields.entry) }
-    ensures precs { IfOk result (λ n. n.precs ≡ precs.entry) }
-    ensures aliases { IfOk result (λ n. n.aliases ≡ aliases.entry) }
-    ensures symbols { IsErrOf result NumberFault.Symbols ↔ (most_symbols
-        < symbol_count (length survey.entry.tokens.keys) (length survey.entry.rules.entries)
-        (length survey.entry.contents.keys)) }
-    ensures names { IsErrOf result NumberFault.Names
-        ↔ ((symbol_count (length survey.entry.tokens.keys) (length survey.entry.rules.entries)
-        (length survey.entry.contents.keys) ≤ most_symbols)
-        × ((most_names < length fields.entry.keys) ⊎ (most_names < length precs.entry.keys))) }
+}
+
+/// The names of a grammar.
+fn names_of<'a>(
+    alloc: Global,
+    grammar: &'a Grammar,
+    walk: &[Spot<'a>],
+) -> Result<Names<'a>, AllocError>
+    requires walk { sights.seen_trees walk.now ≡ sights.walk grammar.now }
+    ensures fields { IfOk result (λ names. AreFirstSights
+        (sights.fields_in (sights.walk grammar.now)) (told names.fields.keys)) }
+    ensures precs { IfOk result (λ names. AreFirstSights
+        (sights.precs_in (sights.walk grammar.now) ++ sights.ranked_names grammar.now)
+        (told names.precs.keys)) }
+    ensures aliases { IfOk result (λ names. AreFirstSights
+        (sights.aliases_in (sights.walk grammar.now)) (aliases_told names.aliases.keys)) }
 {
-    if has_many_symbols(&survey) {
+    let fields = field_names(alloc, walk)?;
+    let precs = prec_names(alloc, grammar, walk)?;
+    let aliases = aliases_of(alloc, walk)?;
+    Ok(Names {
+        fields,
+        precs,
+        aliases,
+    })
+}
+
+/// The names of a grammar, where there are neither too many symbols nor too many of them.
+fn names_within<'a>(
+    alloc: Global,
+    grammar: &'a Grammar,
+    walk: &[Spot<'a>],
+    survey: &Survey<'a>,
+) -> Result<Names<'a>, NumberFault>
+    requires walk { sights.seen_trees walk.now ≡ sights.walk grammar.now }
+    requires survey { IsSurvey grammar.now survey.now }
+    ensures fields { IfOk result (λ names. AreFirstSights
+        (sights.fields_in (sights.walk grammar.now)) (told names.fields.keys)) }
+    ensures precs { IfOk result (λ names. AreFirstSights
+        (sights.precs_in (sights.walk grammar.now) ++ sights.ranked_names grammar.now)
+        (told names.precs.keys)) }
+    ensures aliases { IfOk result (λ names. AreFirstSights
+        (sights.aliases_in (sights.walk grammar.now)) (aliases_told names.aliases.keys)) }
+    ensures symbols { IsErrOf result NumberFault.Symbols ↔ HasManySymbols grammar.now }
+    ensures names { IsErrOf result NumberFault.Names
+        → Not (HasManySymbols grammar.now) × HasManyNames grammar.now }
+    ensures fits { IfOk result (λ _. Not (HasManySymbols grammar.now)
+        × Not (HasManyNames grammar.now)) }
+{
+    if has_many_symbols(survey) {
         return Err(NumberFault::Symbols);
     }
-    if are_many_names(&fields, &precs) {
+    let names = names_of(alloc, grammar, walk)?;
+    if are_many_names(&names.fields, &names.precs) {
         return Err(NumberFault::Names);
     }
+    Ok(names)
+}
+
+/// The numbers of a grammar, from its walk and from what its rules have. Nothing is copied. They
+/// are those that the normal form asks for where no rule is inlined that must not be.
+///
+/// # Errors
+///
+/// `Symbols` exactly where there are more than 16,384 symbols, the end among them, before any
+/// memory is taken; else `Names` where there are more than 16,384 field names or precedence names;
+/// `Memory` where memory runs out.
+pub fn numbering_of<'a>(
+    alloc: Global,
+    grammar: &'a Grammar,
+    walk: &[Spot<'a>],
+    survey: Survey<'a>,
+) -> Result<Numbering<'a>, NumberFault>
+    requires file { IsFileGrammar grammar.now }
+    requires walk { sights.seen_trees walk.now ≡ sights.walk grammar.now }
+    requires survey { IsSurvey grammar.now survey }
+    ensures survey { IfOk result (λ n. n.survey ≡ survey.entry) }
+    ensures lists { IfOk result (λ n. AreLists grammar.now (lists_of n)) }
+    ensures numbers { IfOk result (λ n. Clear (causes.IsBadInline grammar.now)
+        (causes.rule_names grammar.now) → AreNumbers grammar.now (numbers_of n) (lists_of n)) }
+    ensures symbols { IsErrOf result NumberFault.Symbols ↔ HasManySymbols grammar.now }
+    ensures names { IsErrOf result NumberFault.Names
+        → Not (HasManySymbols grammar.now) × HasManyNames grammar.now }
+    ensures fits { IfOk result (λ _. Not (HasManySymbols grammar.now)
+        × Not (HasManyNames grammar.now)) }
+{
+    let Names {
+        fields,
+        precs,
+        aliases,
+    } = names_within(alloc, grammar, walk, &survey)?;
     Ok(Numbering {
         survey,
         fields,

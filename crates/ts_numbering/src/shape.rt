@@ -1,10 +1,10 @@
-//! Whether a rule tree may be empty and whether it has steps: what comes in is a rule tree, and what
-//! goes out are two answers. They don't depend on any number.
+//! Whether a rule tree may be empty and whether it has steps: what comes in is a rule tree, and
+//! what goes out are two answers. They don't depend on any number.
 
 ghost use Rattle.std.specs.Prelude.{◌≡◌, ◌&&◌, ◌||◌, true};
 ghost use Rattle.ts_rules.specs.Alternatives.{alternatives_of};
 ghost use Rattle.ts_rules.specs.Numbers.{Numbers, tree_of};
-ghost use Rattle.ts_numbering.specs.Shapes.{joined, joins_of, branches_of, IsShapeOf};
+ghost use Rattle.ts_numbering.specs.Shapes.{join_filled, joins_of, branches_of, IsShapeOf};
 
 use ts_core::Rule;
 
@@ -39,7 +39,7 @@ impl Shape {
     /// Of each of the first with each of the second.
     fn then(self, next: Shape) -> Shape
         ensures blank { result.blank ≡ self.blank && next.blank }
-        ensures filled { result.filled ≡ joined self.blank self.filled next.blank next.filled }
+        ensures filled { result.filled ≡ join_filled self.blank self.filled next.blank next.filled }
     {
         Shape {
             blank: self.blank && next.blank,
@@ -70,8 +70,8 @@ impl Shape {
     }
 }
 
-/// What stands among the alternatives of a rule tree, whatever the numbers and whatever stands round
-/// the tree.
+/// What stands among the alternatives of a rule tree, whatever the numbers and whatever stands
+/// round the tree.
 #[cycle(shape)]
 pub fn shape_of(rule: &Rule) -> Shape
     ensures { (n : Numbers) → IsShapeOf (alternatives_of (tree_of n rule.now)) result }

@@ -2,16 +2,16 @@
 //! are its tokens and repeated contents, and its rules, sorted into those that are inlined, those
 //! that name a token, and the others.
 
-ghost use Rattle.std.specs.Prelude.{◌≡◌, ◌↔◌, ◌++◌, ◌<◌, true, IsTrue, IfOk, OnOk};
+ghost use Rattle.std.specs.Prelude.{◌≡◌, ◌↔◌, ◌<◌, true, IsTrue, IfOk, OnOk};
 ghost use Rattle.std.specs.List.{Contains};
-ghost use Rattle.ts_rules.specs.Causes.{names_of};
+ghost use Rattle.ts_core.specs.declared.rule.Grammar.{Grammar as AnyGrammar};
 ghost use Rattle.ts_rules.specs.FileGrammar.{IsFileGrammar};
 ghost use Rattle.ts_rules.specs.FirstSights.{Not, AreFirstSights, Picks};
 ghost use Rattle.ts_rules.specs.Names.{told};
-ghost use Rattle.ts_rules.specs.Numbers.{HasSymbol};
+ghost use Rattle.ts_rules.specs.Numbers.{HasSymbol, IsInlined, NamesSome};
 ghost use Rattle.ts_rules.specs.Sights as sights;
-ghost use Rattle.ts_numbering.specs.Keys.{trees, told_tree, rules_told, AreTokens};
-ghost use Rattle.ts_numbering.specs.Surveys.{kept_if, IsInlinedRule, NamesItsToken, AreContents, tree_named, listed_tree};
+ghost use Rattle.ts_numbering.specs.Keys.{trees, told_tree, rules_told, AreSeenTokens};
+ghost use Rattle.ts_numbering.specs.Surveys.{IsAdded, IsInlinedRule, NamesItsToken, IsSurvey, tree_named, listed_tree};
 
 use crate::gather::{Tokens, first_sights, gather, is_token, tokens_of};
 use indexmap::{IndexMap, IndexSet};
@@ -37,14 +37,20 @@ pub struct Survey<'a> {
 impl<'a> Survey<'a> {
     /// Whether a rule is inlined.
     pub fn is_inlined(&self, name: &Str) -> bool
-        ensures { IsTrue result
-            ↔ Contains (names_of (rules_told self.now.inlined.entries)) name.now }
+        ensures { (g : AnyGrammar) → IsSurvey g self.now → IsTrue result ↔ IsInlined g name.now }
     {
         self.inlined.contains_key(&name)
     }
 
+    /// Whether a rule names a token.
+    pub fn names_token(&self, name: &Str) -> bool
+        ensures { (g : AnyGrammar) → IsSurvey g self.now → IsTrue result ↔ NamesSome g name.now }
+    {
+        self.named.contains_key(&name)
+    }
+
     /// The token that a rule names.
-    pub fn named_token(&self, name: &Str) -> Option<&'a Rule>
+    pub(crate) fn named_token(&self, name: &Str) -> Option<&'a Rule>
         ensures { told_tree result
             ≡ listed_tree (tree_named (rules_told self.now.named.entries) name.now) }
     {
@@ -69,9 +75,8 @@ fn put<'a>(
     rule: &'a (Str, Rule),
     wanted: bool,
 ) -> Result<(), AllocError>
-    ensures { OnOk result (Not (Contains (names_of (rules_told rules.old.entries)) rule.now.0)
-        → rules_told rules.new.entries
-        ≡ rules_told rules.old.entries ++ kept_if wanted rule.now) }
+    ensures { OnOk result (IsAdded (rules_told rules.old.entries) rule.now wanted
+        (rules_told rules.new.entries)) }
 {
     if wanted {
         rules.insert(&rule.0, &rule.1)?;
@@ -105,11 +110,47 @@ fn is_named(tokens: &Tokens, tree: &Rule, place: usize) -> bool
     place > 0 && is_token(tree) && !stands_again(tokens, tree)
 }
 
-/// Whether both are false.
-fn neither(first: bool, second: bool) -> bool
-    ensures { IsTrue result ↔ (Not (IsTrue first) × Not (IsTrue second)) }
+/// Which lists a rule belongs to.
+#[derive(Clone, Copy)]
+struct Marks {
+    own: bool,
+    inlined: bool,
+    named: bool,
+}
+
+/// Which lists the rule at a place belongs to.
+fn marks_of(tokens: &Tokens, inline: &IndexSet<&Str>, rule: &(Str, Rule), place: usize) -> Marks
+    ensures inlined { IsTrue result.inlined ↔ Contains (told inline.now.keys) rule.now.0 }
+    ensures named { IsTrue result.named ↔ ((0 < place) × (sights.is_token rule.now.1 ≡ true)
+        × Not (Contains (trees tokens.now.again.keys) rule.now.1)) }
+    ensures own { IsTrue result.own ↔ (Not (IsTrue result.named) × Not (IsTrue result.inlined)) }
 {
-    !first && !second
+    let inlined = is_among(inline, &rule.0);
+    let named = is_named(tokens, &rule.1, place);
+    Marks {
+        own: !named && !inlined,
+        inlined,
+        named,
+    }
+}
+
+/// Puts a rule into the lists that it belongs to.
+fn add_rule<'a>(
+    sorted: &mut Sorted<'a>,
+    rule: &'a (Str, Rule),
+    marks: Marks,
+) -> Result<(), AllocError>
+    ensures rules { OnOk result (IsAdded (rules_told sorted.old.rules.entries) rule.now marks.own
+        (rules_told sorted.new.rules.entries)) }
+    ensures inlined { OnOk result (IsAdded (rules_told sorted.old.inlined.entries) rule.now
+        marks.inlined (rules_told sorted.new.inlined.entries)) }
+    ensures named { OnOk result (IsAdded (rules_told sorted.old.named.entries) rule.now marks.named
+        (rules_told sorted.new.named.entries)) }
+{
+    put(&mut sorted.rules, rule, marks.own)?;
+    put(&mut sorted.inlined, rule, marks.inlined)?;
+    put(&mut sorted.named, rule, marks.named)?;
+    Ok(())
 }
 
 /// Sorts the rules of a grammar.
@@ -119,7 +160,7 @@ fn sort<'a>(
     tokens: &Tokens<'a>,
 ) -> Result<Sorted<'a>, AllocError>
     requires file { IsFileGrammar grammar.now }
-    requires tokens { AreTokens (sights.tokens_in (sights.rule_sights grammar.now))
+    requires tokens { AreSeenTokens (sights.tokens_in (sights.rule_sights grammar.now))
         (trees tokens.now.first.keys) (trees tokens.now.again.keys) }
     ensures rules { IfOk result (λ found. Picks (HasSymbol grammar.now) grammar.now.rules
         (rules_told found.rules.entries)) }
@@ -130,22 +171,17 @@ fn sort<'a>(
 {
     let inline = name_set(alloc, grammar.inline.as_slice())?;
     let all = grammar.rules.as_slice();
-    let mut rules = IndexMap::new(alloc);
-    let mut inlined = IndexMap::new(alloc);
-    let mut named = IndexMap::new(alloc);
+    let mut sorted = Sorted {
+        rules: IndexMap::new(alloc),
+        inlined: IndexMap::new(alloc),
+        named: IndexMap::new(alloc),
+    };
     for place in 0..all.len() {
         let rule = &all[place];
-        let is_inlined = is_among(&inline, &rule.0);
-        let is_named = is_named(tokens, &rule.1, place);
-        put(&mut rules, rule, neither(is_named, is_inlined))?;
-        put(&mut inlined, rule, is_inlined)?;
-        put(&mut named, rule, is_named)?;
+        let marks = marks_of(tokens, &inline, rule, place);
+        add_rule(&mut sorted, rule, marks)?;
     }
-    Ok(Sorted {
-        rules,
-        inlined,
-        named,
-    })
+    Ok(sorted)
 }
 
 /// What has a number in the rules of a grammar. A rule that is inlined and also names a token is in
@@ -156,15 +192,7 @@ fn sort<'a>(
 /// `AllocError` where memory runs out.
 pub fn survey_of<'a>(alloc: Global, grammar: &'a Grammar) -> Result<Survey<'a>, AllocError>
     requires file { IsFileGrammar grammar.now }
-    ensures tokens { IfOk result (λ found. AreFirstSights
-        (sights.tokens_in (sights.rule_sights grammar.now)) (trees found.tokens.keys)) }
-    ensures contents { IfOk result (λ found. AreContents grammar.now (trees found.contents.keys)) }
-    ensures rules { IfOk result (λ found. Picks (HasSymbol grammar.now) grammar.now.rules
-        (rules_told found.rules.entries)) }
-    ensures inlined { IfOk result (λ found. Picks (IsInlinedRule grammar.now) grammar.now.rules
-        (rules_told found.inlined.entries)) }
-    ensures named { IfOk result (λ found. Picks (NamesItsToken grammar.now) grammar.now.rules
-        (rules_told found.named.entries)) }
+    ensures { IfOk result (IsSurvey grammar.now) }
 {
     let gathered = gather(alloc, grammar.rules.as_slice())?;
     let tokens = tokens_of(alloc, gathered.tokens.as_slice())?;
