@@ -8,8 +8,7 @@ use Rattle.ts_rules.specs.declared.tree.Alternative.{Alternative}
 use Rattle.ts_rules.specs.declared.tree.NumberedStep.{NumberedStep}
 use Rattle.ts_rules.specs.Alternatives.{Alternatives, alternative, stronger}
 use Rattle.ts_rules.specs.Productions.{marked_by, inserted, replaced_by, Stays, Becomes, stays, replaced, AllBecome, none_left, one_more}
-use Rattle.ts_productions.specs.declared.expansion.Expansion.{Expansion}
-use Rattle.ts_productions.specs.Expansions.{Expansions, expansion, close, plain, last_by, Table, by_option, spread, spread_of, spread_all, onward, IsFull}
+use Rattle.ts_productions.specs.Expansions.{Expansions, plain, last_by, Table, by_option, spread, spread_of, spread_all, onward, IsFull}
 use Rattle.ts_productions.proofs.SpreadLemmas.{flat_same, flat_mapped, map_flat, plain_closed, spread_stays, spread_replaced, spread_all_same}
 
 -- what an alternative becomes

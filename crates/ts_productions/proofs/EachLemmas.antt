@@ -1,5 +1,5 @@
 -- Expansions that are found one after another.
-use Rattle.std.proofs.Common.{◌≡◌, ◌∙◌, sym, ap, refl, subst, arith, ℕ, ◌+◌, ◌<◌, ◌≤◌, List, [], ◌∷◌, map, ◌++◌, length, take, get_or, Option, Some, None, option_map, append_assoc, append-nil, All}
+use Rattle.std.proofs.Common.{◌≡◌, ◌∙◌, sym, ap, subst, arith, ℕ, ◌+◌, ◌<◌, ◌≤◌, List, [], ◌∷◌, map, ◌++◌, length, take, get_or, Option, None, option_map, append_assoc, append-nil, All}
 use Rattle.std.specs.List.{flat_map}
 use Rattle.std.proofs.lemmas.List.{take_more, take_all}
 use Rattle.std.proofs.Math.Seq.{take-append_seam}
@@ -12,7 +12,7 @@ use Rattle.ts_rules.specs.Productions.{marked_by}
 use Rattle.ts_productions.specs.declared.expansion.Expansion.{Expansion}
 use Rattle.ts_productions.specs.declared.spread.Inlined.{Inlined}
 use Rattle.ts_productions.specs.Expansions.{Expansions, Table, last_by, spread, spread_of, spread_all, onward}
-use Rattle.ts_productions.specs.Sizes.{IsWeighed, IsUsable, look, weights_of, weigh, many_of, count_in}
+use Rattle.ts_productions.specs.Sizes.{IsUsable, look, weights_of, weigh, many_of}
 use Rattle.ts_productions.proofs.SpreadLemmas.{flat_append, spread_same}
 use Rattle.ts_productions.proofs.SpreadSizeLemmas.{void_spread, cap_weigh}
 

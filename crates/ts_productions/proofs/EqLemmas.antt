@@ -1,5 +1,5 @@
 -- Equal productions are the same.
-use Rattle.std.proofs.Common.{◌≡◌, ◌==◌, ◌∙◌, ap, refl, sym, Bool, true, false, ◌&&◌, ℕ, List, [], ◌∷◌, Option, Some, None}
+use Rattle.std.proofs.Common.{◌≡◌, ◌==◌, ◌∙◌, ap, refl, Bool, true, false, ℕ, List, Option, Some, None}
 use Rattle.std.specs.Bool.{Decides}
 use Rattle.std.proofs.lemmas.Bool.Decides.{Decides-and, Decides-like, Decides-eqb, Decides-int_eq}
 use Rattle.std.proofs.lemmas.Slice.Eq.{slice_eq-Decides, bytes_eq-Decides}
@@ -13,7 +13,6 @@ use Rattle.ts_core.specs.declared.flat.Prec.{Prec}
 use Rattle.ts_core.specs.declared.flat.Prec.TheVariants as prec
 use Rattle.ts_core.specs.declared.flat.Production.{Production}
 use Rattle.ts_core.specs.declared.flat.Step.{Step}
-use Rattle.ts_core.specs.declared.symbol.Symbol.{Symbol}
 use Rattle.ts_core.specs.contracts.flat.ProductionPartialEq.TheImpl as production
 use Rattle.ts_core.specs.contracts.flat.StepPartialEq.TheImpl as step
 use Rattle.ts_core.specs.contracts.flat.AliasPartialEq.TheImpl as alias

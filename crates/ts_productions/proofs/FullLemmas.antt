@@ -1,5 +1,5 @@
 -- The expansions of the inlined rules, built one after another.
-use Rattle.std.proofs.Common.{◌≡◌, ◌∙◌, sym, ap, refl, subst, arith, ℕ, zero, suc, ◌+◌, ◌*◌, ◌<◌, ◌≤◌, max, ◌⊎◌, inl, inr, ⊎_elim, List, [], ◌∷◌, map, ◌++◌, length, take, set, get_or, slice_get, Option, Some, None, option_map, All}
+use Rattle.std.proofs.Common.{◌≡◌, ◌∙◌, sym, ap, refl, subst, arith, ℕ, ◌+◌, ◌*◌, ◌<◌, ◌≤◌, ◌⊎◌, inl, inr, ⊎_elim, List, [], ◌∷◌, map, ◌++◌, length, take, set, get_or, slice_get, Option, Some, None, option_map, All}
 use Rattle.std.specs.List.{Contains}
 use Rattle.std.proofs.lemmas.Bool.{cases_eq}
 use Rattle.std.proofs.lemmas.List.{take_more, take_all, length-set, length-map}
@@ -14,13 +14,13 @@ use Rattle.ts_rules.specs.declared.tree.Tree.{Tree}
 use Rattle.ts_rules.specs.Alternatives.{Alternatives}
 use Rattle.ts_productions.specs.declared.sources.Sources.{Sources}
 use Rattle.ts_productions.specs.declared.spread.Inlined.{Inlined}
-use Rattle.ts_productions.specs.Expansions.{Expansions, Table, IsFull, by_option, entry_at, spread_all}
-use Rattle.ts_productions.specs.Roots.{AreOrderedSources, StepsTo, whole, inlined_at}
-use Rattle.ts_productions.specs.Sizes.{IsWeighed, AllAgree, IsUsable, AreWithin, IsSizeOf, SizesHold, FullHold, look, weights_of, count_in, length_in, longest_in, weigh, span, tall, total, reach}
+use Rattle.ts_productions.specs.Expansions.{Expansions, Table, IsFull, by_option, spread_all}
+use Rattle.ts_productions.specs.Roots.{AreOrderedSources, whole, inlined_at}
+use Rattle.ts_productions.specs.Sizes.{IsWeighed, AllAgree, IsUsable, AreWithin, IsSizeOf, SizesHold, FullHold, look, weights_of, count_in, length_in, longest_in, weigh, span, total, reach}
 use Rattle.ts_productions.proofs.EntryLemmas.{entry_miss, entry_cases, entry_there}
 use Rattle.ts_productions.proofs.SizeLemmas.{both_some, tall_some}
 use Rattle.ts_productions.proofs.SpreadSizeLemmas.{all_count, all_length}
-use Rattle.ts_productions.proofs.TotalLemmas.{agree_all, agree_before, everywhere, only_one}
+use Rattle.ts_productions.proofs.TotalLemmas.{agree_all, everywhere, only_one}
 
 module _ (W L : ℕ → ℕ) (m n : ℕ) where
   abbrev pub Light : NumberedStep → Type 0

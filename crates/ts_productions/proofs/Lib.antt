@@ -10,6 +10,17 @@ pub mod TotalLemmas
 pub mod TreeLemmas
 pub mod EachLemmas
 pub mod FullLemmas
+pub mod MemberLemmas
+pub mod GrammarLemmas
+pub mod LengthLemmas
+pub mod SymbolLemmas
+pub mod OrderLemmas
+pub mod RankLemmas
+pub mod DropLemmas
+pub mod ThinLemmas
+pub mod ProductionLemmas
+pub mod OnceLemmas
+pub mod FormLemmas
 pub mod EqLemmas
 pub mod SightLemmas
 pub mod LimitLemmas

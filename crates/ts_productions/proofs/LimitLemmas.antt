@@ -1,6 +1,6 @@
 -- What all alternatives of a grammar become, and the limits.
-use Rattle.std.proofs.Common.{◌≡◌, ◌≢◌, ◌∙◌, sym, ap, refl, subst, arith, ℕ, zero, suc, ◌+◌, ◌<◌, ◌≤◌, min, ◌⊎◌, inl, inr, ⊎_elim, ◌↔◌, List, [], ◌∷◌, map, ◌++◌, length, take, drop, get_or, slice_get, Option, Some, None, option_map, All}
-use Rattle.std.specs.List.{Contains, flat_map}
+use Rattle.std.proofs.Common.{◌≡◌, ◌≢◌, ◌∙◌, sym, ap, refl, subst, arith, ℕ, suc, ◌+◌, ◌<◌, min, ◌⊎◌, inl, inr, ⊎_elim, ◌↔◌, List, [], ◌∷◌, map, length, take, drop, slice_get, Some, None, option_map, All}
+use Rattle.std.specs.List.{Contains}
 use Rattle.std.proofs.lemmas.List.{length-map, length-take, take-append-drop}
 use Rattle.std.proofs.lemmas.List.Elements.{All-weaker, All-contains_itself}
 use Rattle.std.proofs.lemmas.Option.{slice_get_within, slice_get-get_or, slice_get-map, slice_get_cases}
@@ -13,12 +13,10 @@ use Rattle.ts_rules.specs.declared.tree.Tree.{Tree}
 use Rattle.ts_rules.specs.Alternatives.{Alternatives, longest_of}
 use Rattle.ts_rules.specs.FirstSights.{AreFirstSights}
 use Rattle.ts_rules.specs.Productions.{AllBecome, production}
-use Rattle.ts_productions.specs.declared.expansion.Expansion.{Expansion}
 use Rattle.ts_productions.specs.declared.sources.Sources.{Sources}
-use Rattle.ts_productions.specs.declared.spread.Inlined.{Inlined}
 use Rattle.ts_productions.specs.Expansions.{Expansions, Table, IsFull, plain, spread_all}
 use Rattle.ts_productions.specs.Flat.{aliased, flat}
-use Rattle.ts_productions.specs.Limits.{Replaces, AllGive, AreMany, AreFewSources, SomeIsLong, AllAreShort, BecomeFew, AreInlinedProductions}
+use Rattle.ts_productions.specs.Limits.{Replaces, AreMany, AreFewSources, SomeIsLong, AllAreShort, BecomeFew, AreInlinedProductions}
 use Rattle.ts_productions.specs.Roots.{AreOrderedSources, StepsTo, whole, inlined_at, roots_of, before_of}
 use Rattle.ts_productions.specs.Sizes.{IsSizeOf, AreWithin, longest_in}
 use Rattle.ts_productions.proofs.BecomeLemmas.{expand_all, plain_all, all_became, all_become, deep, deep_full}

@@ -1,20 +1,20 @@
 -- The measure of a rule tree from those of its inner trees.
-use Rattle.std.proofs.Common.{◌≡◌, ◌∙◌, sym, ap, refl, subst, arith, ℕ, zero, suc, ◌+◌, ◌*◌, ◌<◌, ◌≤◌, min, max, ◌⊎◌, inl, inr, ⊎_elim, Bool, true, false, if◌then◌else◌, List, [], ◌∷◌, map, ◌++◌, length, get_or, take, drop}
+use Rattle.std.proofs.Common.{◌≡◌, ◌∙◌, sym, ap, refl, subst, arith, ℕ, zero, suc, ◌+◌, ◌*◌, ◌<◌, ◌≤◌, min, max, ⊎_elim, Bool, true, false, if◌then◌else◌, List, [], ◌∷◌, map, ◌++◌, length, get_or, take, drop}
 use Rattle.std.proofs.lemmas.List.{drop_all, drop_more, take_more}
 use Rattle.std.proofs.lemmas.Bool.{cases_lt}
-use Rattle.std.proofs.Math.Nat.{mul_comm, mul_assoc, le-mul_of_pos_right}
+use Rattle.std.proofs.Math.Nat.{mul_assoc, le-mul_of_pos_right}
 use Rattle.ts_core.specs.declared.flat.Assoc.{Assoc}
 use Rattle.ts_core.specs.declared.flat.Prec.{Prec}
 use Rattle.ts_rules.specs.declared.tree.Around.{Around}
 use Rattle.ts_rules.specs.declared.tree.NumberedStep.{NumberedStep}
 use Rattle.ts_rules.specs.declared.tree.Tree.{Tree}
 use Rattle.ts_rules.specs.declared.tree.Tree.TheVariants.{Step, Seq, Choice, Group}
-use Rattle.ts_rules.specs.Alternatives.{Alternatives, alternatives_of, sequence, members_of, choice_of, is_last, in_sequence, in_group, left, group, single, joins}
+use Rattle.ts_rules.specs.Alternatives.{Alternatives, alternatives_of, sequence, members_of, choice_of, is_last, in_sequence, in_group, left, single, joins}
 use Rattle.ts_productions.specs.declared.weights.Weights.{Weights}
 use Rattle.ts_productions.specs.declared.measure.Measure.{Measure}
 use Rattle.ts_productions.specs.Sizes.{many_of, longest_by, weigh, total, blanks, heavy, reach, reach_together, IsMeasure, IsJoined, IsSmallMeasure}
 use Rattle.ts_productions.proofs.AlikeLemmas.{Alike, alike_cap, alike_times, alike_plus}
-use Rattle.ts_productions.proofs.SizeLemmas.{weigh_append, total_append, total_joins, total_apart, blanks_append, blanks_joins, blanks_left, heavy_append, heavy_joins, heavy_left, reach_append, reach_none, reach_sequence, reach_left, times_none, none_times}
+use Rattle.ts_productions.proofs.SizeLemmas.{weigh_append, total_joins, total_apart, blanks_append, blanks_joins, blanks_left, heavy_append, heavy_joins, heavy_left, reach_append, reach_none, reach_sequence, reach_left, times_none, none_times}
 use Rattle.ts_productions.proofs.TreeLemmas.{alternatives_step, alternatives_seq, alternatives_choice, alternatives_group, next_of}
 
 pub measured_step : (w : Weights) (tree : Tree) (symbol : ℕ) (m : Measure) (around : Around) → tree ≡ Step symbol → IsMeasure w (single symbol around ∷ []) m → IsMeasure w (alternatives_of tree around) m

@@ -1,10 +1,10 @@
 -- What joins of alternatives weigh.
-use Rattle.std.proofs.Common.{◌≡◌, ◌∙◌, sym, ap, refl, arith, ℕ, zero, suc, ◌+◌, ◌*◌, ◌<◌, ◌≤◌, min, max, ◌⊎◌, inl, inr, Bool, true, false, if◌then◌else◌, List, [], ◌∷◌, map, ◌++◌, length}
-use Rattle.std.proofs.Math.Nat.{mul_comm, mul_assoc, le-mul_of_pos_right}
+use Rattle.std.proofs.Common.{◌≡◌, ◌∙◌, sym, ap, refl, arith, ℕ, zero, suc, ◌+◌, ◌*◌, ◌≤◌, max, ◌⊎◌, inl, inr, List, [], ◌∷◌, map, ◌++◌}
+use Rattle.std.proofs.Math.Nat.{mul_assoc, le-mul_of_pos_right}
 use Rattle.ts_rules.specs.declared.tree.Around.{Around}
 use Rattle.ts_rules.specs.declared.tree.Alternative.{Alternative}
 use Rattle.ts_rules.specs.declared.tree.NumberedStep.{NumberedStep}
-use Rattle.ts_rules.specs.Alternatives.{Alternatives, alternative, joins, sequence, followed, left, last_left}
+use Rattle.ts_rules.specs.Alternatives.{Alternatives, joins, sequence, followed, left, last_left}
 use Rattle.ts_rules.specs.Productions.{filled, unless_blank}
 use Rattle.ts_productions.specs.Sizes.{weigh, span, tall, blank_of, filled_of, total, blanks, heavy, reach, reach_together}
 

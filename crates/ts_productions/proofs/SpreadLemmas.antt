@@ -1,5 +1,5 @@
 -- How expansions are put together.
-use Rattle.std.proofs.Common.{◌≡◌, ◌∙◌, ap, refl, sym, ℕ, zero, nat_lt, if◌then◌else◌, true, false, Bool, ◌<◌, ◌≤◌, ◌⊎◌, inl, inr, arith, List, [], ◌∷◌, ◌++◌, map, Option, Some, None, option_map, append_assoc, append-nil, All}
+use Rattle.std.proofs.Common.{◌≡◌, ◌∙◌, ap, refl, sym, if◌then◌else◌, Bool, ◌<◌, ◌≤◌, ◌⊎◌, inl, inr, arith, List, [], ◌∷◌, ◌++◌, map, Option, Some, None, option_map, append_assoc, append-nil, All}
 use Rattle.std.specs.List.{flat_map}
 use Rattle.std.specs.Int.RustNames.{unsigned_abs}
 use Rattle.std.proofs.lemmas.Bool.{cases_lt, lt-ltb, le-ltb}
@@ -9,7 +9,7 @@ use lib.IntN.{ℤ}
 use Rattle.ts_rules.specs.declared.tree.Alternative.{Alternative}
 use Rattle.ts_rules.specs.declared.tree.NumberedStep.{NumberedStep}
 use Rattle.ts_rules.specs.Alternatives.{Alternatives, alternative, stronger}
-use Rattle.ts_rules.specs.Productions.{marked_by, ended_by, inserted}
+use Rattle.ts_rules.specs.Productions.{marked_by, inserted}
 use Rattle.ts_productions.specs.declared.expansion.Expansion.{Expansion}
 use Rattle.ts_productions.specs.Expansions.{Expansions, expansion, close, plain, last_by, Table, by_option, spread, spread_of, spread_all, onward}
 use Rattle.ts_productions.proofs.StepLemmas.{marked_twice, marked_last, last_marked, last_twice}

@@ -1,5 +1,5 @@
 -- How many expansions alternatives have, and how long they are, by what their steps weigh.
-use Rattle.std.proofs.Common.{◌≡◌, ◌∙◌, sym, ap, refl, arith, ℕ, zero, suc, ◌+◌, ◌*◌, ◌<◌, ◌≤◌, min, max, ◌⊎◌, inl, inr, ⊎_elim, List, [], ◌∷◌, map, ◌++◌, length, Option, Some, None, option_map, All}
+use Rattle.std.proofs.Common.{◌≡◌, ◌∙◌, sym, ap, refl, arith, ℕ, zero, suc, ◌+◌, ◌*◌, ◌≤◌, min, max, ⊎_elim, List, [], ◌∷◌, map, ◌++◌, length, Option, Some, None, option_map, All}
 use Rattle.std.specs.List.{flat_map}
 use Rattle.std.proofs.lemmas.List.{length-append, length-map, map-append}
 use Rattle.std.proofs.lemmas.List.Elements.{All-head, All-tail}
@@ -7,14 +7,14 @@ use lib.IntN.{ℤ}
 use Rattle.ts_rules.specs.declared.size.Size.{Size}
 use Rattle.ts_rules.specs.declared.tree.Alternative.{Alternative}
 use Rattle.ts_rules.specs.declared.tree.NumberedStep.{NumberedStep}
-use Rattle.ts_rules.specs.Alternatives.{Alternatives, alternative, stronger, longest_of}
+use Rattle.ts_rules.specs.Alternatives.{Alternatives, stronger, longest_of}
 use Rattle.ts_rules.specs.Productions.{marked_by}
 use Rattle.ts_productions.specs.declared.expansion.Expansion.{Expansion}
 use Rattle.ts_productions.specs.declared.weights.Weights.{Weights}
 use Rattle.ts_productions.specs.Expansions.{Expansions, close, plain, last_by, Table, by_option, spread, spread_of, spread_all, onward}
 use Rattle.ts_productions.specs.Sizes.{many_of, longest_by, longest_in, count_in, length_in, weigh, span, tall, total, reach, IsSizeBy, IsSizeOf, IsWeighed, AllAgree}
 use Rattle.ts_productions.proofs.AlikeLemmas.{Alike, alike_cap, alike_times, alike_plus}
-use Rattle.ts_productions.proofs.SizeLemmas.{times_none, none_times, zero_or, tall_some, tall_none, both_some}
+use Rattle.ts_productions.proofs.SizeLemmas.{none_times, zero_or, tall_some, tall_none, both_some}
 
 longest_append : (xs ys : Alternatives) → longest_of (xs ++ ys) ≡ max (longest_of xs) (longest_of ys)
 longest_append [] ys = omega arith

@@ -1,6 +1,5 @@
 -- Steps that are inserted into steps that are inserted themselves.
-use Rattle.std.proofs.Common.{◌≡◌, ◌∙◌, ap, refl, sym, ℕ, suc, Option, Some, None}
-use lib.IntN.{ℤ, pos}
+use Rattle.std.proofs.Common.{◌≡◌, ◌∙◌, ap, refl, ℕ, Option, Some, None}
 use Rattle.ts_core.specs.declared.flat.Assoc.{Assoc}
 use Rattle.ts_core.specs.declared.flat.Assoc.TheVariants as assoc
 use Rattle.ts_core.specs.declared.flat.Prec.{Prec}

@@ -2,7 +2,7 @@
 use Rattle.std.proofs.Common.{◌≡◌, ◌∙◌, sym, ap, refl, subst, arith, ℕ, zero, suc, ◌+◌, ◌*◌, ◌<◌, ◌≤◌, min, max, ◌⊎◌, inl, inr, ⊎_elim, List, [], ◌∷◌, map, ◌++◌, length, take, set, get_or, slice_get, Option, Some, None, option_map, append-nil, All}
 use Rattle.std.specs.List.{Contains, flat_map}
 use Rattle.std.proofs.lemmas.Bool.{cases_eq}
-use Rattle.std.proofs.lemmas.List.{take_more, take_all, length-append, length-set, length-map}
+use Rattle.std.proofs.lemmas.List.{take_more, take_all, length-set, length-map}
 use Rattle.std.proofs.lemmas.Option.{slice_get_within, slice_get-get_or, slice_get-map, slice_get_cases}
 use Rattle.std.proofs.lemmas.List.Elements.{Contains-get_or, All-nil, All-cons, All-weaker, All-contains_itself, Contains-append_cases}
 use Rattle.ts_base.proofs.PlaceLemmas.{set_here, set_there}
@@ -10,16 +10,15 @@ use Rattle.ts_rules.specs.declared.size.Size.{Size}
 use Rattle.ts_rules.specs.declared.tree.Alternative.{Alternative}
 use Rattle.ts_rules.specs.declared.tree.NumberedStep.{NumberedStep}
 use Rattle.ts_rules.specs.declared.tree.Tree.{Tree}
-use Rattle.ts_rules.specs.Alternatives.{Alternatives, longest_of, step_at}
-use Rattle.ts_rules.specs.Numbers.{outermost}
+use Rattle.ts_rules.specs.Alternatives.{Alternatives, longest_of}
 use Rattle.ts_rules.specs.Productions.{filled, again}
 use Rattle.ts_productions.specs.declared.measure.Measure.{Measure}
 use Rattle.ts_productions.specs.declared.sources.Sources.{Sources}
 use Rattle.ts_productions.specs.declared.weights.Weights.{Weights}
-use Rattle.ts_productions.specs.Expansions.{Expansions, Table, IsFull, by_option, entry_at, spread_all}
-use Rattle.ts_productions.specs.Roots.{AreOrderedSources, StepsTo, whole, whole_all, filled_all, repeated_all, roots_of, before_of, inlined_at}
-use Rattle.ts_productions.specs.Sizes.{size_at, one_step, many_of, longest_by, count_in, length_in, weigh, span, tall, total, blanks, heavy, reach, IsMeasure, IsSizeBy, IsSizeOf, SizesHold, longest_in, IsWeighed, AllAgree}
-use Rattle.ts_productions.proofs.EntryLemmas.{entry_hit, entry_miss, entry_cases, entry_there}
+use Rattle.ts_productions.specs.Expansions.{Expansions, Table, IsFull, by_option, spread_all}
+use Rattle.ts_productions.specs.Roots.{AreOrderedSources, whole, filled_all, repeated_all, inlined_at}
+use Rattle.ts_productions.specs.Sizes.{size_at, one_step, many_of, longest_by, weigh, span, tall, total, reach, IsMeasure, IsSizeBy, IsSizeOf, SizesHold, longest_in, IsWeighed, AllAgree}
+use Rattle.ts_productions.proofs.EntryLemmas.{entry_miss, entry_cases, entry_there}
 use Rattle.ts_productions.proofs.SizeLemmas.{total_append, total_apart, total_filled, reach_append, reach_filled, reach_none, zero_or, tall_some, tall_none}
 use Rattle.ts_productions.proofs.SpreadLemmas.{flat_append}
 use Rattle.ts_productions.proofs.SpreadSizeLemmas.{size_of_spread}

@@ -1,5 +1,5 @@
 -- Productions of the normal form, by a list of aliases.
-use Rattle.std.specs.Prelude.{◌≡◌, ℕ, Bool, false, List, [], ◌∷◌, ◌++◌, map, slice_get, suc}
+use Rattle.std.specs.Prelude.{◌≡◌, ℕ, false, List, [], ◌∷◌, ◌++◌, map, get_or, suc}
 use Rattle.ts_core.specs.declared.flat.Alias.{Alias}
 use Rattle.ts_core.specs.declared.flat.Production.{Production}
 use Rattle.ts_rules.specs.declared.tree.Tree.{Tree}
@@ -9,12 +9,12 @@ use Rattle.ts_rules.specs.Numbers.{Numbers, unnumbered}
 use Rattle.ts_rules.specs.Productions.{production, filled, again}
 use Rattle.ts_rules.specs.Sights.{alias}
 use Rattle.ts_productions.specs.declared.expansion.Expansion.{Expansion}
-use Rattle.ts_productions.specs.Expansions.{Table, by_option, plain, spread_all}
+use Rattle.ts_productions.specs.Expansions.{Table, plain, spread_all}
 use Rattle.ts_productions.specs.Roots.{whole}
 
 -- the alias of a place; a place past the list has the empty alias
 abbrev pub alias_in : List Alias → ℕ → Alias
-alias_in aliases place = by_option (slice_get aliases place) (alias [] false) (λ (a : Alias). a)
+alias_in aliases place = get_or aliases place (alias [] false)
 
 -- ---- serves proofs alone
 

@@ -1,5 +1,5 @@
 -- How many expansions alternatives have, and how long the longest is. Serves proofs alone.
-use Rattle.std.specs.Prelude.{◌≡◌, ℕ, zero, suc, ◌+◌, ◌*◌, ◌≤◌, min, max, List, [], ◌∷◌, map, length, slice_get, Some, None, All, ◌⊎◌, ◌≢◌}
+use Rattle.std.specs.Prelude.{◌≡◌, ℕ, zero, suc, ◌+◌, ◌*◌, ◌≤◌, min, max, List, [], ◌∷◌, map, length, slice_get, Some, All, ◌⊎◌, ◌≢◌}
 use Rattle.std.specs.List.{Contains}
 use Rattle.ts_rules.specs.declared.size.Size.{Size}
 use Rattle.ts_rules.specs.declared.tree.NumberedStep.{NumberedStep}

@@ -1,10 +1,10 @@
 //! Inlining in a grammar: what comes in are its rule trees by numbers, and what goes out are the
-//! inlined rules, ready to be put in place of their symbols, and then the productions of any rule.
+//! inlined rules, ready to be put in place of their symbols, and then what alternatives become.
 
 ghost use Rattle.std.specs.Prelude.{◌≡◌, ◌<◌, ◌≤◌, ◌↔◌, ◌⊎◌, IfOk};
 ghost use Rattle.std.specs.Result.{IsErrOf, IsOkUnless};
 ghost use Rattle.ts_rules.specs.Counts.{many, long};
-ghost use Rattle.ts_productions.specs.Limits.{AreMany, AreFewSources, SomeIsLong, AllAreShort, AreInlined, AreInlinedProductions, BecomeFew};
+ghost use Rattle.ts_productions.specs.Limits.{AreMany, AreFewSources, SomeIsLong, AllAreShort, AreInlined, AreInlinedProductions, EachBecomesFew};
 ghost use Rattle.ts_productions.specs.Roots.{AreOrderedSources};
 ghost use Rattle.ts_productions.specs.Sizes.{JudgesSize};
 
@@ -79,11 +79,7 @@ pub fn inlined_rules(alloc: Global, sources: &Sources) -> Result<InlinedRules, P
 }
 
 /// The productions that alternatives become by inlining.
-///
-/// # Errors
-///
-/// `AllocError` where memory runs out.
-pub fn productions_of(
+pub(crate) fn productions_of(
     alloc: Global,
     sources: &Sources,
     rules: &InlinedRules,
@@ -91,7 +87,7 @@ pub fn productions_of(
 ) -> Result<List<Production>, AllocError>
     requires ordered { AreOrderedSources sources.now }
     requires inlined { AreInlined sources.now rules.now }
-    requires few { BecomeFew sources.now alternatives.now }
+    requires few { EachBecomesFew sources.now alternatives.now }
     ensures { IfOk result (AreInlinedProductions sources.now alternatives.now) }
 {
     let inlined = Inlined {

@@ -1,4 +1,3 @@
-use Rattle.std.proofs.Common.{arith}
 use Rattle.ts_productions.proofs.LimitLemmas.{are_many, are_few, some_long, all_short, few_not_many, short_not_long}
 use Rattle.ts_productions.proofs.rules.inlined_rules.Goals as goal
 

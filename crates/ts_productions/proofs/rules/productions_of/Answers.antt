@@ -1,13 +1,10 @@
-use Rattle.std.proofs.Common.{◌≡◌, ◌∙◌, sym, subst, refl, ap, map, List, All}
-use Rattle.ts_core.specs.declared.flat.Production.{Production}
+use Rattle.std.proofs.Common.{◌∙◌, sym, subst, refl, List, All}
 use Rattle.ts_rules.specs.declared.size.Size.{Size}
-use Rattle.ts_rules.specs.FirstSights.{AreFirstSights}
 use Rattle.ts_productions.specs.declared.spread.Inlined.{Inlined}
 use Rattle.ts_productions.specs.Expansions.{Expansions}
-use Rattle.ts_productions.specs.Flat.{flat}
 use Rattle.ts_productions.specs.Sizes.{IsUsable, SizesHold, FullHold}
-use Rattle.ts_productions.proofs.FullLemmas.{usable_all}
-use Rattle.ts_productions.proofs.LimitLemmas.{table, table_full, within, inlined_productions}
+use Rattle.ts_productions.proofs.LimitLemmas.{table, inlined_productions}
+use Rattle.ts_productions.proofs.ProductionLemmas.{usable_each}
 use Rattle.ts_productions.proofs.rules.productions_of.Goals as goal
 
 pub returns : goal.returns
@@ -18,7 +15,6 @@ returns c =
     let full : FullHold c.args.sources.now c.args.sources.now.order.now t.full.now =
     subst (λ (zs : List Expansions). FullHold c.args.sources.now c.args.sources.now.order.now zs) (sym c.as_slice-2.ensures.value) c.requires.inlined.full in
     let usable : All (IsUsable (table c.args.sources.now c.requires.ordered) t) c.args.alternatives.now =
-    usable_all c.args.sources.now (table c.args.sources.now c.requires.ordered) t c.args.alternatives.now refl (table_full c.args.sources.now c.requires.ordered) c.requires.ordered sizes full
-    (within c.args.sources.now c.requires.ordered c.args.alternatives.now c.requires.few) in
+    usable_each c.args.sources.now c.requires.ordered t c.args.alternatives.now refl sizes full c.requires.few in
     inlined_productions c.args.sources.now c.requires.ordered c.args.alternatives.now c.as_slice-3.result.now c.in_ok-found.found
     (c.as_slice-3.ensures ∙ c.in_ok-expansions.ensures (table c.args.sources.now c.requires.ordered) usable) c.in_ok-found.ensures

@@ -1,4 +1,4 @@
-use Rattle.std.proofs.Common.{rules, vec_len, ◌≡◌, ◌∙◌, sym, ap, List, map, length, ◌++◌}
+use Rattle.std.proofs.Common.{rules, vec_len, ◌≡◌, ◌∙◌, ap, List, map, length, ◌++◌}
 use Rattle.ts_rules.specs.Productions.{marked_by}
 use Rattle.ts_rules.specs.declared.tree.NumberedStep.{NumberedStep}
 use Rattle.ts_productions.specs.Sizes.{look}

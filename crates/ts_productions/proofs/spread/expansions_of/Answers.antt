@@ -1,4 +1,3 @@
-use Rattle.std.proofs.Common.{refl}
 use Rattle.ts_productions.proofs.EachLemmas.{all_more, all_ends}
 use Rattle.ts_productions.proofs.spread.expansions_of.Goals as goal
 

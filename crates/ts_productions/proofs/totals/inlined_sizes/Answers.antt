@@ -1,4 +1,4 @@
-use Rattle.std.proofs.Common.{◌≡◌, ◌∙◌, refl, sym, arith, length, subst, take, List, ap}
+use Rattle.std.proofs.Common.{refl, sym, arith, length, subst, take, List, ap}
 use Rattle.ts_rules.specs.declared.size.Size.{Size}
 use Rattle.ts_productions.specs.declared.weights.Weights.{Weights}
 use Rattle.ts_productions.specs.Sizes.{SizesHold}

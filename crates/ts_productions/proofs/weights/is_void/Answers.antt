@@ -1,4 +1,4 @@
-use Rattle.std.proofs.Common.{◌≡◌, ◌∙◌, ap, sym, ℕ}
+use Rattle.std.proofs.Common.{ap}
 use Rattle.ts_productions.specs.Sizes.{many_of}
 use Rattle.ts_rules.specs.declared.size.Size.{Size}
 use Rattle.ts_productions.proofs.MeasureLemmas.{some_more, void_at}
