@@ -19,6 +19,7 @@ use Rattle.ts_items.specs.Productions.{plain, right_of}
 use Rattle.ts_items.specs.Parts.{line_of, In}
 use Rattle.ts_items.specs.Sets.{HasAt}
 use Rattle.ts_items.specs.Tables.{IsTables}
+use Rattle.ts_items.specs.Edges.{AreFirstSets}
 use Rattle.ts_items.specs.Closing.{AtDot, Begun, Closed, SameItems, AreLineParts, IsKernel, IsPool}
 use Rattle.ts_items.specs.Numbers.{IsKernelOf, AreStates, AreOnce, IsDone, Collecting}
 use Rattle.ts_items.specs.Collection.{most_states, HoldsItem, IsReachedBy, here, step, StandsFor, AreDifferent, AreTooMany}
@@ -251,8 +252,8 @@ module _ (law : SameWords) (g : FlatGrammar) (t : Tables) (tables : IsTables g t
       let one : w.number ≡ n = distinct w.number n (slice_get_within items.states.items w.number w.state w.at) lt same in
       (st.read, i, subst (IsReachedBy items st.read) one w.leads, v)
 
-  pub stands_for : StandsFor g items
-  stands_for = record {
+  pub stands_for : AreFirstSets g width items.firsts.items → length kernels ≤ most_states → StandsFor g items
+  stands_for firsts few = record {
     complete = λ read i v. let p = place read i v in (p.number, p.leads);
     valid = λ read n l. let p = led read n l in same_both (HoldsItem items n) (In items.tokens.keys p.0.parts.items) (Valid g read) (held n p.0 p.1) p.2;
     reached = reached;
@@ -265,7 +266,13 @@ module _ (law : SameWords) (g : FlatGrammar) (t : Tables) (tables : IsTables g t
           apart = closes.apart set.state.kernel_is;
           rise = set.done.gotos.rise;
         };
+    inside = λ n s e at h.
+        let gotos = (set_of n s at).done.gotos in
+        let w = gotos.leads e h in
+        (gotos.under e h, let lt = slice_get_within kernels e.state w.0 w.1 in let size = c.size in omega (arith, lt, past, size));
     width = width;
     narrow = narrow;
     wide = is_pool.wide;
+    firsts = firsts;
+    few = let size = c.size in omega (arith, few, size, count);
   }

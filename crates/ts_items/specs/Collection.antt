@@ -1,8 +1,8 @@
 -- Numbered sets of valid items.
-use Rattle.std.specs.Prelude.{◌≡◌, ℕ, ◌*◌, ◌^◌, ◌<◌, List, [], ◌∷◌, length, slice_get, Some}
+use Rattle.std.specs.Prelude.{◌≡◌, ℕ, ◌*◌, ◌^◌, ◌<◌, ◌≤◌, List, [], ◌∷◌, length, slice_get, Some}
 use Rattle.std.specs.List.{Contains}
 use Rattle.ts_core.specs.declared.flat.FlatGrammar.{FlatGrammar}
-use Rattle.spec_grammar.specs.Symbols.{all_productions}
+use Rattle.spec_grammar.specs.Symbols.{all_productions, symbol_count}
 use Rattle.spec_tables.specs.Items.{Item, Valid}
 use Rattle.ts_bits.specs.declared.set.BitSet.{BitSet}
 use Rattle.ts_bits.specs.Members.{IsWide}
@@ -11,6 +11,7 @@ use Rattle.ts_items.specs.declared.part.Goto.{Goto}
 use Rattle.ts_items.specs.declared.part.State.{State}
 use Rattle.ts_items.specs.Parts.{In}
 use Rattle.ts_items.specs.Closing.{SameItems, AreLineParts, AreOneEach}
+use Rattle.ts_items.specs.Edges.{AreFirstSets}
 
 -- the most sets that there may be
 abbrev pub most_states : ℕ
@@ -58,10 +59,17 @@ pub record StandsFor (g : FlatGrammar) (items : Items) : Type 0 where
       → SameItems (HoldsItem items m) (HoldsItem items n) → m ≡ n
   pub laid_out : (n : ℕ) (s : State) → slice_get items.states.items n ≡ Some s
       → IsLaidOut g items.tokens.keys s
+  -- each goto is over a symbol of the grammar, and leads to a number
+  pub inside : (n : ℕ) (s : State) (e : Goto) → slice_get items.states.items n ≡ Some s
+      → Contains s.gotos.items e
+      → (e.symbol < symbol_count g) × (e.state < length items.states.items)
   -- the sets of tokens have the width of so many words
   pub width : ℕ
   pub narrow : 64 * width < 2 ^ 64
   pub wide : (n : ℕ) (set : BitSet) → slice_get items.tokens.keys n ≡ Some set → IsWide width set
+  -- what each symbol can begin with is kept beside
+  pub firsts : AreFirstSets g width items.firsts.items
+  pub few : length items.states.items ≤ most_states
 
 -- lists of symbols after which different sets of items are valid, none of them empty
 pub record AreDifferent (g : FlatGrammar) (reads : List (List ℕ)) : Type 0 where

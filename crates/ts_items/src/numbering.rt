@@ -251,7 +251,6 @@ fn states_of(
 pub fn collection(alloc: Global, grammar: &FlatGrammar) -> Result<Items, ItemFault>
     requires { Fit grammar.now }
     ensures stands { IfOk result (StandsFor grammar.now) }
-    ensures few { IfOk result (λ items. length items.states.items ≤ most_states) }
     ensures fits { IfOk result (λ items. AreTooMany grammar.now → ⊥) }
     ensures many { IfErr result (λ e. (e ≡ Memory)
         ⊎ ((e ≡ TooManyStates too_many) × AreTooMany grammar.now)) }
@@ -272,5 +271,6 @@ pub fn collection(alloc: Global, grammar: &FlatGrammar) -> Result<Items, ItemFau
     Ok(Items {
         tokens: pool,
         states,
+        firsts: tables.firsts,
     })
 }

@@ -36,4 +36,6 @@ pub struct Items {
     /// The sets of tokens for which parts have a place.
     pub tokens: IndexSet<BitSet>,
     pub states: Vec<State>,
+    /// For each symbol the tokens with which it can begin.
+    pub firsts: Vec<BitSet>,
 }

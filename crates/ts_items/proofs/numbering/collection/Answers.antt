@@ -23,10 +23,7 @@ returns-clause-stands c =
     let e = c.in_ok-states.ensures in
     let begun = c.in_ok-begin.ensures.begun g t in
     let col = subst (λ (n : ℕ). Collecting g (length c.in_ok-tables.tables.productions.items) n c.states_of.new.pool.keys c.states_of.new.kernels.keys c.in_ok-states.states.items (length c.states_of.new.kernels.keys)) t.firsts.count (e.states g t begun) in
-    stands_for c.same_words.ensures g c.in_ok-tables.tables t _ c.states_of.new.kernels.keys (length c.states_of.new.kernels.keys) c.in_ok-tables.tables.width t.narrow e.pool col (omega arith) (omega arith)
-
-pub returns-clause-few : goal.returns-clause-few
-returns-clause-few c = let few = c.in_ok-states.ensures.few in let size = c.in_ok-states.ensures.size in omega (arith, few, size)
+    stands_for c.same_words.ensures g c.in_ok-tables.tables t _ c.states_of.new.kernels.keys (length c.states_of.new.kernels.keys) c.in_ok-tables.tables.width t.narrow e.pool col (omega arith) (omega arith) t.firsts e.few
 
 pub returns-in_err-states-clause-many : goal.returns-in_err-states-clause-many
 returns-in_err-states-clause-many c =
@@ -36,4 +33,4 @@ returns-in_err-states-clause-many c =
     rw (p.1, p.2) (⊎_elim (λ m. inl m) (λ w. inr (w.0, w.1 g t (c.in_ok-begin.ensures.begun g t))) c.in_err-states.ensures.many)
 
 pub returns-clause-fits : goal.returns-clause-fits
-returns-clause-fits c = fits c.args.grammar.now _ (returns-clause-stands c) (returns-clause-few c)
+returns-clause-fits c = let stands = returns-clause-stands c in fits c.args.grammar.now _ stands stands.few

@@ -1,0 +1,17 @@
+pub mod ViewLemmas
+pub mod MarkLemmas
+pub mod ListLemmas
+pub mod OrderingLemmas
+pub mod DecidingLemmas
+pub mod ItemLemmas
+pub mod CandidateLemmas
+pub mod CellLemmas
+pub mod EntryLemmas
+pub mod RefusalLemmas
+pub mod SortLemmas
+pub mod SetLemmas
+pub mod RowLemmas
+pub mod BuildLemmas
+pub mod TableLemmas
+pub mod RankLemmas
+pub mod ContestLemmas

@@ -1,0 +1,9 @@
+pub mod Arrays
+pub mod Tables
+pub mod Marks
+pub mod Candidates
+pub mod Deciding
+pub mod Cells
+pub mod Rules
+pub mod Rows
+pub mod Ranks
