@@ -11,6 +11,7 @@ use Rattle.ts_automata.specs.Parts.{IsPart}
 use Rattle.ts_automata.specs.Automata.{parts_of, IsAutomaton}
 use Rattle.ts_automata.specs.Machine.{HasRead}
 use Rattle.ts_lexer.specs.declared.verdict.Verdict.{Verdict}
+use Rattle.ts_lexer.specs.Ahead.{AreVerdicts}
 use Rattle.ts_lexer.specs.Judged.{IsPick, JudgesNodes, Knows, PartWord, PartFront, EndsIn, LivesIn}
 
 find : {X : Type 0} (xs : List X) (k : ℕ) → k < length xs → (x : X) × (slice_get xs k ≡ Some x)
@@ -98,3 +99,8 @@ module _ (g : FlatGrammar) (m : Machine) (is : IsAutomaton g m.automaton) (w : L
         ends = (ends_same h.part).0 h.ends;
         best = λ k s t o e. h.best k s t o ((ends_same k).1 e);
       }
+
+-- what a row says of a set, once it has been reached
+pub row_knows : (g : FlatGrammar) (valid : List Symbol) (first : Bool) (m : Machine) → IsAutomaton g m.automaton → (row : List Verdict) → AreVerdicts g valid first m row
+    → (w : List ℕ) (n : ℕ) (v : Verdict) → HasRead m w n → slice_get row n ≡ Some v → Knows g valid first w v
+row_knows g valid first m is row rows w n v read at = knows g m is w n read read.set read.at valid first v (rows.each n v at read.set read.at)

@@ -1,3 +1,5 @@
+pub mod AheadLemmas
+pub mod AnswerLemmas
 pub mod ChooseLemmas
 pub mod FrontLemmas
 pub mod GapLemmas
@@ -10,5 +12,8 @@ pub mod OverLemmas
 pub mod PassLemmas
 pub mod RoleLemmas
 pub mod RunLemmas
+pub mod SameLemmas
 pub mod ScannedLemmas
 pub mod SofarLemmas
+pub mod StateLemmas
+pub mod VerdictLemmas

@@ -13,8 +13,6 @@ use Rattle.spec_lexing.specs.Lexing.{end_symbol, Candidate, IsBest, NoneMatches,
 use Rattle.spec_lexing.specs.Seen.{HasFront, is_inner, one_character, IsReach, IsSeen, last, more}
 use Rattle.ts_lexer.specs.declared.scanned.Match.{Match}
 use Rattle.ts_lexer.specs.declared.scanned.Scanned.{Scanned}
-use Rattle.ts_lexer.specs.declared.view.View.{View}
-use Rattle.ts_lexer.specs.Views.{IsView}
 use Rattle.ts_lexer.specs.Scanned.{IsScanned}
 
 behind_none : (f : Found) → behind 0 f ≡ f
@@ -35,11 +33,6 @@ passing_none g valid text = record {
   lex = λ f x. subst (λ (y : Found). Lexes g valid true text y) (sym (behind_none f)) x;
   seen = λ n x. subst (λ (k : ℕ). IsSeen g valid true text k) (let e : n ≡ max 0 (0 + n) = omega arith in e) x;
 }
-
--- at the first place nothing has been passed
-pub passing_begins : (g : FlatGrammar) (valid : List Symbol) (text : Bytes) (v : View) → IsView g valid true v → IsView g valid v.first v × Passing g valid text text v.first 0 0
-passing_begins g valid text v x =
-    (record { size = x.size; marks = x.marks; keyworded = x.keyworded; at_first = refl }, subst (λ (b : Bool). Passing g valid text text b 0 0) (sym x.at_first) (passing_none g valid text))
 
 -- what is taken ends in the text
 pub best_within : (g : FlatGrammar) (valid : List Symbol) (first : Bool) (rest : Bytes) (s : Symbol) (n : ℕ) → IsBest g valid first rest s n → n ≤ length rest

@@ -93,7 +93,7 @@ of_no : (a : Bool) → a ≡ false → not a ≡ true
 of_no true e = absurd (let f : true ≡ false = e in cc)
 of_no false e = refl
 
-module _ (g : FlatGrammar) (valid : List Symbol) (first : Bool) (r : Rules) (v : View) (is : IsRules g r) (view : IsView g valid first v) where
+module _ (g : FlatGrammar) (valid : List Symbol) (first : Bool) (r : Rules) (v : View) (is : IsRules g r) (view : IsView g valid v) where
   -- a part that is no token
   pub beyond_role : (part : ℕ) (b : Bool) → length r.kinds.items ≤ part → IsTrue b ↔ (part < r.parts)
       → IsRole g valid first part (record { wanted = b; plain = false; keyword = false; word = false; separator = b })
@@ -136,20 +136,20 @@ module _ (g : FlatGrammar) (valid : List Symbol) (first : Bool) (r : Rules) (v :
       → IsTrue w ↔ ((s : Symbol) × (r.word ≡ Some s) × (s.0 ≡ suc part))
       → IsRole g valid first part (record {
         wanted = b || (v.keyworded && w);
-        plain = (b && (v.first || not kind.immediate)) && not kind.keyword;
-        keyword = (b && (v.first || not kind.immediate)) && kind.keyword;
+        plain = (b && (first || not kind.immediate)) && not kind.keyword;
+        keyword = (b && (first || not kind.immediate)) && kind.keyword;
         word = w;
         separator = false;
       })
   token_role_of part kind b w t at kind_is marked named = record {
     wanted = ((λ x. wanted (or_and_from b v.keyworded w x)), (λ x. or_and_to b v.keyworded w (counted x)));
     plain = (
-      (λ x. taken false (not kind.keyword) (may_from b v.first kind.immediate (not kind.keyword) x) (λ e. sym kw ∙ no_of kind.keyword e)),
-      (λ m. may_to b v.first kind.immediate (not kind.keyword) (offered false (not kind.keyword) m (λ e. of_no kind.keyword (kw ∙ e)))),
+      (λ x. taken false (not kind.keyword) (may_from b first kind.immediate (not kind.keyword) x) (λ e. sym kw ∙ no_of kind.keyword e)),
+      (λ m. may_to b first kind.immediate (not kind.keyword) (offered false (not kind.keyword) m (λ e. of_no kind.keyword (kw ∙ e)))),
     );
     keyword = (
-      (λ x. taken true kind.keyword (may_from b v.first kind.immediate kind.keyword x) (λ e. sym kw ∙ e)),
-      (λ m. may_to b v.first kind.immediate kind.keyword (offered true kind.keyword m (λ e. kw ∙ e))),
+      (λ x. taken true kind.keyword (may_from b first kind.immediate kind.keyword x) (λ e. sym kw ∙ e)),
+      (λ m. may_to b first kind.immediate kind.keyword (offered true kind.keyword m (λ e. kw ∙ e))),
     );
     word = (
       (λ x. let n = named.0 x in record { symbol = n.0; token = t; word = sym is.word ∙ n.1; is_token = record { number = n.2; at = at } }),
@@ -185,25 +185,25 @@ module _ (g : FlatGrammar) (valid : List Symbol) (first : Bool) (r : Rules) (v :
       counted (word_token has s u word x) = inr (view.keyworded.1 has, named.1 (s, is.word ∙ word, x.number))
       counted (a_separator place separator number _) = absurd (let lt = below in omega arith)
 
-      taken : (keyword x : Bool) → May b v.first kind.immediate x → (x ≡ true → t.keyword ≡ keyword) → MayTake g valid first keyword part
+      taken : (keyword x : Bool) → May b first kind.immediate x → (x ≡ true → t.keyword ≡ keyword) → MayTake g valid first keyword part
       taken keyword x m is_kind = (
         symbol_at part,
         t,
         record {
           is_valid = in_valid.0 m.valid;
           is_token = here;
-          immediate = λ e. sym view.at_first ∙ m.stands (imm ∙ e);
+          immediate = λ e. m.stands (imm ∙ e);
           kind = is_kind m.kind;
         },
       )
 
-      offered : (keyword x : Bool) → MayTake g valid first keyword part → (t.keyword ≡ keyword → x ≡ true) → May b v.first kind.immediate x
+      offered : (keyword x : Bool) → MayTake g valid first keyword part → (t.keyword ≡ keyword → x ≡ true) → May b first kind.immediate x
       offered keyword x (s, u, o) is_kind =
           let e : Some u ≡ Some t = sym o.is_token.at ∙ at in
           let same : u ≡ t = cc in
           record {
             valid = in_valid.1 (subst (λ (y : Symbol). Contains valid y) (symbol_is s o.is_token.number) o.is_valid);
-            stands = λ f. view.at_first ∙ o.immediate (ap (λ (z : TokenDef). z.immediate) same ∙ sym imm ∙ f);
+            stands = λ f. o.immediate (ap (λ (z : TokenDef). z.immediate) same ∙ sym imm ∙ f);
             kind = is_kind (ap (λ (z : TokenDef). z.keyword) (sym same) ∙ o.kind);
           }
 
@@ -211,8 +211,8 @@ module _ (g : FlatGrammar) (valid : List Symbol) (first : Bool) (r : Rules) (v :
       → IsTrue w ↔ ((s : Symbol) × (r.word ≡ Some s) × (s.0 ≡ suc part))
       → IsRole g valid first part (record {
         wanted = b || (v.keyworded && w);
-        plain = (b && (v.first || not kind.immediate)) && not kind.keyword;
-        keyword = (b && (v.first || not kind.immediate)) && kind.keyword;
+        plain = (b && (first || not kind.immediate)) && not kind.keyword;
+        keyword = (b && (first || not kind.immediate)) && kind.keyword;
         word = w;
         separator = false;
       })

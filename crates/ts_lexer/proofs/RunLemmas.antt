@@ -13,8 +13,6 @@ use Rattle.ts_core.specs.declared.symbol.Symbol.{Symbol}
 use Rattle.spec_lexing.specs.Words.{Regular, Word, Front}
 use Rattle.spec_lexing.specs.Matching.{BeginsSpelled}
 use Rattle.spec_lexing.specs.Seen.{CanBegin, HasFront, one_character, IsReach}
-use Rattle.ts_automata.specs.declared.machine.Machine.{Machine}
-use Rattle.ts_automata.specs.Machine.{HasRead}
 use Rattle.ts_lexer.specs.declared.scanned.Progress.{Progress}
 use Rattle.ts_lexer.specs.declared.verdict.Verdict.{Verdict}
 use Rattle.ts_lexer.specs.Judged.{Wanted, Knows, PartWord}
@@ -33,13 +31,13 @@ pub record Laws : Type 0 where
   pub within : (rest : Bytes) (u : List ℕ) (n : ℕ) → BeginsSpelled rest u n → n ≤ length rest
   pub one : (c : ℕ) (more : Bytes) → IsScalar c → IsUtf8 more → one_character (encode_utf8 c ++ more) ≡ length (encode_utf8 c)
 
--- what has been read so far
-pub record Running (m : Machine) (g : FlatGrammar) (valid : List Symbol) (first : Bool) (rest tail : Bytes) (size state : ℕ) (p : Progress) : Type 0 where
+-- what has been read so far, where `R` says of characters how they have been read
+pub record Running (R : List ℕ → Type 0) (g : FlatGrammar) (valid : List Symbol) (first : Bool) (rest tail : Bytes) (size : ℕ) (p : Progress) : Type 0 where
   pub characters : List ℕ
   pub begins : BeginsSpelled rest characters size
   pub rest_is : drop size rest ≡ tail
   pub utf8 : IsUtf8 tail
-  pub read : HasRead m characters state
+  pub read : R characters
   pub front : (characters ≡ []) ⊎ CanBegin g valid characters
   pub sofar : Sofar g valid first (PartMatches g rest) size p
 
@@ -52,7 +50,7 @@ module _ (laws : Laws) (g : FlatGrammar) (valid : List Symbol) (first : Bool) (r
   same_size : (u w : List ℕ) (n k : ℕ) → BeginsSpelled rest u n → BeginsSpelled rest w k → u ≡ w → n ≡ k
   same_size u w n k a b e = a.size ∙ ap (λ (l : List ℕ). length (encode_utf8_all l)) e ∙ sym b.size
 
-  module _ (m : Machine) (tail : Bytes) (size state : ℕ) (p : Progress) (run : Running m g valid first rest tail size state p) where
+  module _ (R : List ℕ → Type 0) (tail : Bytes) (size : ℕ) (p : Progress) (run : Running R g valid first rest tail size p) where
     -- nothing that can begin so is longer: every wanted match has been seen
     pub all_seen : ((n : ℕ) → HasFront g valid rest n → n ≤ size) → (k n : ℕ) → Wanted g valid k → PartMatches g rest k n → n ≤ size
     all_seen longest k n wanted x = longest n (record {
@@ -165,9 +163,9 @@ module _ (laws : Laws) (g : FlatGrammar) (valid : List Symbol) (first : Bool) (r
       pub far : len_utf8 c ≡ one_character tail
       far = sym (length-encode c) ∙ sym (laws.one c later scalar_c utf8) ∙ ap one_character (sym is)
 
-      pub run_more : (v : Verdict) (to : ℕ) (after : Progress) → Knows g valid first w v → v.lives ≡ true → HasRead m w to → Sofar g valid first (PartMatches g rest) next after
-          → Running m g valid first rest later next to after
-      run_more v to after knows alive read sofar = record {
+      pub run_more : (v : Verdict) (S : List ℕ → Type 0) (after : Progress) → Knows g valid first w v → v.lives ≡ true → S w → Sofar g valid first (PartMatches g rest) next after
+          → Running S g valid first rest later next after
+      run_more v S after knows alive read sofar = record {
         characters = w;
         begins = begins_next;
         rest_is = drops;
@@ -183,9 +181,9 @@ module _ (laws : Laws) (g : FlatGrammar) (valid : List Symbol) (first : Bool) (r
               ∙ drop-append_seam (encode_utf8 c) later
 
 -- nothing has been read
-pub run_begins : Laws → (m : Machine) (g : FlatGrammar) (valid : List Symbol) (first : Bool) (rest : Bytes) (state : ℕ) (p : Progress) → IsUtf8 rest → HasRead m [] state
-    → Sofar g valid first (PartMatches g rest) 0 p → Running m g valid first rest rest 0 state p
-run_begins laws m g valid first rest state p utf8 read sofar = record {
+pub run_begins : Laws → (R : List ℕ → Type 0) (g : FlatGrammar) (valid : List Symbol) (first : Bool) (rest : Bytes) (p : Progress) → IsUtf8 rest → R []
+    → Sofar g valid first (PartMatches g rest) 0 p → Running R g valid first rest rest 0 p
+run_begins laws R g valid first rest p utf8 read sofar = record {
   characters = [];
   begins = laws.nothing rest;
   rest_is = refl;

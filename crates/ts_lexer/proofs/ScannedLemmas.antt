@@ -13,14 +13,12 @@ use Rattle.spec_lexing.specs.Words.{Regular, regular_of}
 use Rattle.spec_lexing.specs.Matching.{MatchesRe, MatchesSeparator}
 use Rattle.spec_lexing.specs.Lexing.{Candidate, IsBest}
 use Rattle.spec_lexing.specs.Seen.{HasFront, one_character}
-use Rattle.ts_automata.specs.declared.machine.Machine.{Machine}
 use Rattle.ts_automata.specs.Automata.{parts_of}
 use Rattle.ts_lexer.specs.declared.scanned.Match.{Match}
 use Rattle.ts_lexer.specs.declared.scanned.Progress.{Progress}
 use Rattle.ts_lexer.specs.Rules.{kind_of}
 use Rattle.ts_lexer.specs.Judged.{IsTokenPart, Offered, Wanted, IsPicked, IsPick, IsSeparatorPart, Knows}
 use Rattle.ts_lexer.specs.Judged as judged
-use Rattle.ts_automata.specs.Machine.{HasRead}
 use Rattle.ts_lexer.specs.declared.verdict.Verdict.{Verdict}
 use Rattle.ts_lexer.specs.Scanned.{PartMatches, IsFirstPlain, IsStep, Sofar, IsBetterMatch, IsScanned}
 use Rattle.ts_lexer.proofs.ChooseLemmas.{none_chosen, plain_best, keyword_best, both_best}
@@ -34,10 +32,10 @@ pub record Chosen (g : FlatGrammar) (p : Progress) (best : Option Match) : Type 
   pub both : (j k : ℕ) (m : Match) (s : Symbol) (a b : TokenDef) → p.keyword ≡ Some s → p.plain ≡ Some m → IsTokenPart g j m.symbol a → IsTokenPart g k s b
       → (n : Match) × (best ≡ Some n) × IsBetterMatch (kind_of a) m (kind_of b) (record { symbol = s; size = p.word }) n
 
-module _ (laws : Laws) (g : FlatGrammar) (valid : List Symbol) (first : Bool) (rest : Bytes) (m : Machine) (tail : Bytes) (size state : ℕ) (p : Progress)
-    (run : Running m g valid first rest tail size state p) (longest : (n : ℕ) → HasFront g valid rest n → n ≤ size) where
+module _ (laws : Laws) (g : FlatGrammar) (valid : List Symbol) (first : Bool) (rest : Bytes) (R : List ℕ → Type 0) (tail : Bytes) (size : ℕ) (p : Progress)
+    (run : Running R g valid first rest tail size p) (longest : (n : ℕ) → HasFront g valid rest n → n ≤ size) where
   all : (k n : ℕ) → Wanted g valid k → PartMatches g rest k n → n ≤ size
-  all = all_seen laws g valid first rest m tail size state p run longest
+  all = all_seen laws g valid first rest R tail size p run longest
 
   separator_of : (k n : ℕ) → IsSeparatorPart g k → PartMatches g rest k n → MatchesSeparator g rest n
   separator_of k n s x =
@@ -75,7 +73,7 @@ module _ (laws : Laws) (g : FlatGrammar) (valid : List Symbol) (first : Bool) (r
     best = best_is best p.plain p.keyword c refl refl;
     separator = λ lt. let w = run.sofar.separator_matches lt in separator_of w.0 p.separator w.1 w.2;
     longest = separators;
-    reach = reach_is laws g valid first rest m tail size state p run longest far is;
+    reach = reach_is laws g valid first rest R tail size p run longest far is;
   }
 
 split_and : (a b : Bool) → a && b ≡ true → (a ≡ true) × (b ≡ true)
@@ -95,11 +93,11 @@ scalar_of tail later c (d ∷ ds, (good, spells)) is =
     let same = encode_same d c (encodes ds) later (spells ∙ is) in
     (subst IsScalar same.0 both.0, (ds, (both.1, same.1)))
 
-module _ (laws : Laws) (g : FlatGrammar) (valid : List Symbol) (first : Bool) (rest : Bytes) (m : Machine) (tail : Bytes) (size state : ℕ) (p : Progress)
-    (run : Running m g valid first rest tail size state p) where
+module _ (laws : Laws) (g : FlatGrammar) (valid : List Symbol) (first : Bool) (rest : Bytes) (R : List ℕ → Type 0) (tail : Bytes) (size : ℕ) (p : Progress)
+    (run : Running R g valid first rest tail size p) where
   pub end_at : length tail ≡ 0 → (best : Option Match) → Chosen g p best → IsScanned g valid first rest (record { best = best; separator = p.separator; reach = size + 1 })
   end_at none best c =
-      scanned laws g valid first rest m tail size state p run (end_longest laws g valid first rest m tail size state p run none) best 1 c (end_far laws g valid first rest m tail size state p run tail none)
+      scanned laws g valid first rest R tail size p run (end_longest laws g valid first rest R tail size p run none) best 1 c (end_far laws g valid first rest R tail size p run tail none)
 
   module _ (c : ℕ) (later : Bytes) (is : tail ≡ encode c ++ later) (len : ℕ) (len_is : len ≡ len_utf8 c) where
     both_of : IsScalar c × IsUtf8 later
@@ -112,16 +110,16 @@ module _ (laws : Laws) (g : FlatGrammar) (valid : List Symbol) (first : Bool) (r
     next_is = ap (λ (n : ℕ). size + n) (length-encode c ∙ sym len_is)
 
     pub step_at : IsStep g rest size (size + len) read
-    step_at = subst (λ (n : ℕ). IsStep g rest size n read) next_is (step laws g valid first rest m tail size state p run c later is both_of.0 both_of.1)
+    step_at = subst (λ (n : ℕ). IsStep g rest size n read) next_is (step laws g valid first rest R tail size p run c later is both_of.0 both_of.1)
 
     pub dead_at : (v : Verdict) → Knows g valid first read v → v.lives ≡ false → (best : Option Match) → Chosen g p best → IsScanned g valid first rest (record { best = best; separator = p.separator; reach = size + len })
     dead_at v knows dead best chosen =
-        scanned laws g valid first rest m tail size state p run (dead_longest laws g valid first rest m tail size state p run c later is both_of.0 both_of.1 v knows dead) best len chosen
-        (len_is ∙ far laws g valid first rest m tail size state p run c later is both_of.0 both_of.1)
+        scanned laws g valid first rest R tail size p run (dead_longest laws g valid first rest R tail size p run c later is both_of.0 both_of.1 v knows dead) best len chosen
+        (len_is ∙ far laws g valid first rest R tail size p run c later is both_of.0 both_of.1)
 
-    pub more_at : (v : Verdict) (to : ℕ) (after : Progress) → Knows g valid first read v → v.lives ≡ true → HasRead m read to → Sofar g valid first (PartMatches g rest) (size + len) after
-        → Running m g valid first rest later (size + len) to after
-    more_at v to after knows alive reads sofar =
-        subst (λ (n : ℕ). Running m g valid first rest later n to after) next_is
-        (run_more laws g valid first rest m tail size state p run c later is both_of.0 both_of.1 v to after knows alive reads
+    pub more_at : (v : Verdict) (S : List ℕ → Type 0) (after : Progress) → Knows g valid first read v → v.lives ≡ true → S read → Sofar g valid first (PartMatches g rest) (size + len) after
+        → Running S g valid first rest later (size + len) after
+    more_at v S after knows alive reads sofar =
+        subst (λ (n : ℕ). Running S g valid first rest later n after) next_is
+        (run_more laws g valid first rest R tail size p run c later is both_of.0 both_of.1 v S after knows alive reads
         (subst (λ (n : ℕ). Sofar g valid first (PartMatches g rest) n after) (sym next_is) sofar))

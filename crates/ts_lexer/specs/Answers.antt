@@ -5,6 +5,8 @@ use Rattle.ts_core.specs.declared.flat.FlatGrammar.{FlatGrammar}
 use Rattle.ts_core.specs.declared.symbol.Symbol.{Symbol}
 use Rattle.spec_lexing.specs.Lexing.{Found, token, absent, Lex}
 use Rattle.spec_lexing.specs.Seen.{Seen}
+use Rattle.ts_table.specs.declared.view.ParseTable.{ParseTable}
+use Rattle.ts_lexer.specs.States.{AreValid}
 use Rattle.ts_lexer.specs.declared.lexed.Lexed.{Lexed}
 use Rattle.ts_lexer.specs.declared.lexed.Lexed.TheVariants.{Token, Absent}
 
@@ -25,3 +27,16 @@ pub record IsAnswer (g : FlatGrammar) (valid : List Symbol) (text : Bytes) (plac
   pub lex : Lex g valid (drop place text) found
   pub says : Says place lexed found
   pub seen : Seen g valid (drop place text) (extent_of lexed)
+
+-- this is what lexing comes to among the valid tokens of the state
+pub record LexesIn (t : ParseTable) (state : ℕ) (rest : Bytes) (found : Found) : Type 0 where
+  pub valid : List Symbol
+  pub are_valid : AreValid t state valid
+  pub lex : Lex t.grammar valid rest found
+
+-- the answer is what lexing comes to among the valid tokens of the state, and how far it looked
+pub record IsLexedAt (t : ParseTable) (state : ℕ) (text : Bytes) (place : ℕ)
+    (lexed : Lexed) : Type 0 where
+  pub valid : List Symbol
+  pub are_valid : AreValid t state valid
+  pub answer : IsAnswer t.grammar valid text place lexed

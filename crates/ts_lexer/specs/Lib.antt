@@ -1,8 +1,11 @@
+pub mod Ahead
 pub mod Answers
+pub mod Engines
 pub mod Judged
 pub mod Lexers
 pub mod Marks
 pub mod Passed
 pub mod Rules
 pub mod Scanned
+pub mod States
 pub mod Views

@@ -1,15 +1,10 @@
 -- What stands behind the separators.
-use Rattle.std.specs.Prelude.{◌≡◌, ℕ, ◌+◌, ◌≤◌, Bool, List, length, Option, Some, None, MatchOption}
+use Rattle.std.specs.Prelude.{◌≡◌, ℕ, ◌+◌, ◌≤◌, List, length, Option, Some, None, MatchOption}
 use Rattle.ts_base.specs.Bytes.{Bytes}
 use Rattle.ts_core.specs.declared.flat.FlatGrammar.{FlatGrammar}
 use Rattle.ts_core.specs.declared.symbol.Symbol.{Symbol}
 use Rattle.spec_lexing.specs.Lexing.{Found, token, absent, Lex}
 use Rattle.spec_lexing.specs.Seen.{Seen}
-use Rattle.ts_automata.specs.declared.machine.Machine.{Machine}
-use Rattle.ts_automata.specs.Automata.{IsAutomaton}
-use Rattle.ts_lexer.specs.declared.rules.Rules.{Rules}
-use Rattle.ts_lexer.specs.declared.view.View.{View}
-use Rattle.ts_lexer.specs.Rules.{IsRules}
 use Rattle.ts_lexer.specs.declared.scanned.Match.{Match}
 use Rattle.ts_lexer.specs.declared.passing.Passed.{Passed}
 
@@ -19,17 +14,10 @@ found_by None pad = absent pad
 found_by (Some m) pad = token m.symbol pad m.size
 
 -- this is what lexing comes to, and how far the text was looked at
-pub record IsPassed (g : FlatGrammar) (valid : List Symbol) (rest : Bytes) (marks : List Bool)
+pub record IsPassed (g : FlatGrammar) (valid : List Symbol) (rest : Bytes)
     (p : Passed) : Type 0 where
   pub lex : Lex g valid rest (found_by p.found p.pad)
   pub seen : Seen g valid rest p.extent
-  pub size : length marks ≡ length g.tokens
-
--- all that a lexer keeps was made for the grammar
-pub record IsKnown (g : FlatGrammar) (m : Machine) (r : Rules) (v : View) : Type 0 where
-  pub rules : IsRules g r
-  pub automaton : IsAutomaton g m.automaton
-  pub marks : length v.marks.items ≡ length g.tokens
 
 -- what was passed and found ends in a text of so many bytes, and no more was looked at than its end
 pub record IsWithinText (size : ℕ) (p : Passed) : Type 0 where

@@ -10,12 +10,11 @@ use Rattle.ts_lexer.specs.declared.view.Role.{Role}
 use Rattle.ts_lexer.specs.Judged.{Offered, Wanted, IsWordPart, IsSeparatorPart}
 
 -- the marks are those of the valid tokens
-pub record IsView (g : FlatGrammar) (valid : List Symbol) (first : Bool) (v : View) : Type 0 where
+pub record IsView (g : FlatGrammar) (valid : List Symbol) (v : View) : Type 0 where
   pub size : length v.marks.items ≡ length g.tokens
   pub marks : (k : ℕ) (s : Symbol) → s.0 ≡ suc k → k < length g.tokens
       → (slice_get v.marks.items k ≡ Some true) ↔ Contains valid s
   pub keyworded : IsTrue v.keyworded ↔ HasKeyword g valid
-  pub at_first : v.first ≡ first
 
 -- the part is a token that may be taken, a keyword or none
 abbrev pub MayTake : FlatGrammar → List Symbol → Bool → Bool → ℕ → Type 0

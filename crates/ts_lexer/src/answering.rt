@@ -3,18 +3,18 @@ ghost use Rattle.std.specs.Prelude.{◌≡◌, ◌+◌, ◌≤◌, ◌<◌, ◌^
 ghost use Rattle.ts_core.specs.declared.flat.FlatGrammar.{FlatGrammar as AnyGrammar};
 ghost use Rattle.std.specs.Prelude.{List, drop, IsTrue, ◌↔◌, true};
 ghost use Rattle.std.specs.List.{prefix_len};
-ghost use Rattle.std.specs.Str.{IsCharBoundary};
+ghost use Rattle.std.specs.Str.{IsCharBoundary, IsUtf8};
 ghost use Rattle.ts_core.specs.declared.symbol.Symbol.{Symbol as AnySymbol};
 ghost use Rattle.ts_automata.specs.Machine.{IsMachine};
 ghost use Rattle.spec_lexing.specs.Seen.{is_inner as inner_byte};
-ghost use Rattle.ts_lexer.specs.Passed.{IsKnown, IsWithinText, found_by};
+ghost use Rattle.ts_lexer.specs.Passed.{IsWithinText, found_by};
+ghost use Rattle.ts_lexer.specs.Ahead.{IsReadyFor};
 ghost use Rattle.ts_lexer.specs.Answers.{IsAnswer, Says, extent_of};
 
+use crate::ahead::{LexTables, RowPair};
 use crate::lexed::Lexed;
 use crate::passing::{Passed, pass};
-use crate::rules::Rules;
 use crate::view::View;
-use ts_automata::Machine;
 use ts_core::Symbol;
 use ts_text::Text;
 
@@ -77,7 +77,9 @@ fn told(passed: &Passed, place: u32, size: u32) -> Lexed
 fn inside(text: &Text, place: u32) -> Lexed
     requires within { place ≤ length text.now }
     requires inner { IsCharBoundary text.now place → ⊥ }
-    ensures { (g : AnyGrammar) (valid : List AnySymbol) → IsAnswer g valid text.now place result }
+    ensures utf8 { IsUtf8 text.now }
+    ensures answer { (g : AnyGrammar) (valid : List AnySymbol)
+        → IsAnswer g valid text.now place result }
 {
     let (_, rest) = text.as_bytes().split_at(place as usize);
     Lexed::Absent {
@@ -88,25 +90,24 @@ fn inside(text: &Text, place: u32) -> Lexed
 
 /// The answer at a place.
 pub(crate) fn answer_at(
-    machine: &Machine,
-    rules: &Rules,
-    view: &mut View,
+    tables: &LexTables,
+    pair: Option<RowPair>,
+    view: &View,
     text: &Text,
     place: u32,
     valid: &[Symbol],
 ) -> Lexed
-    requires made { IsMachine machine.now }
+    requires made { IsMachine tables.now.machine }
     requires within { place ≤ length text.now }
-    requires known { (g : AnyGrammar) × IsKnown g machine.now rules.now view.old }
-    ensures known { (g : AnyGrammar) → IsKnown g machine.now rules.now view.old
-        → IsKnown g machine.now rules.now view.new }
-    ensures answer { (g : AnyGrammar) → IsKnown g machine.now rules.now view.old
+    requires ready { (g : AnyGrammar) × IsReadyFor g valid.now tables.now view.now pair }
+    ensures utf8 { IsUtf8 text.now }
+    ensures answer { (g : AnyGrammar) → IsReadyFor g valid.now tables.now view.now pair
         → IsAnswer g valid.now text.now place result }
 {
     if !text.is_boundary(place) {
         return inside(text, place);
     }
     let (_, rest) = text.as_str().split_at(place as usize);
-    let passed = pass(machine, rules, view, rest, valid);
+    let passed = pass(tables, pair, view, rest, valid);
     told(&passed, place, text.len() - place)
 }

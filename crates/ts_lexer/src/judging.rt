@@ -125,12 +125,13 @@ fn with_part(rules: &Rules, old: Verdict, role: &Role, part: usize, ends: bool) 
 fn with_node(
     rules: &Rules,
     view: &View,
+    first: bool,
     automaton: &Automaton,
     old: Verdict,
     node: usize,
 ) -> Verdict
-    ensures { (g : AnyGrammar) (valid : List AnySymbol) (first : Bool) (seen : List ℕ)
-        → IsRules g rules.now → IsView g valid first view.now
+    ensures { (g : AnyGrammar) (valid : List AnySymbol) (seen : List ℕ)
+        → IsRules g rules.now → IsView g valid view.now
         → JudgesNodes g valid first automaton.now seen old
         → JudgesNodes g valid first automaton.now (seen ++ node ∷ []) result }
 {
@@ -139,15 +140,21 @@ fn with_node(
         return old;
     }
     let part = automaton.owners[node];
-    let role = role_of(rules, view, part);
+    let role = role_of(rules, view, first, part);
     let ends = is_end(automaton.nodes.as_slice(), node);
     with_part(rules, old, &role, part, ends)
 }
 
 /// What is known of a set of nodes.
-pub(crate) fn judge(rules: &Rules, view: &View, automaton: &Automaton, members: &[usize]) -> Verdict
-    ensures { (g : AnyGrammar) (valid : List AnySymbol) (first : Bool)
-        → IsRules g rules.now → IsView g valid first view.now
+pub(crate) fn judge(
+    rules: &Rules,
+    view: &View,
+    first: bool,
+    automaton: &Automaton,
+    members: &[usize],
+) -> Verdict
+    ensures { (g : AnyGrammar) (valid : List AnySymbol)
+        → IsRules g rules.now → IsView g valid view.now
         → JudgesNodes g valid first automaton.now members.now result }
 {
     let mut verdict = Verdict {
@@ -158,7 +165,7 @@ pub(crate) fn judge(rules: &Rules, view: &View, automaton: &Automaton, members: 
         lives: false,
     };
     for node in members {
-        verdict = with_node(rules, view, automaton, verdict, *node);
+        verdict = with_node(rules, view, first, automaton, verdict, *node);
     }
     verdict
 }

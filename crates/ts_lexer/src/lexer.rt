@@ -1,85 +1,70 @@
-//! The lexer of a grammar: its automaton and the grammar go in, and then a text, a place and the
-//! valid tokens; what stands there comes out.
-ghost use Rattle.std.specs.Prelude.{◌≡◌, ◌≤◌, ◌+◌, ◌-◌, ◌^◌, ℕ, min, drop, length, IfOk};
-ghost use Rattle.ts_core.specs.declared.flat.FlatGrammar.{FlatGrammar as AnyGrammar};
+//! The lexer of a parse table: the automaton of its grammar and the table go in, and then a text, a
+//! place and a state; what stands there comes out.
+ghost use Rattle.std.specs.Prelude.{◌≡◌, IfOk};
 ghost use Rattle.ts_automata.specs.Automata.{IsAutomaton};
-ghost use Rattle.ts_lexer.specs.Rules.{AreFew};
 
-use crate::answering::{answer_at, extent};
+use crate::answering::extent;
+use crate::engine::{Engine, engine_of};
 use crate::lexed::Lexed;
-use crate::marking::no_marks;
-use crate::rules::{Rules, rules_of};
-use crate::view::View;
+use crate::states::{StateLists, lists_of};
+use crate::tokens::Tokens;
+use spec_lexing::seen_decides;
 use std::alloc::{AllocError, Global};
-use ts_automata::{Automaton, Machine, machine_of};
-use ts_core::{FlatGrammar, List, Symbol};
-use ts_text::Text;
+use ts_automata::Automaton;
+use ts_table::Table;
+use ts_text::{Edit, EditFault, Text, apply};
 
-/// The lexer of a grammar.
+/// The lexer of a parse table.
 #[derive(Drop)]
 pub struct Lexer {
-    machine: Machine,
-    rules: Rules,
-    view: View,
+    engine: Engine,
+    /// The number of each state's list of valid tokens.
+    numbers: Vec<usize>,
     examined: u64,
 }
 
 impl Lexer {
-    ghost use Rattle.ts_lexer.specs.Lexers.{IsLexer, IsMade, examined_of};
-    ghost use Rattle.ts_lexer.specs.Answers.{IsAnswer, extent_of};
+    ghost use Rattle.ts_lexer.specs.Lexers.{IsLexerOf, examined_of};
 
-    /// The lexer of a grammar, which takes all the memory that lexing needs.
+    /// The lexer of a table, which takes all the memory that lexing needs.
     ///
     /// # Errors
     ///
     /// `AllocError` where there is no memory for its tables.
-    pub fn over(
-        alloc: Global,
-        automaton: Automaton,
-        flat: &FlatGrammar,
-    ) -> Result<Lexer, AllocError>
-        requires automaton { IsAutomaton flat.now automaton }
-        requires few { AreFew flat.now }
-        ensures lexer { IfOk result (IsLexer flat.now) }
+    pub fn new(alloc: Global, automaton: Automaton, table: &Table) -> Result<Lexer, AllocError>
+        requires { IsAutomaton table.now.grammar automaton }
+        ensures made { IfOk result (λ lexer. IsLexerOf lexer table.now) }
         ensures examined { IfOk result (λ lexer. examined_of lexer ≡ 0) }
     {
-        let rules = rules_of(alloc, flat)?;
-        let marks = no_marks(alloc, flat.tokens.len())?;
-        let machine = machine_of(alloc, automaton)?;
-        let view = View {
-            marks,
-            keyworded: false,
-            first: true,
-        };
+        table.stands();
+        let StateLists { lists, numbers } = lists_of(alloc, table)?;
+        let engine = engine_of(alloc, automaton, table.grammar(), lists)?;
         Ok(Lexer {
-            machine,
-            rules,
-            view,
+            engine,
+            numbers,
             examined: 0,
         })
     }
+}
 
-    /// What stands at a place of a text among the valid tokens. It takes no memory.
-    ///
-    /// The place may be inside a character: nothing matches there.
-    pub fn lex_among(&mut self, text: &Text, place: u32, valid: &List<Symbol>) -> Lexed
-        requires made { IsMade self.old }
-        requires within { place ≤ length text.now }
-        ensures lexer { (g : AnyGrammar) → IsLexer g self.old → IsLexer g self.new }
-        ensures answer { (g : AnyGrammar) → IsLexer g self.old
-            → IsAnswer g valid.now text.now place result }
-        ensures examined { examined_of self.new ≡ min (examined_of self.old + extent_of result)
-            (2 ^ 64 - 1) }
-    {
-        let lexed = answer_at(
-            &self.machine,
-            &self.rules,
-            &mut self.view,
-            text,
-            place,
-            valid.as_slice(),
-        );
+impl Tokens for Lexer {
+    ghost use Rattle.ts_lexer.specs.Lexers.{IsLexerOf, examined_of};
+
+    type Text = Text;
+
+    ghost made_for = { IsLexerOf };
+
+    ghost examined = { examined_of };
+
+    fn lex(&mut self, text: &Text, place: u32, state: u16) -> Lexed {
+        seen_decides();
+        let list = self.numbers[state as usize];
+        let lexed = self.engine.lex(text, place, list);
         self.examined = self.examined.saturating_add(u64::from(extent(&lexed)));
         lexed
+    }
+
+    fn apply(&self, alloc: Global, text: &Text, edit: &Edit) -> Result<Text, EditFault> {
+        apply(alloc, text, edit)
     }
 }

@@ -2,9 +2,12 @@
 //! behind its separators, with how far the text was looked at.
 #![tactic(auto)]
 
+mod ahead;
 mod answering;
 mod choosing;
+mod engine;
 mod judging;
+mod laws;
 mod lexed;
 mod lexer;
 mod marking;
@@ -13,10 +16,12 @@ mod progress;
 mod rules;
 mod scanned;
 mod scanning;
-#[cfg(test)]
-mod tests;
+mod states;
+mod tokens;
 mod verdict;
 mod view;
 
+pub use laws::{one_lexed, same_tokens};
 pub use lexed::Lexed;
 pub use lexer::Lexer;
+pub use tokens::{Content, Tokens};

@@ -6,9 +6,10 @@ ghost use Rattle.ts_core.specs.declared.symbol.Symbol.{Symbol as AnySymbol};
 ghost use Rattle.spec_lexing.specs.Seen.{HasKeyword};
 ghost use Rattle.ts_lexer.specs.Rules.{IsRules};
 ghost use Rattle.ts_lexer.specs.Marks.{AreMarks};
+ghost use Rattle.ts_lexer.specs.Views.{IsView};
 
 use crate::rules::Rules;
-use crate::view::{both_hold, is_marked};
+use crate::view::{View, both_hold, is_marked};
 use std::alloc::{AllocError, Global};
 use ts_core::Symbol;
 
@@ -69,4 +70,14 @@ pub(crate) fn has_keyword(rules: &Rules, marks: &[bool]) -> bool
         }
     }
     false
+}
+
+/// Makes a view of the valid tokens.
+pub(crate) fn look(rules: &Rules, view: &mut View, valid: &[Symbol])
+    ensures marks { length view.new.marks.items ≡ length view.old.marks.items }
+    ensures view { (g : AnyGrammar) → IsRules g rules.now → length view.old.marks.items ≡ length g.tokens
+        → IsView g valid.now view.new }
+{
+    mark(&mut view.marks, valid);
+    view.keyworded = has_keyword(rules, view.marks.as_slice());
 }

@@ -4,18 +4,14 @@ ghost use Rattle.std.specs.Prelude.{◌≡◌, ◌≤◌, ◌<◌, ◌+◌, ◌^
 ghost use Rattle.std.specs.List.{Contains};
 ghost use Rattle.ts_core.specs.declared.flat.FlatGrammar.{FlatGrammar as AnyGrammar};
 ghost use Rattle.spec_lexing.specs.Lexing.{end_symbol};
-ghost use Rattle.ts_automata.specs.Automata.{IsAutomaton};
 ghost use Rattle.ts_automata.specs.Machine.{IsMachine};
-ghost use Rattle.ts_lexer.specs.Rules.{IsRules};
-ghost use Rattle.ts_lexer.specs.Views.{IsView};
-ghost use Rattle.ts_lexer.specs.Passed.{IsKnown, IsPassed, IsWithinText};
+ghost use Rattle.ts_lexer.specs.Ahead.{IsReadyFor};
+ghost use Rattle.ts_lexer.specs.Passed.{IsPassed, IsWithinText};
 
-use crate::marking::{has_keyword, mark};
-use crate::rules::Rules;
+use crate::ahead::{LexTables, RowPair};
 use crate::scanned::Match;
 use crate::scanning::scan;
 use crate::view::View;
-use ts_automata::Machine;
 use ts_core::Symbol;
 
 /// What stands behind the separators.
@@ -52,38 +48,27 @@ fn farther(extent: usize, pad: usize, reach: usize) -> usize
     extent.max(pad.saturating_add(reach))
 }
 
-/// Marks the valid tokens, for the first place.
-fn look(rules: &Rules, view: &mut View, valid: &[Symbol])
-    ensures { (g : AnyGrammar) → IsRules g rules.now → length view.old.marks.items ≡ length g.tokens
-        → IsView g valid.now true view.new }
-{
-    mark(&mut view.marks, valid);
-    view.keyworded = has_keyword(rules, view.marks.as_slice());
-    view.first = true;
-}
-
 /// Passes separators until a valid token stands at a place, or none is left.
 pub(crate) fn pass(
-    machine: &Machine,
-    rules: &Rules,
-    view: &mut View,
+    tables: &LexTables,
+    pair: Option<RowPair>,
+    view: &View,
     text: &str,
     valid: &[Symbol],
 ) -> Passed
-    requires made { IsMachine machine.now }
+    requires made { IsMachine tables.now.machine }
     requires size { length text.now < 2 ^ 32 }
-    requires known { (g : AnyGrammar) × IsKnown g machine.now rules.now view.old }
+    requires ready { (g : AnyGrammar) × IsReadyFor g valid.now tables.now view.now pair }
     ensures within { IsWithinText (length text.now) result }
-    ensures passed { (g : AnyGrammar) → IsRules g rules.now → IsAutomaton g machine.now.automaton
-        → length view.old.marks.items ≡ length g.tokens
-        → IsPassed g valid.now text.now view.new.marks.items result }
+    ensures passed { (g : AnyGrammar) → IsReadyFor g valid.now tables.now view.now pair
+        → IsPassed g valid.now text.now result }
 {
-    look(rules, view, valid);
     let mut rest = text;
+    let mut first = true;
     let mut pad: usize = 0;
     let mut extent: usize = 0;
     'passing: loop {
-        let here = scan(machine, rules, view, rest);
+        let here = scan(tables, pair, view, first, rest);
         extent = farther(extent, pad, here.reach);
         match here.best {
             Some(found) => {
@@ -117,6 +102,6 @@ pub(crate) fn pass(
         let (_, tail) = rest.split_at(here.separator);
         rest = tail;
         pad += here.separator;
-        view.first = false;
+        first = false;
     }
 }

@@ -4,7 +4,7 @@
 use ts_core::Symbol;
 
 /// What is known once some characters have been read, for a set of valid tokens.
-#[derive(Clone, Copy, Debug)]
+#[derive(Clone, Copy, Debug, PartialEq, Eq, Hash)]
 pub(crate) struct Verdict {
     /// The valid token that has these characters, is taken before the others, and is no keyword.
     pub plain: Option<Symbol>,

@@ -8,15 +8,13 @@ ghost use Rattle.ts_lexer.specs.Views.{IsView, IsRole};
 use crate::rules::Rules;
 use ts_core::Symbol;
 
-/// The valid tokens at a place.
+/// The valid tokens of a place.
 #[derive(Debug, Drop)]
 pub(crate) struct View {
     /// Whether each token is valid, by its part.
     pub marks: Vec<bool>,
     /// Whether a keyword is valid.
     pub keyworded: bool,
-    /// Whether the place is the first that is tried.
-    pub first: bool,
 }
 
 /// What a part is for a view.
@@ -74,10 +72,10 @@ fn is_word(word: Option<Symbol>, part: usize) -> bool
     (symbol.0 - 1) as usize == part
 }
 
-/// What a part is.
-pub(crate) fn role_of(rules: &Rules, view: &View, part: usize) -> Role
-    ensures { (g : AnyGrammar) (valid : List AnySymbol) (first : Bool) → IsRules g rules.now
-        → IsView g valid first view.now → IsRole g valid first part result }
+/// What a part is at the first place that is tried, or at a later one.
+pub(crate) fn role_of(rules: &Rules, view: &View, first: bool, part: usize) -> Role
+    ensures { (g : AnyGrammar) (valid : List AnySymbol) → IsRules g rules.now
+        → IsView g valid view.now → IsRole g valid first part result }
 {
     let count = rules.kinds.len();
     if part >= count {
@@ -87,7 +85,7 @@ pub(crate) fn role_of(rules: &Rules, view: &View, part: usize) -> Role
     let kind = rules.kinds[part];
     let valid = is_marked(view.marks.as_slice(), part);
     let later = fails(kind.immediate);
-    let allowed = either_holds(view.first, later);
+    let allowed = either_holds(first, later);
     let stands = both_hold(valid, allowed);
     let word = is_word(rules.word, part);
     let by_word = both_hold(view.keyworded, word);

@@ -5,14 +5,9 @@ use Rattle.spec_lexing.specs.Seen.{Seen}
 use Rattle.ts_lexer.specs.Passed.{found_by}
 use Rattle.ts_lexer.proofs.answering.answer_at.Goals as goal
 
-pub returns-clause-known : goal.returns-clause-known
-returns-clause-known c g known =
-    let p = c.pass-passed.ensures.passed g known.rules known.automaton known.marks in
-    record { rules = known.rules; automaton = known.automaton; marks = p.size }
-
 pub returns-clause-answer : goal.returns-clause-answer
-returns-clause-answer c g known =
-    let p = c.pass-passed.ensures.passed g known.rules known.automaton known.marks in
+returns-clause-answer c g ready =
+    let p = c.pass-passed.ensures.passed g ready in
     let rest : c.split_at.result.1.now ≡ drop c.args.place c.args.text.now = c.split_at.ensures.back ∙ ap (λ (l : Bytes). drop c.args.place l) c.as_str.ensures.whole in
     record {
       found = found_by c.pass-passed.result.found c.pass-passed.result.pad;

@@ -6,8 +6,8 @@ use Rattle.spec_lexing.specs.Seen.{is_inner, Seen}
 use Rattle.ts_lexer.proofs.InsideLemmas.{inside, inside_lex, inside_seen, inside_extent}
 use Rattle.ts_lexer.proofs.answering.inside.Goals as goal
 
-pub returns : goal.returns
-returns c g valid =
+pub returns-clause-answer : goal.returns-clause-answer
+returns-clause-answer c g valid =
     let text = c.args.text.now in
     let place = c.args.place in
     let i = inside text place c.requires.within c.requires.inner in

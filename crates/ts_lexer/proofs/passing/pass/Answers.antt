@@ -2,7 +2,7 @@ use Rattle.std.proofs.Common.{◌∙◌, sym, ap, refl, subst, ℕ, ◌+◌, ◌
 use Rattle.std.proofs.lemmas.Bool.{false≢true}
 use Rattle.ts_base.specs.Bytes.{Bytes}
 use Rattle.spec_lexing.specs.Seen.{Seen}
-use Rattle.ts_lexer.proofs.PassLemmas.{Passing, passing_begins, best_at, best_within, none_at, empty_of, reach_within, take_lex, take_seen, end_lex, end_seen, stop_lex, stop_seen, passing_more}
+use Rattle.ts_lexer.proofs.PassLemmas.{Passing, passing_none, best_at, best_within, none_at, empty_of, reach_within, take_lex, take_seen, end_lex, end_seen, stop_lex, stop_seen, passing_more}
 use Rattle.ts_lexer.proofs.GapLemmas.{gap}
 use Rattle.ts_lexer.proofs.passing.pass.Goals as goal
 
@@ -11,113 +11,104 @@ passing-init c = record {
   whole = omega arith;
   utf8 = c.utf8.text;
   near = omega arith;
-  passing = λ g rules automaton marks. passing_begins g c.args.valid.now c.args.text.now c.look.new.view (c.look.ensures g rules marks);
+  passing = λ g r. passing_none g c.args.valid.now c.args.text.now;
 }
 
 pub returns-in-Some-clause-passed : goal.returns-in-Some-clause-passed
-returns-in-Some-clause-passed c g rules automaton marks =
-    let k = c.passing.invariant.passing g rules automaton marks in
-    let x = c.scan-here.ensures g c.args.valid.now c.passing.view.first rules k.0 automaton in
-    let b = best_at g c.args.valid.now c.passing.view.first c.passing.rest.now c.scan-here.result.best c.in-Some.found c.in-Some.is x.best in
+returns-in-Some-clause-passed c g r =
+    let k = c.passing.invariant.passing g r in
+    let x = c.scan-here.ensures g c.args.valid.now r.rules r.ready r.automaton in
+    let b = best_at g c.args.valid.now c.passing.first c.passing.rest.now c.scan-here.result.best c.in-Some.found c.in-Some.is x.best in
     let within = reach_within g c.args.valid.now c.passing.rest.now c.scan-here.result.reach x.reach in
     let far = c.farther-extent.ensures (let w = c.passing.invariant.whole in let s = c.requires.size in omega arith) in
     record {
-      lex = take_lex g c.args.valid.now c.args.text.now c.passing.rest.now c.passing.view.first c.passing.pad c.passing.extent k.1 c.scan-here.result x c.in-Some.found b;
+      lex = take_lex g c.args.valid.now c.args.text.now c.passing.rest.now c.passing.first c.passing.pad c.passing.extent k c.scan-here.result x c.in-Some.found b;
       seen = subst (λ (n : ℕ). Seen g c.args.valid.now c.args.text.now n) (sym far)
-          (take_seen g c.args.valid.now c.args.text.now c.passing.rest.now c.passing.view.first c.passing.pad c.passing.extent k.1 c.scan-here.result x c.in-Some.found b);
-      size = k.0.size;
+          (take_seen g c.args.valid.now c.args.text.now c.passing.rest.now c.passing.first c.passing.pad c.passing.extent k c.scan-here.result x c.in-Some.found b);
     }
 
 pub returns-then-ended-clause-passed : goal.returns-then-ended-clause-passed
-returns-then-ended-clause-passed c g rules automaton marks =
-    let k = c.passing.invariant.passing g rules automaton marks in
-    let x = c.scan-here.ensures g c.args.valid.now c.passing.view.first rules k.0 automaton in
+returns-then-ended-clause-passed c g r =
+    let k = c.passing.invariant.passing g r in
+    let x = c.scan-here.ensures g c.args.valid.now r.rules r.ready r.automaton in
     let e = c.at_end-ended.ensures.0 c.if-ended.true in
     let none = empty_of c.passing.rest.now e.0 in
     let within = reach_within g c.args.valid.now c.passing.rest.now c.scan-here.result.reach x.reach in
     let far = c.farther-extent.ensures (let w = c.passing.invariant.whole in let s = c.requires.size in omega arith) in
     record {
-      lex = end_lex g c.args.valid.now c.args.text.now c.passing.rest.now c.passing.view.first c.passing.pad c.passing.extent k.1 c.scan-here.result x none e.1;
+      lex = end_lex g c.args.valid.now c.args.text.now c.passing.rest.now c.passing.first c.passing.pad c.passing.extent k c.scan-here.result x none e.1;
       seen = subst (λ (n : ℕ). Seen g c.args.valid.now c.args.text.now n) (sym far)
-          (end_seen g c.args.valid.now c.args.text.now c.passing.rest.now c.passing.view.first c.passing.pad c.passing.extent k.1 c.scan-here.result x none e.1);
-      size = k.0.size;
+          (end_seen g c.args.valid.now c.args.text.now c.passing.rest.now c.passing.first c.passing.pad c.passing.extent k c.scan-here.result x none e.1);
     }
 
 pub returns-then-here-eq0-clause-passed : goal.returns-then-here-eq0-clause-passed
-returns-then-here-eq0-clause-passed c g rules automaton marks =
-    let k = c.passing.invariant.passing g rules automaton marks in
-    let x = c.scan-here.ensures g c.args.valid.now c.passing.view.first rules k.0 automaton in
-    let tokens = none_at g c.args.valid.now c.passing.view.first c.passing.rest.now c.scan-here.result.best c.in-None.is x.best in
+returns-then-here-eq0-clause-passed c g r =
+    let k = c.passing.invariant.passing g r in
+    let x = c.scan-here.ensures g c.args.valid.now r.rules r.ready r.automaton in
+    let tokens = none_at g c.args.valid.now c.passing.first c.passing.rest.now c.scan-here.result.best c.in-None.is x.best in
     let within = reach_within g c.args.valid.now c.passing.rest.now c.scan-here.result.reach x.reach in
     let far = c.farther-extent.ensures (let w = c.passing.invariant.whole in let s = c.requires.size in omega arith) in
     record {
-      lex = stop_lex g c.args.valid.now c.args.text.now c.passing.rest.now c.passing.view.first c.passing.pad c.passing.extent k.1 c.scan-here.result x tokens
+      lex = stop_lex g c.args.valid.now c.args.text.now c.passing.rest.now c.passing.first c.passing.pad c.passing.extent k c.scan-here.result x tokens
           (λ none is. false≢true (sym c.if-ended.false ∙ c.at_end-ended.ensures.1 (ap (λ (l : Bytes). length l) none, is))) c.if-here-eq0.true;
       seen = subst (λ (n : ℕ). Seen g c.args.valid.now c.args.text.now n) (sym far)
-          (stop_seen g c.args.valid.now c.args.text.now c.passing.rest.now c.passing.view.first c.passing.pad c.passing.extent k.1 c.scan-here.result x tokens
+          (stop_seen g c.args.valid.now c.args.text.now c.passing.rest.now c.passing.first c.passing.pad c.passing.extent k c.scan-here.result x tokens
           (λ none is. false≢true (sym c.if-ended.false ∙ c.at_end-ended.ensures.1 (ap (λ (l : Bytes). length l) none, is))) c.if-here-eq0.true);
-      size = k.0.size;
     }
 
 pub split_at-requires : goal.split_at-requires
 split_at-requires c =
-    let g = c.requires.known.0 in
-    let known = c.requires.known.1 in
-    let k = c.passing.invariant.passing g known.rules known.automaton known.marks in
-    let x = c.scan-here.ensures g c.args.valid.now c.passing.view.first known.rules k.0 known.automaton in
+    let g = c.requires.ready.0 in
+    let r = c.requires.ready.1 in
+    let x = c.scan-here.ensures g c.args.valid.now r.rules r.ready r.automaton in
     let above : 0 < c.scan-here.result.separator = (let z = c.if-here-eq0.false in omega arith) in
     (gap g c.passing.rest.now c.scan-here.result.separator c.passing.invariant.utf8 (x.separator above)).boundary
 
 pub passing-preserved : goal.passing-preserved
 passing-preserved c =
     let above : 0 < c.scan-here.result.separator = (let z = c.if-here-eq0.false in omega arith) in
-    let known = c.requires.known.1 in
-    let here = c.passing.invariant.passing c.requires.known.0 known.rules known.automaton known.marks in
-    let seen = c.scan-here.ensures c.requires.known.0 c.args.valid.now c.passing.view.first known.rules here.0 known.automaton in
-    let w = gap c.requires.known.0 c.passing.rest.now c.scan-here.result.separator c.passing.invariant.utf8 (seen.separator above) in
+    let r = c.requires.ready.1 in
+    let seen = c.scan-here.ensures c.requires.ready.0 c.args.valid.now r.rules r.ready r.automaton in
+    let w = gap c.requires.ready.0 c.passing.rest.now c.scan-here.result.separator c.passing.invariant.utf8 (seen.separator above) in
     rw c.split_at.ensures.back (record {
       whole = (let a = w.within in let b = c.passing.invariant.whole in omega arith);
       utf8 = w.utf8;
       near = (
-          let reach = reach_within c.requires.known.0 c.args.valid.now c.passing.rest.now c.scan-here.result.reach seen.reach in
+          let reach = reach_within c.requires.ready.0 c.args.valid.now c.passing.rest.now c.scan-here.result.reach seen.reach in
           let whole = c.passing.invariant.whole in
           let near = c.passing.invariant.near in
           let far = c.farther-extent.ensures (let s = c.requires.size in omega arith) in
           omega arith
           );
-      passing = λ g rules automaton marks.
-          let k = c.passing.invariant.passing g rules automaton marks in
-          let x = c.scan-here.ensures g c.args.valid.now c.passing.view.first rules k.0 automaton in
-          let tokens = none_at g c.args.valid.now c.passing.view.first c.passing.rest.now c.scan-here.result.best c.in-None.is x.best in
+      passing = λ g r.
+          let k = c.passing.invariant.passing g r in
+          let x = c.scan-here.ensures g c.args.valid.now r.rules r.ready r.automaton in
+          let tokens = none_at g c.args.valid.now c.passing.first c.passing.rest.now c.scan-here.result.best c.in-None.is x.best in
           let within = reach_within g c.args.valid.now c.passing.rest.now c.scan-here.result.reach x.reach in
-          let far = c.farther-extent.ensures (let v = c.passing.invariant.whole in let s = c.requires.size in omega arith) in (
-            record { size = k.0.size; marks = k.0.marks; keyworded = k.0.keyworded; at_first = refl },
-            subst (λ (n : ℕ). Passing g c.args.valid.now c.args.text.now (drop c.scan-here.result.separator c.passing.rest.now) false (c.passing.pad + c.scan-here.result.separator) n) (sym far)
-                (passing_more g c.args.valid.now c.args.text.now c.passing.rest.now c.passing.view.first c.passing.pad c.passing.extent k.1 c.scan-here.result x tokens
-                (λ none is. false≢true (sym c.if-ended.false ∙ c.at_end-ended.ensures.1 (ap (λ (l : Bytes). length l) none, is))) above),
-          );
+          let far = c.farther-extent.ensures (let v = c.passing.invariant.whole in let s = c.requires.size in omega arith) in
+          subst (λ (n : ℕ). Passing g c.args.valid.now c.args.text.now (drop c.scan-here.result.separator c.passing.rest.now) false (c.passing.pad + c.scan-here.result.separator) n) (sym far)
+          (passing_more g c.args.valid.now c.args.text.now c.passing.rest.now c.passing.first c.passing.pad c.passing.extent k c.scan-here.result x tokens
+          (λ none is. false≢true (sym c.if-ended.false ∙ c.at_end-ended.ensures.1 (ap (λ (l : Bytes). length l) none, is))) above);
     })
 
 pub returns-in-Some-clause-within : goal.returns-in-Some-clause-within
 returns-in-Some-clause-within c =
-    let g = c.requires.known.0 in
-    let known = c.requires.known.1 in
-    let k = c.passing.invariant.passing g known.rules known.automaton known.marks in
-    let x = c.scan-here.ensures g c.args.valid.now c.passing.view.first known.rules k.0 known.automaton in
+    let g = c.requires.ready.0 in
+    let r = c.requires.ready.1 in
+    let x = c.scan-here.ensures g c.args.valid.now r.rules r.ready r.automaton in
     let reach = reach_within g c.args.valid.now c.passing.rest.now c.scan-here.result.reach x.reach in
     let whole = c.passing.invariant.whole in
     let near = c.passing.invariant.near in
     let far = c.farther-extent.ensures (let s = c.requires.size in omega arith) in
-    let b = best_at g c.args.valid.now c.passing.view.first c.passing.rest.now c.scan-here.result.best c.in-Some.found c.in-Some.is x.best in
-    let size = best_within g c.args.valid.now c.passing.view.first c.passing.rest.now c.in-Some.found.symbol c.in-Some.found.size b in
+    let b = best_at g c.args.valid.now c.passing.first c.passing.rest.now c.scan-here.result.best c.in-Some.found c.in-Some.is x.best in
+    let size = best_within g c.args.valid.now c.passing.first c.passing.rest.now c.in-Some.found.symbol c.in-Some.found.size b in
     record { pad = omega arith; extent = omega arith; found = omega arith }
 
 pub returns-then-ended-clause-within : goal.returns-then-ended-clause-within
 returns-then-ended-clause-within c =
-    let g = c.requires.known.0 in
-    let known = c.requires.known.1 in
-    let k = c.passing.invariant.passing g known.rules known.automaton known.marks in
-    let x = c.scan-here.ensures g c.args.valid.now c.passing.view.first known.rules k.0 known.automaton in
+    let g = c.requires.ready.0 in
+    let r = c.requires.ready.1 in
+    let x = c.scan-here.ensures g c.args.valid.now r.rules r.ready r.automaton in
     let reach = reach_within g c.args.valid.now c.passing.rest.now c.scan-here.result.reach x.reach in
     let whole = c.passing.invariant.whole in
     let near = c.passing.invariant.near in
@@ -126,10 +117,9 @@ returns-then-ended-clause-within c =
 
 pub returns-then-here-eq0-clause-within : goal.returns-then-here-eq0-clause-within
 returns-then-here-eq0-clause-within c =
-    let g = c.requires.known.0 in
-    let known = c.requires.known.1 in
-    let k = c.passing.invariant.passing g known.rules known.automaton known.marks in
-    let x = c.scan-here.ensures g c.args.valid.now c.passing.view.first known.rules k.0 known.automaton in
+    let g = c.requires.ready.0 in
+    let r = c.requires.ready.1 in
+    let x = c.scan-here.ensures g c.args.valid.now r.rules r.ready r.automaton in
     let reach = reach_within g c.args.valid.now c.passing.rest.now c.scan-here.result.reach x.reach in
     let whole = c.passing.invariant.whole in
     let near = c.passing.invariant.near in

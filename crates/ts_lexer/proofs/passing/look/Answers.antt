@@ -1,7 +1,0 @@
-use Rattle.std.proofs.Common.{refl, length}
-use Rattle.ts_lexer.proofs.passing.look.Goals as goal
-
-pub returns : goal.returns
-returns c g is size =
-    let marks = c.mark.ensures (length g.tokens) size in
-    record { size = marks.size; marks = marks.marked; keyworded = c.has_keyword-view.ensures g c.args.valid.now is (rw c.as_slice.ensures.value marks); at_first = refl }

@@ -1,0 +1,18 @@
+use Rattle.std.proofs.Common.{◌<◌, ◌+◌, ◌≡◌, List, length}
+use Rattle.std.specs.Str.Iter.{chars_rest}
+use Rattle.ts_core.specs.declared.flat.FlatGrammar.{FlatGrammar}
+use Rattle.ts_core.specs.declared.symbol.Symbol.{Symbol}
+use Rattle.ts_automata.specs.Automata.{IsAutomaton}
+use Rattle.ts_automata.specs.Machine.{HasRead, state_count}
+use Rattle.ts_lexer.specs.Rules.{IsRules}
+use Rattle.ts_lexer.specs.Views.{IsView}
+use Rattle.ts_lexer.proofs.RunLemmas.{Running}
+use Rattle.ts_lexer.proofs.scanning.scan_by_nodes.Given as goal
+
+abbrev pub invariant-loop-c : goal.invariant-loop-c
+invariant-loop-c l = record {
+  within : l.state < state_count l.machine;
+  fits : l.size + length (chars_rest l.c-iterator) ≡ length l.rest;
+  running : (g : FlatGrammar) (valid : List Symbol) → IsRules g l.rules → IsView g valid l.view → IsAutomaton g l.machine.automaton
+      → Running (λ w. HasRead l.machine w l.state) g valid l.first l.rest (chars_rest l.c-iterator) l.size l.progress;
+}

@@ -1,0 +1,102 @@
+//! Lexing among lists of tokens: a grammar and the lists go in, and then a text, a place and the
+//! number of a list; what stands there comes out.
+ghost use Rattle.std.specs.Prelude.{◌≡◌, ◌≤◌, ◌<◌, ℕ, List, length, slice_get, Some, IfOk};
+ghost use Rattle.std.specs.Str.{IsUtf8};
+ghost use Rattle.ts_core.specs.declared.flat.FlatGrammar.{FlatGrammar as AnyGrammar};
+ghost use Rattle.ts_core.specs.declared.symbol.Symbol.{Symbol as AnySymbol};
+ghost use Rattle.ts_automata.specs.Automata.{IsAutomaton};
+ghost use Rattle.ts_lexer.specs.Ahead.{contents_of, HasPair, IsReady};
+ghost use Rattle.ts_lexer.specs.declared.ahead.RowPair.{RowPair as AnyPair};
+ghost use Rattle.ts_lexer.specs.Answers.{IsAnswer};
+ghost use Rattle.ts_lexer.specs.Engines.{IsEngine};
+ghost use Rattle.ts_lexer.specs.Rules.{AreFew, IsRules};
+
+use crate::ahead::{LexTables, RowPair, list_at, pairs_of};
+use crate::answering::answer_at;
+use crate::lexed::Lexed;
+use crate::marking::{look, no_marks};
+use crate::rules::rules_of;
+use crate::view::View;
+use indexmap::IndexSet;
+use std::alloc::{AllocError, Global};
+use ts_automata::{Automaton, machine_of};
+use ts_core::{FlatGrammar, Symbol};
+use ts_text::Text;
+
+/// What lexes among some lists of tokens, each with its number.
+#[derive(Drop)]
+pub(crate) struct Engine {
+    pub tables: LexTables,
+    pub lists: IndexSet<Vec<Symbol>>,
+    /// The rows of each list, where there was room for them.
+    pub pairs: Vec<Option<RowPair>>,
+    /// Room for the marks of a list that has no rows.
+    pub view: View,
+}
+
+/// Makes all that lexing among the lists needs.
+pub(crate) fn engine_of(
+    alloc: Global,
+    automaton: Automaton,
+    flat: &FlatGrammar,
+    lists: IndexSet<Vec<Symbol>>,
+) -> Result<Engine, AllocError>
+    requires automaton { IsAutomaton flat.now automaton }
+    requires few { AreFew flat.now }
+    ensures engine { IfOk result (IsEngine flat.now) }
+    ensures lists { IfOk result (λ engine. engine.lists ≡ lists) }
+{
+    let rules = rules_of(alloc, flat)?;
+    let marks = no_marks(alloc, flat.tokens.len())?;
+    let machine = machine_of(alloc, automaton)?;
+    let mut tables = LexTables {
+        machine,
+        rules,
+        rows: IndexSet::new(alloc),
+    };
+    let mut view = View {
+        marks,
+        keyworded: false,
+    };
+    let pairs = pairs_of(alloc, &mut tables, &mut view, &lists)?;
+    Ok(Engine {
+        tables,
+        lists,
+        pairs,
+        view,
+    })
+}
+
+/// Marks the tokens of a list that has no rows.
+fn prepare(tables: &LexTables, pair: Option<RowPair>, view: &mut View, valid: &[Symbol])
+    ensures marks { length view.new.marks.items ≡ length view.old.marks.items }
+    ensures ready { (g : AnyGrammar) → IsRules g tables.now.rules
+        → length view.old.marks.items ≡ length g.tokens
+        → ((p : AnyPair) → pair ≡ Some p → HasPair g valid.now tables.now p)
+        → IsReady g valid.now tables.now view.new pair }
+{
+    match pair {
+        Some(_) => {}
+        None => look(&tables.rules, view, valid),
+    }
+}
+
+impl Engine {
+    /// What stands at a place of a text among the tokens of a list. It takes no memory.
+    pub(crate) fn lex(&mut self, text: &Text, place: u32, list: usize) -> Lexed
+        requires made { (g : AnyGrammar) × IsEngine g self.old }
+        requires within { place ≤ length text.now }
+        requires list { list < length self.old.lists.keys }
+        ensures engine { (g : AnyGrammar) → IsEngine g self.old → IsEngine g self.new }
+        ensures lists { self.new.lists ≡ self.old.lists }
+        ensures utf8 { IsUtf8 text.now }
+        ensures answer { (g : AnyGrammar) (valid : List AnySymbol) → IsEngine g self.old
+            → slice_get (contents_of self.old.lists.keys) list ≡ Some valid
+            → IsAnswer g valid text.now place result }
+    {
+        let valid = list_at(&self.lists, list);
+        let pair = self.pairs[list];
+        prepare(&self.tables, pair, &mut self.view, valid);
+        answer_at(&self.tables, pair, &self.view, text, place, valid)
+    }
+}
