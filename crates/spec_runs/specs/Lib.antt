@@ -1,0 +1,5 @@
+pub mod BareTrees
+pub mod Configurations
+pub mod Moves
+pub mod Runs
+pub mod Outcomes
