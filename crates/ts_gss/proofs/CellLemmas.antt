@@ -1,0 +1,121 @@
+-- The stacks of cells: one more cell is one more stack, and each cell's stack lies on an earlier one.
+use Rattle.std.proofs.Common.{◌≡◌, ◌∙◌, sym, ap, refl, subst, ℕ, zero, suc, ◌+◌, ◌-◌, ◌<◌, ◌≤◌, List, [], ◌∷◌, ◌++◌, length, length-append, slice_get, Some, None, Option, unwrap_or, ⊎_elim, arith}
+use Rattle.std.proofs.lemmas.Option.{slice_get_within}
+use Rattle.ts_base.proofs.PlaceLemmas.{in_prefix, at_end, push_cases}
+use Rattle.ts_gss.specs.declared.layer.Layer.{Layer}
+use Rattle.ts_gss.specs.declared.graph.Cell.{Cell}
+use Rattle.ts_gss.specs.Stacks.{layer_of, stack_at}
+use Rattle.ts_gss.specs.Cells.{with_cell, with_cells, stacks_of, LieAbove}
+
+many_with : (ss : List (List Layer)) (cs : List Cell) → length (with_cells ss cs) ≡ length ss + length cs
+many_with ss [] = omega arith
+many_with ss (c ∷ cs) = omega (arith, many_with (with_cell ss c) cs, length-append ss ((layer_of c ∷ stack_at ss c.below) ∷ []))
+
+pub many_stacks : (cs : List Cell) → length (stacks_of cs) ≡ suc (length cs)
+many_stacks cs = omega (arith, many_with ([] ∷ []) cs)
+
+with_more : (ss : List (List Layer)) (cs : List Cell) (c : Cell) → with_cells ss (cs ++ c ∷ []) ≡ with_cell (with_cells ss cs) c
+with_more ss [] c = refl
+with_more ss (d ∷ cs) c = with_more (with_cell ss d) cs c
+
+pub one_more : (cs : List Cell) (c : Cell) → stacks_of (cs ++ c ∷ []) ≡ stacks_of cs ++ (layer_of c ∷ stack_at (stacks_of cs) c.below) ∷ []
+one_more cs c = with_more ([] ∷ []) cs c
+
+earlier : (ss : List (List Layer)) (cs : List Cell) (j : ℕ) → j < length ss → slice_get (with_cells ss cs) j ≡ slice_get ss j
+earlier ss [] j h = refl
+earlier ss (c ∷ cs) j h =
+    earlier (with_cell ss c) cs j (omega (arith, h, length-append ss ((layer_of c ∷ stack_at ss c.below) ∷ [])))
+    ∙ in_prefix ss ((layer_of c ∷ stack_at ss c.below) ∷ []) j h
+
+stack_earlier : (ss : List (List Layer)) (cs : List Cell) (j : ℕ) → j < length ss → stack_at (with_cells ss cs) j ≡ stack_at ss j
+stack_earlier ss cs j h = ap (λ (o : Option (List Layer)). unwrap_or o []) (earlier ss cs j h)
+
+stack_with : (ss : List (List Layer)) (cs : List Cell) (k : ℕ) (c : Cell) → slice_get cs k ≡ Some c → c.below < length ss + k → stack_at (with_cells ss cs) (length ss + k) ≡ layer_of c ∷ stack_at (with_cells ss cs) c.below
+stack_with ss [] k c at low = absurd (let w = slice_get_within [] k c at in omega (arith, w))
+stack_with ss (d ∷ cs) zero c at low =
+    let h : Some d ≡ Some c = at in
+    let e : d ≡ c = cc in
+    let new : List Layer = layer_of d ∷ stack_at ss d.below in
+    let there : length ss + 0 ≡ length ss = omega arith in
+    let many = length-append ss (new ∷ []) in
+    ap (λ (n : ℕ). stack_at (with_cells (with_cell ss d) cs) n) there
+    ∙ stack_earlier (with_cell ss d) cs (length ss) (omega arith)
+    ∙ ap (λ (o : Option (List Layer)). unwrap_or o []) (at_end ss new)
+    ∙ ap (λ (x : Cell). layer_of x ∷ stack_at ss x.below) e
+    ∙ ap (λ (l : List Layer). layer_of c ∷ l) (sym (stack_earlier (with_cell ss d) cs c.below (omega arith) ∙ ap (λ (o : Option (List Layer)). unwrap_or o []) (in_prefix ss (new ∷ []) c.below (omega arith))))
+stack_with ss (d ∷ cs) (suc k) c at low =
+    let new : List Layer = layer_of d ∷ stack_at ss d.below in
+    let many = length-append ss (new ∷ []) in
+    let there : length ss + suc k ≡ length (with_cell ss d) + k = omega arith in
+    ap (λ (n : ℕ). stack_at (with_cells (with_cell ss d) cs) n) there
+    ∙ stack_with (with_cell ss d) cs k c at (omega arith)
+
+-- the stack of a cell
+pub stack_of_cell : (cs : List Cell) (head : ℕ) (c : Cell) → LieAbove cs → 0 < head → slice_get cs (head - 1) ≡ Some c → stack_at (stacks_of cs) head ≡ layer_of c ∷ stack_at (stacks_of cs) c.below
+stack_of_cell cs head c lie some at =
+    let low = lie (head - 1) c at in
+    let one : List (List Layer) = [] ∷ [] in
+    let there : length one + (head - 1) ≡ head = omega arith in
+    subst (λ (n : ℕ). stack_at (stacks_of cs) n ≡ layer_of c ∷ stack_at (stacks_of cs) c.below) there
+    (stack_with one cs (head - 1) c at (omega arith))
+
+-- head 0 is the empty stack
+pub stack_of_none : (cs : List Cell) → stack_at (stacks_of cs) 0 ≡ []
+stack_of_none cs = stack_earlier ([] ∷ []) cs 0 (omega arith)
+
+pub some_cell : (cs : List Cell) (head : ℕ) → 0 < length (stack_at (stacks_of cs) head) → 0 < head
+some_cell cs zero h = absurd (let e : length (stack_at (stacks_of cs) 0) ≡ 0 = ap (λ (l : List Layer). length l) (stack_of_none cs) in omega arith)
+some_cell cs (suc k) h = omega arith
+
+pub lie_more : (cs : List Cell) (c : Cell) → LieAbove cs → c.below ≤ length cs → LieAbove (cs ++ c ∷ [])
+lie_more cs c lie low k d at = ⊎_elim (λ w. lie k d w.1) (λ w. let e : c ≡ d = w.1 in subst (λ (x : Cell). x.below ≤ k) e (omega (arith, w.0))) (push_cases cs c k d at)
+
+-- ---- the same of the list of stacks
+
+module _ (cs : List Cell) (ss : List (List Layer)) (view : stacks_of cs ≡ ss) where
+  pub head_some : (head : ℕ) → 0 < length (stack_at ss head) → 0 < head
+  head_some head h = some_cell cs head (subst (λ (xs : List (List Layer)). 0 < length (stack_at xs head)) (sym view) h)
+
+  many : length ss ≡ suc (length cs)
+  many = ap (λ (xs : List (List Layer)). length xs) (sym view) ∙ many_stacks cs
+
+  pub head_within : (head : ℕ) → head < length ss → 0 < head → head - 1 < length cs
+  head_within head h some = omega (arith, h, some, many)
+
+  pub cell_stack : (head : ℕ) (c : Cell) → LieAbove cs → 0 < head → slice_get cs (head - 1) ≡ Some c → stack_at ss head ≡ layer_of c ∷ stack_at ss c.below
+  cell_stack head c lie some at = subst (λ (xs : List (List Layer)). stack_at xs head ≡ layer_of c ∷ stack_at xs c.below) view (stack_of_cell cs head c lie some at)
+
+  pub cell_lower : (head : ℕ) (c : Cell) → LieAbove cs → 0 < head → slice_get cs (head - 1) ≡ Some c → c.below < head
+  cell_lower head c lie some at = omega (arith, lie (head - 1) c at, some)
+
+  pub empty_there : (head : ℕ) → head ≡ 0 → stack_at ss head ≡ []
+  empty_there head e = ap (λ (n : ℕ). stack_at ss n) e ∙ subst (λ (xs : List (List Layer)). stack_at xs 0 ≡ []) view (stack_of_none cs)
+
+  pub some_there : (head : ℕ) → (head ≡ 0 → ⊥) → head < length ss → LieAbove cs → 0 < length (stack_at ss head)
+  some_there head not_zero within lie =
+      let some : 0 < head = positive head not_zero in
+      by (slice_get cs (head - 1)) refl some
+    where
+      positive : (n : ℕ) → (n ≡ 0 → ⊥) → 0 < n
+      positive zero h = absurd (h refl)
+      positive (suc n) h = omega arith
+
+      by : (o : Option Cell) → slice_get cs (head - 1) ≡ o → 0 < head → 0 < length (stack_at ss head)
+      by (Some c) e some = rw (cell_stack head c lie some e) (omega arith)
+      by None e some = absurd (past cs (head - 1) e (head_within head within some))
+        where
+          past : (xs : List Cell) (k : ℕ) → slice_get xs k ≡ None → k < length xs → ⊥
+          past [] k e low = omega (arith, low)
+          past (x ∷ xs) zero e low = let f : Some x ≡ None = e in cc
+          past (x ∷ xs) (suc k) e low = past xs k e (omega (arith, low))
+
+  pub lie_pushed : (new : List Cell) (c : Cell) → new ≡ cs ++ c ∷ [] → LieAbove cs → c.below < length ss → LieAbove new
+  lie_pushed new c is lie low = subst LieAbove (sym is) (lie_more cs c lie (omega (arith, low, many)))
+
+  pub head_pushed : (new : List Cell) (c : Cell) (n : ℕ) → new ≡ cs ++ c ∷ [] → n ≡ length new → n ≡ length ss
+  head_pushed new c n is n_is =
+      let e : length new ≡ length (cs ++ c ∷ []) = ap (λ (xs : List Cell). length xs) is in
+      omega (arith, e, n_is, many, length-append cs (c ∷ []))
+
+  pub stack_pushed : (new : List Cell) (c : Cell) → new ≡ cs ++ c ∷ [] → stacks_of new ≡ ss ++ (layer_of c ∷ stack_at ss c.below) ∷ []
+  stack_pushed new c is = ap stacks_of is ∙ one_more cs c ∙ ap (λ (xs : List (List Layer)). xs ++ (layer_of c ∷ stack_at xs c.below) ∷ []) view

@@ -1,0 +1,140 @@
+//! Plain stacks in one arena: a node and the number of a stack go in, and the number of the stack
+//! with the node on top comes out.
+ghost use Rattle.std.specs.Prelude.{◌≡◌, ◌<◌, ◌++◌, ◌∷◌, [], ◌-◌, true, false, length, slice_get, Some, IfOk, IfErr};
+ghost use Rattle.ts_gss.specs.Stacks.{stack_at, layer_with, state_on, tree_on, under_top, begins_with_extra, layer_of};
+
+use std::alloc::{AllocError, Global};
+use std::marker::Model;
+use ts_node::Node;
+
+/// The topmost layer of a stack, and the number of the stack below it.
+#[derive(Drop)]
+pub(crate) struct Cell {
+    pub node: Node,
+    pub below: usize,
+    pub state: u16,
+}
+
+/// Stacks of nodes by their numbers, their heads. Head 0 is the empty stack. Contracts see the list
+/// of all stacks, each with its topmost layer first.
+#[derive(Drop)]
+pub struct Graph {
+    cells: Vec<Cell>,
+}
+
+impl Model for Graph {
+    ghost use Rattle.std.specs.Prelude.{List};
+    ghost use Rattle.ts_gss.specs.declared.layer.Layer.{Layer};
+    ghost use Rattle.ts_gss.specs.contracts.layer.Layer as contract;
+    ghost use Rattle.std.specs.Coded.{codes};
+
+    ghost Value = { List (List Layer) };
+
+    ghost coded = { Prim.hlevel (codes, contract.the_row.coded) };
+
+    ghost use Rattle.ts_gss.specs.Cells.{stacks_of, LieAbove};
+
+    ghost view = { λ a. stacks_of a.cells.items };
+
+    ghost invariant = { λ a. LieAbove a.cells.items };
+}
+
+/// The cell of a stack that is not empty.
+fn cell_at(cells: &[Cell], head: usize) -> &Cell
+    requires some { 0 < head }
+    requires within { head - 1 < length cells.now }
+    ensures { slice_get cells.now (head - 1) ≡ Some result.now }
+{
+    &cells[head - 1]
+}
+
+impl Graph {
+    /// The empty stack alone.
+    pub fn new(alloc: Global) -> Graph
+        ensures { result ≡ [] ∷ [] }
+    {
+        Graph {
+            cells: Vec::new(alloc),
+        }
+    }
+
+    /// Whether a stack is empty.
+    fn is_empty(&self, head: usize) -> bool
+        requires { head < length self.now }
+        ensures empty { result ≡ true → stack_at self.now head ≡ [] }
+        ensures some { result ≡ false → 0 < length (stack_at self.now head) }
+    {
+        let _ = &self.cells;
+        head == 0
+    }
+
+    /// The cell on top of a stack that is not empty.
+    fn cell(&self, head: usize) -> &Cell
+        requires there { head < length self.now }
+        requires some { 0 < length (stack_at self.now head) }
+        ensures stack { stack_at self.now head ≡ layer_of result.now ∷ stack_at self.now result.now.below }
+        ensures below { result.now.below < head }
+    {
+        cell_at(self.cells.as_slice(), head)
+    }
+
+    /// The state on top of a stack; 0 for the empty one.
+    pub fn state(&self, head: usize) -> u16
+        requires { head < length self.now }
+        ensures { result ≡ state_on (stack_at self.now head) }
+    {
+        if self.is_empty(head) {
+            0
+        } else {
+            self.cell(head).state
+        }
+    }
+
+    /// Whether an extra is on top of a stack.
+    pub fn extra(&self, head: usize) -> bool
+        requires { head < length self.now }
+        ensures { result ≡ begins_with_extra (stack_at self.now head) }
+    {
+        if self.is_empty(head) {
+            false
+        } else {
+            self.cell(head).node.extra()
+        }
+    }
+
+    /// The node on top of a stack that is not empty.
+    pub fn node(&self, head: usize) -> &Node
+        requires there { head < length self.now }
+        requires some { 0 < length (stack_at self.now head) }
+        ensures { Some result.now ≡ tree_on (stack_at self.now head) }
+    {
+        &self.cell(head).node
+    }
+
+    /// The stack below the top of one that is not empty.
+    pub fn below(&self, head: usize) -> usize
+        requires there { head < length self.now }
+        requires some { 0 < length (stack_at self.now head) }
+        ensures stack { stack_at self.now result ≡ under_top (stack_at self.now head) }
+        ensures lower { result < head }
+    {
+        self.cell(head).below
+    }
+
+    /// Puts a node on a stack, with the state above it, and gives the head of the new stack. All
+    /// stacks that were there stay.
+    ///
+    /// # Errors
+    ///
+    /// `AllocError` where memory runs out. No stack is added then.
+    pub fn push(&mut self, below: usize, node: Node, state: u16) -> Result<usize, AllocError>
+        requires { below < length self.old }
+        ensures head { IfOk result (λ head. head ≡ length self.old) }
+        ensures pushed { IfOk result (λ head. self.new
+            ≡ self.old ++ (layer_with node state ∷ stack_at self.old below) ∷ []) }
+        ensures kept { IfErr result (λ e. self.new ≡ self.old) }
+    {
+        self.cells.push(Cell { node, below, state })?;
+        Ok(self.cells.len())
+    }
+}

@@ -1,0 +1,80 @@
+//! Ways down a stack: the extras on top of it, or its topmost nodes that are no extras, with the
+//! extras between them, come out, and the stack that is left.
+ghost use Rattle.std.specs.Prelude.{◌≡◌, ◌<◌, ◌≤◌, length, IfOk};
+ghost use Rattle.spec_trees.specs.Made.{filling};
+ghost use Rattle.ts_gss.specs.Stacks.{stack_at, trees_on};
+ghost use Rattle.ts_gss.specs.Paths.{IsLifted, IsTakenOff, still_wanting};
+
+use crate::graph::Graph;
+use std::alloc::{AllocError, Global};
+use ts_node::Node;
+
+/// The extras on top of a stack, the topmost first, and the stack under them.
+#[derive(Drop)]
+pub struct Lifted {
+    pub extras: Vec<Node>,
+    pub under: usize,
+}
+
+/// Nodes from the top of a stack, the lowest first, and the stack under them.
+#[derive(Drop)]
+pub struct Taken {
+    pub nodes: Vec<Node>,
+    pub below: usize,
+}
+
+impl Graph {
+    /// Lifts the extras from a stack, which stays as it is.
+    ///
+    /// # Errors
+    ///
+    /// `AllocError` where memory runs out.
+    pub fn lift(&self, alloc: Global, head: usize) -> Result<Lifted, AllocError>
+        requires { head < length self.now }
+        ensures extras { IfOk result (λ lifted. IsLifted (stack_at self.now head)
+            lifted.extras.items (stack_at self.now lifted.under)) }
+        ensures there { IfOk result (λ lifted. lifted.under < length self.now) }
+    {
+        let mut extras = Vec::new(alloc);
+        let mut at = head;
+        while self.extra(at) {
+            extras.push(self.node(at).try_clone()?)?;
+            at = self.below(at);
+        }
+        Ok(Lifted { extras, under: at })
+    }
+
+    /// Takes so many nodes that are no extras from the top of a stack, with the extras between
+    /// them. The stack stays as it is.
+    ///
+    /// # Errors
+    ///
+    /// `AllocError` where memory runs out.
+    pub fn take(&self, alloc: Global, head: usize, count: usize) -> Result<Taken, AllocError>
+        requires there { head < length self.now }
+        requires enough { count ≤ length (filling (trees_on (stack_at self.now head))) }
+        ensures nodes { IfOk result (λ taken. IsTakenOff (stack_at self.now head) count
+            taken.nodes.items (stack_at self.now taken.below)) }
+        ensures there { IfOk result (λ taken. taken.below < length self.now) }
+    {
+        let mut nodes = Vec::new(alloc);
+        let mut at = head;
+        let mut wanting = count;
+        while wanting > 0 {
+            let node = self.node(at);
+            nodes.push(node.try_clone()?)?;
+            wanting = left_to_take(node, wanting);
+            at = self.below(at);
+        }
+        nodes.reverse();
+        Ok(Taken { nodes, below: at })
+    }
+}
+
+/// How many nodes are left to take after this one.
+fn left_to_take(node: &Node, wanting: usize) -> usize
+    requires { 0 < wanting }
+    ensures { result ≡ still_wanting node.now wanting }
+{
+    if node.extra() { wanting } else { wanting - 1 }
+}

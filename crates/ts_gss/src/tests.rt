@@ -1,0 +1,20 @@
+//! Each call once: nodes are pushed, and what lies on the stacks is compared.
+use crate::Graph;
+use std::test::Fail;
+use ts_core::Symbol;
+use ts_node::Node;
+
+#[test]
+fn a_node_lies_on_its_stack(rt: HostRuntime) -> Result<(), Fail> {
+    let alloc = rt.alloc();
+    let mut graph = Graph::new(alloc);
+    let top = graph.push(0, Node::leaf(Symbol(2), 0, 1, 2, None), 7)?;
+    assert_eq!(rt; top, 1);
+    assert_eq!(rt; graph.state(top), 7);
+    assert_eq!(rt; graph.extra(top), false);
+    let lifted = graph.lift(alloc, top)?;
+    assert_eq!(rt; lifted.extras.len(), 0);
+    let taken = graph.take(alloc, top, 0)?;
+    assert_eq!(rt; taken.nodes.len(), 0);
+    Ok(())
+}

@@ -1,0 +1,241 @@
+-- What a reduction of a live stack comes to.
+use Rattle.std.proofs.Common.{◌≡◌, ◌∙◌, sym, ap, refl, subst, ℕ, suc, ◌+◌, ◌<◌, ◌≤◌, false, List, [], ◌∷◌, ◌++◌, length, length-append, map, reverse, Option, Some, None, MatchOption, arith}
+use Rattle.std.proofs.lemmas.List.{map-append, length-map, length-reverse, reverse-reverse, reverse-append}
+use Rattle.std.proofs.lemmas.Option.{slice_get_within}
+use Rattle.ts_core.specs.declared.flat.FlatGrammar.{FlatGrammar}
+use Rattle.ts_core.specs.declared.flat.Production.{Production}
+use Rattle.ts_core.specs.declared.flat.Step.{Step}
+use Rattle.spec_grammar.specs.Symbols.{all_productions}
+use Rattle.spec_tables.specs.Actions.{Act, reduce}
+use Rattle.spec_trees.specs.declared.tree.Tree.{Tree}
+use Rattle.spec_trees.specs.Trees.{symbol_of, is_extra_node, span_of, all_spans, tree_depth, bare}
+use Rattle.spec_trees.specs.Made.{filling, step_symbols, BeginsFilled, EndBy, form_of, reduced, most_span, most_depth}
+use Rattle.spec_runs.specs.Configurations.{IsReduction}
+use Rattle.spec_runs.specs.Moves.{StandsBefore, EndsWithProduction}
+use Rattle.ts_table.specs.declared.view.ParseTable.{ParseTable}
+use Rattle.ts_table.specs.Tables.{IsTable, IsStateOf}
+use Rattle.ts_gss.specs.declared.layer.Layer.{Layer}
+use Rattle.ts_gss.specs.Stacks.{stack_at, trees_on}
+use Rattle.ts_moves.specs.declared.head.StackHead.{StackHead}
+use Rattle.ts_moves.specs.declared.lines.Line.{Line}
+use Rattle.ts_moves.specs.declared.setting.Setting.{Setting}
+use Rattle.ts_moves.specs.Laws.{Laws}
+use Rattle.ts_moves.specs.Lines.{IsLine, lengthens_by}
+use Rattle.ts_moves.specs.Good.{CanReduce}
+use Rattle.ts_moves.specs.Heads.{config_of, IsGoodStack, read_on, CanLay, CanPut, IsGathered, IsSetting, IsReducedTo}
+use Rattle.ts_moves.proofs.NodeLemmas.{reduced_good}
+use Rattle.ts_moves.proofs.StackLemmas.{extras_turned, filling_extras, filling_append, filling_turned, extras_bare, begins_bare, filling_bare, Pushes, pushed_stack, pushed_good, same_config}
+
+-- ---- one production
+
+second : (a b : ℕ) (p q : Production) → ◌≡◌ {A = Option (ℕ × Production)} (Some (a, p)) (Some (b, q)) → (a ≡ b) × (p ≡ q)
+second a b p q e =
+    let both : ◌≡◌ {A = ℕ × Production} (a, p) (b, q) = cc in (ap (λ (x : ℕ × Production). x.0) both, ap (λ (x : ℕ × Production). x.1) both)
+
+split_same : (xs ys a b : List ℕ) → xs ++ a ≡ ys ++ b → length xs ≡ length ys → (xs ≡ ys) × (a ≡ b)
+split_same [] [] a b e n = (refl, e)
+split_same [] (y ∷ ys) a b e n = absurd (omega (arith, n))
+split_same (x ∷ xs) [] a b e n = absurd (omega (arith, n))
+split_same (x ∷ xs) (y ∷ ys) a b e n =
+    let h : x ≡ y = cc in
+    let t : xs ++ a ≡ ys ++ b = cc in
+    let r = split_same xs ys a b t (omega (arith, n)) in
+    let q : xs ≡ ys = r.0 in
+    (cc, r.1)
+
+begins_left : (xs ys : List Tree) → BeginsFilled (xs ++ ys) → BeginsFilled xs
+begins_left [] ys b = tt
+begins_left (x ∷ xs) ys b = b
+
+many_steps : (p : Production) → length (step_symbols p) ≡ length p.steps
+many_steps p = length-map p.steps (λ (step : Step). step.symbol.0)
+
+-- the number is that of a production
+pub number_within : (g : FlatGrammar) (read : List ℕ) (number : ℕ) → EndsWithProduction g read number → number < length (all_productions g)
+number_within g read number r = slice_get_within (all_productions g) number (r.left, r.production) r.at
+
+module _ (laws : Laws) (t : ParseTable) (size number token : ℕ) (old : List (List Layer)) (h : StackHead) (l : Line) (stays : Act t.grammar (read_on old h) token (reduce number)) (line : IsLine t.grammar number l) where
+  ends : EndsWithProduction t.grammar (read_on old h) number
+  ends = laws.reduces t.grammar (read_on old h) token number stays
+
+  same : (ends.left ≡ l.left.0) × (ends.production ≡ line.production)
+  same = second ends.left l.left.0 ends.production line.production (sym ends.at ∙ line.at)
+
+  -- there are as many symbols as steps
+  pub enough : l.steps ≤ length (read_on old h)
+  enough =
+      let a : length (read_on old h) ≡ length (reverse (step_symbols ends.production) ++ ends.earlier) = ap (λ (x : List ℕ). length x) ends.read_is in
+      let b = length-append (reverse (step_symbols ends.production)) ends.earlier in
+      let c = length-reverse (step_symbols ends.production) in
+      let d = many_steps ends.production in
+      let e : length ends.production.steps ≡ length line.production.steps = ap (λ (p : Production). length p.steps) same.1 in
+      let f = line.steps in
+      omega arith
+
+  module _ (extras children : List Tree) (extent : ℕ) (below : List Layer) (gat : IsGathered t size (stack_at old h.top) h.place l.steps extras children extent below) where
+    read_is : read_on old h ≡ reverse (filling children) ++ filling (trees_on below)
+    read_is =
+        ap filling gat.trees
+        ∙ filling_extras (reverse extras) (reverse children ++ trees_on below) (extras_turned extras gat.all_extras)
+        ∙ filling_append (reverse children) (trees_on below)
+        ∙ ap (λ (x : List ℕ). x ++ filling (trees_on below)) (filling_turned children)
+
+    parted : (reverse (filling children) ≡ reverse (step_symbols ends.production)) × (filling (trees_on below) ≡ ends.earlier)
+    parted =
+        let a = length-reverse (filling children) in
+        let b = length-reverse (step_symbols ends.production) in
+        let c = many_steps ends.production in
+        let d : length ends.production.steps ≡ length line.production.steps = ap (λ (p : Production). length p.steps) same.1 in
+        let e = line.steps in
+        let f = gat.filled in
+        split_same (reverse (filling children)) (reverse (step_symbols ends.production)) (filling (trees_on below)) ends.earlier (sym read_is ∙ ends.read_is) (omega arith)
+
+    filled : filling children ≡ step_symbols line.production
+    filled =
+        sym (reverse-reverse (filling children)) ∙ ap (λ (x : List ℕ). reverse x) parted.0 ∙ reverse-reverse (step_symbols ends.production)
+        ∙ ap step_symbols same.1
+
+    pub stands : StandsBefore t.grammar (filling (trees_on below)) l.left.0
+    stands = subst (λ (n : ℕ). StandsBefore t.grammar (filling (trees_on below)) n) same.0 (subst (λ (x : List ℕ). StandsBefore t.grammar x ends.left) (sym parted.1) ends.before)
+
+    pub can_reduce : IsTable t → size ≤ most_span → CanReduce t.grammar number l.left.0 line.production extent children
+    can_reduce table short = record {
+      fit = table.fit;
+      at = line.at;
+      value = line.value;
+      good = gat.good_children;
+      filled = filled;
+      begins = gat.begins;
+      ends = begins_left (reverse children) (trees_on below) gat.no_more;
+      short = omega (arith, gat.place_is, gat.within, short);
+      past = gat.past;
+      covers = gat.covers;
+    }
+
+    abbrev pub node : Tree
+    node = reduced t.grammar number extent None children
+
+    abbrev pub after : List Tree
+    after = map bare (reverse extras) ++ bare node ∷ map bare (trees_on below)
+
+    turned_bare : (ts : List Tree) → map bare (reverse ts) ≡ reverse (map bare ts)
+    turned_bare [] = refl
+    turned_bare (x ∷ xs) =
+        ap (λ (l : List Tree). map bare l) (reverse-append (x ∷ []) xs) ∙ map-append bare (reverse xs) (x ∷ []) ∙ ap (λ (l : List Tree). l ++ bare x ∷ []) (turned_bare xs) ∙ sym (reverse-append (bare x ∷ []) (map bare xs))
+
+    reduction : IsReduction t.grammar number (config_of old h).stack (bare node) after
+    reduction = record {
+      left = l.left.0;
+      production = line.production;
+      at = line.at;
+      lifted = map bare (reverse extras);
+      children = map bare children;
+      below = map bare (trees_on below);
+      stack_is = ap (λ (l : List Tree). map bare l) gat.trees ∙ map-append bare (reverse extras) (reverse children ++ trees_on below)
+          ∙ ap (λ (l : List Tree). map bare (reverse extras) ++ l) (map-append bare (reverse children) (trees_on below) ∙ ap (λ (l : List Tree). l ++ map bare (trees_on below)) (turned_bare children));
+      extras = extras_bare laws (reverse extras) (extras_turned extras gat.all_extras);
+      all_lifted = subst BeginsFilled (map-append bare (reverse children) (trees_on below) ∙ ap (λ (l : List Tree). l ++ map bare (trees_on below)) (turned_bare children)) (begins_bare laws (reverse children ++ trees_on below) gat.no_more);
+      count = ap (λ (x : List ℕ). length x) (filling_bare laws children) ∙ gat.filled ∙ line.steps;
+      first_fills = begins_bare laws children gat.begins;
+      node_is = laws.reduced_bare t.grammar number extent None children;
+      after_is = refl;
+    }
+
+    -- the node is too deep
+    pub done_none : (new : List (List Layer)) → most_depth < tree_depth node → IsReducedTo t size number old new h None
+    done_none new deep = record { node = bare node; after = after; reduction = reduction; done = subst (λ (n : ℕ). most_depth < n) (sym (laws.keeps node).depth) deep }
+
+    -- the node can be put on the stack below
+    pub can_put : IsTable t → size ≤ most_span → tree_depth node ≤ most_depth → CanPut t size (all_spans (trees_on below)) l.left.0 node extras
+    can_put table short shallow =
+        let good = reduced_good laws t.grammar number l.left.0 line.production extent children (can_reduce table short) shallow in
+        let says = good.1 in
+        record {
+          symbol = says.symbol;
+          fills = says.extra;
+          good = good.0;
+          reach = omega (arith, gat.most, says.extent_is);
+          all_extras = gat.all_extras;
+          good_extras = gat.good_extras;
+          reach_extras = subst (λ (n : ℕ). EndBy (suc size) (all_spans (trees_on below) + n) extras) (sym says.span) gat.reach;
+          within = omega (arith, says.span, gat.place_is, gat.within);
+        }
+
+    -- the node was put there
+    pub done_some : (new : List (List Layer)) (u : Tree) (top : ℕ) → IsTable t → size ≤ most_span → u ≡ node → tree_depth node ≤ most_depth → top < length new
+        → trees_on (stack_at new top) ≡ reverse extras ++ u ∷ trees_on below
+        → ((place : ℕ) → IsGoodStack t size below place → CanPut t size place l.left.0 u extras → IsGoodStack t size (stack_at new top) (place + (span_of u + all_spans extras)))
+        → IsReducedTo t size number old new h (Some (record { top = top; place = h.place }))
+    done_some new u top table short is shallow there trees good =
+        let can : CanPut t size (all_spans (trees_on below)) l.left.0 u extras = subst (λ (x : Tree). CanPut t size (all_spans (trees_on below)) l.left.0 x extras) (sym is) (can_put table short shallow) in
+        let says = (reduced_good laws t.grammar number l.left.0 line.production extent children (can_reduce table short) shallow).1 in
+        let span : span_of u ≡ all_spans children = ap span_of is ∙ says.span in
+        let place : all_spans (trees_on below) + (span_of u + all_spans extras) ≡ h.place = omega (arith, span, gat.place_is) in
+        let stack : map bare (trees_on (stack_at new top)) ≡ after =
+        ap (λ (l : List Tree). map bare l) trees ∙ map-append bare (reverse extras) (u ∷ trees_on below) ∙ ap (λ (x : Tree). map bare (reverse extras) ++ bare x ∷ map bare (trees_on below)) is in
+        record {
+          node = bare node;
+          after = after;
+          reduction = reduction;
+          done = (
+            subst (λ (n : ℕ). n ≤ most_depth) (sym (laws.keeps node).depth) shallow,
+            record { there = there; stack = subst (λ (n : ℕ). IsGoodStack t size (stack_at new top) n) place (good (all_spans (trees_on below)) gat.base can) },
+            same_config (map bare (trees_on (stack_at new top))) after h.place h.place stack refl,
+          );
+        }
+
+    -- ---- the same by the setting
+
+    pub can_of : (s : Setting) → IsSetting t size s → IsTable t → (left : ℕ) × (p : Production) × CanReduce s.productions number left p extent children × (lengthens_by (form_of s.productions left number) ≡ l.lengthens)
+    can_of s set table = (
+      l.left.0,
+      line.production,
+      subst (λ (g : FlatGrammar). CanReduce g number l.left.0 line.production extent children) (sym set.productions) (can_reduce table set.short),
+      subst (λ (g : FlatGrammar). lengthens_by (form_of g l.left.0 number) ≡ l.lengthens) (sym set.productions) line.lengthens,
+    )
+
+    pub stands_of : (s : Setting) → IsSetting t size s → (size' : ℕ) × (place : ℕ) × IsGoodStack t size' below place × StandsBefore t.grammar (filling (trees_on below)) l.left.0
+    stands_of s set = (size, all_spans (trees_on below), gat.base, stands)
+
+    abbrev pub Made : Setting → Option Tree → Type 0
+    Made s o = MatchOption o (most_depth < tree_depth (reduced s.productions number extent None children))
+        (λ u. (u ≡ reduced s.productions number extent None children) × (tree_depth (reduced s.productions number extent None children) ≤ most_depth))
+
+    plain : (s : Setting) → IsSetting t size s → (o : Option Tree) → Made s o → MatchOption o (most_depth < tree_depth node) (λ u. (u ≡ node) × (tree_depth node ≤ most_depth))
+    plain s set o m =
+        subst (λ (g : FlatGrammar). MatchOption o (most_depth < tree_depth (reduced g number extent None children)) (λ u. (u ≡ reduced g number extent None children) × (tree_depth (reduced g number extent None children) ≤ most_depth))) set.productions m
+
+    pub none_of : (s : Setting) (new : List (List Layer)) (o : Option Tree) → IsSetting t size s → Made s o → o ≡ None → IsReducedTo t size number old new h None
+    none_of s new o set m is = done_none new (subst (λ (x : Option Tree). MatchOption x (most_depth < tree_depth node) (λ u. (u ≡ node) × (tree_depth node ≤ most_depth))) is (plain s set o m))
+
+    pub some_of : (s : Setting) (new : List (List Layer)) (o : Option Tree) (u : Tree) (top : ℕ) → IsSetting t size s → IsTable t → Made s o → o ≡ Some u → top < length new
+        → (es : List Tree) → es ≡ extras
+        → trees_on (stack_at new top) ≡ reverse es ++ u ∷ trees_on below
+        → ((size' place : ℕ) → IsGoodStack t size' below place → CanPut t size' place l.left.0 u es → IsGoodStack t size' (stack_at new top) (place + (span_of u + all_spans es)))
+        → IsReducedTo t size number old new h (Some (record { top = top; place = h.place }))
+    some_of s new o u top set table m is there es es_are trees good =
+        let w = subst (λ (x : Option Tree). MatchOption x (most_depth < tree_depth node) (λ u. (u ≡ node) × (tree_depth node ≤ most_depth))) is (plain s set o m) in
+        done_some new u top table set.short w.0 w.1 there
+        (subst (λ (xs : List Tree). trees_on (stack_at new top) ≡ reverse xs ++ u ∷ trees_on below) es_are trees)
+        (λ place base can. subst (λ (xs : List Tree). IsGoodStack t size (stack_at new top) (place + (span_of u + all_spans xs))) es_are
+        (good size place base (subst (λ (xs : List Tree). CanPut t size place l.left.0 u xs) (sym es_are) can)))
+
+-- ---- laying extras
+
+-- the node on the stack below, with its state
+pub put_base : (t : ParseTable) (size place : ℕ) (old mid : List (List Layer)) (below base : ℕ) (left : ℕ) (node : Tree) (extras : List Tree) (state : ℕ) → Pushes old mid below base node state → IsGoodStack t size (stack_at old below) place
+    → CanPut t size place left node extras → IsStateOf t (left ∷ filling (trees_on (stack_at old below))) state → CanLay t size (place + span_of node) (stack_at mid base) state extras
+put_base t size place old mid below base left node extras state p b can st =
+    let names : filling (node ∷ trees_on (stack_at old below)) ≡ left ∷ filling (trees_on (stack_at old below)) = fills_is node (trees_on (stack_at old below)) can.fills ∙ ap (λ (n : ℕ). n ∷ filling (trees_on (stack_at old below))) can.symbol in
+    let here : IsStateOf t (filling (node ∷ trees_on (stack_at old below))) state = subst (λ (l : List ℕ). IsStateOf t l state) (sym names) st in
+    record {
+      base = pushed_good t size place old mid below base node state p b here can.good (omega (arith, can.within)) can.reach;
+      state_is = subst (λ (s : List Layer). IsStateOf t (filling (trees_on s)) state) (sym (pushed_stack old mid below base node state p)) here;
+      all_extras = can.all_extras;
+      good = can.good_extras;
+      reach = can.reach_extras;
+      within = omega (arith, can.within);
+    }
+  where
+    fills_is : (x : Tree) (xs : List Tree) → is_extra_node x ≡ false → filling (x ∷ xs) ≡ symbol_of x ∷ filling xs
+    fills_is x xs e = rw e refl
