@@ -11,7 +11,7 @@ use Rattle.spec_lexing.specs.Seen.{Seen, Agree}
 use Rattle.ts_lexer.specs.declared.lexed.Lexed.{Lexed}
 use Rattle.ts_lexer.specs.declared.lexed.Lexed.TheVariants.{Token, Absent}
 use Rattle.ts_lexer.specs.Answers.{Says, extent_of, IsAnswer, LexesIn, IsLexedAt}
-use Rattle.ts_lexer.specs.States.{AreValid, HaveSame}
+use Rattle.ts_lexer.specs.States.{AreValid, HaveSameSymbols}
 
 -- an answer says one thing
 pub says_once : (start : ℕ) (a : Lexed) (f h : Found) → Says start a f → Says start a h → f ≡ h
@@ -38,14 +38,14 @@ said_once start (Absent place e) (Absent other d) f (n, at, u) (m, it, v) far =
 pub record AnswerLaws : Type 0 where
   pub one_found : (g : FlatGrammar) (valid : List Symbol) (rest : Bytes) (f h : Found) → Lex g valid rest f → Lex g valid rest h → f ≡ h
   pub one_seen : (g : FlatGrammar) (valid : List Symbol) (rest : Bytes) (n m : ℕ) → Seen g valid rest n → Seen g valid rest m → n ≡ m
-  pub same_found : (g : FlatGrammar) (valid other : List Symbol) (rest : Bytes) (f : Found) → HaveSame valid other → Lex g valid rest f → Lex g other rest f
-  pub same_seen : (g : FlatGrammar) (valid other : List Symbol) (rest : Bytes) (n : ℕ) → HaveSame valid other → Seen g valid rest n → Seen g other rest n
+  pub same_found : (g : FlatGrammar) (valid other : List Symbol) (rest : Bytes) (f : Found) → HaveSameSymbols valid other → Lex g valid rest f → Lex g other rest f
+  pub same_seen : (g : FlatGrammar) (valid other : List Symbol) (rest : Bytes) (n : ℕ) → HaveSameSymbols valid other → Seen g valid rest n → Seen g other rest n
 
 -- for a state there is one answer at a place
 pub one_lexed : AnswerLaws → (t : ParseTable) (state : ℕ) (text : Bytes) (place : ℕ) (a b : Lexed) → IsLexedAt t state text place a → IsLexedAt t state text place b → a ≡ b
 one_lexed laws t state text place a b x y =
     let g = t.grammar in
-    let same : HaveSame x.valid y.valid = λ s. ((λ h. (y.are_valid s).1 ((x.are_valid s).0 h)), (λ h. (x.are_valid s).1 ((y.are_valid s).0 h))) in
+    let same : HaveSameSymbols x.valid y.valid = λ s. ((λ h. (y.are_valid s).1 ((x.are_valid s).0 h)), (λ h. (x.are_valid s).1 ((y.are_valid s).0 h))) in
     let found = laws.one_found g y.valid (drop place text) x.answer.found y.answer.found (laws.same_found g x.valid y.valid (drop place text) x.answer.found same x.answer.lex) y.answer.lex in
     let far = laws.one_seen g y.valid (drop place text) (extent_of a) (extent_of b) (laws.same_seen g x.valid y.valid (drop place text) (extent_of a) same x.answer.seen) y.answer.seen in
     said_once place a b y.answer.found (subst (λ (f : Found). Says place a f) found x.answer.says) y.answer.says far

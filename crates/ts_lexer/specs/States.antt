@@ -17,8 +17,8 @@ pub data IsValidToken (t : ParseTable) (state : ℕ) (symbol : Symbol) : Type 0 
   extra : Contains t.grammar.extras symbol → IsValidToken t state symbol
 
 -- the lists have the same symbols
-abbrev pub HaveSame : List Symbol → List Symbol → Type 0
-HaveSame valid other = (s : Symbol) → Contains valid s ↔ Contains other s
+abbrev pub HaveSameSymbols : List Symbol → List Symbol → Type 0
+HaveSameSymbols valid other = (s : Symbol) → Contains valid s ↔ Contains other s
 
 -- the list has the valid tokens of the state, and no others
 abbrev pub AreValid : ParseTable → ℕ → List Symbol → Type 0

@@ -8,16 +8,16 @@ ghost use Rattle.spec_lexing.specs.Lexing.{Found, Lex};
 ghost use Rattle.spec_lexing.specs.Seen.{Seen};
 ghost use Rattle.ts_lexer.specs.declared.lexed.Lexed.{Lexed as AnyLexed};
 ghost use Rattle.ts_lexer.specs.Answers.{IsLexedAt};
-ghost use Rattle.ts_lexer.specs.States.{HaveSame};
+ghost use Rattle.ts_lexer.specs.States.{HaveSameSymbols};
 
 use spec_lexing::one_answer;
 
 /// Lexing rests on which tokens are valid, and on nothing else of their list.
 pub fn same_tokens()
     ensures lex { (g : AnyGrammar) (valid other : List AnySymbol) (rest : Bytes) (f : Found)
-        → HaveSame valid other → Lex g valid rest f → Lex g other rest f }
+        → HaveSameSymbols valid other → Lex g valid rest f → Lex g other rest f }
     ensures seen { (g : AnyGrammar) (valid other : List AnySymbol) (rest : Bytes) (n : ℕ)
-        → HaveSame valid other → Seen g valid rest n → Seen g other rest n }
+        → HaveSameSymbols valid other → Seen g valid rest n → Seen g other rest n }
 {}
 
 /// For a state there is one answer at a place of a text.

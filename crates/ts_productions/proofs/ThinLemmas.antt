@@ -14,7 +14,7 @@ use Rattle.ts_rules.specs.Numbers.{outermost}
 use Rattle.ts_rules.specs.Alternatives.{Alternatives, alternative, alternatives_of, step_at, blank, followed, joins, sequence, choice_of, members_of, in_field, in_alias, in_dynamic, in_group, in_sequence, is_last, left, group}
 use Rattle.ts_rules.specs.FirstSights.{AreFirstSights, Each, end, both}
 use Rattle.ts_rules.specs.Productions.{filled, unless_blank, again}
-use Rattle.ts_productions.specs.Thin.{IsThin, AreBlank, IsThinTree, IsBlankTree, AreBlankTrees, AreThinBranches, HasBlankBranch, AreBranches}
+use Rattle.ts_productions.specs.Thin.{IsThin, AreOnlyBlank, IsThinTree, IsBlankTree, AreBlankTrees, AreThinBranches, HasBlankBranch, AreBranches}
 use Rattle.ts_productions.specs.declared.prune.Branches.{Branches}
 use Rattle.ts_productions.proofs.DropLemmas.{sights_drop}
 use Rattle.ts_productions.proofs.MemberLemmas.{none_in, head_in, tail_in, member_cases, flat_in, in_flat}
@@ -168,7 +168,7 @@ each_more _ _ t u (both v w vs ws k rest) h = both v w (vs ++ t ∷ []) (ws ++ u
 -- ---- empty alternatives
 
 -- of empty alternatives alone the first is enough
-pub thin_blank : (xs : Alternatives) → AreBlank xs → IsThin xs (blank ∷ [])
+pub thin_blank : (xs : Alternatives) → AreOnlyBlank xs → IsThin xs (blank ∷ [])
 thin_blank [] h = absurd (none_in blank h.some)
 thin_blank (x ∷ xs) h =
     let is : x ≡ blank = h.only x (head_in x xs) in
@@ -179,74 +179,74 @@ thin_blank (x ∷ xs) h =
 pub thin_empty : (t : Tree) → IsBlankTree t → IsThinTree t tree.Blank
 thin_empty t h a = subst (λ (zs : Alternatives). IsThin (alternatives_of t a) zs) (sym (alternatives_blank a)) (thin_blank (alternatives_of t a) (h a))
 
-blank_one : AreBlank (blank ∷ [])
+blank_one : AreOnlyBlank (blank ∷ [])
 blank_one = record {
   some = head_in blank [];
   only = λ x w. ⊎_elim (λ e. e) (λ none. absurd (none_in x none)) (member_cases blank x [] w);
 }
 
-blank_append : (xs ys : Alternatives) → AreBlank xs → AreBlank ys → AreBlank (xs ++ ys)
+blank_append : (xs ys : Alternatives) → AreOnlyBlank xs → AreOnlyBlank ys → AreOnlyBlank (xs ++ ys)
 blank_append xs ys one two = record {
   some = Contains-append_left xs ys blank one.some;
   only = λ x w. ⊎_elim (λ v. one.only x v) (λ v. two.only x v) (Contains-append_cases xs ys x w);
 }
 
-mapped : (g : Alternative → Alternative) (xs : Alternatives) → g blank ≡ blank → AreBlank xs → AreBlank (map g xs)
-mapped g xs is h = subst AreBlank (sym (map_flat_same g xs)) (record {
+mapped : (g : Alternative → Alternative) (xs : Alternatives) → g blank ≡ blank → AreOnlyBlank xs → AreOnlyBlank (map g xs)
+mapped g xs is h = subst AreOnlyBlank (sym (map_flat_same g xs)) (record {
   some = flat_in (λ (x : Alternative). g x ∷ []) xs blank blank h.some (subst (λ (p : Alternative). Contains (g blank ∷ []) p) is (head_in (g blank) []));
   only = λ x w.
       let r = in_flat (λ (y : Alternative). g y ∷ []) xs x w in
       ⊎_elim (λ e. e ∙ ap g (h.only r.0 r.1) ∙ is) (λ none. absurd (none_in x none)) (member_cases (g r.0) x [] r.2);
 })
 
-blank_joins : (xs ys : Alternatives) → AreBlank xs → AreBlank ys → AreBlank (joins xs ys)
-blank_joins xs ys one two = subst AreBlank (sym (joins_flat xs ys)) (record {
+blank_joins : (xs ys : Alternatives) → AreOnlyBlank xs → AreOnlyBlank ys → AreOnlyBlank (joins xs ys)
+blank_joins xs ys one two = subst AreOnlyBlank (sym (joins_flat xs ys)) (record {
   some = flat_in (λ (x : Alternative). map (λ y. followed x y) ys) xs blank blank one.some (joined blank refl).some;
   only = λ x w.
       let r = in_flat (λ (y : Alternative). map (λ z. followed y z) ys) xs x w in
       (joined r.0 (one.only r.0 r.1)).only x r.2;
 })
   where
-    joined : (x : Alternative) → x ≡ blank → AreBlank (map (λ y. followed x y) ys)
-    joined x e = subst (λ (p : Alternative). AreBlank (map (λ y. followed p y) ys)) (sym e) (mapped (λ y. followed blank y) ys refl two)
+    joined : (x : Alternative) → x ≡ blank → AreOnlyBlank (map (λ y. followed x y) ys)
+    joined x e = subst (λ (p : Alternative). AreOnlyBlank (map (λ y. followed p y) ys)) (sym e) (mapped (λ y. followed blank y) ys refl two)
 
-blank_members : (ts : List Tree) → AreBlankTrees ts → (a : Around) → AreBlank (sequence (members_of ts a))
+blank_members : (ts : List Tree) → AreBlankTrees ts → (a : Around) → AreOnlyBlank (sequence (members_of ts a))
 blank_members [] h a = blank_one
 blank_members (t ∷ ts) h a = blank_joins (alternatives_of t (in_sequence (is_last ts) a)) (sequence (members_of ts a))
     (h t (head_in t ts) (in_sequence (is_last ts) a)) (blank_members ts (λ u w. h u (tail_in t u ts w)) a)
 
 pub blank_leaf : IsBlankTree tree.Blank
-blank_leaf a = subst AreBlank (sym (alternatives_blank a)) blank_one
+blank_leaf a = subst AreOnlyBlank (sym (alternatives_blank a)) blank_one
 
 pub blank_seq : (ts : List Tree) → AreBlankTrees ts → IsBlankTree (tree.Seq ts)
-blank_seq ts h a = subst AreBlank (sym (alternatives_seq ts a)) (blank_members ts h a)
+blank_seq ts h a = subst AreOnlyBlank (sym (alternatives_seq ts a)) (blank_members ts h a)
 
-blank_branches : (t : Tree) (ts : List Tree) → AreBlankTrees (t ∷ ts) → (a : Around) → AreBlank (choice_of (t ∷ ts) a)
-blank_branches t [] h a = subst AreBlank (sym (append-nil (alternatives_of t a))) (h t (head_in t []) a)
+blank_branches : (t : Tree) (ts : List Tree) → AreBlankTrees (t ∷ ts) → (a : Around) → AreOnlyBlank (choice_of (t ∷ ts) a)
+blank_branches t [] h a = subst AreOnlyBlank (sym (append-nil (alternatives_of t a))) (h t (head_in t []) a)
 blank_branches t (u ∷ ts) h a = blank_append (alternatives_of t a) (choice_of (u ∷ ts) a) (h t (head_in t (u ∷ ts)) a) (blank_branches u ts (λ v w. h v (tail_in t v (u ∷ ts) w)) a)
 
 pub blank_choice : (ts : List Tree) → (ts ≡ [] → ⊥) → AreBlankTrees ts → IsBlankTree (tree.Choice ts)
 blank_choice [] some h a = absurd (some refl)
-blank_choice (t ∷ ts) some h a = subst AreBlank (sym (alternatives_choice (t ∷ ts) a)) (blank_branches t ts h a)
+blank_choice (t ∷ ts) some h a = subst AreOnlyBlank (sym (alternatives_choice (t ∷ ts) a)) (blank_branches t ts h a)
 
 pub blank_field : (field : ℕ) (t : Tree) → IsBlankTree t → IsBlankTree (tree.Field field t)
-blank_field field t h a = subst AreBlank (sym (alternatives_field field t a)) (h (in_field field a))
+blank_field field t h a = subst AreOnlyBlank (sym (alternatives_field field t a)) (h (in_field field a))
 
 pub blank_alias : (number : ℕ) (t : Tree) → IsBlankTree t → IsBlankTree (tree.Alias number t)
-blank_alias number t h a = subst AreBlank (sym (alternatives_alias number t a)) (h (in_alias number a))
+blank_alias number t h a = subst AreOnlyBlank (sym (alternatives_alias number t a)) (h (in_alias number a))
 
 pub blank_dynamic : (value : ℤ) (t : Tree) → IsBlankTree t → IsBlankTree (tree.Dynamic value t)
-blank_dynamic value t h a = subst AreBlank (sym (alternatives_dynamic value t a)) (h (in_dynamic value a))
+blank_dynamic value t h a = subst AreOnlyBlank (sym (alternatives_dynamic value t a)) (h (in_dynamic value a))
 
-blank_grouped : (a : Around) (xs : Alternatives) → AreBlank xs → AreBlank (group a xs)
+blank_grouped : (a : Around) (xs : Alternatives) → AreOnlyBlank xs → AreOnlyBlank (group a xs)
 blank_grouped a xs h = by a.at_end
   where
-    by : (b : Bool) → AreBlank (if b then xs else map (left a) xs)
+    by : (b : Bool) → AreOnlyBlank (if b then xs else map (left a) xs)
     by true = h
     by false = mapped (left a) xs refl h
 
 pub blank_group : (prec : Prec) (assoc : Assoc) (t : Tree) → IsBlankTree t → IsBlankTree (tree.Group prec assoc t)
-blank_group prec assoc t h a = subst AreBlank (sym (alternatives_group prec assoc t a)) (blank_grouped a (alternatives_of t (in_group prec assoc a)) (h (in_group prec assoc a)))
+blank_group prec assoc t h a = subst AreOnlyBlank (sym (alternatives_group prec assoc t a)) (blank_grouped a (alternatives_of t (in_group prec assoc a)) (h (in_group prec assoc a)))
 
 -- ---- branches
 

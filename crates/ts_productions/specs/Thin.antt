@@ -19,7 +19,7 @@ pub record IsThin (xs ys : Alternatives) : Type 0 where
   pub has : (x : Alternative) → Contains ys x → Contains xs x
 
 -- some alternative is the empty one, and no other stands there
-pub record AreBlank (xs : Alternatives) : Type 0 where
+pub record AreOnlyBlank (xs : Alternatives) : Type 0 where
   pub some : Contains xs blank
   pub only : (x : Alternative) → Contains xs x → x ≡ blank
 
@@ -28,7 +28,7 @@ abbrev pub IsThinTree : Tree → Tree → Type 0
 IsThinTree t u = (around : Around) → IsThin (alternatives_of t around) (alternatives_of u around)
 
 abbrev pub IsBlankTree : Tree → Type 0
-IsBlankTree t = (around : Around) → AreBlank (alternatives_of t around)
+IsBlankTree t = (around : Around) → AreOnlyBlank (alternatives_of t around)
 
 abbrev pub AreBlankTrees : List Tree → Type 0
 AreBlankTrees ts = (t : Tree) → Contains ts t → IsBlankTree t

@@ -21,7 +21,7 @@ use Rattle.ts_table.specs.declared.refusals.Refusal.{Refusal}
 use Rattle.ts_table.specs.declared.rows.Ready.{Ready}
 use Rattle.ts_table.specs.declared.rows.Entry.{Entry}
 use Rattle.ts_table.specs.Rules.{IsUndeclaredAt, ComesFirst, IsLesser}
-use Rattle.ts_table.specs.Rows.{IsReady, IsEntryOn, HoldsList, IsListOn, AreListPlaces, IsCellBefore, IsLeastTo, IsRowAt, AreRowsTo, IsStillLeast}
+use Rattle.ts_table.specs.Rows.{IsReadySet, IsEntryOn, HoldsList, IsListOn, AreListPlaces, IsCellBefore, IsLeastTo, IsRowAt, AreRowsTo, IsStillLeast}
 use Rattle.ts_table.specs.Tables.{EachOnce}
 use Rattle.ts_table.proofs.ListLemmas.{at_front, snoc_at, three}
 use Rattle.ts_table.proofs.ItemLemmas.{valid_token, reached_within}
@@ -82,7 +82,7 @@ rows_more g items a b at p gg ga gl is are one = record {
       (snoc_at a.states.items p q n (subst (λ (l : List RowPlaces). slice_get l n ≡ Some q) is h));
 }
 
-pub row_made : (g : FlatGrammar) (items : Items) (b : Arrays) (set : Ready) (p : RowPlaces) (row : List ℕ) (lists : List (Vec Action)) → (ready : IsReady g items set) → HoldsList b.gotos.keys p.gotos set.gotos.items → HoldsList b.actions.keys p.actions row
+pub row_made : (g : FlatGrammar) (items : Items) (b : Arrays) (set : Ready) (p : RowPlaces) (row : List ℕ) (lists : List (Vec Action)) → (ready : IsReadySet g items set) → HoldsList b.gotos.keys p.gotos set.gotos.items → HoldsList b.actions.keys p.actions row
     → b.lists.keys ≡ lists → AreListPlaces g items set.at lists (start_symbol g) row → IsRowAt g items b set.at p
 row_made g items b set p row lists ready hg ha same places = record {
   state = ready.state;

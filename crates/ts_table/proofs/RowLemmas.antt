@@ -31,7 +31,7 @@ use Rattle.ts_table.specs.Arrays.{no_state, state_in}
 use Rattle.ts_table.specs.Candidates.{candidate_of, IsShiftPart, PicksFrom, IsCompletePart, AreReductions}
 use Rattle.ts_table.specs.Deciding.{StaysOf}
 use Rattle.ts_table.specs.Cells.{IsCellOf}
-use Rattle.ts_table.specs.Rows.{AreGotoNumbers, IsAcceptPart, HasAccept, IsReady, IsTokenCell, IsSource, AreRivalItems}
+use Rattle.ts_table.specs.Rows.{AreGotoNumbers, IsAcceptPart, HasAccept, IsReadySet, IsTokenCell, IsSource, AreRivalItems}
 use Rattle.ts_table.proofs.ListLemmas.{one_at, at_of, in_of, read_at, none_in, in_left, in_right}
 use Rattle.ts_table.proofs.ItemLemmas.{line_none, valid_of, goto_within}
 use Rattle.ts_table.proofs.CandidateLemmas.{item_in, reductions_are, shift_item_of, of_shift_item}
@@ -186,7 +186,7 @@ accepts_is g items stands n s read at reach = (
 
 -- ---- the cell of a token
 
-pub cell_is : (g : FlatGrammar) (m : Marks) (items : Items) (set : Ready) (read : List ℕ) (token k : ℕ) (reduced shifts : List Candidate) (cell : Cell) → IsSource g m items → (ready : IsReady g items set) → token < start_symbol g → IsReachedBy items read set.at
+pub cell_is : (g : FlatGrammar) (m : Marks) (items : Items) (set : Ready) (read : List ℕ) (token k : ℕ) (reduced shifts : List Candidate) (cell : Cell) → IsSource g m items → (ready : IsReadySet g items set) → token < start_symbol g → IsReachedBy items read set.at
     → slice_get set.gotos.items token ≡ Some k
     → ((c : Candidate) → Contains reduced c ↔ PicksFrom g set.complete.items (λ q. HasAt items.tokens.keys q.tokens token) c)
     → AreRivalItems g items ready.state token (state_in k) reduced shifts
@@ -221,7 +221,7 @@ rival_all g items s token target reductions found parts firsts ep ef members =
 
 -- ---- over equal lists
 
-pub cell_from : (g : FlatGrammar) (m : Marks) (items : Items) (set : Ready) (read : List ℕ) (token from k : ℕ) (target : Option ℕ) (complete : List Part) (found reduced shifts : List Candidate) (cell : Cell) → IsSource g m items → (ready : IsReady g items set) → token < start_symbol g → IsReachedBy items read set.at
+pub cell_from : (g : FlatGrammar) (m : Marks) (items : Items) (set : Ready) (read : List ℕ) (token from k : ℕ) (target : Option ℕ) (complete : List Part) (found reduced shifts : List Candidate) (cell : Cell) → IsSource g m items → (ready : IsReadySet g items set) → token < start_symbol g → IsReachedBy items read set.at
     → from ≡ token → k ≡ get_or set.gotos.items from k → from < length set.gotos.items → target ≡ state_in k → complete ≡ set.complete.items → reduced ≡ found
     → ((c : Candidate) → Contains found c ↔ PicksFrom g complete (λ q. HasAt items.tokens.keys q.tokens token) c)
     → AreRivalItems g items ready.state token target reduced shifts
@@ -234,18 +234,18 @@ cell_from g m items set read token from k target complete found reduced shifts c
     (subst (λ (t : Option ℕ). AreRivalItems g items ready.state token t reduced shifts) et rivals)
     (subst (λ (t : Option ℕ). IsCellOf g t (Contains shifts) (StaysOf g reduced) cell) et is)
 
-pub ends_is : (g : FlatGrammar) (m : Marks) (items : Items) (set : Ready) (read : List ℕ) (token : ℕ) (b : Bool) → IsSource g m items → IsReady g items set → IsReachedBy items read set.at → IsTrue b ↔ (IsTrue set.accepts × (token ≡ 0)) → IsTrue b ↔ (Valid g read (advanced start_item) × (token ≡ 0))
+pub ends_is : (g : FlatGrammar) (m : Marks) (items : Items) (set : Ready) (read : List ℕ) (token : ℕ) (b : Bool) → IsSource g m items → IsReadySet g items set → IsReachedBy items read set.at → IsTrue b ↔ (IsTrue set.accepts × (token ≡ 0)) → IsTrue b ↔ (Valid g read (advanced start_item) × (token ≡ 0))
 ends_is g m items set read token b source ready reach test =
     let a = accepts_is g items source.sets set.at ready.state read ready.at reach in (
       (λ h. let w = test.0 h in (a.0 (ready.accepts.0 w.0), w.1)),
       (λ w. test.1 (ready.accepts.1 (a.1 w.0), w.1)),
     )
 
-pub within_gotos : (g : FlatGrammar) (m : Marks) (items : Items) (set : Ready) (token from : ℕ) → IsSource g m items → IsReady g items set → token < start_symbol g → from ≡ token → from < length set.gotos.items
+pub within_gotos : (g : FlatGrammar) (m : Marks) (items : Items) (set : Ready) (token from : ℕ) → IsSource g m items → IsReadySet g items set → token < start_symbol g → from ≡ token → from < length set.gotos.items
 within_gotos g m items set token from source ready few e = let size = ready.gotos.size in omega (arith, size, few, e)
 
 pub ready_is : (g : FlatGrammar) (items : Items) (at : ℕ) (s : State) (set : Ready) → slice_get items.states.items at ≡ Some s → set.at ≡ at → ((q : Part) → Contains set.complete.items q ↔ (Contains s.parts.items q × IsCompletePart g q)) → AreGotoNumbers (symbol_count g) s.gotos.items set.gotos.items
-    → IsTrue set.accepts ↔ HasAccept items.tokens.keys s.parts.items → IsReady g items set
+    → IsTrue set.accepts ↔ HasAccept items.tokens.keys s.parts.items → IsReadySet g items set
 ready_is g items at s set here e complete gotos accepts = record {
   state = s;
   at = subst (λ (n : ℕ). slice_get items.states.items n ≡ Some s) (sym e) here;

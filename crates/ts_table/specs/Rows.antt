@@ -49,7 +49,7 @@ abbrev pub HasAccept : List BitSet → List Part → Type 0
 HasAccept pool parts = (q : Part) × Contains parts q × IsAcceptPart pool q
 
 -- what is kept of a set of items is so
-pub record IsReady (g : FlatGrammar) (items : Items) (set : Ready) : Type 0 where
+pub record IsReadySet (g : FlatGrammar) (items : Items) (set : Ready) : Type 0 where
   pub state : State
   pub at : slice_get items.states.items set.at ≡ Some state
   pub complete : (q : Part) → Contains set.complete.items q

@@ -3,7 +3,7 @@
 ghost use Rattle.std.specs.Prelude.{◌≡◌, ◌<◌, suc, length, IfOk, OnOk};
 ghost use Rattle.spec_grammar.specs.Symbols.{start_symbol};
 ghost use Rattle.ts_items.specs.Closing.{AddsSets};
-ghost use Rattle.ts_table.specs.Rows.{IsReady, IsSource, HoldsList, AreListPlaces, IsLeastTo, AreRowsTo, IsStillLeast};
+ghost use Rattle.ts_table.specs.Rows.{IsReadySet, IsSource, HoldsList, AreListPlaces, IsLeastTo, AreRowsTo, IsStillLeast};
 
 use crate::arrays::{Arrays, RowPlaces};
 use crate::marks::Marks;
@@ -79,7 +79,7 @@ fn token_row(
     old: Option<Refusal>,
 ) -> Result<TokenRow, AllocError>
     requires source { IsSource grammar.now marks.now items.now }
-    requires ready { IsReady grammar.now items.now set.now }
+    requires ready { IsReadySet grammar.now items.now set.now }
     ensures grows { OnOk result (AddsSets lists.old.keys lists.new.keys) }
     ensures row { IfOk result (λ t. AreListPlaces grammar.now items.now set.now.at lists.new.keys
         (start_symbol grammar.now) t.row.items) }

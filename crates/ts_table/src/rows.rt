@@ -7,7 +7,7 @@ ghost use Rattle.spec_grammar.specs.Symbols.{start_symbol};
 ghost use Rattle.ts_items.specs.declared.part.Goto.{Goto as Gotos};
 ghost use Rattle.ts_items.specs.declared.part.State.{State as States};
 ghost use Rattle.ts_items.specs.Collection.{IsReachedBy};
-ghost use Rattle.ts_table.specs.Rows.{AreGotoNumbers, IsAcceptPart, HasAccept, IsReady, IsTokenCell, IsEntryOn, IsSource, AreRivalItems};
+ghost use Rattle.ts_table.specs.Rows.{AreGotoNumbers, IsAcceptPart, HasAccept, IsReadySet, IsTokenCell, IsEntryOn, IsSource, AreRivalItems};
 ghost use Rattle.ts_table.specs.Rules.{IsRefusedBy};
 ghost use Rattle.ts_table.specs.Tables.{EachOnce};
 
@@ -92,7 +92,7 @@ pub(crate) fn prepare(
     requires at { at < length items.now.states.items }
     requires known { (g : Flat) × IsSource g marks.now items.now }
     ensures ready { IfOk result (λ set. (g : Flat) → IsSource g marks.now items.now
-        → IsReady g items.now set) }
+        → IsReadySet g items.now set) }
     ensures at { IfOk result (λ set. set.at ≡ at) }
 {
     let state = &items.states[at];
@@ -148,7 +148,7 @@ fn cell_at(
     token: u16,
 ) -> Result<Cell, AllocError>
     requires source { IsSource grammar.now marks.now items.now }
-    requires ready { IsReady grammar.now items.now set.now }
+    requires ready { IsReadySet grammar.now items.now set.now }
     requires token { token < start_symbol grammar.now }
     ensures { IfOk result (λ cell. (read : List ℕ) → IsReachedBy items.now read set.now.at
         → IsTokenCell grammar.now items.now set.now.at read token cell) }
@@ -201,7 +201,7 @@ pub(crate) fn entry_on(
     token: u16,
 ) -> Result<Entry, AllocError>
     requires source { IsSource grammar.now marks.now items.now }
-    requires ready { IsReady grammar.now items.now set.now }
+    requires ready { IsReadySet grammar.now items.now set.now }
     requires token { token < start_symbol grammar.now }
     ensures entry { IfOk result (λ e. (read : List ℕ) → IsReachedBy items.now read set.now.at
         → IsEntryOn grammar.now items.now set.now.at read token e) }
