@@ -5,17 +5,15 @@ use Rattle.std.proofs.lemmas.List.{length-map}
 use Rattle.std.proofs.lemmas.List.Sums.{sum_by-cons}
 use Rattle.ts_moves.specs.declared.lines.Line.{Line}
 use Rattle.ts_moves.specs.Lines.{lengthens_by, IsLine, AreLinesUpTo}
-use Rattle.std.specs.Int.RustNames.{unsigned_abs}
-use Rattle.std.specs.Prelude.{option_map, unwrap_or, nat_le, if◌then◌else◌, ◌⊎◌}
+use Rattle.std.specs.Prelude.{option_map, nat_le, if◌then◌else◌, ◌⊎◌}
 use Rattle.std.proofs.Common.{inl, inr}
-use lib.IntN.{pos}
 use Rattle.std.proofs.lemmas.Option.{slice_get_within, slice_get-map}
 use Rattle.ts_core.specs.declared.flat.Production.{Production}
 use Rattle.ts_core.specs.declared.flat.FlatRule.{FlatRule}
 use Rattle.ts_core.specs.declared.flat.FlatGrammar.{FlatGrammar}
 use Rattle.spec_grammar.specs.Symbols.{start_symbol, symbol_rule, is_owned, count_productions, productions_from, all_productions, production_at, symbol_count, half}
 use Rattle.spec_tables.specs.Fit.{Fit}
-use Rattle.spec_trees.specs.Made.{left_of, value_of, form_of, repetition_form, of_rule}
+use Rattle.spec_trees.specs.Made.{form_of, repetition_form, of_rule}
 
 -- ---- sums of productions
 
@@ -88,13 +86,7 @@ from_is symbol (x ∷ rules) (suc r) i rule p e f =
 pub production_is : (g : FlatGrammar) (r i : ℕ) (rule : FlatRule) (p : Production) → slice_get g.rules r ≡ Some rule → slice_get rule.productions i ≡ Some p → production_at g (count_productions (take r g.rules) + i) ≡ Some (owned_by (start_symbol g + r) p)
 production_is g r i rule p e f = from_is (start_symbol g) g.rules r i rule p e f
 
--- ---- its symbol, value and form
-
-pub left_is : (g : FlatGrammar) (number symbol : ℕ) (p : Production) → production_at g number ≡ Some (owned_by symbol p) → left_of g number ≡ symbol
-left_is g number symbol p e = ap (λ (o : Option (ℕ × Production)). unwrap_or (option_map (λ q. q.0) o) 0) e
-
-pub value_is : (g : FlatGrammar) (number symbol : ℕ) (p : Production) → production_at g number ≡ Some (owned_by symbol p) → value_of g number ≡ p.dynamic
-value_is g number symbol p e = ap (λ (o : Option (ℕ × Production)). unwrap_or (option_map (λ q. q.1.dynamic) o) (pos 0)) e
+-- ---- its form
 
 half_is : (n : ℕ) → half n ≡ n / 2
 half_is zero = refl
@@ -133,16 +125,15 @@ push_line g n ls l are is = record {
 pub line_is : (g : FlatGrammar) (r i : ℕ) (rule : FlatRule) (p : Production) (l : Line) → slice_get g.rules r ≡ Some rule → slice_get rule.productions i ≡ Some p
     → l.left.0 ≡ start_symbol g + r
     → lengthens_by (if is_owned (start_symbol g + r) rule then repetition_form (length rule.productions / 2) i else of_rule) ≡ l.lengthens
-    → l.steps ≡ length p.steps → unsigned_abs p.dynamic ≤ 2 ^ 31
+    → l.steps ≡ length p.steps
     → IsLine g (count_productions (take r g.rules) + i) l
-line_is g r i rule p l at in_rule left form steps value =
+line_is g r i rule p l at in_rule left form steps =
     let is : production_at g (count_productions (take r g.rules) + i) ≡ Some (owned_by (start_symbol g + r) p) = production_is g r i rule p at in_rule in
     record {
       production = p;
       at = is ∙ ap (λ (n : ℕ). Some (owned_by n p)) (sym left);
       steps = steps;
       lengthens = ap lengthens_by (ap (λ (n : ℕ). form_of g n (count_productions (take r g.rules) + i)) left ∙ form_is_of g r i rule at) ∙ form;
-      value = subst (λ (v : _). unsigned_abs v ≤ 2 ^ 31) (sym (value_is g (count_productions (take r g.rules) + i) (start_symbol g + r) p is)) value;
     }
 
 -- ---- a grammar that is fit has few of both

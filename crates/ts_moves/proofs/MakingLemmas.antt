@@ -10,7 +10,7 @@ use lib.IntN.{◌+ℤ◌}
 use Rattle.ts_moves.specs.Laws.{Laws}
 use Rattle.ts_moves.specs.Lines.{lengthens_by}
 use Rattle.ts_moves.specs.Good.{CanReduce}
-use Rattle.ts_moves.specs.Making.{depth_by}
+use Rattle.ts_moves.specs.Making.{depth_when}
 use Rattle.ts_moves.proofs.NodeLemmas.{greatest_depth-append, reduced_is, over_layer}
 
 -- what is left of a list begins with the tree at hand
@@ -48,7 +48,7 @@ most_more ts i t from place new old end least low is new_is end_is before start 
 over_depth : (symbol : ℕ) (production : _) (dynamic : _) (extent : ℕ) (es : _) (ks : List Tree) → tree_depth (node_over symbol production dynamic extent None es ks) ≡ 1 + greatest_depth ks
 over_depth symbol production dynamic extent es ks = fold-roll-Tree ℕ depth_step (over_layer symbol production dynamic extent None es ks)
 
-made_depth : (f : Form) (left number : ℕ) (value : _) (extent : ℕ) (ks : List Tree) → (lengthens_by f ≡ true → 0 < length ks) → tree_depth (made_by f left number value extent None ks) ≡ depth_by (lengthens_by f) ks
+made_depth : (f : Form) (left number : ℕ) (value : _) (extent : ℕ) (ks : List Tree) → (lengthens_by f ≡ true → 0 < length ks) → tree_depth (made_by f left number value extent None ks) ≡ depth_when (lengthens_by f) ks
 made_depth of_rule left number value extent ks some = over_depth left (Some number) (value +ℤ all_totals ks) extent [] ks
 made_depth (of_first a) left number value extent ks some = over_depth left None (value +ℤ all_totals ks) extent (element a (length ks) ∷ []) ks
 made_depth (of_next a) left number value extent [] some = absurd (let h = some refl in omega arith)
@@ -66,8 +66,8 @@ pub some_lengthened : (laws : Laws) (g : FlatGrammar) (number left : ℕ) (p : P
 some_lengthened laws g number left p extent lengthens ks c is yes' = some_child laws g number left p extent (form_of g left number) ks refl c (is ∙ yes')
 
 pub reduced_depth : (laws : Laws) (g : FlatGrammar) (number left : ℕ) (p : Production) (extent : ℕ) (lengthens : Bool) (ks : List Tree) → CanReduce g number left p extent ks → lengthens_by (form_of g left number) ≡ lengthens
-    → tree_depth (reduced g number extent None ks) ≡ depth_by lengthens ks
+    → tree_depth (reduced g number extent None ks) ≡ depth_when lengthens ks
 reduced_depth laws g number left p extent lengthens ks c is =
     ap tree_depth (reduced_is laws g number left p extent None ks c.at)
     ∙ made_depth (form_of g left number) left number (value_of g number) extent ks (some_child laws g number left p extent (form_of g left number) ks refl c)
-    ∙ ap (λ (b : Bool). depth_by b ks) is
+    ∙ ap (λ (b : Bool). depth_when b ks) is

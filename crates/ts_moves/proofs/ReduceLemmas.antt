@@ -12,6 +12,7 @@ use Rattle.spec_trees.specs.Trees.{symbol_of, is_extra_node, span_of, all_spans,
 use Rattle.spec_trees.specs.Made.{filling, step_symbols, BeginsFilled, EndBy, form_of, reduced, most_span, most_depth}
 use Rattle.spec_runs.specs.Configurations.{IsReduction}
 use Rattle.spec_runs.specs.Moves.{StandsBefore, EndsWithProduction}
+use Rattle.ts_node.specs.Entries.{HasSmallValue}
 use Rattle.ts_table.specs.declared.view.ParseTable.{ParseTable}
 use Rattle.ts_table.specs.Tables.{IsTable, IsStateOf}
 use Rattle.ts_gss.specs.declared.layer.Layer.{Layer}
@@ -54,7 +55,11 @@ many_steps p = length-map p.steps (λ (step : Step). step.symbol.0)
 pub number_within : (g : FlatGrammar) (read : List ℕ) (number : ℕ) → EndsWithProduction g read number → number < length (all_productions g)
 number_within g read number r = slice_get_within (all_productions g) number (r.left, r.production) r.at
 
-module _ (laws : Laws) (t : ParseTable) (size number token : ℕ) (old : List (List Layer)) (h : StackHead) (l : Line) (stays : Act t.grammar (read_on old h) token (reduce number)) (line : IsLine t.grammar number l) where
+-- the production has a value of 32 bits
+pub small_of : (t : ParseTable) (size number : ℕ) (s : Setting) → IsSetting t size s → ((k : ℕ) → HasSmallValue s.productions k) → HasSmallValue t.grammar number
+small_of t size number s set small = subst (λ (g : FlatGrammar). HasSmallValue g number) set.productions (small number)
+
+module _ (laws : Laws) (t : ParseTable) (size number token : ℕ) (old : List (List Layer)) (h : StackHead) (l : Line) (stays : Act t.grammar (read_on old h) token (reduce number)) (line : IsLine t.grammar number l) (small : HasSmallValue t.grammar number) where
   ends : EndsWithProduction t.grammar (read_on old h) number
   ends = laws.reduces t.grammar (read_on old h) token number stays
 
@@ -102,7 +107,7 @@ module _ (laws : Laws) (t : ParseTable) (size number token : ℕ) (old : List (L
     can_reduce table short = record {
       fit = table.fit;
       at = line.at;
-      value = line.value;
+      value = small;
       good = gat.good_children;
       filled = filled;
       begins = gat.begins;

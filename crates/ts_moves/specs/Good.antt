@@ -1,6 +1,5 @@
 -- What is known of each tree on a stack. It serves proofs alone.
-use Rattle.std.specs.Prelude.{◌≡◌, ℕ, ◌+◌, ◌*◌, ◌^◌, ◌<◌, ◌≤◌, ◌⊎◌, true, IsTrue, List, [], ◌∷◌, length, reverse, Some}
-use Rattle.std.specs.Int.RustNames.{unsigned_abs}
+use Rattle.std.specs.Prelude.{◌≡◌, ℕ, ◌+◌, ◌*◌, ◌<◌, ◌≤◌, ◌⊎◌, true, IsTrue, List, [], ◌∷◌, length, reverse, Some}
 use Rattle.std.proofs.Common.{is_some}
 use Rattle.ts_core.specs.declared.flat.FlatGrammar.{FlatGrammar}
 use Rattle.ts_core.specs.declared.flat.Production.{Production}
@@ -8,9 +7,10 @@ use Rattle.spec_grammar.specs.Symbols.{start_symbol, production_at}
 use Rattle.spec_tables.specs.Fit.{Fit}
 use Rattle.spec_trees.specs.declared.tree.Tree.{Tree}
 use Rattle.spec_trees.specs.Trees.{symbol_of, production_of, elements_of, children_of, span_of, all_spans, all_nodes, tree_depth, is_settled, is_extra_node}
-use Rattle.spec_trees.specs.Made.{IsNode, EndBy, filling, step_symbols, BeginsFilled, value_of, most_span}
+use Rattle.spec_trees.specs.Made.{IsNode, EndBy, filling, step_symbols, BeginsFilled, most_span}
 use Rattle.spec_trees.specs.Choice.{IsInForm}
 use Rattle.spec_runs.specs.Moves.{IsUnused}
+use Rattle.ts_node.specs.Entries.{HasSmallValue}
 
 -- each tree of a list is of this kind
 abbrev pub EachTree : (Tree → Type 0) → List Tree → Type 0
@@ -43,7 +43,7 @@ pub record CanReduce (g : FlatGrammar) (number left : ℕ) (p : Production) (ext
     (children : List Tree) : Type 0 where
   pub fit : Fit g
   pub at : production_at g number ≡ Some (left, p)
-  pub value : unsigned_abs (value_of g number) ≤ 2 ^ 31
+  pub value : HasSmallValue g number
   pub good : AreGoodTrees g children
   pub filled : filling children ≡ step_symbols p
   pub begins : BeginsFilled children

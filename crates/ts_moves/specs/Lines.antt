@@ -1,10 +1,9 @@
 -- What a reduction has to know of a production.
-use Rattle.std.specs.Prelude.{◌≡◌, ℕ, ◌≤◌, ◌^◌, Bool, true, false, List, length, slice_get, Some}
-use Rattle.std.specs.Int.RustNames.{unsigned_abs}
+use Rattle.std.specs.Prelude.{◌≡◌, ℕ, Bool, true, false, List, length, slice_get, Some}
 use Rattle.ts_core.specs.declared.flat.FlatGrammar.{FlatGrammar}
 use Rattle.ts_core.specs.declared.flat.Production.{Production}
 use Rattle.spec_grammar.specs.Symbols.{all_productions, production_at}
-use Rattle.spec_trees.specs.Made.{Form, of_rule, of_first, of_next, form_of, value_of}
+use Rattle.spec_trees.specs.Made.{Form, of_rule, of_first, of_next, form_of}
 use Rattle.ts_moves.specs.declared.lines.Line.{Line}
 
 -- whether a production of this form lengthens a repetition
@@ -19,7 +18,6 @@ pub record IsLine (g : FlatGrammar) (number : ℕ) (l : Line) : Type 0 where
   pub at : production_at g number ≡ Some (l.left.0, production)
   pub steps : l.steps ≡ length production.steps
   pub lengthens : lengthens_by (form_of g l.left.0 number) ≡ l.lengthens
-  pub value : unsigned_abs (value_of g number) ≤ 2 ^ 31
 
 -- there is a line for each of so many productions, in their order
 pub record AreLinesUpTo (g : FlatGrammar) (count : ℕ) (lines : List Line) : Type 0 where

@@ -58,7 +58,6 @@ fn line_at(flat: &FlatGrammar, r: usize, rule: &FlatRule, i: usize) -> Line
     let left = Symbol((flat.tokens.len() + 1 + r) as u16);
     let count = rule.productions.len();
     let production = rule.productions.get(i);
-    let _value = production.dynamic;
     Line {
         left,
         steps: production.steps.len(),

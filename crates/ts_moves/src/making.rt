@@ -6,7 +6,7 @@ ghost use Rattle.spec_trees.specs.Trees.{all_spans, greatest_depth, tree_depth};
 ghost use Rattle.spec_trees.specs.Made.{EndBy, form_of, most_depth, reduced};
 ghost use Rattle.ts_moves.specs.Lines.{lengthens_by};
 ghost use Rattle.ts_moves.specs.Good.{CanReduce};
-ghost use Rattle.ts_moves.specs.Making.{depth_by};
+ghost use Rattle.ts_moves.specs.Making.{depth_when};
 
 use crate::laws::laws_hold;
 use crate::setting::Setting;
@@ -34,7 +34,7 @@ fn deepest(nodes: &[Node]) -> u32
 /// the new one.
 fn depth_over(children: &[Node], lengthens: bool) -> u32
     requires { lengthens ≡ true → 0 < length children.now }
-    ensures { result ≡ depth_by lengthens children.now }
+    ensures { result ≡ depth_when lengthens children.now }
 {
     if lengthens {
         let (before, more) = children.split_at(1);

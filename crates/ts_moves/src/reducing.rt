@@ -76,6 +76,7 @@ pub fn reduce_head(
 {
     laws_hold();
     table.stands();
+    setting.productions.values_are_small();
     let line = *setting.lines.get(number as usize);
     let Gathered {
         extras,

@@ -1,14 +1,15 @@
 -- The production of a number: its rule, its place there, and its form.
-use Rattle.std.proofs.Common.{◌≡◌, ℕ, zero, suc, ◌+◌, ◌-◌, ◌/◌, ◌<◌, ◌≤◌, sym, ap, ◌∙◌, refl, arith, true, List, [], ◌∷◌, ◌++◌, length, map, take, slice_get, Option, Some, length-append, subst}
+use Rattle.std.proofs.Common.{◌≡◌, ℕ, zero, suc, ◌+◌, ◌-◌, ◌/◌, ◌<◌, ◌≤◌, ◌^◌, sym, ap, ◌∙◌, refl, arith, true, List, [], ◌∷◌, ◌++◌, length, map, take, slice_get, get_or, Option, Some, None, length-append, subst}
 use Rattle.ts_base.proofs.PlaceLemmas.{in_prefix, push_cases}
 use Rattle.std.proofs.lemmas.List.{length-map}
 use Rattle.std.proofs.lemmas.List.Sums.{sum_by-cons}
 use Rattle.ts_node.specs.declared.productions.Entry.{Entry}
-use Rattle.ts_node.specs.Entries.{form_is, IsEntry, AreUpTo}
+use Rattle.ts_node.specs.Entries.{form_is, IsEntry, AreUpTo, HasAllEntries, HasSmallValue}
 use Rattle.std.specs.Prelude.{option_map, unwrap_or, nat_le, if◌then◌else◌, ◌⊎◌}
 use Rattle.std.proofs.Common.{inl, inr}
-use lib.IntN.{pos}
-use Rattle.std.proofs.lemmas.Option.{slice_get_within, slice_get-map}
+use Rattle.std.specs.Int.RustNames.{unsigned_abs}
+use lib.IntN.{ℤ, pos}
+use Rattle.std.proofs.lemmas.Option.{slice_get_within, slice_get_cases, slice_get_past, slice_get-map}
 use Rattle.ts_core.specs.declared.flat.Production.{Production}
 use Rattle.ts_core.specs.declared.flat.FlatRule.{FlatRule}
 use Rattle.ts_core.specs.declared.flat.FlatGrammar.{FlatGrammar}
@@ -131,13 +132,28 @@ push_entry g n es e are is = record {
 pub entry_is : (g : FlatGrammar) (r i : ℕ) (rule : FlatRule) (p : Production) (e : Entry) → slice_get g.rules r ≡ Some rule → slice_get rule.productions i ≡ Some p
     → e.symbol.0 ≡ start_symbol g + r
     → form_is e.form ≡ (if is_owned (start_symbol g + r) rule then repetition_form (length rule.productions / 2) i else of_rule)
-    → e.dynamic ≡ p.dynamic
+    → e.dynamic ≡ p.dynamic → unsigned_abs p.dynamic ≤ 2 ^ 31
     → IsEntry g (count_productions (take r g.rules) + i) e
-entry_is g r i rule p e at in_rule symbol form value =
+entry_is g r i rule p e at in_rule symbol form value small =
     let is : production_at g (count_productions (take r g.rules) + i) ≡ Some (owned_by (start_symbol g + r) p) = production_is g r i rule p at in_rule in
     let left : left_of g (count_productions (take r g.rules) + i) ≡ start_symbol g + r = left_is g _ _ p is in
     record {
       symbol = symbol ∙ sym left;
       form = form ∙ sym (form_is_of g r i rule at) ∙ ap (λ (s : ℕ). form_of g s (count_productions (take r g.rules) + i)) (sym left);
       value = value ∙ sym (value_is g _ _ p is);
+      small = subst (λ (v : ℤ). unsigned_abs v ≤ 2 ^ 31) (sym (value_is g _ _ p is)) small;
     }
+
+-- ---- small values
+
+-- a number without a production has the value 0
+pub values_small : (g : FlatGrammar) (es : List Entry) → HasAllEntries g es → (number : ℕ) → HasSmallValue g number
+values_small g es all number = by (slice_get_cases es number).1
+  where
+    by : ((x : Entry) × (number < length es) × (slice_get es number ≡ Some x) × (get_or es number x ≡ x)) ⊎ ((length es ≤ number) × (slice_get es number ≡ None)) → HasSmallValue g number
+    by (inl x) = (all.each number x.0 x.2).small
+    by (inr x) =
+        let p : production_at g number ≡ None = slice_get_past (all_productions g) number (omega (arith, all.many, x.0)) in
+        let v : value_of g number ≡ pos 0 = ap (λ (o : Option (ℕ × Production)). unwrap_or (option_map (λ q. q.1.dynamic) o) (pos 0)) p in
+        let a : unsigned_abs (value_of g number) ≡ 0 = ap unsigned_abs v in
+        omega (arith, a)

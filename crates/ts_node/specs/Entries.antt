@@ -1,5 +1,6 @@
 -- What is kept of each production.
-use Rattle.std.specs.Prelude.{◌≡◌, ℕ, List, length, slice_get, Some}
+use Rattle.std.specs.Prelude.{◌≡◌, ◌≤◌, ◌^◌, ℕ, List, length, slice_get, Some}
+use Rattle.std.specs.Int.RustNames.{unsigned_abs}
 use Rattle.ts_core.specs.declared.flat.FlatGrammar.{FlatGrammar}
 use Rattle.spec_grammar.specs.Symbols.{all_productions}
 use Rattle.spec_trees.specs.Made as made
@@ -14,11 +15,16 @@ form_is form.Rule = made.of_rule
 form_is (form.First alternative) = made.of_first alternative
 form_is (form.Next alternative) = made.of_next alternative
 
+-- the value of the production of a number has 32 bits
+abbrev pub HasSmallValue : FlatGrammar → ℕ → Type 0
+HasSmallValue g number = unsigned_abs (value_of g number) ≤ 2 ^ 31
+
 -- what is kept of the production of a number
 pub record IsEntry (g : FlatGrammar) (number : ℕ) (e : Entry) : Type 0 where
   pub symbol : e.symbol.0 ≡ left_of g number
   pub form : form_is e.form ≡ form_of g (left_of g number) number
   pub value : e.dynamic ≡ value_of g number
+  pub small : HasSmallValue g number
 
 -- there is an entry for each of so many productions, in their order
 pub record AreUpTo (g : FlatGrammar) (count : ℕ) (entries : List Entry) : Type 0 where

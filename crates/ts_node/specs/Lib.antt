@@ -4,3 +4,4 @@ pub mod Falls
 pub mod Small
 pub mod Standing
 pub mod Leaves
+pub mod Kinds

@@ -4,6 +4,7 @@
 
 mod change;
 mod fills;
+mod kind;
 mod laws;
 mod make;
 mod node;
@@ -14,6 +15,7 @@ mod sums;
 mod tests;
 
 pub use change::remake;
+pub use kind::NodeKind;
 pub use laws::{
     accepted_is_node, leaves_spell_the_text, made_nodes_are_gapless, made_nodes_are_in_form,
     made_nodes_are_settled, reduced_by_a_rule, reduced_is_node, reduced_is_node_of_its_depth,

@@ -1,9 +1,9 @@
 //! The productions of a grammar by their numbers: what a reduction has to know of each, found at
 //! once.
-ghost use Rattle.std.specs.Prelude.{◌≡◌, ◌+◌, ◌<◌, ◌≤◌, ◌^◌, suc, length, take, slice_get, Some, IfOk, OnOk, if◌then◌else◌};
+ghost use Rattle.std.specs.Prelude.{◌≡◌, ℕ, ◌+◌, ◌<◌, ◌≤◌, ◌^◌, suc, length, take, slice_get, Some, IfOk, OnOk, if◌then◌else◌};
 ghost use Rattle.spec_grammar.specs.Symbols.{all_productions, symbol_count, count_productions};
 ghost use Rattle.spec_trees.specs.Made.{repetition_form, of_rule};
-ghost use Rattle.ts_node.specs.Entries.{IsEntry, HasAllEntries, AreUpTo, form_is};
+ghost use Rattle.ts_node.specs.Entries.{IsEntry, HasAllEntries, HasSmallValue, AreUpTo, form_is};
 
 use std::alloc::{AllocError, Global};
 use std::marker::Model;
@@ -68,6 +68,14 @@ impl Productions {
             entries,
             flat: Snapshot::of(flat),
         })
+    }
+
+    /// The dynamic values of the productions have 32 bits, as the laws of reduced nodes ask. No value
+    /// goes in or out.
+    pub fn values_are_small(&self)
+        ensures { (number : ℕ) → HasSmallValue self.now number }
+    {
+        let _ = self.entries.len();
     }
 
     /// What a reduction has to know of the production of this number.

@@ -17,4 +17,4 @@ returns c =
     subst (λ (s : ℕ). lengthens_by (if not (nat_eq c.args.rule.now.owner.0 s) then repetition_form (c.len-count.result / 2) c.args.i else of_rule) ≡ c.lengthens.result) n f in
     let f2 : lengthens_by (if not (nat_eq c.args.rule.now.owner.0 (start_symbol c.args.flat.now + c.args.r)) then repetition_form (length c.args.rule.now.productions / 2) c.args.i else of_rule) ≡ c.lengthens.result =
     subst (λ (m : ℕ). lengthens_by (if not (nat_eq c.args.rule.now.owner.0 (start_symbol c.args.flat.now + c.args.r)) then repetition_form (m / 2) c.args.i else of_rule) ≡ c.lengthens.result) k f1 in
-    line_is c.args.flat.now c.args.r c.args.i c.args.rule.now c.get-production.result.now _ c.requires.rule c.get-production.ensures n f2 (omega (arith, ints)) (omega (arith, ints))
+    line_is c.args.flat.now c.args.r c.args.i c.args.rule.now c.get-production.result.now _ c.requires.rule c.get-production.ensures n f2 (omega (arith, ints))

@@ -1,6 +1,6 @@
 use Rattle.std.proofs.Common.{◌≡◌, ap, List, length, arith}
 use Rattle.spec_trees.specs.declared.tree.Tree.{Tree}
-use Rattle.ts_moves.specs.Making.{depth_by}
+use Rattle.ts_moves.specs.Making.{depth_when}
 use Rattle.ts_moves.proofs.NodeLemmas.{fits, reduced_good}
 use Rattle.ts_moves.proofs.MakingLemmas.{reduced_depth, some_lengthened}
 use Rattle.ts_moves.proofs.making.node_of.Goals as goal
@@ -17,7 +17,7 @@ returns-then-depth_over-gt-MOST_DEPTH c =
     let k = c.requires.can in
     let d = reduced_depth c.laws_hold.ensures c.args.setting.now.productions c.args.number k.0 k.1 c.args.extent c.args.lengthens c.args.children k.2 k.3 in
     let e = c.depth_over.ensures in
-    let s : depth_by c.args.lengthens c.as_slice.result.now ≡ depth_by c.args.lengthens c.args.children = ap (depth_by c.args.lengthens) c.as_slice.ensures in
+    let s : depth_when c.args.lengthens c.as_slice.result.now ≡ depth_when c.args.lengthens c.args.children = ap (depth_when c.args.lengthens) c.as_slice.ensures in
     let big = c.if-depth_over-gt-MOST_DEPTH.true in
     omega (arith, d, e, s, big)
 
@@ -31,7 +31,7 @@ reduce-requires-clause-node c =
     let k = c.requires.can in
     let d = reduced_depth c.laws_hold.ensures c.args.setting.now.productions c.args.number k.0 k.1 c.args.extent c.args.lengthens c.args.children k.2 k.3 in
     let e = c.depth_over.ensures in
-    let s : depth_by c.args.lengthens c.as_slice.result.now ≡ depth_by c.args.lengthens c.args.children = ap (depth_by c.args.lengthens) c.as_slice.ensures in
+    let s : depth_when c.args.lengthens c.as_slice.result.now ≡ depth_when c.args.lengthens c.args.children = ap (depth_when c.args.lengthens) c.as_slice.ensures in
     let low = c.if-depth_over-gt-MOST_DEPTH.false in
     (reduced_good c.laws_hold.ensures c.args.setting.now.productions c.args.number k.0 k.1 c.args.extent c.args.children k.2 (omega (arith, d, e, s, low))).0.node
 
@@ -40,6 +40,6 @@ returns c =
     let k = c.requires.can in
     let d = reduced_depth c.laws_hold.ensures c.args.setting.now.productions c.args.number k.0 k.1 c.args.extent c.args.lengthens c.args.children k.2 k.3 in
     let e = c.depth_over.ensures in
-    let s : depth_by c.args.lengthens c.as_slice.result.now ≡ depth_by c.args.lengthens c.args.children = ap (depth_by c.args.lengthens) c.as_slice.ensures in
+    let s : depth_when c.args.lengthens c.as_slice.result.now ≡ depth_when c.args.lengthens c.args.children = ap (depth_when c.args.lengthens) c.as_slice.ensures in
     let low = c.if-depth_over-gt-MOST_DEPTH.false in
     (c.in_ok-node.ensures, omega (arith, d, e, s, low))

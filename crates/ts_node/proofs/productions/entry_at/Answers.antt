@@ -31,4 +31,4 @@ returns c =
     subst (λ (s : ℕ). form_is c.form_at.result ≡ (if not (nat_eq c.args.rule.now.owner.0 s) then repetition_form (c.len-count.result / 2) c.args.i else of_rule)) n f in
     let f2 : form_is c.form_at.result ≡ (if not (nat_eq c.args.rule.now.owner.0 (start_symbol c.args.flat.now + c.args.r)) then repetition_form (length c.args.rule.now.productions / 2) c.args.i else of_rule) =
     subst (λ (m : ℕ). form_is c.form_at.result ≡ (if not (nat_eq c.args.rule.now.owner.0 (start_symbol c.args.flat.now + c.args.r)) then repetition_form (m / 2) c.args.i else of_rule)) k f1 in
-    entry_is c.args.flat.now c.args.r c.args.i c.args.rule.now c.get.result.now _ c.requires.rule c.get.ensures n f2 (omega (arith, ints))
+    entry_is c.args.flat.now c.args.r c.args.i c.args.rule.now c.get.result.now _ c.requires.rule c.get.ensures n f2 (omega (arith, ints)) (omega (arith, ints))
