@@ -190,6 +190,15 @@ fault_from w (Err e) (inr h) = subst (λ (e : LangFault). IsFault e w) (sym (sam
 
 -- ---- one misfit
 
+-- a fault of the fields is no misfit
+pub fields_fault : (w : Bytes) (r : Result FlatGrammar LangFault) → Answers r (verdict w) → IfErr r (λ e. (cause : Unfit) → e ≡ LangFault.Misfit cause → ⊥)
+fields_fault w (Ok f) says = tt
+fields_fault w (Err e) (inl same) = λ cause is. no_misfit w cause (sym same ∙ ap (λ (x : LangFault). Err x) is)
+fields_fault w (Err e) (inr same) = λ cause is. clash cause (sym (same_fault e LangFault.Memory same) ∙ is)
+  where
+    clash : (cause : Unfit) → LangFault.Memory ≡ LangFault.Misfit cause → ⊥
+    clash cause e = cc
+
 one_place : (P : ℕ → Type 0) (a b : ℕ) → IsFirstPlace P a → IsFirstPlace P b → a ≡ b
 one_place P a b one two = let le = one.least b two.holds in let ge = two.least a one.holds in omega arith
 

@@ -16,5 +16,5 @@ mod writer;
 
 pub use fault::LangFault;
 pub use laws::{one_fault, one_grammar, read_is_written, refused_is_not_read, written_is_read};
-pub use reader::read;
+pub use reader::{fields, read};
 pub use writer::write;

@@ -3,6 +3,7 @@
 ghost use Rattle.std.specs.Prelude.{◌≡◌, ◌≢◌, ◌⊎◌, ◌^◌, ◌<◌, length, Ok, Err, IfOk, IfErr};
 ghost use Rattle.spec_tables.specs.Fit.{Fit};
 ghost use Rattle.ts_core.specs.declared.flat.FlatGrammar.{FlatGrammar as AnyGrammar};
+ghost use Rattle.ts_core.specs.declared.limits.Unfit.{Unfit as AnyMisfit};
 ghost use Rattle.ts_fit.specs.Misfits.{IsFormedGrammar};
 ghost use Rattle.ts_langfile.specs.declared.fault.LangFault.{LangFault as AnyFault};
 ghost use Rattle.ts_langfile.specs.Right.{Reads};
@@ -93,13 +94,19 @@ fn judged_fields(alloc: Global, bytes: &[u8]) -> Result<FlatGrammar, LangFault>
     behind_magic(alloc, bytes, start)
 }
 
-/// The same, by what the bytes spell.
-fn spelled(alloc: Global, bytes: &[u8]) -> Result<FlatGrammar, LangFault>
+/// Reads the fields of a whole language file, as `read` does, and does not ask whether the grammar is
+/// fit for use.
+///
+/// # Errors
+///
+/// The fault of the least place, and `Long` behind all others. `Memory` may come at any time.
+pub fn fields(alloc: Global, bytes: &[u8]) -> Result<FlatGrammar, LangFault>
     requires { length bytes.now < 2 ^ 32 }
     ensures exact { spec.Answers result (spec.verdict bytes.now) }
     ensures ok { IfOk result (λ f. Reads f bytes.now) }
     ensures formed { IfOk result (λ f. IsFormedGrammar f) }
     ensures refused { IfErr result (λ e. IsFault e bytes.now) }
+    ensures unasked { IfErr result (λ e. (cause : AnyMisfit) → e ≢ LangFault.Misfit cause) }
 {
     judged_fields(alloc, bytes)
 }
@@ -111,7 +118,7 @@ fn fit_grammar(alloc: Global, bytes: &[u8]) -> Result<FlatGrammar, LangFault>
     ensures fit { IfOk result (λ f. Fit f) }
     ensures refused { IfErr result (λ e. IsFault e bytes.now) }
 {
-    let grammar = spelled(alloc, bytes)?;
+    let grammar = fields(alloc, bytes)?;
     match misfit(alloc, &grammar)? {
         Some(cause) => Err(LangFault::Misfit(cause)),
         None => Ok(grammar),
