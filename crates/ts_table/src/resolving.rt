@@ -20,9 +20,13 @@ use ts_items::Items;
 #[derive(Debug, Error, PartialEq, Eq, Drop)]
 pub enum TableFault {
     /// More than one action stays on the token after some symbols, and no declared conflict has
-    /// just these rules. The rules rise.
+    /// just these rules. The rules rise. The grammar is given back, for their names.
     #[error("a conflict that is not declared")]
-    Conflict { token: Symbol, rules: List<Symbol> },
+    Conflict {
+        grammar: FlatGrammar,
+        token: Symbol,
+        rules: List<Symbol>,
+    },
     /// Memory ran out.
     #[error("out of memory")]
     Memory,
@@ -40,10 +44,11 @@ impl From<AllocError> for TableFault {
 }
 
 /// The fault of a conflict.
-fn fault_of(refusal: Refusal) -> TableFault
-    ensures { result ≡ Conflict (record { 0 = refusal.token }) refusal.rules.items }
+fn fault_of(grammar: FlatGrammar, refusal: Refusal) -> TableFault
+    ensures { result ≡ Conflict grammar (record { 0 = refusal.token }) refusal.rules.items }
 {
     TableFault::Conflict {
+        grammar,
         token: Symbol(refusal.token),
         rules: List::from_vec(refusal.rules),
     }
@@ -61,13 +66,13 @@ pub fn resolve(alloc: Global, flat: FlatGrammar, items: &Items) -> Result<Table,
     requires items { StandsFor flat items.now }
     ensures grammar { IfOk result (λ table. table.grammar ≡ flat) }
     ensures conflict { IfErr result (λ e. (e ≡ Memory) ⊎ ((token : Symbols) × (rules : List Symbols)
-        × (e ≡ Conflict token rules) × IsFirstUndeclared flat token.0 rules)) }
+        × (e ≡ Conflict flat token rules) × IsFirstUndeclared flat token.0 rules)) }
 {
     let marks = Marks::of(alloc, &flat)?;
     let built = build(alloc, &flat, &marks, items)?;
     let Built { arrays, least } = built;
     match least {
-        Some(refusal) => Err(fault_of(refusal)),
+        Some(refusal) => Err(fault_of(flat, refusal)),
         None => Ok(Table {
             grammar: flat,
             arrays,
