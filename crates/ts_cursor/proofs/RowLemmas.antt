@@ -1,11 +1,9 @@
 -- The productions of the grammar of rows, the children that fit them, and small nodes.
 use Rattle.std.proofs.Common.{◌≡◌, ℕ, zero, suc, ◌+◌, ◌*◌, ◌<◌, ◌≤◌, ◌^◌, sym, ap, subst, ◌∙◌, refl, arith, List, [], ◌∷◌, ◌++◌, length, slice_get, Option, Some, None, true, false, length-append, take, get_or}
-use Rattle.std.specs.Prelude.{option_map, unwrap_or, All}
+use Rattle.std.specs.Prelude.{All}
 use Rattle.std.proofs.lemmas.List.Elements.{All-nil, All-cons, All-head, All-tail, All-append}
 use Rattle.std.proofs.lemmas.List.{take_all}
 use Rattle.std.proofs.Math.Seq.{take-suc}
-use Rattle.std.specs.Int.RustNames.{unsigned_abs}
-use lib.IntN.{pos}
 use Rattle.ts_core.specs.declared.flat.FlatGrammar.{FlatGrammar}
 use Rattle.ts_core.specs.declared.flat.FlatRule.{FlatRule}
 use Rattle.ts_core.specs.declared.flat.Step.{Step}
@@ -13,15 +11,16 @@ use Rattle.ts_core.specs.declared.flat.Production.{Production}
 use Rattle.spec_grammar.specs.Symbols.{symbol_count, all_productions, productions_from, production_at}
 use Rattle.spec_trees.specs.declared.tree.Tree.{Tree}
 use Rattle.spec_trees.specs.Trees.{symbol_of, is_extra_node, elements_of, is_settled, all_spans, all_nodes, greatest_depth, span_of, node_count, tree_depth, node_extent}
-use Rattle.spec_trees.specs.Made.{form_of, of_rule, value_of, EndsFilled, FitsProduction, EndBy, IsNode}
+use Rattle.spec_trees.specs.Made.{form_of, of_rule, EndsFilled, FitsProduction, EndBy, IsNode}
 use Rattle.spec_trees.specs.Reducible.{CanBeChildren, IsReducible}
+use Rattle.ts_node.specs.Entries.{HasSmallValue}
 use Rattle.ts_node.specs.Standing.{IsAcceptable}
-use Rattle.ts_cursor.specs.Row.{IsRowGrammar, IsSmallNode, rule_by, start_rows, hidden_rows, production_by, step_under}
+use Rattle.ts_cursor.specs.Row.{IsRowGrammar, IsSmallNode, row_rule, start_rows, hidden_rows, production_by, step_under}
 
 -- ---- productions
 
 abbrev rules_of : (g : FlatGrammar) → IsRowGrammar g → List FlatRule
-rules_of g s = rule_by s.name s.kind 3 (start_rows s.alias) ∷ rule_by s.other s.hidden 4 hidden_rows ∷ []
+rules_of g s = row_rule s.name s.kind 3 (start_rows s.alias) ∷ row_rule s.other s.hidden 4 hidden_rows ∷ []
 
 all_are : (g : FlatGrammar) (s : IsRowGrammar g) → all_productions g ≡ productions_from 3 (rules_of g s)
 all_are g s = ap (λ (k : ℕ). productions_from (suc k) g.rules) s.tokens ∙ ap (λ (r : List FlatRule). productions_from 3 r) s.rules
@@ -38,19 +37,6 @@ few_productions g s =
 
 there : (g : FlatGrammar) (s : IsRowGrammar g) (number : ℕ) (p : ℕ × Production) → slice_get (productions_from 3 (rules_of g s)) number ≡ Some p → production_at g number ≡ Some p
 there g s number p h = ap (λ (x : List (ℕ × Production)). slice_get x number) (all_are g s) ∙ h
-
-no_value : (g : FlatGrammar) (number left : ℕ) (steps : List Step) → production_at g number ≡ Some (left, production_by steps) → unsigned_abs (value_of g number) ≤ 2 ^ 31
-no_value g number left steps h =
-    let v : value_of g number ≡ pos 0 = ap (λ (o : Option (ℕ × Production)). unwrap_or (option_map (λ p. p.1.dynamic) o) (pos 0)) h in
-    let a : unsigned_abs (value_of g number) ≡ 0 = ap unsigned_abs v in
-    omega (arith, a)
-
--- no production has a value
-small_value : (g : FlatGrammar) (number : ℕ) → IsRowGrammar g → number < 3 → unsigned_abs (value_of g number) ≤ 2 ^ 31
-small_value g zero s h = no_value g 0 3 (step_under 4 s.alias (Some 0) ∷ []) (there g s 0 (3, production_by (step_under 4 s.alias (Some 0) ∷ [])) refl)
-small_value g (suc zero) s h = no_value g 1 3 [] (there g s 1 (3, production_by []) refl)
-small_value g (suc (suc zero)) s h = no_value g 2 4 (step_under 1 None None ∷ step_under 1 None None ∷ []) (there g s 2 (4, production_by (step_under 1 None None ∷ step_under 1 None None ∷ [])) refl)
-small_value g (suc (suc (suc n))) s h = absurd (omega (arith, h))
 
 form_is : (g : FlatGrammar) (s : IsRowGrammar g) → (form_of g 3 0 ≡ of_rule) × ((form_of g 3 1 ≡ of_rule) × (form_of g 4 2 ≡ of_rule))
 form_is g s = (rw (s.tokens, s.rules) refl, (rw (s.tokens, s.rules) refl, rw (s.tokens, s.rules) refl))
@@ -98,14 +84,14 @@ fits_start g t s symbol plain = record {
   lengthens = rw (form_is g s).0 tt;
 }
 
-pub fits_pair : (g : FlatGrammar) (t : Tree) → IsRowGrammar g → symbol_of t ≡ 1 → is_extra_node t ≡ false → FitsProduction g 2 (t ∷ t ∷ [])
-fits_pair g t s symbol plain = record {
+pub fits_pair : (g : FlatGrammar) (t u : Tree) → IsRowGrammar g → symbol_of t ≡ 1 → is_extra_node t ≡ false → symbol_of u ≡ 1 → is_extra_node u ≡ false → FitsProduction g 2 (t ∷ u ∷ [])
+fits_pair g t u s symbol plain other last = record {
   left = 4;
   production = production_by (step_under 1 None None ∷ step_under 1 None None ∷ []);
   at = there g s 2 (4, production_by (step_under 1 None None ∷ step_under 1 None None ∷ [])) refl;
-  filled = rw (plain, symbol) refl;
+  filled = rw (plain, last, symbol, other) refl;
   begins = plain;
-  ends = ends_filled (t ∷ []) t plain;
+  ends = ends_filled (t ∷ []) u last;
   lengthens = rw (form_is g s).1.1 tt;
 }
 
@@ -162,12 +148,12 @@ small_all most place (t ∷ ts) a =
       covers = (omega (arith, s.near), end_wider (place + span_of t + 100 * length ts + most) (place + 100 * length (t ∷ ts) + most) (place + span_of t) ts (omega (arith, s.short)) r.covers);
     }
 
-pub small_reducible : (g : FlatGrammar) (number most : ℕ) (ts : List Tree) → IsRowGrammar g → number < 3 → length ts ≤ 3 → FitsProduction g number ts → All (IsSmallNode most) ts → IsReducible g number (most + 1000) ts
-small_reducible g number most ts row n few fits a =
+pub small_reducible : (g : FlatGrammar) (number most : ℕ) (ts : List Tree) → HasSmallValue g number → length ts ≤ 3 → FitsProduction g number ts → All (IsSmallNode most) ts → IsReducible g number (most + 1000) ts
+small_reducible g number most ts small few fits a =
     let s : AreSmall most 0 ts = small_all most 0 ts a in
     record {
       fits = fits;
-      value = small_value g number row n;
+      value = small;
       standing = record {
         nodes = s.nodes;
         settled = s.settled;

@@ -38,8 +38,8 @@ abbrev pub hidden_rows : List Production
 hidden_rows = production_by (step_under 1 None None ∷ step_under 1 None None ∷ []) ∷ []
 
 -- a rule of these productions
-abbrev pub rule_by : Bytes → Kind → ℕ → List Production → FlatRule
-rule_by name kind symbol productions = record {
+abbrev pub row_rule : Bytes → Kind → ℕ → List Production → FlatRule
+row_rule name kind symbol productions = record {
   name = name;
   kind = kind;
   owner = record { 0 = symbol };
@@ -54,7 +54,7 @@ pub record IsRowGrammar (g : FlatGrammar) : Type 0 where
   pub hidden : Kind
   pub alias : Option Alias
   pub tokens : length g.tokens ≡ 2
-  pub rules : g.rules ≡ rule_by name kind 3 (start_rows alias) ∷ rule_by other hidden 4 hidden_rows ∷ []
+  pub rules : g.rules ≡ row_rule name kind 3 (start_rows alias) ∷ row_rule other hidden 4 hidden_rows ∷ []
 
 -- a node of a small tree
 pub record IsSmallNode (most : ℕ) (t : Tree) : Type 0 where

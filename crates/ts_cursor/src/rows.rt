@@ -1,28 +1,30 @@
 //! The visible tree of trees that are made by reductions: rows of a grammar, a text and the printed
 //! tree.
 ghost use Rattle.std.specs.Prelude.{◌≡◌, ◌↔◌, ◌<◌, ◌≤◌, ◌∷◌, [], All, IfOk, IsTrue, Option, Some, None, length};
+ghost use Rattle.spec_trees.specs.Trees.{span_of};
 ghost use Rattle.spec_trees.specs.Made.{FitsProduction};
-ghost use Rattle.ts_cursor.specs.Row.{IsRowGrammar, IsSmallNode, hidden_rows, production_by, rule_by, start_rows, step_under};
+ghost use Rattle.ts_cursor.specs.Row.{IsRowGrammar, IsSmallNode, hidden_rows, production_by, row_rule, start_rows, step_under};
 
-use crate::Cursor;
+use crate::shown;
 use std::alloc::{AllocError, Global};
 use std::test::Fail;
 use ts_core::{
-    Alias, Assoc, FlatGrammar, FlatRule, Kind, List, Prec, Production, Re, Step, Str, Symbol,
-    TokenDef,
+    Alias, Assoc, FlatGrammar, FlatRule, Kind, List, Prec, Production, Re, Shown, Step, Str,
+    Symbol, TokenDef,
 };
 use ts_node::{Node, Productions, accept, accepted_is_node, reduce, reduced_is_node};
+use ts_text::Text;
 
-fn token(alloc: Global, name: &str) -> Result<TokenDef, AllocError> {
-    Ok(TokenDef {
-        name: Str::from_text(alloc, name)?,
+fn token(name: Str) -> TokenDef {
+    TokenDef {
+        name,
         kind: Kind::Named,
         re: Re::Empty,
         prec: 0,
         literal: false,
         immediate: false,
         keyword: false,
-    })
+    }
 }
 
 fn step(symbol: u16, alias: Option<Alias>, field: Option<u16>) -> Step
@@ -88,12 +90,12 @@ fn alias_of(alloc: Global, aliased: bool) -> Result<Option<Alias>, AllocError> {
 }
 
 /// Symbol 1 is the token `i`, 2 the comment `c`, 3 the start rule and 4 the hidden rule.
-fn grammar(alloc: Global, aliased: bool) -> Result<FlatGrammar, AllocError>
+pub(crate) fn grammar(alloc: Global, aliased: bool) -> Result<FlatGrammar, AllocError>
     ensures { IfOk result IsRowGrammar }
 {
     let mut tokens = List::new(alloc);
-    tokens.push(token(alloc, "i")?)?;
-    tokens.push(token(alloc, "c")?)?;
+    tokens.push(token(Str::from_text(alloc, "i")?))?;
+    tokens.push(token(Str::from_text(alloc, "c")?))?;
     let mut rules = List::new(alloc);
     rules.push(start_rule(alloc, alias_of(alloc, aliased)?)?)?;
     rules.push(hidden_rule(alloc)?)?;
@@ -145,29 +147,33 @@ fn made(
     children: List<Node>,
     most: u32,
 ) -> Result<Option<Node>, Fail>
-    requires row { IsRowGrammar productions.now }
-    requires number { number < 3 }
     requires near { most ≤ 10000 }
     requires fits { FitsProduction productions.now number children }
 {
     if children.len() > 3 || !are_small(children.as_slice(), most) {
         return Ok(None);
     }
+    productions.values_are_small();
     reduced_is_node();
     let node = reduce(alloc, productions, number, children, most + 1000, None)?;
     Ok(Some(node))
 }
 
-/// The hidden rule's node over the token twice.
-fn pair(alloc: Global, productions: &Productions, token: &Node) -> Result<Option<Node>, Fail>
+/// The hidden rule's node over two tokens.
+fn pair(
+    alloc: Global,
+    productions: &Productions,
+    first: Node,
+    second: Node,
+) -> Result<Option<Node>, Fail>
     requires row { IsRowGrammar productions.now }
 {
-    if token.symbol().0 != 1 || token.extra() {
+    if first.symbol().0 != 1 || first.extra() || second.symbol().0 != 1 || second.extra() {
         return Ok(None);
     }
     let mut children = List::new(alloc);
-    children.push(token.try_clone()?)?;
-    children.push(token.try_clone()?)?;
+    children.push(first)?;
+    children.push(second)?;
     made(alloc, productions, 2, children, 1000)
 }
 
@@ -224,8 +230,8 @@ fn accepted(alloc: Global, root: &Node, extra: &Node) -> Result<Option<Node>, Fa
     Ok(Some(node))
 }
 
-fn put_digit(line: &mut String, number: u32) -> Result<(), AllocError> {
-    let digit = match number {
+fn digit(number: u32) -> &'static str {
+    match number {
         0 => "0",
         1 => "1",
         2 => "2",
@@ -233,53 +239,39 @@ fn put_digit(line: &mut String, number: u32) -> Result<(), AllocError> {
         4 => "4",
         5 => "5",
         _ => "?",
-    };
-    line.push_str(digit)
+    }
 }
 
-/// Puts the node at the end: a mark where it has a field, its name, and its range.
-fn put_node(line: &mut String, cursor: &Cursor) -> Result<(), AllocError> {
-    if cursor.field(0).is_some() {
-        line.push_str("f: ")?;
-    }
-    line.push_str(cursor.name())?;
-    line.push_str(" ")?;
-    let (start, end) = cursor.range();
-    put_digit(line, start)?;
-    line.push_str("..")?;
-    put_digit(line, end)
+/// Puts a node at the end: its depth, a mark where it has a field, its name, and its range.
+fn put_node(lines: &mut String, node: &Shown) -> Result<(), AllocError> {
+    lines.push_str(digit(node.depth))?;
+    lines.push_str(if node.fields.is_empty() { " " } else { " f: " })?;
+    lines.push_str(node.name.text())?;
+    lines.push_str(" ")?;
+    lines.push_str(digit(node.start))?;
+    lines.push_str("..")?;
+    lines.push_str(digit(node.end))?;
+    lines.push_str(", ")
 }
 
-/// Goes to the next node in preorder, and puts what stands between both. False at the end.
-fn goes_on(line: &mut String, cursor: &mut Cursor) -> Result<bool, AllocError> {
-    if cursor.first_child() {
-        line.push_str("(")?;
-        return Ok(true);
-    }
-    for _ in 0..10u32 {
-        if cursor.next_sibling() {
-            line.push_str(" ")?;
-            return Ok(true);
-        }
-        if !cursor.parent() {
-            return Ok(false);
-        }
-        line.push_str(")")?;
-    }
-    Ok(false)
+/// Whether the text is long enough for the root.
+pub(crate) fn fits(root: &Node, text: &Text) -> bool
+    ensures { IsTrue result ↔ span_of root.now ≤ length text.now }
+{
+    u64::from(root.pad()) + u64::from(root.size()) <= u64::from(text.len())
 }
 
-/// The visible tree, by the moves of a cursor.
+/// The visible tree of a root over five bytes of text at most.
 fn printed(alloc: Global, grammar: &FlatGrammar, root: &Node) -> Result<String, Fail> {
-    let mut cursor = Cursor::new(alloc, grammar, root)?;
-    let mut line = String::new(alloc);
-    for _ in 0..20u32 {
-        put_node(&mut line, &cursor)?;
-        if !goes_on(&mut line, &mut cursor)? {
-            break;
+    let mut lines = String::new(alloc);
+    let text = Text::from_bytes(alloc, b"#a#b#")?;
+    if fits(root, &text) {
+        let all = shown(alloc, grammar, &text, root)?;
+        for node in all.as_slice() {
+            put_node(&mut lines, node)?;
         }
     }
-    Ok(line)
+    Ok(lines)
 }
 
 /// The tree of `ab`.
@@ -287,13 +279,40 @@ fn plain_row(alloc: Global, aliased: bool) -> Result<String, Fail> {
     let grammar = grammar(alloc, aliased)?;
     let productions = Productions::new(alloc, &grammar)?;
     let token = Node::leaf(Symbol(1), 0, 1, 2, None);
-    let Some(inner) = pair(alloc, &productions, &token)? else {
-        return Ok(String::new(alloc));
-    };
-    let Some(root) = start(alloc, &productions, inner)? else {
-        return Ok(String::new(alloc));
-    };
-    printed(alloc, &grammar, &root)
+    let inner = pair(alloc, &productions, token.try_clone()?, token)?;
+    match root_over(alloc, &productions, inner)? {
+        Some(root) => printed(alloc, &grammar, &root),
+        None => Ok(String::new(alloc)),
+    }
+}
+
+/// The start rule's node over the hidden rule's, where there is one.
+fn root_over(
+    alloc: Global,
+    productions: &Productions,
+    inner: Option<Node>,
+) -> Result<Option<Node>, Fail>
+    requires row { IsRowGrammar productions.now }
+{
+    match inner {
+        Some(inner) => start(alloc, productions, inner),
+        None => Ok(None),
+    }
+}
+
+/// The accepted root over the hidden rule's node, between two comments.
+fn root_between(
+    alloc: Global,
+    productions: &Productions,
+    inner: Option<Node>,
+    comment: &Node,
+) -> Result<Option<Node>, Fail>
+    requires row { IsRowGrammar productions.now }
+{
+    match root_over(alloc, productions, inner)? {
+        Some(root) => accepted(alloc, &root, comment),
+        None => Ok(None),
+    }
 }
 
 /// The tree of `#a#b#`, where `#` is a comment.
@@ -302,46 +321,48 @@ fn comment_row(alloc: Global, aliased: bool) -> Result<String, Fail> {
     let productions = Productions::new(alloc, &grammar)?;
     let token = Node::leaf(Symbol(1), 0, 1, 2, None);
     let comment = Node::leaf(Symbol(2), 0, 1, 2, None).as_extra();
-    let Some(inner) = parted_pair(alloc, &productions, &token, &comment)? else {
-        return Ok(String::new(alloc));
-    };
-    let Some(root) = start(alloc, &productions, inner)? else {
-        return Ok(String::new(alloc));
-    };
-    let Some(root) = accepted(alloc, &root, &comment)? else {
-        return Ok(String::new(alloc));
-    };
-    printed(alloc, &grammar, &root)
+    let inner = parted_pair(alloc, &productions, &token, &comment)?;
+    match root_between(alloc, &productions, inner, &comment)? {
+        Some(root) => printed(alloc, &grammar, &root),
+        None => Ok(String::new(alloc)),
+    }
 }
 
 /// The tree of the empty text.
 fn empty_row(alloc: Global) -> Result<String, Fail> {
     let grammar = grammar(alloc, false)?;
     let productions = Productions::new(alloc, &grammar)?;
-    let Some(root) = empty(alloc, &productions)? else {
-        return Ok(String::new(alloc));
-    };
-    printed(alloc, &grammar, &root)
+    let root = empty(alloc, &productions)?;
+    match root {
+        Some(root) => printed(alloc, &grammar, &root),
+        None => Ok(String::new(alloc)),
+    }
 }
 
 #[test]
 fn hidden_nodes_give_way_to_their_children(rt: HostRuntime) -> Result<(), Fail> {
     let alloc = rt.alloc();
     let row = plain_row(alloc, true)?;
-    assert_eq!(rt; row.as_str(), "s 0..2(f: w 0..2(i 0..1 i 1..2))");
+    assert_eq!(rt; row.as_str(), "0 s 0..2, 1 f: w 0..2, 2 i 0..1, 2 i 1..2, ");
     let row = plain_row(alloc, false)?;
-    assert_eq!(rt; row.as_str(), "s 0..2(f: i 0..1 f: i 1..2)");
+    assert_eq!(rt; row.as_str(), "0 s 0..2, 1 f: i 0..1, 1 f: i 1..2, ");
+    let row = empty_row(alloc)?;
+    assert_eq!(rt; row.as_str(), "0 s 0..0, ");
+    Ok(())
+}
+
+#[test]
+fn extras_show_where_they_stand(rt: HostRuntime) -> Result<(), Fail> {
+    let alloc = rt.alloc();
     let row = comment_row(alloc, true)?;
     assert_eq!(rt;
         row.as_str(),
-        "s 0..5(c 0..1 f: w 1..4(i 1..2 c 2..3 i 3..4) c 4..5)"
+        "0 s 0..5, 1 c 0..1, 1 f: w 1..4, 2 i 1..2, 2 c 2..3, 2 i 3..4, 1 c 4..5, "
     );
     let row = comment_row(alloc, false)?;
     assert_eq!(rt;
         row.as_str(),
-        "s 0..5(c 0..1 f: i 1..2 f: c 2..3 f: i 3..4 c 4..5)"
+        "0 s 0..5, 1 c 0..1, 1 f: i 1..2, 1 f: c 2..3, 1 f: i 3..4, 1 c 4..5, "
     );
-    let row = empty_row(alloc)?;
-    assert_eq!(rt; row.as_str(), "s 0..0");
     Ok(())
 }

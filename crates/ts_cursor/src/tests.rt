@@ -1,77 +1,41 @@
 //! The visible tree of small trees: moves, names, fields, ranges.
-ghost use Rattle.std.specs.Prelude.{◌≤◌, ◌↔◌, IsTrue, length};
-ghost use Rattle.spec_trees.specs.Trees.{span_of};
-
 use crate::nodes::Face;
+use crate::rows::{fits, grammar};
 use crate::{Cursor, shown};
-use std::alloc::{AllocError, Global};
+use std::alloc::Global;
 use std::process::Abort;
 use std::test::Fail;
-use ts_core::{FlatGrammar, Kind, List, Re, Str, Symbol, TokenDef};
+use ts_core::{List, Symbol};
 use ts_node::Node;
 use ts_text::Text;
-
-/// A grammar of one named token, `x`.
-fn grammar(alloc: Global) -> Result<FlatGrammar, AllocError> {
-    let mut tokens = List::new(alloc);
-    tokens.push(TokenDef {
-        name: Str::from_text(alloc, "x")?,
-        kind: Kind::Named,
-        re: Re::Empty,
-        prec: 0,
-        literal: false,
-        immediate: false,
-        keyword: false,
-    })?;
-    Ok(FlatGrammar {
-        name: Str::from_text(alloc, "g")?,
-        tokens,
-        rules: List::new(alloc),
-        separators: List::new(alloc),
-        extras: List::new(alloc),
-        word: None,
-        fields: List::new(alloc),
-        precs: List::new(alloc),
-        conflicts: List::new(alloc),
-        precedences: List::new(alloc),
-        supertypes: List::new(alloc),
-    })
-}
 
 #[test]
 fn a_cursor_tells_of_the_root(rt: HostRuntime) -> Result<(), Fail> {
     let alloc = rt.alloc();
-    let grammar = grammar(alloc)?;
+    let grammar = grammar(alloc, false)?;
     let root = Node::leaf(Symbol(1), 1, 2, 4, None);
     let cursor = Cursor::new(alloc, &grammar, &root)?;
-    assert_eq!(rt; cursor.name(), "x");
-    assert!(rt; cursor.named());
-    assert_eq!(rt; cursor.field(0), None);
-    assert_eq!(rt; cursor.range(), (1, 3));
-    assert_eq!(rt; cursor.number(), 0);
+    assert_eq!(rt; cursor.name(), "i");
+    assert!(rt; cursor.named() && cursor.field(0).is_none());
+    let (start, end) = cursor.range();
+    assert_eq!(rt; start, 1);
+    assert_eq!(rt; end, 3);
     Ok(())
-}
-
-/// Whether the text is long enough for the root.
-fn fits(root: &Node, text: &Text) -> bool
-    ensures { IsTrue result ↔ span_of root.now ≤ length text.now }
-{
-    u64::from(root.pad()) + u64::from(root.size()) <= u64::from(text.len())
 }
 
 #[test]
 fn a_root_is_printed_with_its_point(rt: HostRuntime) -> Result<(), Fail> {
     let alloc = rt.alloc();
-    let grammar = grammar(alloc)?;
+    let grammar = grammar(alloc, false)?;
     let root = Node::leaf(Symbol(1), 2, 1, 4, None);
     let text = Text::from_bytes(alloc, b" \nx")?;
     assert!(rt; fits(&root, &text));
     let all = shown(alloc, &grammar, &text, &root)?;
     assert_eq!(rt; all.len(), 1);
     let root = all.get(0);
-    assert_eq!(rt; root.name.text(), "x");
-    assert_eq!(rt; (root.start, root.end), (2, 3));
-    assert_eq!(rt; (root.row, root.column), (1, 0));
+    assert_eq!(rt; root.start, 2);
+    assert_eq!(rt; root.row, 1);
+    assert_eq!(rt; root.column, 0);
     Ok(())
 }
 

@@ -12,4 +12,4 @@ reduce-requires-clause-node c =
     let all : All (IsSmallNode c.args.most) c.as_slice.result.now = c.if-not-are_small.ensures refl in
     let small : All (IsSmallNode c.args.most) c.args.children = subst (λ (ts : List Tree). All (IsSmallNode c.args.most) ts) list all in
     c.reduced_is_node.ensures c.args.productions.now c.args.number (c.args.most + 1000) None c.args.children
-    (small_reducible c.args.productions.now c.args.number c.args.most c.args.children c.requires.row c.requires.number few c.requires.fits small)
+    (small_reducible c.args.productions.now c.args.number c.args.most c.args.children (c.values_are_small.ensures c.args.number) few c.requires.fits small)
