@@ -57,7 +57,7 @@ impl Graph {
             taken.nodes.items (stack_at self.now taken.below)) }
         ensures there { IfOk result (λ taken. taken.below < length self.now) }
     {
-        let mut nodes = Vec::new(alloc);
+        let mut nodes = Vec::with_capacity(alloc, count)?;
         let mut at = head;
         let mut wanting = count;
         while wanting > 0 {
