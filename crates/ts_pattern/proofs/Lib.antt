@@ -11,3 +11,4 @@ pub mod PropertyLemmas
 pub mod TakeLemmas
 pub mod ClassLemmas
 pub mod SignLemmas
+pub mod SpellingLemmas

@@ -22,5 +22,5 @@ mod state;
 mod tests;
 
 pub use fault::PFault;
-pub use laws::{one_fault, one_pattern, refused_is_not_read};
+pub use laws::{one_fault, one_pattern, refused_is_not_read, spellings_are_formed};
 pub use reader::pattern;
