@@ -7,6 +7,7 @@ pub mod GrowsLemmas
 pub mod LeastLemmas
 pub mod ListLemmas
 pub mod MachineLemmas
+pub mod MarkedLemmas
 pub mod NodeLemmas
 pub mod NumberLemmas
 pub mod OrderLemmas
@@ -15,3 +16,4 @@ pub mod RegularLemmas
 pub mod RepeatLemmas
 pub mod SetLemmas
 pub mod StandsLemmas
+pub mod WalkLemmas

@@ -3,6 +3,9 @@ pub mod Automata
 pub mod Classes
 pub mod Grows
 pub mod Machine
+pub mod Marked
+pub mod NodeSets
 pub mod Parts
 pub mod Reads
 pub mod Sets
+pub mod Walks

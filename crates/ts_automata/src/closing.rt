@@ -98,7 +98,7 @@ pub(crate) fn set_of(
 }
 
 /// Whether a character is in one of the ranges.
-fn is_in(ranges: &[(u32, u32)], c: u32) -> bool
+pub(crate) fn is_in(ranges: &[(u32, u32)], c: u32) -> bool
     ensures { IsTrue result ↔ IsIn ranges.now c }
 {
     ranges.iter().any(|range| range.0 <= c && c <= range.1)

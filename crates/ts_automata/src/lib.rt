@@ -9,11 +9,15 @@ mod closing;
 mod compile;
 mod machine;
 mod node;
+mod node_set;
 mod numbering;
 mod part;
+mod room;
 #[cfg(test)]
 mod tests;
+mod walk;
 
 pub use automaton::{Automaton, build};
-pub use machine::{Machine, machine_of};
+pub use machine::{Machine, Reader, machine_of, reader_of};
 pub use node::Node;
+pub use walk::Walk;

@@ -1,12 +1,14 @@
 //! An automaton made deterministic: the automaton goes in, and tables come out, by which one set of
-//! nodes leads to the next over a character by one look-up.
+//! nodes leads to the next over a character by one look-up. Where they would be too large, the
+//! automaton comes out as it was.
 ghost use Rattle.std.specs.Prelude.{◌≡◌, ◌<◌, ◌++◌, ◌∷◌, [], ℕ, List, slice_get, Some, IfOk};
 ghost use Rattle.ts_automata.specs.Sets.{sets_of};
-ghost use Rattle.ts_automata.specs.Machine.{IsMachine, HasRead, state_count};
+ghost use Rattle.ts_automata.specs.Machine.{IsMachine, IsReader, HasRead, state_count};
 
 use crate::automaton::Automaton;
 use crate::classes::{ascii_of, bounds_of, class_of};
 use crate::numbering::{Numbered, determinise, set_at};
+use crate::room::{Room, Unnumbered};
 use indexmap::IndexSet;
 use std::alloc::{AllocError, Global};
 
@@ -25,6 +27,13 @@ pub struct Machine {
     pub first: usize,
 }
 
+/// What reads an automaton's texts: its tables, or its nodes where its sets are too many for tables.
+#[derive(Drop)]
+pub enum Reader {
+    Tables(Machine),
+    Nodes(Automaton),
+}
+
 /// The tables of an automaton.
 ///
 /// # Errors
@@ -34,25 +43,67 @@ pub fn machine_of(alloc: Global, automaton: Automaton) -> Result<Machine, AllocE
     ensures made { IfOk result (λ m. IsMachine m) }
     ensures automaton { IfOk result (λ m. m.automaton ≡ automaton) }
 {
+    match tables_within(alloc, automaton, false)? {
+        Reader::Tables(machine) => Ok(machine),
+        Reader::Nodes(_) => Err(AllocError),
+    }
+}
+
+/// The tables of an automaton, where they are not too large: at most 16,384 sets, with 4,194,304
+/// nodes, and 8,388,608 places for the sets that follow, by their classes. Where they are, the
+/// automaton itself.
+///
+/// # Errors
+///
+/// `AllocError` where there is no memory for them.
+pub fn reader_of(alloc: Global, automaton: Automaton) -> Result<Reader, AllocError>
+    ensures { IfOk result (IsReader automaton) }
+{
+    tables_within(alloc, automaton, true)
+}
+
+/// The tables of an automaton, bounded or not.
+fn tables_within(
+    alloc: Global,
+    automaton: Automaton,
+    is_bounded: bool,
+) -> Result<Reader, AllocError>
+    ensures { IfOk result (IsReader automaton) }
+{
     let bounds = bounds_of(alloc, automaton.nodes.as_slice())?;
     let ascii = ascii_of(alloc, bounds.as_slice())?;
     let kernels = kernels_of(alloc, automaton.entries.as_slice())?;
-    let numbered = determinise(
+    let mut room = room_for(is_bounded, bounds.len());
+    let numbered = match determinise(
         alloc,
         automaton.nodes.as_slice(),
         bounds.as_slice(),
         kernels.as_slice(),
-    )?;
+        &mut room,
+    ) {
+        Ok(numbered) => numbered,
+        Err(Unnumbered::Memory) => return Err(AllocError),
+        Err(Unnumbered::TooMany) => return Ok(Reader::Nodes(automaton)),
+    };
     let Numbered { sets, firsts, rows } = numbered;
     let first = firsts[0];
-    Ok(Machine {
+    Ok(Reader::Tables(Machine {
         automaton,
         sets,
         rows,
         bounds,
         ascii,
         first,
-    })
+    }))
+}
+
+/// The room for tables, by the number of classes.
+fn room_for(is_bounded: bool, classes: usize) -> Room {
+    if is_bounded {
+        Room::ahead(classes)
+    } else {
+        Room::endless()
+    }
 }
 
 /// One list of first nodes.

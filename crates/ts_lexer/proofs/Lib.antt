@@ -17,3 +17,4 @@ pub mod ScannedLemmas
 pub mod SofarLemmas
 pub mod StateLemmas
 pub mod VerdictLemmas
+pub mod WayLemmas

@@ -10,9 +10,7 @@ use Rattle.ts_lexer.specs.declared.ahead.LexTables.{LexTables}
 use Rattle.ts_lexer.specs.declared.ahead.RowPair.{RowPair}
 use Rattle.ts_lexer.specs.declared.verdict.Verdict.{Verdict}
 use Rattle.ts_lexer.specs.declared.view.View.{View}
-use Rattle.ts_automata.specs.Automata.{IsAutomaton}
 use Rattle.ts_lexer.specs.Judged.{JudgesNodes}
-use Rattle.ts_lexer.specs.Rules.{IsRules}
 use Rattle.ts_lexer.specs.Views.{IsView}
 
 -- the elements of each
@@ -54,13 +52,6 @@ pub record HasPair (g : FlatGrammar) (valid : List Symbol) (t : LexTables) (p : 
 abbrev pub IsReady : FlatGrammar → List Symbol → LexTables → View → Option RowPair → Type 0
 IsReady g valid t v None = IsView g valid v
 IsReady g valid t v (Some p) = HasPair g valid t p
-
--- the same, and the tables are the grammar's
-pub record IsReadyFor (g : FlatGrammar) (valid : List Symbol) (t : LexTables) (v : View)
-    (p : Option RowPair) : Type 0 where
-  pub rules : IsRules g t.rules
-  pub automaton : IsAutomaton g t.machine.automaton
-  pub ready : IsReady g valid t v p
 
 -- where a list of tokens has rows, they are the list's
 abbrev pub HavePairs : FlatGrammar → LexTables → List (List Symbol) → List (Option RowPair) → Type 0

@@ -9,3 +9,4 @@ pub mod Rules
 pub mod Scanned
 pub mod States
 pub mod Views
+pub mod Ways

@@ -31,7 +31,7 @@ pub(crate) struct RowPair {
     pub later: usize,
 }
 
-/// What a lexer has made ahead of all texts.
+/// Tables that a lexer has made ahead of all texts.
 #[derive(Drop)]
 pub(crate) struct LexTables {
     pub machine: Machine,

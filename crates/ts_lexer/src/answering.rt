@@ -5,16 +5,18 @@ ghost use Rattle.std.specs.Prelude.{List, drop, IsTrue, ◌↔◌, true};
 ghost use Rattle.std.specs.List.{prefix_len};
 ghost use Rattle.std.specs.Str.{IsCharBoundary, IsUtf8};
 ghost use Rattle.ts_core.specs.declared.symbol.Symbol.{Symbol as AnySymbol};
-ghost use Rattle.ts_automata.specs.Machine.{IsMachine};
+ghost use Rattle.ts_automata.specs.Walks.{walk_room};
 ghost use Rattle.spec_lexing.specs.Seen.{is_inner as inner_byte};
 ghost use Rattle.ts_lexer.specs.Passed.{IsWithinText, found_by};
-ghost use Rattle.ts_lexer.specs.Ahead.{IsReadyFor};
 ghost use Rattle.ts_lexer.specs.Answers.{IsAnswer, Says, extent_of};
+ghost use Rattle.ts_lexer.specs.Ways.{IsReadyFor};
 
-use crate::ahead::{LexTables, RowPair};
+use crate::ahead::RowPair;
 use crate::lexed::Lexed;
 use crate::passing::{Passed, pass};
 use crate::view::View;
+use crate::ways::Way;
+use ts_automata::Walk;
 use ts_core::Symbol;
 use ts_text::Text;
 
@@ -90,24 +92,27 @@ fn inside(text: &Text, place: u32) -> Lexed
 
 /// The answer at a place.
 pub(crate) fn answer_at(
-    tables: &LexTables,
+    way: &Way,
     pair: Option<RowPair>,
     view: &View,
+    walk: &mut Walk,
     text: &Text,
     place: u32,
     valid: &[Symbol],
 ) -> Lexed
-    requires made { IsMachine tables.now.machine }
     requires within { place ≤ length text.now }
-    requires ready { (g : AnyGrammar) × IsReadyFor g valid.now tables.now view.now pair }
+    requires ready { (g : AnyGrammar)
+        × IsReadyFor g valid.now way.now view.now pair (walk_room walk.old) }
+    ensures room { walk_room walk.new ≡ walk_room walk.old }
     ensures utf8 { IsUtf8 text.now }
-    ensures answer { (g : AnyGrammar) → IsReadyFor g valid.now tables.now view.now pair
+    ensures answer { (g : AnyGrammar)
+        → IsReadyFor g valid.now way.now view.now pair (walk_room walk.old)
         → IsAnswer g valid.now text.now place result }
 {
     if !text.is_boundary(place) {
         return inside(text, place);
     }
     let (_, rest) = text.as_str().split_at(place as usize);
-    let passed = pass(tables, pair, view, rest, valid);
+    let passed = pass(way, pair, view, walk, rest, valid);
     told(&passed, place, text.len() - place)
 }

@@ -17,9 +17,13 @@ mod rules;
 mod scanned;
 mod scanning;
 mod states;
+#[cfg(test)]
+mod tests;
 mod tokens;
 mod verdict;
 mod view;
+mod walking;
+mod ways;
 
 pub use laws::{one_lexed, same_tokens};
 pub use lexed::Lexed;

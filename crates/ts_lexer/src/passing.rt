@@ -4,14 +4,16 @@ ghost use Rattle.std.specs.Prelude.{◌≡◌, ◌≤◌, ◌<◌, ◌+◌, ◌^
 ghost use Rattle.std.specs.List.{Contains};
 ghost use Rattle.ts_core.specs.declared.flat.FlatGrammar.{FlatGrammar as AnyGrammar};
 ghost use Rattle.spec_lexing.specs.Lexing.{end_symbol};
-ghost use Rattle.ts_automata.specs.Machine.{IsMachine};
-ghost use Rattle.ts_lexer.specs.Ahead.{IsReadyFor};
+ghost use Rattle.ts_automata.specs.Walks.{walk_room};
 ghost use Rattle.ts_lexer.specs.Passed.{IsPassed, IsWithinText};
+ghost use Rattle.ts_lexer.specs.Ways.{IsReadyFor};
 
-use crate::ahead::{LexTables, RowPair};
+use crate::ahead::RowPair;
 use crate::scanned::Match;
-use crate::scanning::scan;
 use crate::view::View;
+use crate::walking::scan;
+use crate::ways::Way;
+use ts_automata::Walk;
 use ts_core::Symbol;
 
 /// What stands behind the separators.
@@ -50,17 +52,20 @@ fn farther(extent: usize, pad: usize, reach: usize) -> usize
 
 /// Passes separators until a valid token stands at a place, or none is left.
 pub(crate) fn pass(
-    tables: &LexTables,
+    way: &Way,
     pair: Option<RowPair>,
     view: &View,
+    walk: &mut Walk,
     text: &str,
     valid: &[Symbol],
 ) -> Passed
-    requires made { IsMachine tables.now.machine }
     requires size { length text.now < 2 ^ 32 }
-    requires ready { (g : AnyGrammar) × IsReadyFor g valid.now tables.now view.now pair }
+    requires ready { (g : AnyGrammar)
+        × IsReadyFor g valid.now way.now view.now pair (walk_room walk.old) }
+    ensures room { walk_room walk.new ≡ walk_room walk.old }
     ensures within { IsWithinText (length text.now) result }
-    ensures passed { (g : AnyGrammar) → IsReadyFor g valid.now tables.now view.now pair
+    ensures passed { (g : AnyGrammar)
+        → IsReadyFor g valid.now way.now view.now pair (walk_room walk.old)
         → IsPassed g valid.now text.now result }
 {
     let mut rest = text;
@@ -68,7 +73,7 @@ pub(crate) fn pass(
     let mut pad: usize = 0;
     let mut extent: usize = 0;
     'passing: loop {
-        let here = scan(tables, pair, view, first, rest);
+        let here = scan(way, pair, view, walk, first, rest);
         extent = farther(extent, pad, here.reach);
         match here.best {
             Some(found) => {

@@ -1,5 +1,5 @@
-//! One place of a text: the rest of the text goes in, and what matches there comes out, found in
-//! one pass over its bytes for all valid tokens and all separators.
+//! One place of a text, by tables: the rest of the text goes in, and what matches there comes out,
+//! found in one pass over its bytes for all valid tokens and all separators.
 ghost use Rattle.std.specs.Prelude.{◌≡◌, ◌<◌, ◌^◌, ℕ, List, Bool, Option, Some, length, slice_get};
 ghost use Rattle.ts_core.specs.declared.flat.FlatGrammar.{FlatGrammar as AnyGrammar};
 ghost use Rattle.ts_core.specs.declared.symbol.Symbol.{Symbol as AnySymbol};
@@ -114,8 +114,9 @@ fn scan_by_nodes(machine: &Machine, rules: &Rules, view: &View, first: bool, res
     }
 }
 
-/// What stands at the beginning of a text, which is the first place that is tried or a later one.
-pub(crate) fn scan(
+/// What stands at the beginning of a text, which is the first place that is tried or a later one, by
+/// tables.
+pub(crate) fn scan_by_tables(
     tables: &LexTables,
     pair: Option<RowPair>,
     view: &View,

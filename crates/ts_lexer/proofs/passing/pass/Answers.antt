@@ -3,6 +3,7 @@ use Rattle.std.proofs.lemmas.Bool.{false≢true}
 use Rattle.ts_base.specs.Bytes.{Bytes}
 use Rattle.spec_lexing.specs.Seen.{Seen}
 use Rattle.ts_lexer.proofs.PassLemmas.{Passing, passing_none, best_at, best_within, none_at, empty_of, reach_within, take_lex, take_seen, end_lex, end_seen, stop_lex, stop_seen, passing_more}
+use Rattle.ts_lexer.proofs.WayLemmas.{here_ready}
 use Rattle.ts_lexer.proofs.GapLemmas.{gap}
 use Rattle.ts_lexer.proofs.passing.pass.Goals as goal
 
@@ -11,13 +12,14 @@ passing-init c = record {
   whole = omega arith;
   utf8 = c.utf8.text;
   near = omega arith;
+  room = refl;
   passing = λ g r. passing_none g c.args.valid.now c.args.text.now;
 }
 
 pub returns-in-Some-clause-passed : goal.returns-in-Some-clause-passed
 returns-in-Some-clause-passed c g r =
     let k = c.passing.invariant.passing g r in
-    let x = c.scan-here.ensures g c.args.valid.now r.rules r.ready r.automaton in
+    let x = c.scan-here.ensures.scanned g c.args.valid.now (here_ready g c.args.valid.now c.args.way.now c.args.view.now c.args.pair _ _ c.passing.invariant.room r) in
     let b = best_at g c.args.valid.now c.passing.first c.passing.rest.now c.scan-here.result.best c.in-Some.found c.in-Some.is x.best in
     let within = reach_within g c.args.valid.now c.passing.rest.now c.scan-here.result.reach x.reach in
     let far = c.farther-extent.ensures (let w = c.passing.invariant.whole in let s = c.requires.size in omega arith) in
@@ -30,7 +32,7 @@ returns-in-Some-clause-passed c g r =
 pub returns-then-ended-clause-passed : goal.returns-then-ended-clause-passed
 returns-then-ended-clause-passed c g r =
     let k = c.passing.invariant.passing g r in
-    let x = c.scan-here.ensures g c.args.valid.now r.rules r.ready r.automaton in
+    let x = c.scan-here.ensures.scanned g c.args.valid.now (here_ready g c.args.valid.now c.args.way.now c.args.view.now c.args.pair _ _ c.passing.invariant.room r) in
     let e = c.at_end-ended.ensures.0 c.if-ended.true in
     let none = empty_of c.passing.rest.now e.0 in
     let within = reach_within g c.args.valid.now c.passing.rest.now c.scan-here.result.reach x.reach in
@@ -44,7 +46,7 @@ returns-then-ended-clause-passed c g r =
 pub returns-then-here-eq0-clause-passed : goal.returns-then-here-eq0-clause-passed
 returns-then-here-eq0-clause-passed c g r =
     let k = c.passing.invariant.passing g r in
-    let x = c.scan-here.ensures g c.args.valid.now r.rules r.ready r.automaton in
+    let x = c.scan-here.ensures.scanned g c.args.valid.now (here_ready g c.args.valid.now c.args.way.now c.args.view.now c.args.pair _ _ c.passing.invariant.room r) in
     let tokens = none_at g c.args.valid.now c.passing.first c.passing.rest.now c.scan-here.result.best c.in-None.is x.best in
     let within = reach_within g c.args.valid.now c.passing.rest.now c.scan-here.result.reach x.reach in
     let far = c.farther-extent.ensures (let w = c.passing.invariant.whole in let s = c.requires.size in omega arith) in
@@ -60,7 +62,7 @@ pub split_at-requires : goal.split_at-requires
 split_at-requires c =
     let g = c.requires.ready.0 in
     let r = c.requires.ready.1 in
-    let x = c.scan-here.ensures g c.args.valid.now r.rules r.ready r.automaton in
+    let x = c.scan-here.ensures.scanned g c.args.valid.now (here_ready g c.args.valid.now c.args.way.now c.args.view.now c.args.pair _ _ c.passing.invariant.room r) in
     let above : 0 < c.scan-here.result.separator = (let z = c.if-here-eq0.false in omega arith) in
     (gap g c.passing.rest.now c.scan-here.result.separator c.passing.invariant.utf8 (x.separator above)).boundary
 
@@ -68,11 +70,12 @@ pub passing-preserved : goal.passing-preserved
 passing-preserved c =
     let above : 0 < c.scan-here.result.separator = (let z = c.if-here-eq0.false in omega arith) in
     let r = c.requires.ready.1 in
-    let seen = c.scan-here.ensures c.requires.ready.0 c.args.valid.now r.rules r.ready r.automaton in
+    let seen = c.scan-here.ensures.scanned c.requires.ready.0 c.args.valid.now (here_ready c.requires.ready.0 c.args.valid.now c.args.way.now c.args.view.now c.args.pair _ _ c.passing.invariant.room r) in
     let w = gap c.requires.ready.0 c.passing.rest.now c.scan-here.result.separator c.passing.invariant.utf8 (seen.separator above) in
     rw c.split_at.ensures.back (record {
       whole = (let a = w.within in let b = c.passing.invariant.whole in omega arith);
       utf8 = w.utf8;
+      room = c.scan-here.ensures.room ∙ c.passing.invariant.room;
       near = (
           let reach = reach_within c.requires.ready.0 c.args.valid.now c.passing.rest.now c.scan-here.result.reach seen.reach in
           let whole = c.passing.invariant.whole in
@@ -82,7 +85,7 @@ passing-preserved c =
           );
       passing = λ g r.
           let k = c.passing.invariant.passing g r in
-          let x = c.scan-here.ensures g c.args.valid.now r.rules r.ready r.automaton in
+          let x = c.scan-here.ensures.scanned g c.args.valid.now (here_ready g c.args.valid.now c.args.way.now c.args.view.now c.args.pair _ _ c.passing.invariant.room r) in
           let tokens = none_at g c.args.valid.now c.passing.first c.passing.rest.now c.scan-here.result.best c.in-None.is x.best in
           let within = reach_within g c.args.valid.now c.passing.rest.now c.scan-here.result.reach x.reach in
           let far = c.farther-extent.ensures (let v = c.passing.invariant.whole in let s = c.requires.size in omega arith) in
@@ -95,7 +98,7 @@ pub returns-in-Some-clause-within : goal.returns-in-Some-clause-within
 returns-in-Some-clause-within c =
     let g = c.requires.ready.0 in
     let r = c.requires.ready.1 in
-    let x = c.scan-here.ensures g c.args.valid.now r.rules r.ready r.automaton in
+    let x = c.scan-here.ensures.scanned g c.args.valid.now (here_ready g c.args.valid.now c.args.way.now c.args.view.now c.args.pair _ _ c.passing.invariant.room r) in
     let reach = reach_within g c.args.valid.now c.passing.rest.now c.scan-here.result.reach x.reach in
     let whole = c.passing.invariant.whole in
     let near = c.passing.invariant.near in
@@ -108,7 +111,7 @@ pub returns-then-ended-clause-within : goal.returns-then-ended-clause-within
 returns-then-ended-clause-within c =
     let g = c.requires.ready.0 in
     let r = c.requires.ready.1 in
-    let x = c.scan-here.ensures g c.args.valid.now r.rules r.ready r.automaton in
+    let x = c.scan-here.ensures.scanned g c.args.valid.now (here_ready g c.args.valid.now c.args.way.now c.args.view.now c.args.pair _ _ c.passing.invariant.room r) in
     let reach = reach_within g c.args.valid.now c.passing.rest.now c.scan-here.result.reach x.reach in
     let whole = c.passing.invariant.whole in
     let near = c.passing.invariant.near in
@@ -119,9 +122,14 @@ pub returns-then-here-eq0-clause-within : goal.returns-then-here-eq0-clause-with
 returns-then-here-eq0-clause-within c =
     let g = c.requires.ready.0 in
     let r = c.requires.ready.1 in
-    let x = c.scan-here.ensures g c.args.valid.now r.rules r.ready r.automaton in
+    let x = c.scan-here.ensures.scanned g c.args.valid.now (here_ready g c.args.valid.now c.args.way.now c.args.view.now c.args.pair _ _ c.passing.invariant.room r) in
     let reach = reach_within g c.args.valid.now c.passing.rest.now c.scan-here.result.reach x.reach in
     let whole = c.passing.invariant.whole in
     let near = c.passing.invariant.near in
     let far = c.farther-extent.ensures (let s = c.requires.size in omega arith) in
     record { pad = omega arith; extent = omega arith; found = tt }
+
+pub scan-here-requires-clause-ready : goal.scan-here-requires-clause-ready
+scan-here-requires-clause-ready c =
+    let r = c.requires.ready.1 in
+    (c.requires.ready.0, c.args.valid.now, here_ready c.requires.ready.0 c.args.valid.now c.args.way.now c.args.view.now c.args.pair _ _ c.passing.invariant.room r)

@@ -1,7 +1,8 @@
 use Rattle.std.proofs.Common.{◌≡◌, ◌+◌, ◌≤◌, length}
 use Rattle.std.specs.Str.{IsUtf8}
 use Rattle.ts_core.specs.declared.flat.FlatGrammar.{FlatGrammar}
-use Rattle.ts_lexer.specs.Ahead.{IsReadyFor}
+use Rattle.ts_automata.specs.Walks.{walk_room}
+use Rattle.ts_lexer.specs.Ways.{IsReadyFor}
 use Rattle.ts_lexer.proofs.PassLemmas.{Passing}
 use Rattle.ts_lexer.proofs.passing.pass.Given as goal
 
@@ -10,7 +11,8 @@ invariant-passing l = record {
   whole : l.pad + length l.rest ≡ length l.text;
   utf8 : IsUtf8 l.rest;
   near : l.extent ≤ length l.text + 1;
-  passing : (g : FlatGrammar) → IsReadyFor g l.valid l.tables l.view l.pair → Passing g l.valid l.text l.rest l.first l.pad l.extent;
+  room : walk_room l.walk ≡ walk_room l.fn.walk;
+  passing : (g : FlatGrammar) → IsReadyFor g l.valid l.way l.view l.pair (walk_room l.fn.walk) → Passing g l.valid l.text l.rest l.first l.pad l.extent;
 }
 
 abbrev pub decreases-passing : goal.decreases-passing

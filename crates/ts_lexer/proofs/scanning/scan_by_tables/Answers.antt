@@ -1,5 +1,5 @@
 use Rattle.ts_lexer.proofs.AheadLemmas.{ready_pair}
-use Rattle.ts_lexer.proofs.scanning.scan.Goals as goal
+use Rattle.ts_lexer.proofs.scanning.scan_by_tables.Goals as goal
 
 pub returns : goal.returns
 returns c g valid rules ready automaton =
