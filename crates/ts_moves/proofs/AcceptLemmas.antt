@@ -9,6 +9,8 @@ use Rattle.spec_grammar.specs.Symbols.{start_symbol, is_repetition}
 use Rattle.spec_tables.specs.Fit.{Fit}
 use Rattle.spec_trees.specs.declared.tree.Tree.{Tree}
 use Rattle.spec_trees.specs.declared.tree.Element.{Element}
+use Rattle.spec_trees.specs.declared.tree.Tree.TheOpen.{Tree-F}
+use Rattle.spec_trees.specs.declared.tree.Tree.TheViews.{out-roll-Tree}
 use Rattle.spec_trees.specs.declared.tree.Tree.TheFolds.{fold-roll-Tree, fold_out-Tree}
 use Rattle.spec_trees.specs.Trees.{symbol_of, production_of, elements_of, children_of, is_extra_node, is_settled, total_of, node_extent, span_of, all_spans, node_count, nodes_step, all_nodes, tree_depth, depth_step, greatest_depth, bare}
 use Rattle.spec_trees.specs.Made.{IsNode, accepted, filling, BeginsFilled, EndBy, most_span}
@@ -244,6 +246,16 @@ module _ (laws : Laws) (t : ParseTable) (size place : ℕ) (stack under low rest
 
   pub form_by : (bs cs : List Tree) (extent : ℕ) (u : Tree) → bs ≡ before → cs ≡ after → extent ≡ suc size → u ≡ accepted root bs cs extent → Taken → IsInForm t.grammar u
   form_by bs cs extent u b a e is k = subst (λ (x : Tree). IsInForm t.grammar x) (sym (is ∙ same_accepted bs cs extent b a e)) (ready k).form
+
+  -- it examined no more than the text and its end, so it lies in the text
+  pub within_by : (bs cs : List Tree) (extent : ℕ) (u : Tree) → bs ≡ before → cs ≡ after → extent ≡ suc size → u ≡ accepted root bs cs extent → Taken → span_of u ≤ size
+  within_by bs cs extent u b a e is k =
+      let o = out-roll-Tree (over_layer (symbol_of root) (production_of root) (total_of root) (suc size) None [] ((before ++ children_of root) ++ after)) in
+      let made : is_settled (accepted root before after (suc size)) ≡ true = ap (λ (x : Tree-F Tree). x.settled) o in
+      let reach : node_extent (accepted root before after (suc size)) ≡ suc size = ap (λ (x : Tree-F Tree). x.extent) o in
+      let p = ((ready k).node.settled made).past in
+      let same : span_of u ≡ span_of (accepted root before after (suc size)) = ap span_of (is ∙ same_accepted bs cs extent b a e) in
+      omega (arith, p, reach, same)
 
 -- something lies under the extras on top
 pub some_under : (t : ParseTable) (stack under : List Layer) (lifted : List Tree) → IsLifted stack lifted under → filling (trees_on stack) ≡ start_symbol t.grammar ∷ [] → 0 < length under

@@ -1,8 +1,8 @@
 //! Acceptance: a live stack that has the start rule alone goes in, and its root with all extras
 //! comes out.
-ghost use Rattle.std.specs.Prelude.{◌≡◌, ℕ, length, IfOk};
+ghost use Rattle.std.specs.Prelude.{◌≡◌, ◌≤◌, ℕ, length, IfOk};
 ghost use Rattle.spec_tables.specs.Actions.{Act, accept as accepting_on};
-ghost use Rattle.spec_trees.specs.Trees.{bare};
+ghost use Rattle.spec_trees.specs.Trees.{bare, span_of};
 ghost use Rattle.spec_trees.specs.Choice.{IsInForm};
 ghost use Rattle.ts_moves.specs.Heads.{config_of, IsLiveHead, read_on, IsRootOf, IsSetting};
 
@@ -33,6 +33,7 @@ pub fn accept_head(
         × Act table.now.grammar (read_on graph.now head) token accepting_on }
     ensures root { IfOk result (λ node. IsRootOf (config_of graph.now head).stack (bare node)) }
     ensures form { IfOk result (IsInForm table.now.grammar) }
+    ensures within { IfOk result (λ node. span_of node ≤ setting.now.size) }
 {
     laws_hold();
     table.stands();

@@ -1,7 +1,7 @@
 use Rattle.std.proofs.Common.{◌≡◌, ℕ, suc, ◌+◌, arith}
 use Rattle.ts_gss.specs.Stacks.{stack_at}
 use Rattle.ts_moves.specs.Heads.{read_on}
-use Rattle.ts_moves.proofs.AcceptLemmas.{ready, ready_before, ready_after, ready_node, root_by, form_by, some_under}
+use Rattle.ts_moves.proofs.AcceptLemmas.{ready, ready_before, ready_after, ready_node, root_by, form_by, within_by, some_under}
 use Rattle.ts_moves.proofs.accepting.accept_head.Goals as goal
 
 next : (n : ℕ) → n + 1 ≡ suc n
@@ -105,6 +105,23 @@ returns-clause-root c =
 pub returns-clause-form : goal.returns-clause-form
 returns-clause-form c =
     form_by c.laws_hold.ensures c.args.table.now c.args.setting.now.size c.args.head.place (stack_at c.args.graph.now c.args.head.top) (stack_at c.args.graph.now c.in_ok-after.field-0.under) (stack_at c.args.graph.now c.below.result) (stack_at c.args.graph.now c.in_ok-lowest.lowest.under)
+    c.in_ok-after.field-0.extras.items c.in_ok-lowest.lowest.extras.items c.reverse-2.new.self.items c.reverse.new.self.items c.node-root.result.now
+    c.as_slice.result.now c.as_slice-2.result.now (c.args.setting.now.size + 1) c.in_ok-node.node c.as_slice.ensures.value c.as_slice-2.ensures.value (next c.args.setting.now.size) c.in_ok-node.ensures (record {
+      fit = c.stands.ensures.fit;
+      short = c.requires.setting.short;
+      good = c.requires.live.stack;
+      first = c.in_ok-after.ensures.extras;
+      read = (c.laws_hold.ensures.accepts c.args.table.now.grammar (read_on c.args.graph.now c.args.head) c.requires.stays.0 c.requires.stays.1).1;
+      top = c.node-root.ensures;
+      low_is = c.below.ensures.stack;
+      second = c.in_ok-lowest.ensures.extras;
+      after_is = c.reverse.ensures.items;
+      before_is = c.reverse-2.ensures.items;
+    })
+
+pub returns-clause-within : goal.returns-clause-within
+returns-clause-within c =
+    within_by c.laws_hold.ensures c.args.table.now c.args.setting.now.size c.args.head.place (stack_at c.args.graph.now c.args.head.top) (stack_at c.args.graph.now c.in_ok-after.field-0.under) (stack_at c.args.graph.now c.below.result) (stack_at c.args.graph.now c.in_ok-lowest.lowest.under)
     c.in_ok-after.field-0.extras.items c.in_ok-lowest.lowest.extras.items c.reverse-2.new.self.items c.reverse.new.self.items c.node-root.result.now
     c.as_slice.result.now c.as_slice-2.result.now (c.args.setting.now.size + 1) c.in_ok-node.node c.as_slice.ensures.value c.as_slice-2.ensures.value (next c.args.setting.now.size) c.in_ok-node.ensures (record {
       fit = c.stands.ensures.fit;

@@ -1,0 +1,172 @@
+-- What actions on a live stack come to.
+use Rattle.std.proofs.Common.{◌≡◌, ◌∙◌, sym, ap, subst, ℕ, ◌<◌, List, [], ◌∷◌, ◌++◌, length, Option, Some, ◌⊎◌, inl, inr, ⊎_elim, true, false, arith, append_assoc, append-nil, length-append}
+use Rattle.ts_core.specs.declared.action.Action.{Action}
+use Rattle.ts_core.specs.declared.action.Action.TheVariants.{Shift, Reduce, Accept}
+use Rattle.ts_core.specs.declared.flat.FlatGrammar.{FlatGrammar}
+use Rattle.spec_trees.specs.declared.tree.Tree.{Tree}
+use Rattle.spec_trees.specs.Trees.{tree_depth, bare}
+use Rattle.spec_runs.specs.Configurations.{Configuration, pushed, token_tree, IsReduction}
+use Rattle.ts_table.specs.declared.view.ParseTable.{ParseTable}
+use Rattle.ts_table.specs.Tables.{ActsBy}
+use Rattle.ts_gss.specs.declared.layer.Layer.{Layer}
+use Rattle.ts_moves.specs.declared.found.FoundToken.{FoundToken}
+use Rattle.ts_moves.specs.declared.head.StackHead.{StackHead}
+use Rattle.ts_moves.specs.Laws.{Laws}
+use Rattle.ts_moves.specs.Heads.{config_of, read_on, IsLiveHead, IsRootOf, GainsStacks, LiesAhead}
+use Rattle.ts_glr.specs.declared.acting.Moved.{Moved}
+use Rattle.ts_glr.specs.declared.acting.Moved.TheVariants.{To, Ended, TooDeep}
+use Rattle.ts_glr.specs.Lists.{Each, Any}
+use Rattle.ts_glr.specs.Steps.{IsSeenAhead, Withstands, KeepsBest, LeadsTo, IsTooDeep, IsActed}
+use Rattle.ts_glr.specs.Search.{heads_of, is_deep, Acting}
+use Rattle.ts_glr.proofs.ListLemmas.{each_append, each_map, any_left, any_right}
+use Rattle.ts_glr.proofs.RootLemmas.{one_root}
+use Rattle.ts_glr.proofs.StackLemmas.{live_stays, config_stays}
+use Rattle.ts_glr.proofs.TableLemmas.{by_shift}
+
+-- ---- a shift
+
+pub shift_room : (laws : Laws) (t : ParseTable) (size next : ℕ) (old : List (List Layer)) (h : StackHead) (f : FoundToken) (a : Action) → a ≡ Shift next → IsSeenAhead size h.place f → ActsBy t (read_on old h) f.token.0 a → LiesAhead size h.place f
+shift_room laws t size next old h f a is ahead acts = record {
+  past = ahead.past;
+  reach = ahead.reach;
+  some = ahead.some (laws.shifts t.grammar (read_on old h) f.token.0 (by_shift t (read_on old h) f.token.0 next a is acts).0).0.0;
+}
+
+pub shift_leads : (g : FlatGrammar) (c e : Configuration) (f : FoundToken) (a : Action) (next : ℕ) → a ≡ Shift next → e ≡ pushed c (token_tree f.token f.pad f.size) → LeadsTo g c f a e
+shift_leads g c e f a next is same = subst (λ (b : Action). LeadsTo g c f b e) (sym is) same
+
+-- ---- where an action leads
+
+module _ (laws : Laws) (g : FlatGrammar) (c : Configuration) (f : FoundToken) where
+  pub lead_once : (a : Action) (d e : Configuration) → LeadsTo g c f a d → LeadsTo g c f a e → d ≡ e
+  lead_once (Shift next) d e p q = p ∙ sym q
+  lead_once (Reduce n) d e p q =
+      let r = laws.one_reduction g n c.stack p.0 q.0 p.1 q.1 p.2 q.2 in
+      p.4 ∙ ap {B = Configuration} (λ (s : List Tree). record { stack = s; place = c.place }) r.1 ∙ sym q.4
+  lead_once Accept d e p q = absurd p
+
+  lead_shallow : (a : Action) (d : Configuration) → LeadsTo g c f a d → IsTooDeep g c a → ⊥
+  lead_shallow (Shift next) d p deep = let e : Shift next ≡ Reduce deep.0 = deep.3 in cc
+  lead_shallow (Reduce n) d p deep =
+      let e : Reduce n ≡ Reduce deep.0 = deep.3 in
+      let k : deep.0 ≡ n = cc in
+      let r = laws.one_reduction g n c.stack p.0 deep.1 p.1 deep.2 p.2 (subst (λ (m : ℕ). IsReduction g m c.stack deep.1 deep.2) k deep.4) in
+      let d : tree_depth p.0 ≡ tree_depth deep.1 = ap tree_depth r.0 in
+      omega (arith, d, p.3, deep.5)
+  lead_shallow Accept d p deep = absurd p
+
+  leads_no_end : (a : Action) (d : Configuration) → LeadsTo g c f a d → a ≡ Accept → ⊥
+  leads_no_end a d p is = subst (λ (b : Action). LeadsTo g c f b d) is p
+
+-- ---- one more action
+
+module _ (laws : Laws) (t : ParseTable) (size : ℕ) (c : Configuration) (f : FoundToken) where
+  abbrev Sound : List (List Layer) → List Action → StackHead → Type 0
+  Sound stacks done h = IsLiveHead t size stacks h × Any (λ (a : Action). LeadsTo t.grammar c f a (config_of stacks h)) done
+
+  abbrev Complete : List (List Layer) → List StackHead → Action → Type 0
+  Complete stacks more a = (e : Configuration) → LeadsTo t.grammar c f a e → Any (λ (h : StackHead). config_of stacks h ≡ e) more
+
+  abbrev Accounted : Option Tree → Action → Type 0
+  Accounted best a = a ≡ Accept → (u : Tree) → IsRootOf c.stack u → Withstands best u
+
+  abbrev Shallow : Action → Type 0
+  Shallow a = IsTooDeep t.grammar c a → ⊥
+
+  abbrev Fruitful : List StackHead → Option Tree → Action → Type 0
+  Fruitful more best a = (0 < length more) ⊎ ((b : Tree) × (best ≡ Some b))
+
+  abbrev Ends : Action → Type 0
+  Ends a = a ≡ Accept
+
+  pub acting_begins : (stacks : List (List Layer)) (live : List StackHead) (best : Option Tree) → Acting t size stacks c f [] live live best best
+  acting_begins stacks live best = record {
+    more = [];
+    live_is = sym (append-nil live);
+    few = omega arith;
+    sound = tt;
+    complete = tt;
+    accepted = tt;
+    shallow = tt;
+    fruitful = tt;
+    others = λ u w. w;
+    from = λ b e. inl e;
+  }
+
+  -- stacks that stay are known as before, among more actions
+  sound_grown : (old new : List (List Layer)) (done : List Action) (a : Action) (more : List StackHead) → GainsStacks old new → Each (Sound old done) more → Each (Sound new (done ++ a ∷ [])) more
+  sound_grown old new done a more grows all =
+      each_map (Sound old done) (Sound new (done ++ a ∷ [])) more
+      (λ h s. (
+        live_stays t size old new h grows s.0,
+        any_left (λ (b : Action). LeadsTo t.grammar c f b (config_of new h)) done (a ∷ [])
+            (subst (λ (e : Configuration). Any (λ (b : Action). LeadsTo t.grammar c f b e) done) (sym (config_stays t size old new h grows s.0)) s.1),
+      )) all
+
+  found_grown : (old new : List (List Layer)) (done : List Action) (e : Configuration) (more : List StackHead) → GainsStacks old new → Each (Sound old done) more → Any (λ (h : StackHead). config_of old h ≡ e) more → Any (λ (h : StackHead). config_of new h ≡ e) more
+  found_grown old new done e [] grows all any = absurd any
+  found_grown old new done e (h ∷ hs) grows all (inl is) = inl (config_stays t size old new h grows all.0.0 ∙ is)
+  found_grown old new done e (h ∷ hs) grows all (inr any) = inr (found_grown old new done e hs grows all.1 any)
+
+  some_more : (hs : List StackHead) (h : StackHead) → 0 < length (hs ++ h ∷ [])
+  some_more hs h = omega (arith, length-append hs (h ∷ []))
+
+  -- the action led to a head
+  acting_to : (old new : List (List Layer)) (done : List Action) (a : Action) (k : StackHead) (first live live' : List StackHead) (start best : Option Tree) → GainsStacks old new → Acting t size old c f done first live start best
+      → IsLiveHead t size new k → LeadsTo t.grammar c f a (config_of new k) → live' ≡ live ++ k ∷ [] → Acting t size new c f (done ++ a ∷ []) first live' start best
+  acting_to old new done a k first live live' start best grows b head leads live_is = record {
+    more = b.more ++ k ∷ [];
+    live_is = live_is ∙ ap (λ (l : List StackHead). l ++ k ∷ []) b.live_is ∙ append_assoc first b.more (k ∷ []);
+    few = omega (arith, length-append b.more (k ∷ []), length-append done (a ∷ []), b.few);
+    sound = each_append (Sound new (done ++ a ∷ [])) b.more (k ∷ []) (sound_grown old new done a b.more grows b.sound)
+        ((head, any_right (λ (x : Action). LeadsTo t.grammar c f x (config_of new k)) done (a ∷ []) (inl leads)), tt);
+    complete = each_append (Complete new (b.more ++ k ∷ [])) done (a ∷ [])
+        (each_map (Complete old b.more) (Complete new (b.more ++ k ∷ [])) done
+        (λ x all e l. any_left (λ (h : StackHead). config_of new h ≡ e) b.more (k ∷ []) (found_grown old new done e b.more grows b.sound (all e l))) b.complete)
+        ((λ e l. any_right (λ (h : StackHead). config_of new h ≡ e) b.more (k ∷ []) (inl (lead_once laws t.grammar c f a (config_of new k) e leads l))), tt);
+    accepted = each_append (Accounted best) done (a ∷ []) b.accepted ((λ is u r. absurd (leads_no_end laws t.grammar c f a (config_of new k) leads is)), tt);
+    shallow = each_append Shallow done (a ∷ []) b.shallow (lead_shallow laws t.grammar c f a (config_of new k) leads, tt);
+    fruitful = each_append (Fruitful (b.more ++ k ∷ []) best) done (a ∷ [])
+        (each_map (Fruitful b.more best) (Fruitful (b.more ++ k ∷ []) best) done (λ x w. inl (some_more b.more k)) b.fruitful) (inl (some_more b.more k), tt);
+    others = b.others;
+    from = λ u e. ⊎_elim (λ w. inl w) (λ w. inr (any_left Ends done (a ∷ []) w.0, w.1)) (b.from u e);
+  }
+
+  -- the action accepted a tree
+  acting_ended : (old new : List (List Layer)) (done : List Action) (a : Action) (u : Tree) (first live live' : List StackHead) (start best after : Option Tree) → GainsStacks old new → Acting t size old c f done first live start best
+      → a ≡ Accept → IsRootOf c.stack (bare u) → KeepsBest best after u → live' ≡ live ++ [] → Acting t size new c f (done ++ a ∷ []) first live' start after
+  acting_ended old new done a u first live live' start best after grows b is root kept live_is = record {
+    more = b.more;
+    live_is = live_is ∙ append-nil live ∙ b.live_is;
+    few = omega (arith, length-append done (a ∷ []), b.few);
+    sound = sound_grown old new done a b.more grows b.sound;
+    complete = each_append (Complete new b.more) done (a ∷ [])
+        (each_map (Complete old b.more) (Complete new b.more) done (λ x all e l. found_grown old new done e b.more grows b.sound (all e l)) b.complete)
+        ((λ e l. absurd (leads_no_end laws t.grammar c f a e l is)), tt);
+    accepted = each_append (Accounted after) done (a ∷ [])
+        (each_map (Accounted best) (Accounted after) done (λ x all e v r. kept.others v (all e v r)) b.accepted)
+        ((λ e v r. subst (λ (w : Tree). Withstands after w) (one_root c.stack (bare u) v root r) kept.mine), tt);
+    shallow = each_append Shallow done (a ∷ []) b.shallow ((λ deep. let e : Accept ≡ Reduce deep.0 = sym is ∙ deep.3 in cc), tt);
+    fruitful = each_append (Fruitful b.more after) done (a ∷ [])
+        (each_map (Fruitful b.more best) (Fruitful b.more after) done (λ x w. inr (kept.mine.0, kept.mine.1)) b.fruitful) (inr (kept.mine.0, kept.mine.1), tt);
+    others = λ v w. kept.others v (b.others v w);
+    from = λ v e. ⊎_elim (λ w. inr (any_right Ends done (a ∷ []) (inl is), subst (λ (x : Tree). IsRootOf c.stack (bare x)) (one v (sym w ∙ e)) root))
+        (λ w. ⊎_elim (λ x. inl x) (λ x. inr (any_left Ends done (a ∷ []) x.0, x.1)) (b.from v (sym w ∙ e))) kept.from;
+  }
+    where
+      one : (v : Tree) → Some u ≡ Some v → u ≡ v
+      one v e = cc
+
+  pub acting_more : (old new : List (List Layer)) (h : StackHead) (done : List Action) (a : Action) (m : Moved) (first live live' : List StackHead) (start best after : Option Tree) → config_of old h ≡ c → GainsStacks old new → Acting t size old c f done first live start best
+      → IsActed t size old new h f best after a m → is_deep m ≡ false → live' ≡ live ++ heads_of m → Acting t size new c f (done ++ a ∷ []) first live' start after
+  acting_more old new h done a (To k) first live live' start best after same grows b acted shallow live_is =
+      subst (λ (o : Option Tree). Acting t size new c f (done ++ a ∷ []) first live' start o) (sym acted.2)
+      (acting_to old new done a k first live live' start best grows b acted.0 (subst (λ (d : Configuration). LeadsTo t.grammar d f a (config_of new k)) same acted.1) live_is)
+  acting_more old new h done a Ended first live live' start best after same grows b acted shallow live_is =
+      acting_ended old new done a acted.1.0 first live live' start best after grows b acted.0 (subst (λ (d : Configuration). IsRootOf d.stack (bare acted.1.0)) same acted.1.1) acted.1.2 live_is
+  acting_more old new h done a TooDeep first live live' start best after same grows b acted shallow live_is = absurd (let e : true ≡ false = shallow in cc)
+
+  pub acted_deep : (old new : List (List Layer)) (h : StackHead) (a : Action) (m : Moved) (best after : Option Tree) → config_of old h ≡ c → IsActed t size old new h f best after a m → is_deep m ≡ true → IsTooDeep t.grammar c a
+  acted_deep old new h a (To k) best after same acted deep = absurd (let e : false ≡ true = deep in cc)
+  acted_deep old new h a Ended best after same acted deep = absurd (let e : false ≡ true = deep in cc)
+  acted_deep old new h a TooDeep best after same acted deep = subst (λ (d : Configuration). IsTooDeep t.grammar d a) same acted

@@ -1,0 +1,12 @@
+pub mod ListLemmas
+pub mod StackLemmas
+pub mod OrderLemmas
+pub mod WeightLemmas
+pub mod TableLemmas
+pub mod LexLemmas
+pub mod RootLemmas
+pub mod LightLemmas
+pub mod ActLemmas
+pub mod SpentLemmas
+pub mod SearchLemmas
+pub mod FollowLemmas

@@ -1,0 +1,13 @@
+use Rattle.std.proofs.Common.{subst}
+use Rattle.ts_lexer.specs.declared.lexed.Lexed.{Lexed}
+use Rattle.ts_table.specs.Tables.{most_actions}
+use Rattle.ts_moves.specs.Heads.{config_of}
+use Rattle.ts_glr.specs.Steps.{Sees}
+use Rattle.ts_glr.proofs.SpentLemmas.{spent_absent}
+use Rattle.ts_glr.proofs.following.advance.Goals as goal
+
+pub returns-in-Absent-clause-done : goal.returns-in-Absent-clause-done
+returns-in-Absent-clause-done g c shallow =
+    spent_absent c.laws_hold.ensures c.args.table.now (g.L.Text.Content.bytes c.args.text.now) (config_of c.args.graph.now c.args.head) c.in-Absent.place
+    (subst (λ (l : Lexed). Sees c.args.table.now.grammar (g.L.Text.Content.bytes c.args.text.now) (config_of c.args.graph.now c.args.head) l) c.in-Absent.is c.look.ensures.sees)
+    c.args.graph.now (most_actions c.args.table.now) c.args.live.now.items c.args.best.now c.args.stuck.now c.stick.new.stuck c.stick.ensures.mine c.stick.ensures.others c.stick.ensures.from

@@ -1,0 +1,15 @@
+use Rattle.std.proofs.Common.{length}
+use Rattle.ts_glr.specs.Steps.{HasForm}
+use Rattle.ts_glr.specs.Search.{Searching}
+use Rattle.ts_glr.specs.Weights.{live_weight}
+use Rattle.ts_glr.proofs.parsing.parse.Given as goal
+
+abbrev pub invariant-loop-head : goal.invariant-loop-head
+invariant-loop-head g l = record {
+  made : g.L.Tokens.made_for l.lexer l.table;
+  form : HasForm l.table.grammar l.setting.size l.best;
+  search : Searching l.table (g.L.Text.Content.bytes l.text) l.graph l.live.items l.best l.stuck;
+}
+
+abbrev pub decreases-loop-head : goal.decreases-loop-head
+decreases-loop-head g l = live_weight l.table (length (g.L.Text.Content.bytes l.text)) l.graph l.live.items

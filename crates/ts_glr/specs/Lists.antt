@@ -1,0 +1,12 @@
+-- What holds of each element of a list, or of some one. It serves proofs alone.
+use Rattle.std.specs.Prelude.{List, [], ◌∷◌, ◌⊎◌}
+
+-- it holds of each
+abbrev pub Each : {X : Type 0} → (X → Type 0) → List X → Type 0
+Each P [] = Unit {0}
+Each P (x ∷ xs) = P x × Each P xs
+
+-- it holds of one at least
+abbrev pub Any : {X : Type 0} → (X → Type 0) → List X → Type 0
+Any P [] = ⊥
+Any P (x ∷ xs) = P x ⊎ Any P xs

@@ -1,0 +1,103 @@
+-- What is known while all live stacks are followed. It serves proofs alone.
+use Rattle.std.specs.Prelude.{◌≡◌, ℕ, ◌<◌, ◌≤◌, suc, List, [], ◌∷◌, ◌++◌, length, Option, Some, ◌⊎◌, Bool, true, false}
+use Rattle.ts_base.specs.Bytes.{Bytes}
+use Rattle.ts_core.specs.declared.action.Action.{Action}
+use Rattle.ts_core.specs.declared.action.Action.TheVariants.{Accept}
+use Rattle.ts_core.specs.declared.flat.FlatGrammar.{FlatGrammar}
+use Rattle.spec_trees.specs.declared.tree.Tree.{Tree}
+use Rattle.spec_trees.specs.Trees.{bare}
+use Rattle.spec_runs.specs.Configurations.{Configuration}
+use Rattle.spec_runs.specs.Runs.{StepsOn, Run, IsReached, ComesTooDeep, AcceptsTree, StopsAt}
+use Rattle.spec_runs.specs.Outcomes.{SomeAccepts, SomeStopsAt}
+use Rattle.ts_table.specs.declared.view.ParseTable.{ParseTable}
+use Rattle.ts_gss.specs.declared.layer.Layer.{Layer}
+use Rattle.ts_moves.specs.declared.found.FoundToken.{FoundToken}
+use Rattle.ts_moves.specs.declared.head.StackHead.{StackHead}
+use Rattle.ts_moves.specs.Heads.{config_of, IsLiveHead, IsRootOf}
+use Rattle.ts_glr.specs.declared.acting.Moved.{Moved}
+use Rattle.ts_glr.specs.declared.acting.Moved.TheVariants.{To, Ended, TooDeep}
+use Rattle.ts_glr.specs.Lists.{Each, Any}
+use Rattle.ts_glr.specs.Steps.{Withstands, LeadsTo, IsTooDeep}
+
+-- the heads that an action came to
+abbrev pub heads_of : Moved → List StackHead
+heads_of (To h) = h ∷ []
+heads_of Ended = []
+heads_of TooDeep = []
+
+-- whether an action came to a node that is too deep
+abbrev pub is_deep : Moved → Bool
+is_deep (To h) = false
+is_deep Ended = false
+is_deep TooDeep = true
+
+-- The heads were added to which some actions lead; the trees that they accept are accounted for.
+pub record Acting (t : ParseTable) (size : ℕ) (stacks : List (List Layer)) (c : Configuration)
+    (f : FoundToken) (done : List Action) (old live : List StackHead)
+    (first best : Option Tree) : Type 0 where
+  pub more : List StackHead
+  pub live_is : live ≡ old ++ more
+  pub few : length more ≤ length done
+  pub sound : Each (λ h. IsLiveHead t size stacks h
+      × Any (λ a. LeadsTo t.grammar c f a (config_of stacks h)) done) more
+  pub complete : Each (λ a. (e : Configuration) → LeadsTo t.grammar c f a e
+      → Any (λ h. config_of stacks h ≡ e) more) done
+  pub accepted : Each (λ a. a ≡ Accept → (u : Tree) → IsRootOf c.stack u → Withstands best u) done
+  pub shallow : Each (λ a. IsTooDeep t.grammar c a → ⊥) done
+  pub fruitful : Each (λ a. (0 < length more) ⊎ ((b : Tree) × (best ≡ Some b))) done
+  pub others : (u : Tree) → Withstands first u → Withstands best u
+  pub from : (b : Tree) → best ≡ Some b
+      → (first ≡ Some b) ⊎ (Any (λ a. a ≡ Accept) done × IsRootOf c.stack (bare b))
+
+-- there is a greatest stuck place so far, which is no less
+abbrev pub IsPast : Option ℕ → ℕ → Type 0
+IsPast stuck q = (r : ℕ) × (stuck ≡ Some r) × (q ≤ r)
+
+-- all ends of runs at the configuration are accounted for
+pub record Covers (g : FlatGrammar) (text : Bytes) (best : Option Tree) (stuck : Option ℕ)
+    (c : Configuration) : Type 0 where
+  pub accepted : (u : Tree) → AcceptsTree g text c u → Withstands best u
+  pub places : (q : ℕ) → StopsAt g text c q → IsPast stuck q
+  pub shallow : ComesTooDeep g text c → ⊥
+
+-- what is known of trees and places is kept, and what is new is an end of a run at the
+-- configuration
+pub record Keeps (g : FlatGrammar) (text : Bytes) (c : Configuration) (old best : Option Tree)
+    (before stuck : Option ℕ) : Type 0 where
+  pub others : (u : Tree) → Withstands old u → Withstands best u
+  pub from : (b : Tree) → best ≡ Some b → (old ≡ Some b) ⊎ AcceptsTree g text c (bare b)
+  pub past : (q : ℕ) → IsPast before q → IsPast stuck q
+  pub stuck_from : (q : ℕ) → stuck ≡ Some q → (before ≡ Some q) ⊎ StopsAt g text c q
+
+-- there is a head, a tree or a place
+abbrev pub HasSome : List StackHead → Option Tree → Option ℕ → Type 0
+HasSome live best stuck =
+    (0 < length live) ⊎ (((b : Tree) × (best ≡ Some b)) ⊎ ((q : ℕ) × (stuck ≡ Some q)))
+
+-- a head was followed by one step in all ways
+pub record Spent (t : ParseTable) (text : Bytes) (stacks : List (List Layer)) (most : ℕ)
+    (c : Configuration) (old live : List StackHead) (first best : Option Tree)
+    (before stuck : Option ℕ) : Type 0 where
+  pub more : List StackHead
+  pub live_is : live ≡ old ++ more
+  pub few : length more ≤ suc most
+  pub sound : Each (λ h. IsLiveHead t (length text) stacks h
+      × StepsOn t.grammar text c (config_of stacks h)) more
+  pub complete : (e : Configuration) → StepsOn t.grammar text c e
+      → Any (λ h. config_of stacks h ≡ e) more
+  pub covers : Covers t.grammar text best stuck c
+  pub keeps : Keeps t.grammar text c first best before stuck
+  pub fruitful : HasSome more best stuck
+
+-- All runs are accounted for: the ends at a configuration that is reached are known, or some live
+-- head leads to it.
+pub record Searching (t : ParseTable) (text : Bytes) (stacks : List (List Layer))
+    (live : List StackHead) (best : Option Tree) (stuck : Option ℕ) : Type 0 where
+  pub heads : Each (λ h. IsLiveHead t (length text) stacks h
+      × IsReached t.grammar text (config_of stacks h)) live
+  pub done : (c : Configuration) → IsReached t.grammar text c
+      → Covers t.grammar text best stuck c
+      ⊎ Any (λ h. Run t.grammar text (config_of stacks h) c) live
+  pub tree_from : (b : Tree) → best ≡ Some b → SomeAccepts t.grammar text (bare b)
+  pub stuck_from : (q : ℕ) → stuck ≡ Some q → SomeStopsAt t.grammar text q
+  pub some : HasSome live best stuck

@@ -1,0 +1,117 @@
+//! Actions on a live stack: the token that it sees and the actions of its state go in; the heads of
+//! the new stacks come out, or that a node would be too deep. Accepted trees are kept.
+ghost use Rattle.std.specs.Prelude.{◌≡◌, ℕ, ◌++◌, true, false, IfOk, OnOk};
+ghost use Rattle.std.specs.List.{Contains};
+ghost use Rattle.ts_core.specs.declared.action.Action.{Action as AnyAction};
+ghost use Rattle.ts_table.specs.Tables.{ActsBy};
+ghost use Rattle.ts_moves.specs.Heads.{config_of, read_on, IsLiveHead, IsSetting, GainsStacks};
+ghost use Rattle.ts_glr.specs.Steps.{IsSeenAhead, HasForm, IsActed, IsTooDeep};
+ghost use Rattle.ts_glr.specs.Search.{heads_of, is_deep, Acting};
+
+use crate::choosing::keep;
+use crate::laws::laws_hold;
+use std::alloc::{AllocError, Global};
+use ts_core::Action;
+use ts_gss::Graph;
+use ts_moves::{FoundToken, Setting, StackHead, accept_head, reduce_head, shift};
+use ts_node::Node;
+use ts_table::Table;
+
+/// What an action comes to: a head, an accepted tree, or a node that would be too deep.
+pub(crate) enum Moved {
+    To(StackHead),
+    Ended,
+    TooDeep,
+}
+
+/// Does one action on the token that a head sees.
+fn act(
+    alloc: Global,
+    table: &Table,
+    setting: &Setting,
+    graph: &mut Graph,
+    best: &mut Option<Node>,
+    head: StackHead,
+    found: FoundToken,
+    action: Action,
+) -> Result<Moved, AllocError>
+    requires setting { IsSetting table.now setting.now.size setting.now }
+    requires live { IsLiveHead table.now setting.now.size graph.old head }
+    requires ahead { IsSeenAhead setting.now.size head.place found }
+    requires acts { ActsBy table.now (read_on graph.old head) found.token.0 action }
+    requires form { HasForm table.now.grammar setting.now.size best.old }
+    ensures grows { OnOk result (GainsStacks graph.old graph.new) }
+    ensures form { OnOk result (HasForm table.now.grammar setting.now.size best.new) }
+    ensures acted { IfOk result (IsActed table.now setting.now.size graph.old graph.new head found
+        best.old best.new action) }
+{
+    laws_hold();
+    match action {
+        Action::Shift(state) => {
+            let next = shift(graph, head, found, state)?;
+            Ok(Moved::To(next))
+        }
+        Action::Reduce(number) => {
+            match reduce_head(alloc, table, setting, graph, head, number, found.extent)? {
+                Some(next) => Ok(Moved::To(next)),
+                None => Ok(Moved::TooDeep),
+            }
+        }
+        Action::Accept => {
+            let node = accept_head(alloc, table, setting, graph, head)?;
+            keep(best, node);
+            Ok(Moved::Ended)
+        }
+    }
+}
+
+/// Adds what an action came to, and tells whether a node would be too deep.
+fn add(live: &mut Vec<StackHead>, moved: Moved) -> Result<bool, AllocError>
+    ensures deep { IfOk result (λ b. b ≡ is_deep moved) }
+    ensures live { OnOk result (live.new.items ≡ live.old.items ++ heads_of moved) }
+{
+    match moved {
+        Moved::To(head) => {
+            live.push(head)?;
+            Ok(false)
+        }
+        Moved::Ended => Ok(false),
+        Moved::TooDeep => Ok(true),
+    }
+}
+
+/// Does each action on the token that a head sees, and tells whether a node would be too deep.
+pub(crate) fn act_all(
+    alloc: Global,
+    table: &Table,
+    setting: &Setting,
+    graph: &mut Graph,
+    live: &mut Vec<StackHead>,
+    best: &mut Option<Node>,
+    head: StackHead,
+    found: FoundToken,
+    actions: &[Action],
+) -> Result<bool, AllocError>
+    requires setting { IsSetting table.now setting.now.size setting.now }
+    requires live { IsLiveHead table.now setting.now.size graph.old head }
+    requires ahead { IsSeenAhead setting.now.size head.place found }
+    requires act { (a : AnyAction) → Contains actions.now a
+        → ActsBy table.now (read_on graph.old head) found.token.0 a }
+    requires form { HasForm table.now.grammar setting.now.size best.old }
+    ensures grows { OnOk result (GainsStacks graph.old graph.new) }
+    ensures form { OnOk result (HasForm table.now.grammar setting.now.size best.new) }
+    ensures deep { IfOk result (λ b. b ≡ true → (a : AnyAction) × Contains actions.now a
+        × IsTooDeep table.now.grammar (config_of graph.old head) a) }
+    ensures done { IfOk result (λ b. b ≡ false → Acting table.now setting.now.size graph.new
+        (config_of graph.old head) found actions.now live.old.items live.new.items best.old
+        best.new) }
+{
+    laws_hold();
+    for action in actions {
+        let moved = act(alloc, table, setting, graph, best, head, found, *action)?;
+        if add(live, moved)? {
+            return Ok(true);
+        }
+    }
+    Ok(false)
+}

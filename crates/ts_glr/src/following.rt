@@ -1,0 +1,131 @@
+//! Following a live stack by one step in all ways: the lexer and the head go in; the heads of the
+//! new stacks come out, or that a node would be too deep.
+ghost use Rattle.std.specs.Prelude.{◌≡◌, ℕ, true, false, length, Option, IfOk, OnOk};
+ghost use Rattle.spec_runs.specs.Runs.{ComesTooDeep};
+ghost use Rattle.ts_base.specs.Bytes.{Bytes};
+ghost use Rattle.ts_table.specs.Tables.{most_actions};
+ghost use Rattle.ts_moves.specs.Heads.{config_of, IsLiveHead, IsSetting, GainsStacks};
+ghost use Rattle.ts_glr.specs.Steps.{SeesToken, Sees, HasForm};
+ghost use Rattle.ts_glr.specs.Search.{Spent};
+
+use crate::acting::act_all;
+use crate::choosing::stick;
+use crate::laws::laws_hold;
+use std::alloc::{AllocError, Global};
+use ts_gss::Graph;
+use ts_lexer::{Lexed, Tokens};
+use ts_moves::{FoundToken, Setting, StackHead, pass};
+use ts_node::Node;
+use ts_table::Table;
+
+/// What a head sees.
+fn look<L: Tokens>(
+    table: &Table,
+    lexer: &mut L,
+    text: &L::Text,
+    graph: &Graph,
+    head: StackHead,
+) -> Lexed
+    requires made { L.made_for lexer.old table.now }
+    requires live { IsLiveHead table.now (length (L.Text.bytes text.now)) graph.now head }
+    ensures made { L.made_for lexer.new table.now }
+    ensures sees { Sees table.now.grammar (L.Text.bytes text.now) (config_of graph.now head)
+        result }
+{
+    laws_hold();
+    table.stands();
+    lexer.lex(text, head.place, graph.state(head.top))
+}
+
+/// Does all that the token that a head sees asks for, and tells whether a node would be too deep.
+fn follow(
+    alloc: Global,
+    table: &Table,
+    setting: &Setting,
+    graph: &mut Graph,
+    live: &mut Vec<StackHead>,
+    best: &mut Option<Node>,
+    head: StackHead,
+    found: FoundToken,
+) -> Result<bool, AllocError>
+    requires setting { IsSetting table.now setting.now.size setting.now }
+    requires live { IsLiveHead table.now setting.now.size graph.old head }
+    requires sees { (text : Bytes) × (length text ≡ setting.now.size)
+        × SeesToken table.now.grammar text (config_of graph.old head) found }
+    requires form { HasForm table.now.grammar setting.now.size best.old }
+    ensures grows { OnOk result (GainsStacks graph.old graph.new) }
+    ensures form { OnOk result (HasForm table.now.grammar setting.now.size best.new) }
+    ensures deep { IfOk result (λ b. b ≡ true → (text : Bytes)
+        → SeesToken table.now.grammar text (config_of graph.old head) found
+        → ComesTooDeep table.now.grammar text (config_of graph.old head)) }
+    ensures done { IfOk result (λ b. b ≡ false → (text : Bytes) (stuck : Option ℕ)
+        → length text ≡ setting.now.size
+        → SeesToken table.now.grammar text (config_of graph.old head) found
+        → Spent table.now text graph.new (most_actions table.now) (config_of graph.old head)
+        live.old.items live.new.items best.old best.new stuck stuck) }
+{
+    laws_hold();
+    table.stands();
+    let state = graph.state(head.top);
+    let actions = table.actions(state, found.token);
+    if actions.is_empty() {
+        let next = pass(graph, head, found, state)?;
+        live.push(next)?;
+        return Ok(false);
+    }
+    let deep = act_all(
+        alloc, table, setting, graph, live, best, head, found, actions,
+    )?;
+    Ok(deep)
+}
+
+/// Follows a head by one step in all ways, and tells whether a node would be too deep.
+pub(crate) fn advance<L: Tokens>(
+    alloc: Global,
+    table: &Table,
+    setting: &Setting,
+    lexer: &mut L,
+    text: &L::Text,
+    graph: &mut Graph,
+    live: &mut Vec<StackHead>,
+    best: &mut Option<Node>,
+    stuck: &mut Option<u32>,
+    head: StackHead,
+) -> Result<bool, AllocError>
+    requires made { L.made_for lexer.old table.now }
+    requires size { length (L.Text.bytes text.now) ≡ setting.now.size }
+    requires setting { IsSetting table.now setting.now.size setting.now }
+    requires live { IsLiveHead table.now setting.now.size graph.old head }
+    requires form { HasForm table.now.grammar setting.now.size best.old }
+    ensures made { L.made_for lexer.new table.now }
+    ensures grows { OnOk result (GainsStacks graph.old graph.new) }
+    ensures form { OnOk result (HasForm table.now.grammar setting.now.size best.new) }
+    ensures deep { IfOk result (λ b. b ≡ true
+        → ComesTooDeep table.now.grammar (L.Text.bytes text.now) (config_of graph.old head)) }
+    ensures done { IfOk result (λ b. b ≡ false → Spent table.now (L.Text.bytes text.now) graph.new
+        (most_actions table.now) (config_of graph.old head) live.old.items live.new.items best.old
+        best.new stuck.old stuck.new) }
+{
+    laws_hold();
+    match look(table, lexer, text, graph, head) {
+        Lexed::Absent { place, extent: _ } => {
+            stick(stuck, place);
+            Ok(false)
+        }
+        Lexed::Token {
+            token,
+            pad,
+            size,
+            extent,
+        } => {
+            let found = FoundToken {
+                token,
+                pad,
+                size,
+                extent,
+            };
+            let deep = follow(alloc, table, setting, graph, live, best, head, found)?;
+            Ok(deep)
+        }
+    }
+}

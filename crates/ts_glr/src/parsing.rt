@@ -1,0 +1,68 @@
+//! Parsing a text from its start: the table, the lexer and the text go in; what the text comes to,
+//! over all ways to read it, comes out.
+ghost use Rattle.std.specs.Prelude.{◌≡◌, ◌≤◌, length, IfOk, None};
+ghost use Rattle.spec_trees.specs.Made.{most_span};
+ghost use Rattle.spec_runs.specs.Outcomes.{Fresh};
+ghost use Rattle.ts_glr.specs.Outcomes.{value_of_outcome, EndsAs, IsTreeOf};
+
+use crate::following::advance;
+use crate::laws::laws_hold;
+use crate::outcome::Outcome;
+use std::alloc::{AllocError, Global};
+use ts_gss::Graph;
+use ts_lexer::{Content, Tokens};
+use ts_moves::{StackHead, setting_of};
+use ts_node::Node;
+use ts_table::{Table, unit_ranks};
+
+/// The outcome that the best tree and the greatest stuck place come to.
+fn outcome(best: Option<Node>, stuck: Option<u32>) -> Outcome
+    requires { best ≡ None → stuck ≡ None → ⊥ }
+    ensures { EndsAs best stuck result }
+{
+    match best {
+        Some(node) => Outcome::Accepted(node),
+        None => match stuck {
+            Some(place) => Outcome::Stuck(place),
+            None => unreachable!(),
+        },
+    }
+}
+
+/// The fresh outcome of a text, over all ways to read it.
+///
+/// # Errors
+///
+/// `AllocError` where memory runs out.
+pub fn parse<L: Tokens>(
+    alloc: Global,
+    table: &Table,
+    lexer: &mut L,
+    text: &L::Text,
+) -> Result<Outcome, AllocError>
+    requires made { L.made_for lexer.old table.now }
+    requires short { length (L.Text.bytes text.now) ≤ most_span }
+    ensures made { L.made_for lexer.new table.now }
+    ensures fresh { IfOk result (λ out. Fresh table.now.grammar (L.Text.bytes text.now)
+        (value_of_outcome out)) }
+    ensures form { IfOk result (IsTreeOf table.now.grammar (length (L.Text.bytes text.now))) }
+{
+    laws_hold();
+    table.stands();
+    unit_ranks();
+    let setting = setting_of(alloc, table, text.len())?;
+    let mut graph = Graph::new(alloc);
+    let mut live = Vec::new(alloc);
+    live.push(StackHead { top: 0, place: 0 })?;
+    let mut best = None;
+    let mut stuck = None;
+    while let Some(head) = live.pop() {
+        let deep = advance(
+            alloc, table, &setting, lexer, text, &mut graph, &mut live, &mut best, &mut stuck, head,
+        )?;
+        if deep {
+            return Ok(Outcome::Deep);
+        }
+    }
+    Ok(outcome(best, stuck))
+}
