@@ -139,8 +139,8 @@ fn is_bad(grammar: &FlatGrammar, place: usize) -> bool
     is_repetition(grammar, place, rule) && !is_fit_repetition(grammar, place, rule)
 }
 
-/// The place of the first repetition that hasn't the form of one, counted from 0. A rule is a
-/// repetition where another rule is its owner.
+/// The place among the rules, counted from 0, of the first repetition that hasn't the form of one.
+/// `None` comes where each has it. A rule is a repetition where its owner is not its own symbol.
 pub fn first_bad_repetition(grammar: &FlatGrammar) -> Option<usize>
     requires few_symbols { symbols_of grammar.now ≤ most_symbols }
     ensures none { IfNone result (AreFitRepetitions grammar.now) }

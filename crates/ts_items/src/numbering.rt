@@ -32,6 +32,7 @@ pub enum ItemFault {
     /// There are more sets than can be numbered: at least so many.
     #[error("there are {0} or more sets of items")]
     TooManyStates(u32),
+    /// Memory ran out.
     #[error("memory has run out")]
     Memory,
 }

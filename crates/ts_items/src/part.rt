@@ -17,7 +17,9 @@ pub struct Part {
 /// Where a set leads over a symbol.
 #[derive(Debug, Clone, Copy, PartialEq, Eq)]
 pub struct Goto {
+    /// The symbol before which some item of the set has its dot.
     pub symbol: u16,
+    /// The number of the set of the items past it.
     pub state: u16,
 }
 
@@ -35,6 +37,7 @@ pub struct State {
 pub struct Items {
     /// The sets of tokens for which parts have a place.
     pub tokens: IndexSet<BitSet>,
+    /// The sets of items. That of the start item is the first.
     pub states: Vec<State>,
     /// For each symbol the tokens with which it can begin.
     pub firsts: Vec<BitSet>,

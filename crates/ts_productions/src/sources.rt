@@ -13,7 +13,9 @@ pub struct Sources<'a> {
     pub contents: &'a [Tree],
     /// The symbol of the first repetition.
     pub first_repetition: u16,
+    /// Of the inlined rules, in file order.
     pub inlined: &'a [Tree],
+    /// The number that stands in trees for the first inlined rule, which has no symbol.
     pub first_inlined: u16,
     /// The places of all inlined rules, each after those of the inlined rules that it steps to.
     pub order: &'a [usize],
