@@ -1,26 +1,22 @@
 -- What stands in a rule tree, or in a tree inside it: all that is seen of the inner tree is seen of the
 -- whole.
-use Rattle.std.proofs.Common.{◌≡◌, ◌∙◌, sym, ap, subst, refl, Bool, true, false, ◌⊎◌, inl, inr, ⊎_elim, List, [], ◌∷◌, ◌++◌, map}
-use Rattle.std.specs.List.{Contains, flat_map}
+use Rattle.std.proofs.Common.{◌≡◌, ◌∙◌, sym, ap, subst, refl, Bool, true, false, ⊎_elim, List, [], ◌∷◌, map}
+use Rattle.std.specs.List.{Contains}
 use Rattle.std.proofs.lemmas.List.Elements.{Contains-append_left, Contains-append_right, Contains-append_cases}
-use Rattle.ts_core.specs.declared.re.Re.{Re}
 use Rattle.ts_core.specs.declared.rule.Grammar.{Grammar}
 use Rattle.ts_core.specs.declared.rule.Rule.{Rule}
 use Rattle.ts_core.specs.declared.rule.Rule.TheBlock.{the_family, member-Rule}
-use Rattle.ts_core.specs.declared.rule.Rule.TheFolds.{ind-Rule, map-Rule, claims, para-roll-Rule, fold-roll-Rule}
+use Rattle.ts_core.specs.declared.rule.Rule.TheFolds.{ind-Rule, map-Rule, claims, para-roll-Rule}
 use Rattle.ts_core.specs.declared.rule.Rule.TheOpen.{Rule-F}
-use Rattle.ts_core.specs.declared.rule.Rule.TheViews.{roll-Rule, out-Rule, out-roll-Rule, roll-out-Rule}
-use Rattle.ts_rules.specs.Sights.{NamedRule, Sight, Source, SeenBelow, seen_all, below, below_step, sights, sights_within, rule_sights, walk, tokens_in, token_at, if_token, is_token, is_token_layer, contents_in, content_at, content_layer, pattern_layer}
-use Rattle.ts_rules.specs.Tokens.{Patterns, cat_of, alt_of, re_of, re_step}
-use Rattle.ts_core.specs.declared.re.Re.TheVariants as re
-use Rattle.ts_normalise.proofs.ListLemmas.{none_in, head_in, tail_in, member_cases, flat_in, in_flat}
-use Rattle.std.specs.Prelude.{None}
+use Rattle.ts_core.specs.declared.rule.Rule.TheViews.{roll-Rule, out-Rule, roll-out-Rule}
+use Rattle.ts_rules.specs.Sights.{NamedRule, Sight, SeenBelow, seen_all, below, below_step, sights, sights_within, rule_sights, tokens_in, token_at, if_token, is_token, contents_in, content_at, content_layer}
+use Rattle.ts_normalise.proofs.ListLemmas.{none_in, tail_in, member_cases, flat_in, in_flat}
 use denote.Hole.Holds.{Such}
 
-abbrev seen_below : Rule → SeenBelow
+abbrev pub seen_below : Rule → SeenBelow
 seen_below r = (r, below r)
 
-abbrev top_of : Rule → Bool → Sight
+abbrev pub top_of : Rule → Bool → Sight
 top_of t inside = record { tree = t; inside = inside }
 
 -- all that is seen of any sight of the list is in the list
@@ -66,7 +62,7 @@ layer_closed (Rule-F.PrecLeft value e) inside = closes e inside
 layer_closed (Rule-F.PrecRight value e) inside = closes e inside
 layer_closed (Rule-F.PrecDynamic value e) inside = closes e inside
 
-below_roll : (x : Rule-F Rule) (inside : Bool) → below (roll-Rule x) inside ≡ below_step (map-Rule Rule SeenBelow seen_below x) inside
+pub below_roll : (x : Rule-F Rule) (inside : Bool) → below (roll-Rule x) inside ≡ below_step (map-Rule Rule SeenBelow seen_below x) inside
 below_roll x inside = ap (λ (f : Bool → List Sight). f inside) (para-roll-Rule (Bool → List Sight) below_step x)
 
 top_closed : (top : Sight) (rest : List Sight) → sights_within top.tree top.inside ≡ top ∷ rest → IsClosed rest → IsClosed (top ∷ rest)
@@ -109,7 +105,7 @@ token_seen g t w v u =
         (member_cases s.tree t [] (subst (λ (x : Bool). Contains (if_token s.tree x) t) f (subst (λ (x : Bool). Contains (token_at s.tree x) t) e at)))
 
 -- a tree whose layer has a child outside of tokens shows the child
-below_of : (s : Sight) (layer : Rule-F Rule) → out-Rule s.tree ≡ layer → sights_within s.tree s.inside ≡ s ∷ below_step (map-Rule Rule SeenBelow seen_below layer) s.inside
+pub below_of : (s : Sight) (layer : Rule-F Rule) → out-Rule s.tree ≡ layer → sights_within s.tree s.inside ≡ s ∷ below_step (map-Rule Rule SeenBelow seen_below layer) s.inside
 below_of s layer e =
     ap (λ (t : Rule). s ∷ below t s.inside) (sym (roll-out-Rule s.tree) ∙ ap roll-Rule e)
     ∙ ap (λ (rest : List Sight). s ∷ rest) (below_roll layer s.inside)

@@ -1,5 +1,5 @@
 -- A grammar is refused for one cause.
-use Rattle.std.proofs.Common.{◌≡◌, ◌∙◌, sym, ap, subst, refl, ℕ, ◌+◌, ◌<◌, ◌≤◌, ◌⊎◌, inl, inr, List, [], ◌∷◌, ◌++◌, length, slice_get, Option, Some, None, All, arith, ◌≢◌, Bool}
+use Rattle.std.proofs.Common.{◌≡◌, ◌∙◌, sym, ap, subst, refl, ℕ, inl, inr, List, [], ◌∷◌, slice_get, Some, arith, ◌≢◌, Bool}
 use Rattle.std.proofs.lemmas.List.Elements.{All-nil, All-cons}
 use Rattle.ts_base.specs.Bytes.{Bytes}
 use Rattle.ts_core.specs.declared.flat.FlatGrammar.{FlatGrammar}
@@ -17,7 +17,7 @@ use Rattle.ts_rules.specs.FirstSights.{Not, First, Clear}
 use Rattle.ts_rules.specs.Names.{BeginsWith}
 use Rattle.ts_rules.specs.Normal.{IsNormal}
 use Rattle.ts_rules.specs.Sights.{walk, symbols_inside}
-use Rattle.ts_tokens.specs.Patterns.{IsRefusedPattern, IsUnreadable, PlacedPattern, placed_patterns}
+use Rattle.ts_tokens.specs.Patterns.{IsUnreadable, PlacedPattern, placed_patterns}
 use Rattle.ts_normalise.specs.declared.fault.NFault.{NFault}
 use Rattle.ts_normalise.specs.declared.fault.NFault.TheVariants as fault
 use Rattle.ts_normalise.specs.Refusals.{Cause, Nothing, Before, FindsUndefined, FindsSymbolInToken, FindsBadInline, FindsBadWord, FindsBadExtra, FindsBadPattern, FindsManySymbols, FindsManyNames, FindsManyProductions, FindsManySteps, FindsManyPositions, HasEmptyToken, HasEmptyRule, HasCycle, FindsEmptyToken, FindsEmptyRule, FindsCyclic, FindsInTrees, FindsMany, FindsInForm, IsRefused, Flattens}
@@ -35,11 +35,11 @@ one_before A B a b e h (inr x) (inl y) = absurd (x.0 h y)
 one_before A B a b e h (inr x) (inr y) = b x.0 e h x.1 y.1
 
 -- nothing of the first cause, where there is nothing of both
-nothing_first : (A B : Cause) → Nothing (Before A B) → Nothing A
+pub nothing_first : (A B : Cause) → Nothing (Before A B) → Nothing A
 nothing_first A B none found x = none found (inl x)
 
 -- where no value is the first with the property, none has it
-clear_of : {X : Type 0} (P : X → Type 0) (xs : List X) → ((x : X) → First P xs x → ⊥) → Clear P xs
+pub clear_of : {X : Type 0} (P : X → Type 0) (xs : List X) → ((x : X) → First P xs x → ⊥) → Clear P xs
 clear_of P [] none = All-nil (λ x. Not (P x))
 clear_of P (x ∷ xs) none =
     let here : Not (P x) = λ p. none x (record { before = []; after = xs; is = refl; holds = p; clear = All-nil (λ z. Not (P z)) }) in

@@ -1,1 +1,5 @@
+pub mod Faults
+pub mod Forms
+pub mod Named
 pub mod Refusals
+pub mod Texts

@@ -1,94 +1,26 @@
 -- Why a grammar has no normal form, or none that can be used. What can be wrong is looked for in an
 -- order, and what is found first is answered.
-use Rattle.std.specs.Prelude.{◌≡◌, ℕ, ◌<◌, List, [], ◌∷◌, ◌++◌, length, slice_get, Some, ◌⊎◌}
-use Rattle.std.specs.List.{Contains, flat_map}
+use Rattle.std.specs.Prelude.{◌≡◌, ℕ, slice_get, Some, ◌⊎◌, Result, Err}
 use Rattle.ts_base.specs.Bytes.{Bytes}
 use Rattle.ts_core.specs.declared.flat.FlatGrammar.{FlatGrammar}
 use Rattle.ts_core.specs.declared.flat.FlatRule.{FlatRule}
 use Rattle.ts_core.specs.declared.flat.TokenDef.{TokenDef}
-use Rattle.ts_core.specs.declared.limits.Limited.{Limited}
 use Rattle.ts_core.specs.declared.limits.Limited.TheVariants as limited
 use Rattle.ts_core.specs.declared.rule.Grammar.{Grammar}
-use Rattle.ts_core.specs.declared.rule.Rule.{Rule}
 use Rattle.spec_tables.specs.Fit as fit
+use Rattle.ts_form.specs.Limits.{HasManyProductions, HasManySteps, HasManyPositions}
+use Rattle.ts_numbering.specs.Limits.{HasManySymbols, HasManyNames}
 use Rattle.ts_fit.specs.Misfits.{IsEmptyToken, IsFirstPlace}
 use Rattle.ts_pattern.specs.declared.fault.PFault.{PFault}
 use Rattle.ts_pattern.specs.Reads.{Reads}
-use Rattle.ts_rules.specs.declared.tree.Alternative.{Alternative}
-use Rattle.ts_rules.specs.Alternatives.{Alternatives}
 use Rattle.ts_rules.specs.Causes.{ExtraSymbol, IsUndefined, IsBadInline, IsBadWord, IsBadExtra, names_used, rule_names, extra_symbols}
 use Rattle.ts_rules.specs.FirstSights.{Not, First}
 use Rattle.ts_rules.specs.Names.{BeginsWith}
 use Rattle.ts_rules.specs.Normal.{IsNormal}
-use Rattle.ts_rules.specs.Numbers.{Numbers, Lists, AreLists, AreNumbers, alts, first_inlined}
-use Rattle.ts_rules.specs.Productions.{AllBecome, IsInner, filled, again}
-use Rattle.ts_rules.specs.Sights.{NamedRule, walk, symbols_inside}
+use Rattle.ts_rules.specs.Sights.{walk, symbols_inside}
 use Rattle.ts_tokens.specs.Patterns.{IsRefusedPattern, placed_patterns}
 use Rattle.ts_normalise.specs.declared.fault.NFault.{NFault}
 use Rattle.ts_normalise.specs.declared.fault.NFault.TheVariants as fault
-
--- ---- alternatives that are counted
-
--- those of a rule
-abbrev pub rule_alternatives : Numbers → NamedRule → Alternatives
-rule_alternatives n rule = alts n rule.1
-
--- those of a repetition: each that is not empty, and each behind the repetition itself
-abbrev pub repetition_alternatives : Numbers → Rule → Alternatives
-repetition_alternatives n content =
-    filled (alts n content) ++ again (n.repetition content) (filled (alts n content))
-
-abbrev pub all_rule_alternatives : Numbers → List NamedRule → Alternatives
-all_rule_alternatives n rules = flat_map (rule_alternatives n) rules
-
-abbrev pub all_repetition_alternatives : Numbers → List Rule → Alternatives
-all_repetition_alternatives n contents = flat_map (repetition_alternatives n) contents
-
--- of all that have symbols: rules and repetitions
-abbrev pub symbol_alternatives : Numbers → Lists → Alternatives
-symbol_alternatives n x = all_rule_alternatives n x.rules
-    ++ all_repetition_alternatives n x.contents
-
--- and those of the inlined rules
-abbrev pub all_alternatives : Numbers → Lists → Alternatives
-all_alternatives n x = all_rule_alternatives n x.inlined ++ symbol_alternatives n x
-
--- The alternatives are counted before inlining and after it, and equal ones are not yet dropped.
-abbrev pub IsCounted : Numbers → Lists → Alternatives → Type 0
-IsCounted n x all =
-    (all ≡ all_alternatives n x) ⊎ AllBecome (IsInner n x) (symbol_alternatives n x) all
-
--- a list of alternatives that is counted for the grammar
-pub record Counts (g : Grammar) (all : Alternatives) : Type 0 where
-  pub numbers : Numbers
-  pub lists : Lists
-  pub are_lists : AreLists g lists
-  pub are_numbers : AreNumbers g numbers lists
-  pub is_counted : IsCounted numbers lists all
-
--- ---- limits
-
-abbrev pub HasManySymbols : Grammar → Type 0
-HasManySymbols g = (x : Lists) × AreLists g x × (fit.most_symbols < first_inlined x)
-
--- field names, or precedence names
-abbrev pub HasManyNames : Grammar → Type 0
-HasManyNames g = (x : Lists) × AreLists g x
-    × ((fit.most_names < length x.fields) ⊎ (fit.most_names < length x.precs))
-
-abbrev pub HasManyProductions : Grammar → Type 0
-HasManyProductions g = (all : Alternatives) × Counts g all × (fit.most_productions < length all)
-
--- steps in one alternative
-abbrev pub HasManySteps : Grammar → Type 0
-HasManySteps g = (all : Alternatives) × Counts g all × (one : Alternative) × Contains all one
-    × (fit.most_steps < length one.steps)
-
--- of one token, or of all tokens and separators
-abbrev pub HasManyPositions : Grammar → Type 0
-HasManyPositions g = (f : FlatGrammar) × IsNormal Reads g f
-    × (((d : TokenDef) × Contains f.tokens d × (fit.most_positions < fit.positions d.re))
-    ⊎ (fit.most_positions_in_all < fit.all_positions f))
 
 -- ---- what can be wrong
 
@@ -187,10 +119,21 @@ Nothing Finds = (found : NFault) → Not (Finds found)
 abbrev pub Before : Cause → Cause → NFault → Type 0
 Before One Other found = One found ⊎ (Nothing One × Other found)
 
+-- the fault is what the cause answers; running out of memory has no cause
+abbrev pub HasCause : Cause → NFault → Type 0
+HasCause Finds found = Not (found ≡ fault.Memory) → Finds found
+
+-- the word and the extras
+abbrev pub FindsInWords : Grammar → Cause
+FindsInWords g = Before (FindsBadWord g) (FindsBadExtra g)
+
+-- what a rule tree can't be, since rules name tokens
+abbrev pub FindsInRules : Grammar → Cause
+FindsInRules g = Before (FindsBadInline g) (FindsInWords g)
+
 -- in the rule trees
 abbrev pub FindsInTrees : Grammar → NFault → Type 0
-FindsInTrees g = Before (FindsUndefined g) (Before (FindsSymbolInToken g)
-    (Before (FindsBadInline g) (Before (FindsBadWord g) (FindsBadExtra g))))
+FindsInTrees g = Before (FindsUndefined g) (Before (FindsSymbolInToken g) (FindsInRules g))
 
 -- in the limits
 abbrev pub FindsMany : Grammar → NFault → Type 0
@@ -210,3 +153,7 @@ IsRefused g = Before (FindsInTrees g) (Before (FindsBadPattern g)
 pub record Flattens (g : Grammar) (f : FlatGrammar) : Type 0 where
   pub normal : IsNormal Reads g f
   pub accepted : Nothing (IsRefused g)
+
+-- the answer is the one that is due, unless memory ran out
+abbrev pub IsDue : Result FlatGrammar NFault → Result FlatGrammar NFault → Type 0
+IsDue due answer = Not (answer ≡ Err fault.Memory) → answer ≡ due

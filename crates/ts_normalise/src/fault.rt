@@ -2,7 +2,9 @@
 use std::alloc::AllocError;
 use thiserror::Error;
 use ts_core::{Limited, Str};
+use ts_form::FormFault;
 use ts_pattern::PFault;
+use ts_tokens::{InlineFault, PatternFault};
 
 /// Why a grammar file has no normal form that can be used. Each text is a name as the file has it.
 #[derive(Debug, Error, PartialEq, Eq, Drop)]
@@ -50,5 +52,47 @@ impl From<AllocError> for NFault {
 
     fn from(_: AllocError) -> NFault {
         NFault::Memory
+    }
+}
+
+impl From<InlineFault> for NFault {
+    ghost use Rattle.std.specs.Prelude.{◌≡◌};
+    ghost use Rattle.ts_normalise.specs.Faults.{inline_told};
+
+    ghost from_gives = { λ fault e. e ≡ inline_told fault };
+
+    fn from(fault: InlineFault) -> NFault {
+        match fault {
+            InlineFault::Bad(name) => NFault::BadInline(name),
+            InlineFault::Memory => NFault::Memory,
+        }
+    }
+}
+
+impl From<PatternFault> for NFault {
+    ghost use Rattle.std.specs.Prelude.{◌≡◌};
+    ghost use Rattle.ts_normalise.specs.Faults.{pattern_told};
+
+    ghost from_gives = { λ fault e. e ≡ pattern_told fault };
+
+    fn from(fault: PatternFault) -> NFault {
+        match fault {
+            PatternFault::Refused(rule, cause) => NFault::Pattern(rule, cause),
+            PatternFault::Memory => NFault::Memory,
+        }
+    }
+}
+
+impl From<FormFault> for NFault {
+    ghost use Rattle.std.specs.Prelude.{◌≡◌};
+    ghost use Rattle.ts_normalise.specs.Faults.{form_told};
+
+    ghost from_gives = { λ fault e. e ≡ form_told fault };
+
+    fn from(fault: FormFault) -> NFault {
+        match fault {
+            FormFault::Limit(limit) => NFault::Limit(limit),
+            FormFault::Memory => NFault::Memory,
+        }
     }
 }

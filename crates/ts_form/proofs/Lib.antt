@@ -1,0 +1,13 @@
+pub mod AgreeLemmas
+pub mod BecomeLemmas
+pub mod CountLemmas
+pub mod FormLemmas
+pub mod InsideLemmas
+pub mod LikeLemmas
+pub mod ListLemmas
+pub mod NameLemmas
+pub mod NormalLemmas
+pub mod PatternLemmas
+pub mod RecordLemmas
+pub mod TokenLemmas
+pub mod TreeLemmas

@@ -1,0 +1,8 @@
+use Rattle.ts_normalise.proofs.FormLemmas.{empty_token_none, empty_token_place}
+use Rattle.ts_normalise.proofs.accepted.check_tokens.Goals as goal
+
+pub returns-in-None-clause-none : goal.returns-in-None-clause-none
+returns-in-None-clause-none c = empty_token_none c.args.form.now c.in-None.ensures
+
+pub get-requires : goal.get-requires
+get-requires c = empty_token_place c.args.form.now c.in-Some.place c.in-Some.ensures
