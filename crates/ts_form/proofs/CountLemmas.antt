@@ -1,6 +1,6 @@
 -- What is counted of a grammar does not depend on its numbers: by two numberings the alternatives are
 -- alike, before inlining and after it.
-use Rattle.std.proofs.Common.{◌≡◌, ◌∙◌, sym, ap, subst, refl, ℕ, suc, ◌<◌, ◌⊎◌, inl, inr, ⊎_elim, List, [], ◌∷◌, ◌++◌, map, length, All}
+use Rattle.std.proofs.Common.{◌≡◌, ◌∙◌, sym, ap, subst, refl, ℕ, suc, ◌<◌, inl, inr, ⊎_elim, List, [], ◌∷◌, ◌++◌, map, length, All}
 use Rattle.std.specs.List.{Contains, flat_map}
 use Rattle.std.proofs.lemmas.List.Elements.{All-head, All-tail, All-cons, All-nil}
 use Rattle.spec_tables.specs.Fit.{most_productions, most_steps}
@@ -16,7 +16,7 @@ use Rattle.ts_rules.specs.Numbers.{Numbers, Lists, AreLists, AreNumbers, IsInlin
 use Rattle.ts_rules.specs.Productions.{replaced_by, IsInner, Stays, Becomes, stays, replaced, AllBecome, none_left, one_more, filled, again}
 use Rattle.ts_rules.specs.Sights.{NamedRule}
 use Rattle.ts_form.specs.Limits.{Counts, HasManyProductions, HasManySteps}
-use Rattle.ts_form.proofs.ListLemmas.{there, head_in, tail_in, none_in, member_cases, picked}
+use Rattle.ts_form.proofs.ListLemmas.{head_in, tail_in, none_in, member_cases, picked}
 use Rattle.ts_form.proofs.LikeLemmas.{StepLike, AltLike, AltsLike, each_append, each_map}
 use Rattle.ts_form.proofs.BecomeLemmas.{So, replaced_like, symbols_like, filled_like, again_like, inner_same}
 use Rattle.ts_form.proofs.AgreeLemmas.{rule_alike, inlined_alike, content_alike, repetition_same}

@@ -1,5 +1,5 @@
 -- Which limit is told, and when the positions are few.
-use Rattle.std.proofs.Common.{◌≡◌, ◌∙◌, sym, ap, subst, refl, ℕ, ◌<◌, ◌≤◌, ◌⊎◌, inl, inr, ⊎_elim, List, [], ◌∷◌, length, Result, Err, ◌↔◌, All, arith}
+use Rattle.std.proofs.Common.{◌≡◌, sym, subst, ◌<◌, ◌≤◌, ◌⊎◌, inl, inr, ⊎_elim, List, [], ◌∷◌, Result, Err, All, arith}
 use Rattle.std.specs.List.{Contains}
 use Rattle.std.specs.Result.{IsErrOf}
 use Rattle.std.proofs.lemmas.Bool.{cases_lt}
@@ -21,7 +21,7 @@ use Rattle.ts_rules.specs.Numbers.{Numbers, Lists, AreLists, AreNumbers}
 use Rattle.ts_form.specs.declared.fault.FormFault.{FormFault}
 use Rattle.ts_form.specs.declared.fault.FormFault.TheVariants as fault
 use Rattle.ts_form.specs.Forms.{of_numbers, of_productions}
-use Rattle.ts_form.specs.Limits.{Counts, HasManyProductions, HasManySteps, HasManyPositions, IsFormFault}
+use Rattle.ts_form.specs.Limits.{HasManyProductions, HasManySteps, HasManyPositions, IsFormFault}
 use Rattle.ts_form.proofs.ListLemmas.{head_in, tail_in}
 
 -- ---- numbers

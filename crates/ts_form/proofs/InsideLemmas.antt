@@ -1,20 +1,16 @@
 -- What stands in a rule tree, or in a tree inside it: all that is seen of the inner tree is seen of the
 -- whole.
-use Rattle.std.proofs.Common.{◌≡◌, ◌∙◌, sym, ap, subst, refl, Bool, true, false, ◌⊎◌, inl, inr, ⊎_elim, List, [], ◌∷◌, ◌++◌, map}
-use Rattle.std.specs.List.{Contains, flat_map}
+use Rattle.std.proofs.Common.{◌≡◌, ◌∙◌, sym, ap, subst, refl, Bool, true, false, ⊎_elim, List, [], ◌∷◌, map}
+use Rattle.std.specs.List.{Contains}
 use Rattle.std.proofs.lemmas.List.Elements.{Contains-append_left, Contains-append_right, Contains-append_cases}
-use Rattle.ts_core.specs.declared.re.Re.{Re}
 use Rattle.ts_core.specs.declared.rule.Grammar.{Grammar}
 use Rattle.ts_core.specs.declared.rule.Rule.{Rule}
 use Rattle.ts_core.specs.declared.rule.Rule.TheBlock.{the_family, member-Rule}
-use Rattle.ts_core.specs.declared.rule.Rule.TheFolds.{ind-Rule, map-Rule, claims, para-roll-Rule, fold-roll-Rule}
+use Rattle.ts_core.specs.declared.rule.Rule.TheFolds.{ind-Rule, map-Rule, claims, para-roll-Rule}
 use Rattle.ts_core.specs.declared.rule.Rule.TheOpen.{Rule-F}
-use Rattle.ts_core.specs.declared.rule.Rule.TheViews.{roll-Rule, out-Rule, out-roll-Rule, roll-out-Rule}
-use Rattle.ts_rules.specs.Sights.{NamedRule, Sight, Source, SeenBelow, seen_all, below, below_step, sights, sights_within, rule_sights, walk, tokens_in, token_at, if_token, is_token, is_token_layer, contents_in, content_at, content_layer, pattern_layer}
-use Rattle.ts_rules.specs.Tokens.{Patterns, cat_of, alt_of, re_of, re_step}
-use Rattle.ts_core.specs.declared.re.Re.TheVariants as re
-use Rattle.ts_form.proofs.ListLemmas.{none_in, head_in, tail_in, member_cases, flat_in, in_flat}
-use Rattle.std.specs.Prelude.{None}
+use Rattle.ts_core.specs.declared.rule.Rule.TheViews.{roll-Rule, out-Rule, roll-out-Rule}
+use Rattle.ts_rules.specs.Sights.{NamedRule, Sight, SeenBelow, seen_all, below, below_step, sights, sights_within, rule_sights, tokens_in, token_at, if_token, is_token, contents_in, content_at, content_layer}
+use Rattle.ts_form.proofs.ListLemmas.{none_in, tail_in, member_cases, flat_in, in_flat}
 use denote.Hole.Holds.{Such}
 
 abbrev seen_below : Rule → SeenBelow

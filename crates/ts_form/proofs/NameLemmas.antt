@@ -15,7 +15,7 @@ use Rattle.ts_numbering.specs.Keys.{rules_told, trees}
 use Rattle.ts_numbering.specs.Numberings.{lists_of, numbers_of}
 use Rattle.ts_numbering.specs.Surveys.{NamesItsToken}
 use Rattle.ts_rules.specs.FirstSights.{Not, Picks}
-use Rattle.ts_rules.specs.Numbers.{Numbers, Lists, NamesSome, NamesToken}
+use Rattle.ts_rules.specs.Numbers.{NamesSome, NamesToken}
 use Rattle.ts_rules.specs.Sights.{NamedRule, rule_sights, tokens_in}
 use Rattle.ts_tokens.specs.Definitions.{IsNaming, trees_of}
 use Rattle.ts_tokens.specs.Extras.{AreRuleTokens}

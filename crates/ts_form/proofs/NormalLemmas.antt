@@ -1,7 +1,7 @@
 -- A grammar whose names are all defined has one normal form.
-use Rattle.std.proofs.Common.{◌≡◌, ◌∙◌, sym, ap, subst, refl, ℕ, ◌+◌, ◌<◌, Bool, true, false, ◌⊎◌, inl, inr, ⊎_elim, List, [], ◌∷◌, ◌++◌, map, slice_get, Option, Some, None, option_map, ◌↔◌, All, arith}
+use Rattle.std.proofs.Common.{◌≡◌, ◌∙◌, sym, ap, subst, refl, ◌<◌, Bool, false, ◌⊎◌, inl, inr, List, [], ◌∷◌, ◌++◌, map, Option, Some, None, option_map, ◌↔◌, arith}
 use Rattle.std.specs.List.{Contains, flat_map}
-use Rattle.std.proofs.lemmas.List.Elements.{Contains-append_left, Contains-append_right}
+use Rattle.std.proofs.lemmas.List.Elements.{Contains-append_right}
 use Rattle.ts_base.specs.Bytes.{Bytes}
 use Rattle.ts_core.specs.declared.flat.Entry.{Entry}
 use Rattle.ts_core.specs.declared.flat.FlatGrammar.{FlatGrammar}
@@ -14,21 +14,20 @@ use Rattle.ts_core.specs.declared.rule.Rule.{Rule}
 use Rattle.ts_core.specs.declared.rule.Rule.TheOpen.{Rule-F}
 use Rattle.ts_core.specs.declared.rule.Rule.TheVariants as rule
 use Rattle.ts_core.specs.declared.rule.Rule.TheVariants.{rolls-Symbol}
-use Rattle.ts_core.specs.declared.rule.Rule.TheViews.{roll-Rule, out-Rule, out-roll-Rule}
+use Rattle.ts_core.specs.declared.rule.Rule.TheViews.{out-Rule, out-roll-Rule}
 use Rattle.ts_core.specs.declared.symbol.Symbol.{Symbol}
-use Rattle.ts_rules.specs.Causes.{IsUndefined, names_used, listed, joined}
+use Rattle.ts_rules.specs.Causes.{IsUndefined, names_used, listed}
 use Rattle.ts_rules.specs.FirstSights.{Not, Picks, Each, end, both, First, Clear, AreFirstSights}
 use Rattle.ts_rules.specs.Normal.{IsNormal, ArePatterns, IsOwnRule, IsOwner, IsRepetition, IsTokenExtra, IsExtra, AreSeparators, AreSymbols, entry, IsKeptEntry, AreEntries, IsSupertype, Rising}
 use Rattle.ts_rules.specs.Numbers.{Numbers, Lists, AreLists, AreNumbers, IsRule, IsInlined, HasSymbol, IsRepeated, alts, start_of}
 use Rattle.ts_rules.specs.Productions.{symbol}
-use Rattle.ts_rules.specs.Sights.{NamedRule, Sight, Source, sights, below, rule_sights, extra_sights, walk, tokens_in, contents_in, symbols_in, symbol_layer, fields_in, patterns_in, pattern_layer, ranked_name, ranked_rule, ranked_names, ranked_rules, precs_in}
+use Rattle.ts_rules.specs.Sights.{NamedRule, Sight, sights, below, rule_sights, extra_sights, walk, tokens_in, contents_in, symbol_layer, fields_in, patterns_in, pattern_layer, ranked_name, ranked_rule, ranked_names, precs_in}
 use Rattle.ts_rules.specs.Tokens.{Patterns, IsTokenDef, re_of}
-use Rattle.ts_form.proofs.ListLemmas.{there, at_of, head_in, flat_in, one_pick, picked, one_first, one_order, one_sights}
-use Rattle.ts_form.proofs.InsideLemmas.{rule_seen}
+use Rattle.ts_form.proofs.ListLemmas.{head_in, flat_in, one_pick, picked, one_first, one_order, one_sights}
 use Rattle.ts_form.proofs.PatternLemmas.{ReadAlike, same_re}
 use Rattle.ts_form.proofs.RecordLemmas.{same_rule, same_lists, same_flat}
 use Rattle.ts_form.proofs.TokenLemmas.{one_kind, one_definition}
-use Rattle.ts_form.proofs.BecomeLemmas.{So, same_productions, same_repeated}
+use Rattle.ts_form.proofs.BecomeLemmas.{same_productions, same_repeated}
 use Rattle.ts_form.proofs.AgreeLemmas.{walk_has, symbol_used, word_used, conflict_used, ranked_used, supertype_used, token_same, repetition_same, prec_same, used_same, of_rule_same, rule_alike, inlined_alike, content_alike}
 
 -- ---- lists that are made place by place

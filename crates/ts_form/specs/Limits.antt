@@ -1,6 +1,6 @@
 -- The limits of a grammar's normal form: what is counted, when there is too much of it, and which
 -- limit is told.
-use Rattle.std.specs.Prelude.{ℕ, ◌<◌, ◌⊎◌, length}
+use Rattle.std.specs.Prelude.{◌<◌, ◌⊎◌, length}
 use Rattle.std.specs.List.{Contains}
 use Rattle.ts_core.specs.declared.flat.FlatGrammar.{FlatGrammar}
 use Rattle.ts_core.specs.declared.flat.TokenDef.{TokenDef}

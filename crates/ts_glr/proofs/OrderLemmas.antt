@@ -8,7 +8,6 @@ use Rattle.spec_trees.specs.Trees.{total_of, bare}
 use Rattle.spec_trees.specs.Choice.{code_of, ComesBefore, Better, IsInForm}
 use Rattle.ts_core.specs.declared.flat.FlatGrammar.{FlatGrammar}
 use Rattle.ts_moves.specs.Laws.{Laws}
-use Rattle.ts_glr.specs.Outcomes.{IsRootIn}
 use Rattle.ts_glr.specs.Steps.{Withstands, KeepsBest, HasForm}
 
 before_chains : (xs ys zs : List ℕ) → ComesBefore xs ys → ComesBefore ys zs → ComesBefore xs zs
@@ -78,8 +77,8 @@ module _ (laws : Laws) where
   old_withstands old o t is not = (o, is, (λ b. not (bare_first t o (bare_second (bare t) o b))))
 
 -- what was kept is in form
-pub kept_form : (g : FlatGrammar) (size : ℕ) (old new : Option Tree) (t : Tree) → KeepsBest old new t → HasForm g size old → IsRootIn g size t → HasForm g size new
-kept_form g size old new t k h f b is = ⊎_elim (λ e. subst (IsRootIn g size) (one (sym e ∙ is)) f) (λ e. h b (sym e ∙ is)) k.from
+pub kept_form : (g : FlatGrammar) (old new : Option Tree) (t : Tree) → KeepsBest old new t → HasForm g old → IsInForm g t → HasForm g new
+kept_form g old new t k h f b is = ⊎_elim (λ e. subst (IsInForm g) (one (sym e ∙ is)) f) (λ e. h b (sym e ∙ is)) k.from
   where
     one : Some t ≡ Some b → t ≡ b
     one e = cc

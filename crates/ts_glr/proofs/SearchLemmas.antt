@@ -44,16 +44,21 @@ module _ (t : ParseTable) (text : Bytes) where
     stack = record { states = tt; good = tt; spans = refl; reach = tt; within = omega arith };
   }
 
-  pub search_begins : (stacks : List (List Layer)) (live : List StackHead) → stacks ≡ [] ∷ [] → live ≡ (record { top = 0; place = 0 }) ∷ [] → Searching t text stacks live None None
-  search_begins stacks live stacks_are live_is =
-      subst (λ (l : List StackHead). Searching t text stacks l None None) (sym live_is)
-      (subst (λ (s : List (List Layer)). Searching t text s ((record { top = 0; place = 0 }) ∷ []) None None) (sym stacks_are) (record {
-        heads = ((first_live, run_here starting), tt);
-        done = λ c r. inr (inl r);
-        tree_from = λ b e. absurd (cc);
-        stuck_from = λ q e. absurd (cc);
-        some = inl (omega arith);
-      }))
+  begins_there : Searching t text ([] ∷ []) ((record { top = 0; place = 0 }) ∷ []) None None
+  begins_there = record {
+    heads = ((first_live, run_here starting), tt);
+    done = λ c r. inr (inl r);
+    tree_from = λ b e. absurd (cc);
+    stuck_from = λ q e. absurd (cc);
+    some = inl (omega arith);
+  }
+
+  pub search_begins : (stacks : List (List Layer)) (live : List StackHead) (best : Option Tree) (stuck : Option ℕ) → stacks ≡ [] ∷ [] → live ≡ (record { top = 0; place = 0 }) ∷ [] → best ≡ None → stuck ≡ None → Searching t text stacks live best stuck
+  search_begins stacks live best stuck stacks_are live_is no_tree no_place =
+      subst (λ (l : List StackHead). Searching t text stacks l best stuck) (sym live_is)
+      (subst (λ (s : List (List Layer)). Searching t text s ((record { top = 0; place = 0 }) ∷ []) best stuck) (sym stacks_are)
+      (subst (λ (o : Option Tree). Searching t text ([] ∷ []) ((record { top = 0; place = 0 }) ∷ []) o stuck) (sym no_tree)
+      (subst (λ (o : Option ℕ). Searching t text ([] ∷ []) ((record { top = 0; place = 0 }) ∷ []) None o) (sym no_place) begins_there)))
 
   covers_more : (c d : Configuration) (best best' : Option Tree) (stuck stuck' : Option ℕ) → Keeps t.grammar text d best best' stuck stuck' → Covers t.grammar text best stuck c → Covers t.grammar text best' stuck' c
   covers_more c d best best' stuck stuck' k cov = record {
@@ -153,10 +158,7 @@ module _ (t : ParseTable) (text : Bytes) where
   })
   fresh_ends stacks live None None out empty s ends = absurd ends
 
-  pub form_ends : (size : ℕ) (best : Option Tree) (stuck : Option ℕ) (out : Outcome) → size ≡ length text → HasForm t.grammar size best → EndsAs best stuck out → IsTreeOf t.grammar (length text) out
-  form_ends size best stuck out long form ends = ended best stuck (subst (λ (n : ℕ). HasForm t.grammar n best) long form) ends
-    where
-      ended : (best : Option Tree) (stuck : Option ℕ) → HasForm t.grammar (length text) best → EndsAs best stuck out → IsTreeOf t.grammar (length text) out
-      ended (Some b) stuck form ends = subst (λ (o : Outcome). IsTreeOf t.grammar (length text) o) (sym ends) (form b refl)
-      ended None (Some q) form ends = subst (λ (o : Outcome). IsTreeOf t.grammar (length text) o) (sym ends) tt
-      ended None None form ends = absurd ends
+  pub form_ends : (best : Option Tree) (stuck : Option ℕ) (out : Outcome) → HasForm t.grammar best → EndsAs best stuck out → IsTreeOf t.grammar out
+  form_ends (Some b) stuck out form ends = subst (λ (o : Outcome). IsTreeOf t.grammar o) (sym ends) (form b refl)
+  form_ends None (Some q) out form ends = subst (λ (o : Outcome). IsTreeOf t.grammar o) (sym ends) tt
+  form_ends None None out form ends = absurd ends

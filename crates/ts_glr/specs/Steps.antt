@@ -8,7 +8,7 @@ use Rattle.spec_lexing.specs.Lexing.{token}
 use Rattle.spec_trees.specs.declared.tree.Tree.{Tree}
 use Rattle.spec_trees.specs.Trees.{tree_depth, bare}
 use Rattle.spec_trees.specs.Made.{most_depth}
-use Rattle.spec_trees.specs.Choice.{Better}
+use Rattle.spec_trees.specs.Choice.{Better, IsInForm}
 use Rattle.spec_runs.specs.Configurations.{Configuration, NextIs, IsReduction, token_tree, pushed}
 use Rattle.spec_runs.specs.Runs.{StopsAt}
 use Rattle.ts_table.specs.declared.view.ParseTable.{ParseTable}
@@ -18,7 +18,6 @@ use Rattle.ts_lexer.specs.declared.lexed.Lexed.TheVariants.{Token, Absent}
 use Rattle.ts_moves.specs.declared.found.FoundToken.{FoundToken}
 use Rattle.ts_moves.specs.declared.head.StackHead.{StackHead}
 use Rattle.ts_moves.specs.Heads.{config_of, IsLiveHead, IsRootOf}
-use Rattle.ts_glr.specs.Outcomes.{IsRootIn}
 use Rattle.ts_glr.specs.declared.acting.Moved.{Moved}
 use Rattle.ts_glr.specs.declared.acting.Moved.TheVariants.{To, Ended, TooDeep}
 
@@ -55,9 +54,9 @@ pub record KeepsBest (old new : Option Tree) (t : Tree) : Type 0 where
   pub others : (u : Tree) → Withstands old u → Withstands new u
   pub from : (new ≡ Some t) ⊎ (new ≡ old)
 
--- the best tree so far is one of the grammar, and lies in a text of this size
-abbrev pub HasForm : FlatGrammar → ℕ → Option Tree → Type 0
-HasForm g size best = (b : Tree) → best ≡ Some b → IsRootIn g size b
+-- the best tree so far is one of the grammar
+abbrev pub HasForm : FlatGrammar → Option Tree → Type 0
+HasForm g best = (b : Tree) → best ≡ Some b → IsInForm g b
 
 -- ---- one action
 

@@ -10,11 +10,10 @@ ghost use Rattle.ts_glr.specs.Search.{heads_of, is_deep, Acting};
 
 use crate::choosing::keep;
 use crate::laws::laws_hold;
+use crate::readings::Readings;
 use std::alloc::{AllocError, Global};
 use ts_core::Action;
-use ts_gss::Graph;
 use ts_moves::{FoundToken, Setting, StackHead, accept_head, reduce_head, shift};
-use ts_node::Node;
 use ts_table::Table;
 
 /// What an action comes to: a head, an accepted tree, or a node that would be too deep.
@@ -29,37 +28,39 @@ fn act(
     alloc: Global,
     table: &Table,
     setting: &Setting,
-    graph: &mut Graph,
-    best: &mut Option<Node>,
+    readings: &mut Readings,
     head: StackHead,
     found: FoundToken,
     action: Action,
 ) -> Result<Moved, AllocError>
     requires setting { IsSetting table.now setting.now.size setting.now }
-    requires live { IsLiveHead table.now setting.now.size graph.old head }
+    requires live { IsLiveHead table.now setting.now.size readings.old.graph head }
     requires ahead { IsSeenAhead setting.now.size head.place found }
-    requires acts { ActsBy table.now (read_on graph.old head) found.token.0 action }
-    requires form { HasForm table.now.grammar setting.now.size best.old }
-    ensures grows { OnOk result (GainsStacks graph.old graph.new) }
-    ensures form { OnOk result (HasForm table.now.grammar setting.now.size best.new) }
-    ensures acted { IfOk result (IsActed table.now setting.now.size graph.old graph.new head found
-        best.old best.new action) }
+    requires acts { ActsBy table.now (read_on readings.old.graph head) found.token.0 action }
+    requires form { HasForm table.now.grammar readings.old.best }
+    ensures grows { OnOk result (GainsStacks readings.old.graph readings.new.graph) }
+    ensures form { OnOk result (HasForm table.now.grammar readings.new.best) }
+    ensures live { OnOk result (readings.new.live.items ≡ readings.old.live.items) }
+    ensures stuck { OnOk result (readings.new.stuck ≡ readings.old.stuck) }
+    ensures acted { IfOk result (IsActed table.now setting.now.size readings.old.graph
+        readings.new.graph head found readings.old.best readings.new.best action) }
 {
     laws_hold();
     match action {
         Action::Shift(state) => {
-            let next = shift(graph, head, found, state)?;
+            let next = shift(&mut readings.graph, head, found, state)?;
             Ok(Moved::To(next))
         }
         Action::Reduce(number) => {
+            let graph = &mut readings.graph;
             match reduce_head(alloc, table, setting, graph, head, number, found.extent)? {
                 Some(next) => Ok(Moved::To(next)),
                 None => Ok(Moved::TooDeep),
             }
         }
         Action::Accept => {
-            let node = accept_head(alloc, table, setting, graph, head)?;
-            keep(best, node);
+            let node = accept_head(alloc, table, setting, &readings.graph, head)?;
+            keep(&mut readings.best, node);
             Ok(Moved::Ended)
         }
     }
@@ -85,31 +86,30 @@ pub(crate) fn act_all(
     alloc: Global,
     table: &Table,
     setting: &Setting,
-    graph: &mut Graph,
-    live: &mut Vec<StackHead>,
-    best: &mut Option<Node>,
+    readings: &mut Readings,
     head: StackHead,
     found: FoundToken,
     actions: &[Action],
 ) -> Result<bool, AllocError>
     requires setting { IsSetting table.now setting.now.size setting.now }
-    requires live { IsLiveHead table.now setting.now.size graph.old head }
+    requires live { IsLiveHead table.now setting.now.size readings.old.graph head }
     requires ahead { IsSeenAhead setting.now.size head.place found }
     requires act { (a : AnyAction) → Contains actions.now a
-        → ActsBy table.now (read_on graph.old head) found.token.0 a }
-    requires form { HasForm table.now.grammar setting.now.size best.old }
-    ensures grows { OnOk result (GainsStacks graph.old graph.new) }
-    ensures form { OnOk result (HasForm table.now.grammar setting.now.size best.new) }
+        → ActsBy table.now (read_on readings.old.graph head) found.token.0 a }
+    requires form { HasForm table.now.grammar readings.old.best }
+    ensures grows { OnOk result (GainsStacks readings.old.graph readings.new.graph) }
+    ensures form { OnOk result (HasForm table.now.grammar readings.new.best) }
+    ensures stuck { OnOk result (readings.new.stuck ≡ readings.old.stuck) }
     ensures deep { IfOk result (λ b. b ≡ true → (a : AnyAction) × Contains actions.now a
-        × IsTooDeep table.now.grammar (config_of graph.old head) a) }
-    ensures done { IfOk result (λ b. b ≡ false → Acting table.now setting.now.size graph.new
-        (config_of graph.old head) found actions.now live.old.items live.new.items best.old
-        best.new) }
+        × IsTooDeep table.now.grammar (config_of readings.old.graph head) a) }
+    ensures done { IfOk result (λ b. b ≡ false → Acting table.now setting.now.size
+        readings.new.graph (config_of readings.old.graph head) found actions.now
+        readings.old.live.items readings.new.live.items readings.old.best readings.new.best) }
 {
     laws_hold();
     for action in actions {
-        let moved = act(alloc, table, setting, graph, best, head, found, *action)?;
-        if add(live, moved)? {
+        let moved = act(alloc, table, setting, readings, head, found, *action)?;
+        if add(&mut readings.live, moved)? {
             return Ok(true);
         }
     }

@@ -3,7 +3,7 @@
 ghost use Rattle.std.specs.Prelude.{◌≡◌, ℕ, ◌≤◌, ◌⊎◌, Some, true, false};
 ghost use Rattle.ts_core.specs.declared.flat.FlatGrammar.{FlatGrammar};
 ghost use Rattle.spec_trees.specs.Trees.{bare};
-ghost use Rattle.ts_glr.specs.Outcomes.{IsRootIn};
+ghost use Rattle.spec_trees.specs.Choice.{IsInForm};
 ghost use Rattle.ts_glr.specs.Steps.{Withstands, KeepsBest, HasForm};
 ghost use Rattle.ts_glr.specs.Search.{IsPast};
 
@@ -13,8 +13,7 @@ use ts_order::better;
 
 /// Whether a tree is kept in place of the best so far.
 fn goes_before(best: &Option<Node>, node: &Node) -> bool
-    requires form { (g : FlatGrammar) × (size : ℕ) × HasForm g size best.now
-        × IsRootIn g size node.now }
+    requires form { (g : FlatGrammar) × HasForm g best.now × IsInForm g node.now }
     ensures yes { result ≡ true → KeepsBest best.now (Some node.now) node.now }
     ensures no { result ≡ false → Withstands best.now (bare node.now) }
 {
@@ -27,11 +26,10 @@ fn goes_before(best: &Option<Node>, node: &Node) -> bool
 
 /// Keeps the better tree.
 pub(crate) fn keep(best: &mut Option<Node>, node: Node)
-    requires form { (g : FlatGrammar) × (size : ℕ) × HasForm g size best.old
-        × IsRootIn g size node }
+    requires form { (g : FlatGrammar) × HasForm g best.old × IsInForm g node }
     ensures kept { KeepsBest best.old best.new node }
-    ensures form { (g : FlatGrammar) (size : ℕ) → HasForm g size best.old
-        → IsRootIn g size node → HasForm g size best.new }
+    ensures form { (g : FlatGrammar) → HasForm g best.old → IsInForm g node
+        → HasForm g best.new }
 {
     if goes_before(best, &node) {
         *best = Some(node);

@@ -11,11 +11,11 @@ ghost use Rattle.ts_glr.specs.Search.{Spent};
 use crate::acting::act_all;
 use crate::choosing::stick;
 use crate::laws::laws_hold;
+use crate::readings::Readings;
 use std::alloc::{AllocError, Global};
 use ts_gss::Graph;
 use ts_lexer::{Lexed, Tokens};
 use ts_moves::{FoundToken, Setting, StackHead, pass};
-use ts_node::Node;
 use ts_table::Table;
 
 /// What a head sees.
@@ -42,40 +42,38 @@ fn follow(
     alloc: Global,
     table: &Table,
     setting: &Setting,
-    graph: &mut Graph,
-    live: &mut Vec<StackHead>,
-    best: &mut Option<Node>,
+    readings: &mut Readings,
     head: StackHead,
     found: FoundToken,
 ) -> Result<bool, AllocError>
     requires setting { IsSetting table.now setting.now.size setting.now }
-    requires live { IsLiveHead table.now setting.now.size graph.old head }
+    requires live { IsLiveHead table.now setting.now.size readings.old.graph head }
     requires sees { (text : Bytes) × (length text ≡ setting.now.size)
-        × SeesToken table.now.grammar text (config_of graph.old head) found }
-    requires form { HasForm table.now.grammar setting.now.size best.old }
-    ensures grows { OnOk result (GainsStacks graph.old graph.new) }
-    ensures form { OnOk result (HasForm table.now.grammar setting.now.size best.new) }
+        × SeesToken table.now.grammar text (config_of readings.old.graph head) found }
+    requires form { HasForm table.now.grammar readings.old.best }
+    ensures grows { OnOk result (GainsStacks readings.old.graph readings.new.graph) }
+    ensures form { OnOk result (HasForm table.now.grammar readings.new.best) }
+    ensures stuck { OnOk result (readings.new.stuck ≡ readings.old.stuck) }
     ensures deep { IfOk result (λ b. b ≡ true → (text : Bytes)
-        → SeesToken table.now.grammar text (config_of graph.old head) found
-        → ComesTooDeep table.now.grammar text (config_of graph.old head)) }
+        → SeesToken table.now.grammar text (config_of readings.old.graph head) found
+        → ComesTooDeep table.now.grammar text (config_of readings.old.graph head)) }
     ensures done { IfOk result (λ b. b ≡ false → (text : Bytes) (stuck : Option ℕ)
         → length text ≡ setting.now.size
-        → SeesToken table.now.grammar text (config_of graph.old head) found
-        → Spent table.now text graph.new (most_actions table.now) (config_of graph.old head)
-        live.old.items live.new.items best.old best.new stuck stuck) }
+        → SeesToken table.now.grammar text (config_of readings.old.graph head) found
+        → Spent table.now text readings.new.graph (most_actions table.now)
+        (config_of readings.old.graph head) readings.old.live.items readings.new.live.items
+        readings.old.best readings.new.best stuck stuck) }
 {
     laws_hold();
     table.stands();
-    let state = graph.state(head.top);
+    let state = readings.graph.state(head.top);
     let actions = table.actions(state, found.token);
     if actions.is_empty() {
-        let next = pass(graph, head, found, state)?;
-        live.push(next)?;
+        let next = pass(&mut readings.graph, head, found, state)?;
+        readings.live.push(next)?;
         return Ok(false);
     }
-    let deep = act_all(
-        alloc, table, setting, graph, live, best, head, found, actions,
-    )?;
+    let deep = act_all(alloc, table, setting, readings, head, found, actions)?;
     Ok(deep)
 }
 
@@ -86,30 +84,28 @@ pub(crate) fn advance<L: Tokens>(
     setting: &Setting,
     lexer: &mut L,
     text: &L::Text,
-    graph: &mut Graph,
-    live: &mut Vec<StackHead>,
-    best: &mut Option<Node>,
-    stuck: &mut Option<u32>,
+    readings: &mut Readings,
     head: StackHead,
 ) -> Result<bool, AllocError>
     requires made { L.made_for lexer.old table.now }
     requires size { length (L.Text.bytes text.now) ≡ setting.now.size }
     requires setting { IsSetting table.now setting.now.size setting.now }
-    requires live { IsLiveHead table.now setting.now.size graph.old head }
-    requires form { HasForm table.now.grammar setting.now.size best.old }
+    requires live { IsLiveHead table.now setting.now.size readings.old.graph head }
+    requires form { HasForm table.now.grammar readings.old.best }
     ensures made { L.made_for lexer.new table.now }
-    ensures grows { OnOk result (GainsStacks graph.old graph.new) }
-    ensures form { OnOk result (HasForm table.now.grammar setting.now.size best.new) }
-    ensures deep { IfOk result (λ b. b ≡ true
-        → ComesTooDeep table.now.grammar (L.Text.bytes text.now) (config_of graph.old head)) }
-    ensures done { IfOk result (λ b. b ≡ false → Spent table.now (L.Text.bytes text.now) graph.new
-        (most_actions table.now) (config_of graph.old head) live.old.items live.new.items best.old
-        best.new stuck.old stuck.new) }
+    ensures grows { OnOk result (GainsStacks readings.old.graph readings.new.graph) }
+    ensures form { OnOk result (HasForm table.now.grammar readings.new.best) }
+    ensures deep { IfOk result (λ b. b ≡ true → ComesTooDeep table.now.grammar
+        (L.Text.bytes text.now) (config_of readings.old.graph head)) }
+    ensures done { IfOk result (λ b. b ≡ false → Spent table.now (L.Text.bytes text.now)
+        readings.new.graph (most_actions table.now) (config_of readings.old.graph head)
+        readings.old.live.items readings.new.live.items readings.old.best readings.new.best
+        readings.old.stuck readings.new.stuck) }
 {
     laws_hold();
-    match look(table, lexer, text, graph, head) {
+    match look(table, lexer, text, &readings.graph, head) {
         Lexed::Absent { place, extent: _ } => {
-            stick(stuck, place);
+            stick(&mut readings.stuck, place);
             Ok(false)
         }
         Lexed::Token {
@@ -124,7 +120,7 @@ pub(crate) fn advance<L: Tokens>(
                 size,
                 extent,
             };
-            let deep = follow(alloc, table, setting, graph, live, best, head, found)?;
+            let deep = follow(alloc, table, setting, readings, head, found)?;
             Ok(deep)
         }
     }

@@ -8,6 +8,7 @@ mod following;
 mod laws;
 mod outcome;
 mod parsing;
+mod readings;
 
 pub use outcome::Outcome;
 pub use parsing::parse;

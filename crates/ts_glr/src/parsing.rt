@@ -8,10 +8,10 @@ ghost use Rattle.ts_glr.specs.Outcomes.{value_of_outcome, EndsAs, IsTreeOf};
 use crate::following::advance;
 use crate::laws::laws_hold;
 use crate::outcome::Outcome;
+use crate::readings::{Readings, readings_of};
 use std::alloc::{AllocError, Global};
-use ts_gss::Graph;
 use ts_lexer::{Content, Tokens};
-use ts_moves::{StackHead, setting_of};
+use ts_moves::setting_of;
 use ts_node::Node;
 use ts_table::{Table, unit_ranks};
 
@@ -45,24 +45,24 @@ pub fn parse<L: Tokens>(
     ensures made { L.made_for lexer.new table.now }
     ensures fresh { IfOk result (λ out. Fresh table.now.grammar (L.Text.bytes text.now)
         (value_of_outcome out)) }
-    ensures form { IfOk result (IsTreeOf table.now.grammar (length (L.Text.bytes text.now))) }
+    ensures form { IfOk result (IsTreeOf table.now.grammar) }
 {
     laws_hold();
     table.stands();
     unit_ranks();
     let setting = setting_of(alloc, table, text.len())?;
-    let mut graph = Graph::new(alloc);
-    let mut live = Vec::new(alloc);
-    live.push(StackHead { top: 0, place: 0 })?;
-    let mut best = None;
-    let mut stuck = None;
-    while let Some(head) = live.pop() {
-        let deep = advance(
-            alloc, table, &setting, lexer, text, &mut graph, &mut live, &mut best, &mut stuck, head,
-        )?;
+    let mut readings = readings_of(alloc)?;
+    while let Some(head) = readings.live.pop() {
+        let deep = advance(alloc, table, &setting, lexer, text, &mut readings, head)?;
         if deep {
             return Ok(Outcome::Deep);
         }
     }
+    let Readings {
+        graph: _,
+        live: _,
+        best,
+        stuck,
+    } = readings;
     Ok(outcome(best, stuck))
 }

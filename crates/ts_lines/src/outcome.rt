@@ -1,5 +1,5 @@
-//! An outcome in; the members that tell it out, sent one by one, so that a line takes no more memory
-//! than its own bytes.
+//! An outcome in; the members that tell it out, sent one by one: no value of them all is built
+//! beside the line.
 ghost use Rattle.std.specs.Prelude.{◌≡◌, OnOk, codes, map};
 ghost use Rattle.serde.specs.Event.{Log};
 ghost use Rattle.serde_json.specs.Data.{Members, member, no_members, array, string};

@@ -1,9 +1,8 @@
 -- Two numberings of one grammar agree on all that its rules hold.
-use Rattle.std.proofs.Common.{◌≡◌, ◌∙◌, sym, ap, subst, refl, ℕ, ◌+◌, Bool, true, false, ◌⊎◌, inl, inr, ⊎_elim, List, [], ◌∷◌, ◌++◌, map, slice_get, Option, Some, None, All}
-use Rattle.std.specs.List.{Contains, flat_map}
+use Rattle.std.proofs.Common.{◌≡◌, ◌∙◌, sym, ap, subst, refl, ℕ, Bool, true, false, List, [], ◌∷◌, ◌++◌, slice_get, Some}
+use Rattle.std.specs.List.{Contains}
 use Rattle.std.proofs.lemmas.List.Elements.{Contains-append_left, Contains-append_right, All-contains}
 use Rattle.ts_base.specs.Bytes.{Bytes}
-use Rattle.ts_core.specs.declared.flat.Alias.{Alias}
 use Rattle.ts_core.specs.declared.flat.Prec.{Prec}
 use Rattle.ts_core.specs.declared.rule.Grammar.{Grammar}
 use Rattle.ts_core.specs.declared.rule.PrecValue.{PrecValue}
@@ -13,11 +12,11 @@ use Rattle.ts_core.specs.declared.rule.Rule.TheVariants as rule
 use Rattle.ts_core.specs.declared.rule.Rule.TheVariants.{rolls-Literal, rolls-Pattern, rolls-Token, rolls-ImmediateToken}
 use Rattle.ts_core.specs.declared.rule.Rule.TheViews.{roll-Rule, out-Rule, roll-out-Rule}
 use Rattle.ts_rules.specs.Causes.{IsUndefined, names_used, listed, joined}
-use Rattle.ts_rules.specs.FirstSights.{Not, Picks, Clear, Once}
-use Rattle.ts_rules.specs.Numbers.{Numbers, Lists, AreLists, AreNumbers, IsRule, IsInlined, NamesSome, NamesToken, HasSymbol, IsRepeated, has_steps, tree_of, unnumbered, prec_of, alts}
-use Rattle.ts_rules.specs.Sights.{NamedRule, Sight, sights, rule_sights, extra_sights, walk, tokens_in, token_at, if_token, is_token, is_token_layer, contents_in, content_at, content_layer, symbols_in, symbol_layer, fields_in, field_layer, aliases_in, alias_layer, alias, precs_in, prec_layer, ranked_names, ranked_rules}
-use Rattle.ts_normalise.proofs.ListLemmas.{there, at_of, head_in, flat_in, in_flat, picks_all, picked, stable}
-use Rattle.ts_normalise.proofs.LikeLemmas.{AgreesLayer, AgreesAll, Agrees, AltsLike, alts_like, same_steps}
+use Rattle.ts_rules.specs.FirstSights.{Not, Clear, Once}
+use Rattle.ts_rules.specs.Numbers.{Numbers, Lists, AreLists, AreNumbers, IsRule, IsInlined, NamesSome, HasSymbol, IsRepeated, has_steps, tree_of, unnumbered, prec_of, alts}
+use Rattle.ts_rules.specs.Sights.{NamedRule, Sight, rule_sights, extra_sights, walk, tokens_in, token_at, if_token, is_token, is_token_layer, contents_in, content_at, content_layer, symbols_in, symbol_layer, fields_in, field_layer, aliases_in, alias_layer, alias, precs_in, prec_layer, ranked_names, ranked_rules}
+use Rattle.ts_normalise.proofs.ListLemmas.{there, at_of, head_in, flat_in, picks_all, picked, stable}
+use Rattle.ts_normalise.proofs.LikeLemmas.{AgreesLayer, AgreesAll, AltsLike, alts_like, same_steps}
 use Rattle.ts_normalise.proofs.InsideLemmas.{rule_seen, content_seen}
 use Rattle.ts_normalise.proofs.BecomeLemmas.{So}
 

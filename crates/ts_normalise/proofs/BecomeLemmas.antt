@@ -1,5 +1,5 @@
 -- Alternatives that are alike become alike by inlining, and so give the same productions.
-use Rattle.std.proofs.Common.{◌≡◌, ◌∙◌, sym, ap, subst, refl, arith, ℕ, ℤ, ◌+◌, ◌<◌, ◌≤◌, Bool, true, List, [], ◌∷◌, ◌++◌, map, slice_get, Option, Some, None, All}
+use Rattle.std.proofs.Common.{◌≡◌, ◌∙◌, sym, ap, subst, refl, arith, ℕ, ℤ, ◌+◌, true, List, [], ◌∷◌, ◌++◌, map, slice_get, Option, Some, None, All}
 use Rattle.std.proofs.lemmas.List.Elements.{All-head, All-tail}
 use Rattle.ts_core.specs.declared.flat.Alias.{Alias}
 use Rattle.ts_core.specs.declared.flat.Production.{Production}
@@ -8,9 +8,9 @@ use Rattle.ts_core.specs.declared.rule.Rule.{Rule}
 use Rattle.ts_rules.specs.declared.tree.Alternative.{Alternative}
 use Rattle.ts_rules.specs.declared.tree.NumberedStep.{NumberedStep}
 use Rattle.ts_rules.specs.Alternatives.{Alternatives, alternative, stronger, inner_assoc, step_at}
-use Rattle.ts_rules.specs.FirstSights.{Not, Each, end, both, AreFirstSights}
+use Rattle.ts_rules.specs.FirstSights.{Each, end, both, AreFirstSights}
 use Rattle.ts_rules.specs.Numbers.{Numbers, Lists, alts, first_inlined, outermost}
-use Rattle.ts_rules.specs.Productions.{or_else, prec_or, marked_by, ended_by, inserted, replaced_by, IsInner, Stays, Becomes, stays, replaced, AllBecome, none_left, one_more, symbol, alias_of, flat_step, production, AreProductions, unless_blank, filled, again, AreRepeated}
+use Rattle.ts_rules.specs.Productions.{or_else, prec_or, marked_by, ended_by, inserted, replaced_by, IsInner, Stays, Becomes, stays, replaced, AllBecome, none_left, one_more, alias_of, flat_step, production, AreProductions, unless_blank, filled, again, AreRepeated}
 use Rattle.ts_rules.specs.Sights.{NamedRule}
 use Rattle.ts_normalise.proofs.ListLemmas.{one_sights}
 use Rattle.ts_normalise.proofs.LikeLemmas.{StepLike, AltLike, AltsLike, each_append, each_map}

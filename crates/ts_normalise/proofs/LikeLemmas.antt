@@ -1,31 +1,28 @@
 -- The alternatives of a rule tree by two numberings: alike, where the numberings agree on what stands
 -- in the tree, and in any case as many, with steps in the same places.
-use Rattle.std.proofs.Common.{◌≡◌, ◌∙◌, sym, ap, subst, refl, ℕ, ℤ, Bool, true, false, not, ◌||◌, if◌then◌else◌, List, [], ◌∷◌, ◌++◌, map, Option, Some, None}
+use Rattle.std.proofs.Common.{◌≡◌, ◌∙◌, sym, ap, subst, refl, ℕ, ℤ, Bool, true, false, not, ◌||◌, if◌then◌else◌, List, [], ◌∷◌, ◌++◌, map, Some}
 use Rattle.std.specs.Prelude.{◌&&◌}
 use Rattle.std.specs.List.{Contains, list_any}
 use Rattle.std.proofs.lemmas.List.Elements.{Contains-append_left, Contains-append_right}
-use Rattle.ts_base.specs.Bytes.{Bytes}
 use Rattle.ts_core.specs.declared.flat.Alias.{Alias}
 use Rattle.ts_core.specs.declared.flat.Assoc.{Assoc}
 use Rattle.ts_core.specs.declared.flat.Prec.{Prec}
 use Rattle.ts_core.specs.declared.flat.Step.{Step}
-use Rattle.ts_core.specs.declared.rule.PrecValue.{PrecValue}
 use Rattle.ts_core.specs.declared.rule.Rule.{Rule}
 use Rattle.ts_core.specs.declared.rule.Rule.TheBlock.{the_family, member-Rule}
 use Rattle.ts_core.specs.declared.rule.Rule.TheFolds.{ind-Rule, map-Rule, claims, para-roll-Rule}
 use Rattle.ts_core.specs.declared.rule.Rule.TheOpen.{Rule-F}
 use Rattle.ts_core.specs.declared.rule.Rule.TheVariants as rule
 use Rattle.ts_core.specs.declared.rule.Rule.TheViews.{roll-Rule, out-Rule, out-roll-Rule}
-use Rattle.ts_core.specs.declared.symbol.Symbol.{Symbol}
 use Rattle.ts_rules.specs.declared.tree.Alternative.{Alternative}
 use Rattle.ts_rules.specs.declared.tree.Around.{Around}
 use Rattle.ts_rules.specs.declared.tree.NumberedStep.{NumberedStep}
 use Rattle.ts_rules.specs.declared.tree.Tree.{Tree}
 use Rattle.ts_rules.specs.declared.tree.Tree.TheVariants as tree
-use Rattle.ts_rules.specs.Alternatives.{Alternatives, alternative, alternatives_of, blank, single, step_at, followed, joins, sequence, choice_of, members_of, stronger, in_field, in_alias, in_dynamic, in_group, in_sequence, inner_assoc, is_last, left, left_by, last_left, group}
-use Rattle.ts_rules.specs.FirstSights.{Not, Each, end, both}
+use Rattle.ts_rules.specs.Alternatives.{Alternatives, alternatives_of, blank, single, step_at, followed, joins, sequence, choice_of, members_of, stronger, in_field, in_alias, in_dynamic, in_group, in_sequence, inner_assoc, is_last, left, left_by, last_left, group}
+use Rattle.ts_rules.specs.FirstSights.{Each, end, both}
 use Rattle.ts_rules.specs.Numbers.{Numbers, Numbered, inner_trees, tree_of, tree_step, outermost, is_blank, has_blank, has_steps, where_so, any_times, many_times, prec_of, alts}
-use Rattle.ts_rules.specs.Productions.{symbol, alias_of, flat_step}
+use Rattle.ts_rules.specs.Productions.{symbol, flat_step}
 use Rattle.ts_rules.specs.Sights.{Sight, SeenBelow, seen_all, below, below_step, sights, alias}
 use Rattle.ts_normalise.proofs.ListLemmas.{tail_in, head_in}
 use Rattle.ts_normalise.proofs.TreeLemmas.{at_blank, at_step, at_field, at_alias, at_group, at_dynamic, at_seq, at_choice}

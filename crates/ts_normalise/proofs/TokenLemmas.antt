@@ -1,7 +1,7 @@
 -- A token has one definition: one name, one kind, and the same regular expression by patterns that read
 -- alike.
-use Rattle.std.proofs.Common.{◌≡◌, ◌∙◌, sym, ap, subst, refl, ℕ, zero, suc, ◌+◌, ◌<◌, ◌≤◌, Bool, true, false, ◌⊎◌, inl, inr, ⊎_elim, List, [], ◌∷◌, ◌++◌, map, slice_get, Option, Some, None, chars, IsTrue, ◌↔◌, append_assoc, arith}
-use Rattle.std.specs.List.{Contains, flat_map}
+use Rattle.std.proofs.Common.{◌≡◌, ◌∙◌, sym, ap, subst, refl, ℕ, zero, suc, ◌<◌, Bool, true, false, ◌⊎◌, inl, inr, ⊎_elim, List, [], ◌∷◌, ◌++◌, slice_get, Option, Some, None, chars, append_assoc, arith}
+use Rattle.std.specs.List.{Contains}
 use Rattle.std.proofs.lemmas.Bool.{cases_lt}
 use Rattle.std.proofs.lemmas.List.Concat.{flat_map-append}
 use Rattle.std.proofs.lemmas.List.Elements.{Contains-append_left, Contains-append_right}
@@ -16,8 +16,8 @@ use Rattle.spec_lexing.specs.Words.{Word, regular_of}
 use Rattle.ts_rules.specs.FirstSights.{Not, Once}
 use Rattle.ts_rules.specs.Numbers.{NamesToken}
 use Rattle.ts_rules.specs.Sights.{NamedRule, Sight, sights, below, seen_rules, rule_sights, tokens_in, token_at, if_token, is_token}
-use Rattle.ts_rules.specs.Tokens.{Patterns, IsTokenDef, IsNamedBy, IsUnnamed, IsKind, IsHidden, IsKeyword, re_of}
-use Rattle.ts_normalise.proofs.ListLemmas.{there, at_of, none_in, head_in, tail_in, member_cases, flat_in}
+use Rattle.ts_rules.specs.Tokens.{Patterns, IsTokenDef, IsNamedBy, IsUnnamed, IsKind, IsKeyword}
+use Rattle.ts_normalise.proofs.ListLemmas.{at_of, none_in, head_in, tail_in, member_cases, flat_in}
 use Rattle.ts_normalise.proofs.InsideLemmas.{rule_seen, token_seen}
 use Rattle.ts_normalise.proofs.PatternLemmas.{ReadAlike, same_re}
 use Rattle.ts_normalise.proofs.RecordLemmas.{same_token}

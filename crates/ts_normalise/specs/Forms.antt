@@ -1,5 +1,6 @@
--- What a flat grammar alone tells of why it can't be used: its first empty token, its first rule that
--- is empty where it must not be, its first rule that derives itself alone. They serve proofs alone.
+-- What a flat grammar alone tells of why it can't be used: its first empty token, its first rule
+-- that is empty where it must not be, its first rule that derives itself alone. They serve proofs
+-- alone.
 use Rattle.std.specs.Prelude.{◌≡◌, ℕ, slice_get, Some}
 use Rattle.ts_core.specs.declared.flat.FlatGrammar.{FlatGrammar}
 use Rattle.ts_core.specs.declared.flat.FlatRule.{FlatRule}

@@ -1,5 +1,5 @@
-//! The public call: a grammar file comes in, and its normal form goes out, or the first cause why it
-//! has none that can be used.
+//! The public call: a grammar file comes in, and its normal form goes out, or the first cause why
+//! it has none that can be used.
 
 ghost use Rattle.std.specs.Prelude.{Ok, Err, IfOk, IfErr};
 ghost use Rattle.ts_core.specs.declared.flat.FlatGrammar.{FlatGrammar as AnyForm};
@@ -40,10 +40,10 @@ fn checked_form(alloc: Global, grammar: &Grammar) -> Result<FlatGrammar, NFault>
 /// # Errors
 ///
 /// The first of these that stands. In the rule trees: a name that no rule has, a SYMBOL inside a
-/// token, an inlined rule that can't be inlined, a word or an extra that is no token. A pattern that
-/// can't be read. A limit on symbols, names, productions, steps or positions that is passed. In the
-/// normal form: a token that matches the empty text, a rule that is empty where it must not be, a
-/// rule that derives itself alone. `Memory` may come at any time.
+/// token, an inlined rule that can't be inlined, a word or an extra that is no token. A pattern
+/// that can't be read. A limit on symbols, names, productions, steps or positions that is passed.
+/// In the normal form: a token that matches the empty text, a rule that is empty where it must not
+/// be, a rule that derives itself alone. `Memory` may come at any time.
 pub fn flatten(alloc: Global, grammar: &Grammar) -> Result<FlatGrammar, NFault>
     requires file { IsFileGrammar grammar.now }
     ensures normal { IfOk result (Flattens grammar.now) }

@@ -1,5 +1,5 @@
-//! The normal form of a grammar whose trees and patterns are right: the grammar comes in, with what is
-//! known of it, and its normal form goes out, or the first limit that it passes.
+//! The normal form of a grammar whose trees and patterns are right: the grammar comes in, with what
+//! is known of it, and its normal form goes out, or the first limit that it passes.
 
 ghost use Rattle.std.specs.Prelude.{◌≡◌, IfOk, IfErr};
 ghost use Rattle.ts_normalise.specs.Refusals.{HasCause, FindsInTrees, FindsMany, Nothing};

@@ -1,5 +1,5 @@
-//! Names that are lent: what comes in are names of a grammar, and what goes out is a copy of one, or
-//! the set of those that name a token.
+//! Names that are lent: what comes in are names of a grammar, and what goes out is a copy of one,
+//! or the set of those that name a token.
 
 ghost use Rattle.std.specs.Prelude.{◌≡◌, ◌↔◌, ◌⊎◌, IfOk, OnOk};
 ghost use Rattle.std.specs.List.{Contains};

@@ -1,5 +1,5 @@
-//! Whether the texts of a grammar can stand in a normal form: what comes in is its walk, and what goes
-//! out is the answer.
+//! Whether the texts of a grammar can stand in a normal form: what comes in is its walk, and what
+//! goes out is the answer.
 
 ghost use Rattle.std.specs.Prelude.{◌<◌, ◌^◌, suc, IsTrue, All, length};
 ghost use Rattle.std.specs.Str.{IsUtf8};

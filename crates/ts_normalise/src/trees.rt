@@ -1,5 +1,5 @@
-//! What the rule trees of a grammar alone refuse: the grammar comes in, and what is known of it goes
-//! out, or the first cause why it is refused.
+//! What the rule trees of a grammar alone refuse: the grammar comes in, and what is known of it
+//! goes out, or the first cause why it is refused.
 
 ghost use Rattle.std.specs.Prelude.{◌≡◌, IfOk, IfErr};
 ghost use Rattle.ts_core.specs.declared.rule.Grammar.{Grammar as AnyGrammar};
@@ -98,8 +98,8 @@ fn check_words(alloc: Global, grammar: &Grammar, token_names: &IndexSet<&Str>) -
     Ok(())
 }
 
-/// Refuses what the walk tells: a name that no rule has, and a SYMBOL inside a token. Texts that are
-/// too long for a normal form count as more than memory can hold.
+/// Refuses what the walk tells: a name that no rule has, and a SYMBOL inside a token. Texts that
+/// are too long for a normal form count as more than memory can hold.
 fn check_walk(alloc: Global, grammar: &Grammar, walk: &[Spot<'_>]) -> Result<(), NFault>
     requires walk { sights.seen_trees walk.now ≡ sights.walk grammar.now }
     ensures names { IfOk result (λ _. Nothing (FindsUndefined grammar.now)) }
@@ -115,8 +115,8 @@ fn check_walk(alloc: Global, grammar: &Grammar, walk: &[Spot<'_>]) -> Result<(),
     Ok(())
 }
 
-/// Refuses what the tokens tell, and gives the ranks of the rules: an inlined rule that can't be one,
-/// a word or an extra that is no token.
+/// Refuses what the tokens tell, and gives the ranks of the rules: an inlined rule that can't be
+/// one, a word or an extra that is no token.
 fn check_rules(alloc: Global, grammar: &Grammar, survey: &Survey) -> Result<Vec<usize>, NFault>
     requires file { IsFileGrammar grammar.now }
     requires survey { IsSurvey grammar.now survey.now }

@@ -1,4 +1,4 @@
-use Rattle.std.proofs.Common.{◌≡◌, ◌∙◌}
+use Rattle.std.proofs.Common.{◌∙◌}
 use Rattle.ts_numbering.specs.Numberings.{lists_of, numbers_of}
 use Rattle.ts_tokens.specs.Patterns.{meaning}
 use Rattle.ts_form.proofs.form.assembled.Goals as goal

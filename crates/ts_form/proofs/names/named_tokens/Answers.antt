@@ -1,7 +1,7 @@
-use Rattle.std.proofs.Common.{◌≡◌, ◌∙◌, sym, ap}
+use Rattle.std.proofs.Common.{◌∙◌, ap}
 use Rattle.ts_numbering.specs.Keys.{rules_told, trees}
 use Rattle.ts_numbering.specs.Numberings.{lists_of}
-use Rattle.ts_form.proofs.NameLemmas.{all_named, trees_long}
+use Rattle.ts_form.proofs.NameLemmas.{all_named}
 use Rattle.ts_form.proofs.names.named_tokens.Goals as goal
 
 pub returns-clause-trees : goal.returns-clause-trees

@@ -1,6 +1,4 @@
-use Rattle.std.proofs.Common.{◌≡◌, ◌∙◌, sym, ap, subst, ◌+◌, ◌<◌, List, length, take, Option, Some, slice_get, arith}
-use Rattle.std.specs.Borrow.{Bor}
-use Rattle.ts_base.specs.Bytes.{Bytes}
+use Rattle.std.proofs.Common.{◌∙◌, ap, Some, arith}
 use Rattle.ts_numbering.specs.Keys.{rules_told}
 use Rattle.ts_numbering.specs.Numberings.{lists_of, numbers_of}
 use Rattle.ts_form.proofs.NameLemmas.{names_begin, names_more, names_all, at_place, told_long, trees_long, rule_token, token_within}

@@ -1,4 +1,4 @@
-use Rattle.std.proofs.Common.{◌≡◌, ◌∙◌}
+use Rattle.std.proofs.Common.{◌∙◌}
 use Rattle.ts_form.proofs.NameLemmas.{number_above, number_within, token_by_number}
 use Rattle.ts_form.proofs.names.token_named.Goals as goal
 

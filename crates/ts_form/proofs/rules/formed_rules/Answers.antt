@@ -1,4 +1,4 @@
-use Rattle.std.proofs.Common.{◌≡◌, ◌∙◌, sym, ap, subst}
+use Rattle.std.proofs.Common.{sym, subst}
 use Rattle.ts_numbering.specs.Numberings.{lists_of, numbers_of}
 use Rattle.ts_form.specs.Limits.{IsFormFault}
 use Rattle.ts_form.specs.declared.fault.FormFault.{FormFault}

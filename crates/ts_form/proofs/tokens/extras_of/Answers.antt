@@ -1,4 +1,4 @@
-use Rattle.std.proofs.Common.{◌≡◌, ap, subst, List}
+use Rattle.std.proofs.Common.{ap, subst, List}
 use Rattle.ts_core.specs.declared.rule.Rule.{Rule}
 use Rattle.ts_numbering.specs.Keys.{trees}
 use Rattle.ts_numbering.specs.Numberings.{numbers_of}

@@ -8,6 +8,6 @@ use Rattle.ts_glr.proofs.following.advance.Goals as goal
 
 pub returns-in-Absent-clause-done : goal.returns-in-Absent-clause-done
 returns-in-Absent-clause-done g c shallow =
-    spent_absent c.laws_hold.ensures c.args.table.now (g.L.Text.Content.bytes c.args.text.now) (config_of c.args.graph.now c.args.head) c.in-Absent.place
-    (subst (λ (l : Lexed). Sees c.args.table.now.grammar (g.L.Text.Content.bytes c.args.text.now) (config_of c.args.graph.now c.args.head) l) c.in-Absent.is c.look.ensures.sees)
-    c.args.graph.now (most_actions c.args.table.now) c.args.live.now.items c.args.best.now c.args.stuck.now c.stick.new.stuck c.stick.ensures.mine c.stick.ensures.others c.stick.ensures.from
+    spent_absent c.laws_hold.ensures c.args.table.now (g.L.Text.Content.bytes c.args.text.now) (config_of c.args.readings.now.graph c.args.head) c.in-Absent.place
+    (subst (λ (l : Lexed). Sees c.args.table.now.grammar (g.L.Text.Content.bytes c.args.text.now) (config_of c.args.readings.now.graph c.args.head) l) c.in-Absent.is c.look.ensures.sees)
+    c.args.readings.now.graph (most_actions c.args.table.now) c.args.readings.now.live.items c.args.readings.now.best c.args.readings.now.stuck c.stick.new.stuck c.stick.ensures.mine c.stick.ensures.others c.stick.ensures.from

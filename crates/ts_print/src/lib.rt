@@ -1,0 +1,11 @@
+//! What a parse comes to as it is printed: a grammar, a text and the outcome of parsing it go in,
+//! and the outcome's line comes out.
+#![tactic(auto)]
+
+mod laws;
+mod printing;
+#[cfg(test)]
+mod tests;
+
+pub use laws::fresh_trees_lie_in_the_text;
+pub use printing::outcome_line;

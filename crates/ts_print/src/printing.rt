@@ -1,0 +1,58 @@
+//! The outcome of a parse in; its line out.
+ghost use Rattle.std.specs.Prelude.{◌≡◌, IfOk, string_bytes};
+ghost use Rattle.spec_runs.specs.Outcomes.{Fresh};
+ghost use Rattle.spec_output.specs.Outcomes.{parse_line};
+ghost use Rattle.ts_glr.specs.Outcomes.{value_of_outcome};
+ghost use Rattle.ts_print.specs.Printed.{TreeLiesIn, shown_outcome, IsOutcomeLine};
+
+use spec_output::ShownOutcome;
+use std::alloc::{AllocError, Global};
+use ts_core::FlatGrammar;
+use ts_cursor::shown;
+use ts_glr::Outcome;
+use ts_lines::parsed;
+use ts_text::Text;
+
+/// The line of what a text comes to, in time by the sizes of the text and its tree.
+///
+/// `fresh_trees_lie_in_the_text` says that what `ts_glr::parse` answers meets the condition.
+///
+/// # Errors
+///
+/// `AllocError` where memory runs out.
+pub fn outcome_line(
+    alloc: Global,
+    grammar: &FlatGrammar,
+    text: &Text,
+    outcome: &Outcome,
+) -> Result<String, AllocError>
+    requires lies { TreeLiesIn text.now (value_of_outcome outcome.now) }
+    ensures line { IfOk result (λ s. string_bytes s
+        ≡ parse_line (shown_outcome grammar.now text.now (value_of_outcome outcome.now))) }
+    ensures fresh { IfOk result (λ s.
+        Fresh grammar.now text.now (value_of_outcome outcome.now)
+        → IsOutcomeLine grammar.now text.now (string_bytes s)) }
+{
+    line(alloc, grammar, text, outcome)
+}
+
+/// The same, without the clause on what is fresh.
+fn line(
+    alloc: Global,
+    grammar: &FlatGrammar,
+    text: &Text,
+    outcome: &Outcome,
+) -> Result<String, AllocError>
+    requires { TreeLiesIn text.now (value_of_outcome outcome.now) }
+    ensures { IfOk result (λ s. string_bytes s
+        ≡ parse_line (shown_outcome grammar.now text.now (value_of_outcome outcome.now))) }
+{
+    match outcome {
+        Outcome::Accepted(root) => {
+            let nodes = shown(alloc, grammar, text, root)?;
+            parsed(alloc, &ShownOutcome::Tree(nodes))
+        }
+        Outcome::Stuck(place) => parsed(alloc, &ShownOutcome::Stuck(*place)),
+        Outcome::Deep => parsed(alloc, &ShownOutcome::Deep),
+    }
+}
