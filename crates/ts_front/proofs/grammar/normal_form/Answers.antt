@@ -4,7 +4,7 @@ use Rattle.ts_front.proofs.RefusalLemmas.{normal_refuses}
 use Rattle.ts_front.proofs.grammar.normal_form.Goals as goal
 
 pub flatten-requires : goal.flatten-requires
-flatten-requires c = c.read_grammars_are_file_grammars.ensures c.args.bytes.now c.requires.file.value c.args.grammar.now c.requires.short c.requires.file.reads c.requires.file.grammar
+flatten-requires c = record { file = c.read_grammars_are_file_grammars.ensures c.args.bytes.now c.requires.file.value c.args.grammar.now c.requires.short c.requires.file.reads c.requires.file.grammar }
 
 pub returns-in_err-flatten-clause-refused : goal.returns-in_err-flatten-clause-refused
 returns-in_err-flatten-clause-refused c =
