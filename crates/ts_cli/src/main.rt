@@ -20,12 +20,14 @@ use std::process::ExitCode;
 use std::rt::Env;
 use trouble::tell;
 use ts_io::{OsFolder, OutSink};
-use ts_top::Status;
+use spec_output::Status;
+use ts_lines::number;
 
 const HELP: &str = "\
 hemshale builds parsers from grammar files and parses texts with them.
 
-  hemshale parse GRAMMAR TEXT    parse the file TEXT by the grammar file GRAMMAR, and print the tree
+  hemshale parse GRAMMAR TEXT    parse the file TEXT by the grammar GRAMMAR, and print the tree
+  hemshale compile GRAMMAR       write the language file of the grammar GRAMMAR
   hemshale --help                print this
   hemshale --version             print the version
 
@@ -40,11 +42,11 @@ fn main(rt: HostRuntime) -> ExitCode {
     let mut folder = Noted::new(OsFolder::new(&rt));
     let status = match words(&rt) {
         Ok(words) => match request_of(words.as_slice()) {
-            Request::Help => say(&mut sink, HELP).number(),
-            Request::Version => say(&mut sink, VERSION).number(),
+            Request::Help => number(say(&mut sink, HELP)),
+            Request::Version => number(say(&mut sink, VERSION)),
             Request::Command => ts_top::run(&rt, words.as_slice(), &mut folder, &mut sink),
         },
-        Err(AllocError) => Status::OutOfMemory.number(),
+        Err(AllocError) => number(Status::OutOfMemory),
     };
     tell(&rt, status, folder.failed());
     ExitCode::from(status)

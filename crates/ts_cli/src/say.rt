@@ -3,7 +3,7 @@ ghost use Rattle.std.specs.Prelude.{◌≡◌, ◌⊎◌};
 ghost use Rattle.ts_io.specs.Outside.{Appends, AppendsPrefix, Rose};
 
 use ts_io::{Sink, WriteFault, put};
-use ts_top::Status;
+use spec_output::Status;
 
 /// Prints a text, and answers the status of that.
 pub(crate) fn say<S: Sink>(sink: &mut S, text: &str) -> Status

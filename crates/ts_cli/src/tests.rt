@@ -4,7 +4,7 @@ use crate::request::{Request, request_of};
 use crate::say::say;
 use std::alloc::AllocError;
 use ts_io::{Folder, Found, MemFolder, MemSink, ReadFault};
-use ts_top::Status;
+use spec_output::Status;
 
 #[test]
 fn asks_by_one_word(rt: HostRuntime) -> Result<(), AllocError> {

@@ -1,10 +1,11 @@
 //! What a person is told on standard error: a status and the path of the last failed read come in,
 //! and where standard output says nothing whole at that status, one line goes out.
 ghost use Rattle.std.specs.Prelude.{◌≡◌, ◌↔◌, Some};
-ghost use Rattle.ts_top.specs.Status.{number_of};
-ghost use Rattle.ts_top.specs.declared.status.Status.TheVariants as ends;
+ghost use Rattle.spec_output.specs.Status.{number_of};
+ghost use Rattle.spec_output.specs.declared.status.Status.TheVariants as ends;
 
-use ts_top::Status;
+use spec_output::Status;
+use ts_lines::number;
 
 /// What cut a run short.
 #[derive(Clone, Copy, Debug, PartialEq, Eq)]
@@ -20,11 +21,11 @@ pub(crate) fn trouble_at(status: u8) -> Option<Trouble>
     ensures write { (result ≡ Some Trouble.Write) ↔ (status ≡ number_of ends.WriteFault) }
     ensures memory { (result ≡ Some Trouble.Memory) ↔ (status ≡ number_of ends.OutOfMemory) }
 {
-    if status == Status::ReadFault.number() {
+    if status == number(Status::ReadFault) {
         Some(Trouble::Read)
-    } else if status == Status::WriteFault.number() {
+    } else if status == number(Status::WriteFault) {
         Some(Trouble::Write)
-    } else if status == Status::OutOfMemory.number() {
+    } else if status == number(Status::OutOfMemory) {
         Some(Trouble::Memory)
     } else {
         None

@@ -1,49 +1,28 @@
--- Words and files come to one status and one list of bytes.
+-- Words and files come to one status, and to one list of bytes but for the line of an outcome.
 use Rattle.std.proofs.Common.{◌≡◌, ◌∙◌, sym, ap, subst, refl, ℕ, inl, inr, List, [], ◌∷◌, length, Option, Some, None, codes, arith}
 use Rattle.ts_base.specs.Bytes.{Bytes}
+use Rattle.ts_core.specs.declared.flat.FlatGrammar.{FlatGrammar}
+use Rattle.spec_output.specs.Faults.{absent_line, broken_line}
+use Rattle.spec_output.specs.declared.status.Status.{Status}
+use Rattle.spec_output.specs.declared.status.Status.TheVariants.{Done}
 use Rattle.ts_io.specs.Outside.{Files, file_at}
+use Rattle.ts_langfile.specs.Spelling.{spelling}
 use Rattle.ts_text.specs.Text.{IsText, BreaksAt}
-use Rattle.ts_top.specs.Form.{IsBuilt}
-use Rattle.ts_top.specs.Tree.{Node}
-use Rattle.ts_top.specs.Visible.{Visible}
-use Rattle.ts_top.specs.Plain.{Plain, Ending, accepted, stuck, deep, Gives, walk, events_of, start_of}
-use Rattle.ts_top.specs.Lines.{tree_line, text_line, absent_line}
-use Rattle.ts_top.specs.Answer.{Parses, Has, IsAbsent, Judged, unbuilt, too_large, no_text, parsed, Answers, usage, absent, judged, IsClean, outcome_line}
-use Rattle.ts_top.specs.declared.status.Status.{Status}
-use Rattle.ts_top.specs.declared.status.Status.TheVariants.{Done}
-use Rattle.ts_top.specs.declared.plain.PlainGrammar.{PlainGrammar}
-use Rattle.ts_top.specs.declared.plain.Outcome.{Outcome}
-use Rattle.ts_top.proofs.GrammarLemmas.{ReadOnce, built_once}
-use Rattle.ts_top.proofs.ExpansionLemmas.{same_expansion}
+use Rattle.ts_front.specs.Compiled.{IsCompiled, IsRefusalLine}
+use Rattle.ts_top.specs.Answer.{Parses, Compiles, Has, IsAbsent, Builds, Judged, large_grammar, refused_grammar, too_large, no_text, parsed, Compiled, large, refused, written, Answers, usage, absent, judged, lacking, compiled, IsClean, IsCompilable}
 
 -- what is known of the bytes of files
 pub record Laws : Type 0 where
-  pub read_once : ReadOnce
   pub breaks_once : (bytes : Bytes) (m n : ℕ) → BreaksAt bytes m → BreaksAt bytes n → m ≡ n
   pub whole : (bytes : Bytes) (n : ℕ) → IsText bytes → BreaksAt bytes n → ⊥
+  pub compiled_once : (w a b : Bytes) → IsCompiled w a → IsCompiled w b → a ≡ b
+  pub line_once : (w a b : Bytes) → IsRefusalLine w a → IsRefusalLine w b → a ≡ b
+  pub line_or_compiled : (w a b : Bytes) → IsRefusalLine w a → IsCompiled w b → ⊥
 
--- ---- the line of an outcome
-
-gives_once : (g : PlainGrammar) (text : Bytes) (ending : Ending) (root : Node) (out other : Outcome)
-    → Gives ending root out → Gives ending root other → outcome_line g text out ≡ outcome_line g text other
-gives_once g text accepted root out other a b =
-    ap (outcome_line g text) a.1 ∙ ap (λ (n : Node). tree_line (Visible g text n)) (a.2 ∙ sym b.2) ∙ sym (ap (outcome_line g text) b.1)
-gives_once g text (stuck place) root out other a b = ap (outcome_line g text) (a ∙ sym b)
-gives_once g text deep root out other a b = ap (outcome_line g text) (a ∙ sym b)
-
-line_once : (g : PlainGrammar) (text : Bytes) (out other : Outcome) → Plain g text out → Plain g text other
-    → outcome_line g text out ≡ outcome_line g text other
-line_once g text out other a b =
-    let root : a.root ≡ b.root = same_expansion g (start_of g) a.root b.root a.expands b.expands in
-    let moved = subst (λ (r : Node). Gives (walk g text (events_of r) 0 0) r out) root a.gives in
-    gives_once g text (walk g text (events_of b.root) 0 0) b.root out other moved b.gives
-
-line_once_built : Laws → (grammar text : Bytes) (f h : PlainGrammar) (out other : Outcome) → IsBuilt grammar f → IsBuilt grammar h
-    → Plain f text out → Plain h text other → outcome_line f text out ≡ outcome_line h text other
-line_once_built laws grammar text f h out other one two o q =
-    let same : f ≡ h = built_once laws.read_once grammar f h one two in
-    ap (λ (g : PlainGrammar). outcome_line g text out) same
-    ∙ line_once h text out other (subst (λ (g : PlainGrammar). Plain g text out) same o) q
+-- one status, and one list of bytes but where a text was parsed
+pub record AreOne (s t : Status) (b c : Bytes) : Type 0 where
+  pub status : s ≡ t
+  pub bytes : (s ≡ Done → ⊥) → b ≡ c
 
 -- ---- words and files
 
@@ -54,14 +33,24 @@ parses_once words grammar text other_grammar other_text p q =
     let second : text ≡ other_text = cc in
     (first, second)
 
-has_once : (files : Files) (words : List Bytes) (g t p g2 t2 p2 : Bytes) → Has files words g t p → Has files words g2 t2 p2 → (g ≡ g2) × (t ≡ t2) × (p ≡ p2)
-has_once files words g t p g2 t2 p2 h k =
-    let same = parses_once words h.grammar_path p k.grammar_path p2 h.parses k.parses in
-    let gs : Some g ≡ Some g2 = sym h.grammar_is ∙ ap (file_at files) same.0 ∙ k.grammar_is in
-    let ts : Some t ≡ Some t2 = sym h.text_is ∙ ap (file_at files) same.1 ∙ k.text_is in
-    let first : g ≡ g2 = cc in
-    let second : t ≡ t2 = cc in
-    (first, second, same.1)
+compiles_once : (words : List Bytes) (path other : Bytes) → Compiles words path → Compiles words other → path ≡ other
+compiles_once words path other p q =
+    let e : codes "compile" ∷ path ∷ [] ≡ codes "compile" ∷ other ∷ [] = sym p ∙ q in
+    let first : path ≡ other = cc in
+    first
+
+-- words do not ask for both
+one_form : (words : List Bytes) (g t path : Bytes) → Parses words g t → Compiles words path → ⊥
+one_form words g t path p q =
+    let e : length (codes "parse" ∷ g ∷ t ∷ []) ≡ length (codes "compile" ∷ path ∷ []) = ap length (sym p ∙ q) in
+    let never : ⊥ = omega (arith, e) in
+    never
+
+file_once : (files : Files) (p q a b : Bytes) → p ≡ q → file_at files p ≡ Some a → file_at files q ≡ Some b → a ≡ b
+file_once files p q a b e x y =
+    let both : Some a ≡ Some b = sym x ∙ ap (file_at files) e ∙ y in
+    let first : a ≡ b = cc in
+    first
 
 none_there : {X : Type 0} (x : X) (o : Option X) → o ≡ None → o ≡ Some x → ⊥
 none_there x o n s = let never : ⊥ = cc in never
@@ -79,64 +68,155 @@ absent_once files words path other a c =
     let same = parses_once words a.grammar_path a.text_path c.grammar_path c.text_path a.parses c.parses in
     elim a.first [
       | inl missing ↦ elim c.first [
-        | inl lacking ↦ missing.1 ∙ same.0 ∙ sym lacking.1
+        | inl also ↦ missing.1 ∙ same.0 ∙ sym also.1
         | inr file ↦ absurd (none_there file.0 (file_at files c.grammar_path) (sym (ap (file_at files) same.0) ∙ missing.0) file.1)
       ]
       | inr here ↦ elim c.first [
-        | inl lacking ↦ absurd (none_there here.0 (file_at files a.grammar_path) (ap (file_at files) same.0 ∙ lacking.0) here.1)
+        | inl also ↦ absurd (none_there here.0 (file_at files a.grammar_path) (ap (file_at files) same.0 ∙ also.0) here.1)
         | inr file ↦ here.3 ∙ same.1 ∙ sym file.3
       ]
     ]
 
-judged_once : Laws → (g t p : Bytes) (s s2 : Status) (b b2 : Bytes) → Judged g t p s b → Judged g t p s2 b2 → (s ≡ s2) × (b ≡ b2)
-judged_once laws g t p _ _ _ _ (unbuilt n) (unbuilt m) = (refl, refl)
-judged_once laws g t p _ _ _ _ (unbuilt n) (too_large f i l) = absurd (n f i)
-judged_once laws g t p _ _ _ _ (unbuilt n) (no_text f place i l) = absurd (n f i)
-judged_once laws g t p _ _ _ _ (unbuilt n) (parsed f out i l o) = absurd (n f i)
-judged_once laws g t p _ _ _ _ (too_large f i l) (unbuilt m) = absurd (m f i)
-judged_once laws g t p _ _ _ _ (too_large f i l) (too_large h j k) = (refl, refl)
-judged_once laws g t p _ _ _ _ (too_large f i l) (no_text h place j k) = let w = k.within in absurd (omega (arith, w, l))
-judged_once laws g t p _ _ _ _ (too_large f i l) (parsed h out j k o) = let w = k.within in absurd (omega (arith, w, l))
-judged_once laws g t p _ _ _ _ (no_text f place i l) (unbuilt m) = absurd (m f i)
-judged_once laws g t p _ _ _ _ (no_text f place i l) (too_large h j k) = let w = l.within in absurd (omega (arith, w, k))
-judged_once laws g t p _ _ _ _ (no_text f place i l) (no_text h other j k) = (refl, ap (text_line p) (laws.breaks_once t place other l k))
-judged_once laws g t p _ _ _ _ (no_text f place i l) (parsed h out j k o) = absurd (laws.whole t place k l)
-judged_once laws g t p _ _ _ _ (parsed f out i l o) (unbuilt m) = absurd (m f i)
-judged_once laws g t p _ _ _ _ (parsed f out i l o) (too_large h j k) = let w = l.within in absurd (omega (arith, w, k))
-judged_once laws g t p _ _ _ _ (parsed f out i l o) (no_text h place j k) = absurd (laws.whole t place l k)
-judged_once laws g t p _ _ _ _ (parsed f out i l o) (parsed h other j k q) = (refl, line_once_built laws g t f h out other i j o q)
+-- ---- what a grammar and a text come to
 
-judged_once_there : Laws → (files : Files) (words : List Bytes) (g t p g2 t2 p2 : Bytes) (s s2 : Status) (b b2 : Bytes) → Has files words g t p → Has files words g2 t2 p2
-    → Judged g t p s b → Judged g2 t2 p2 s2 b2 → (s ≡ s2) × (b ≡ b2)
-judged_once_there laws files words g t p g2 t2 p2 s s2 b b2 h k j i =
-    let same = has_once files words g t p g2 t2 p2 h k in
-    let grammar : Judged g t2 p2 s2 b2 = subst (λ (x : Bytes). Judged x t2 p2 s2 b2) (sym same.0) i in
-    let text : Judged g t p2 s2 b2 = subst (λ (x : Bytes). Judged g x p2 s2 b2) (sym same.1) grammar in
-    let path : Judged g t p s2 b2 = subst (λ (x : Bytes). Judged g t x s2 b2) (sym same.2) text in
-    judged_once laws g t p s s2 b b2 j path
+builds_compiled : (g : Bytes) (f : FlatGrammar) → Builds g f → IsCompiled g (spelling f)
+builds_compiled g f b = record { form = f; is_form = b.is_form; table = b.table; bytes_are = refl }
 
-pub answers_once : Laws → (files : Files) (words : List Bytes) (s s2 : Status) (b b2 : Bytes) → Answers files words s b → Answers files words s2 b2 → (s ≡ s2) × (b ≡ b2)
-answers_once laws files words _ _ _ _ (usage u) (usage v) = (refl, refl)
-answers_once laws files words _ _ _ _ (usage u) (absent path a) = absurd (u a.grammar_path a.text_path a.parses)
-answers_once laws files words _ _ _ _ (usage u) (judged g t p s b h j) = absurd (u h.grammar_path p h.parses)
-answers_once laws files words _ _ _ _ (absent path a) (usage v) = absurd (v a.grammar_path a.text_path a.parses)
-answers_once laws files words _ _ _ _ (absent path a) (absent other c) = (refl, ap absent_line (absent_once files words path other a c))
-answers_once laws files words _ _ _ _ (absent path a) (judged g t p s b h j) = absurd (absent_or_there files words path g t p a h)
-answers_once laws files words _ _ _ _ (judged g t p s b h j) (usage v) = absurd (v h.grammar_path p h.parses)
-answers_once laws files words _ _ _ _ (judged g t p s b h j) (absent path a) = absurd (absent_or_there files words path g t p a h)
-answers_once laws files words _ _ _ _ (judged g t p s b h j) (judged g2 t2 p2 s2 b2 k i) = judged_once_there laws files words g t p g2 t2 p2 s s2 b b2 h k j i
+module _ (laws : Laws) where
+  refused_or_builds : (g line : Bytes) (f : FlatGrammar) → IsRefusalLine g line → Builds g f → ⊥
+  refused_or_builds g line f r b = laws.line_or_compiled g line (spelling f) r (builds_compiled g f b)
 
--- ---- where nothing stands in the way
+  judged_once : (g t p : Bytes) (s s2 : Status) (b b2 : Bytes) → Judged g t p s b → Judged g t p s2 b2 → AreOne s s2 b b2
+  judged_once g t p _ _ _ _ (large_grammar l) (large_grammar k) = record { status = refl; bytes = λ n. refl }
+  judged_once g t p _ _ _ _ (large_grammar l) (refused_grammar line k r) = absurd (omega (arith, l, k))
+  judged_once g t p _ _ _ _ (large_grammar l) (too_large f k m) = let w = k.small in absurd (omega (arith, l, w))
+  judged_once g t p _ _ _ _ (large_grammar l) (no_text f place k m) = let w = k.small in absurd (omega (arith, l, w))
+  judged_once g t p _ _ _ _ (large_grammar l) (parsed f o k m n) = let w = k.small in absurd (omega (arith, l, w))
+  judged_once g t p _ _ _ _ (refused_grammar line k r) (large_grammar l) = absurd (omega (arith, l, k))
+  judged_once g t p _ _ _ _ (refused_grammar line k r) (refused_grammar other l q) = record { status = refl; bytes = λ n. laws.line_once g line other r q }
+  judged_once g t p _ _ _ _ (refused_grammar line k r) (too_large f b m) = absurd (refused_or_builds g line f r b)
+  judged_once g t p _ _ _ _ (refused_grammar line k r) (no_text f place b m) = absurd (refused_or_builds g line f r b)
+  judged_once g t p _ _ _ _ (refused_grammar line k r) (parsed f o b m n) = absurd (refused_or_builds g line f r b)
+  judged_once g t p _ _ _ _ (too_large f k m) (large_grammar l) = let w = k.small in absurd (omega (arith, l, w))
+  judged_once g t p _ _ _ _ (too_large f b m) (refused_grammar line k r) = absurd (refused_or_builds g line f r b)
+  judged_once g t p _ _ _ _ (too_large f b m) (too_large h c n) = record { status = refl; bytes = λ n. refl }
+  judged_once g t p _ _ _ _ (too_large f b m) (no_text h place c n) = let w = n.within in absurd (omega (arith, m, w))
+  judged_once g t p _ _ _ _ (too_large f b m) (parsed h o c n q) = let w = n.within in absurd (omega (arith, m, w))
+  judged_once g t p _ _ _ _ (no_text f place k m) (large_grammar l) = let w = k.small in absurd (omega (arith, l, w))
+  judged_once g t p _ _ _ _ (no_text f place b m) (refused_grammar line k r) = absurd (refused_or_builds g line f r b)
+  judged_once g t p _ _ _ _ (no_text f place b m) (too_large h c n) = let w = m.within in absurd (omega (arith, n, w))
+  judged_once g t p _ _ _ _ (no_text f place b m) (no_text h other c n) = record { status = refl; bytes = λ k. ap (broken_line p) (laws.breaks_once t place other m n) }
+  judged_once g t p _ _ _ _ (no_text f place b m) (parsed h o c n q) = absurd (laws.whole t place n m)
+  judged_once g t p _ _ _ _ (parsed f o k m n) (large_grammar l) = let w = k.small in absurd (omega (arith, l, w))
+  judged_once g t p _ _ _ _ (parsed f o b m n) (refused_grammar line k r) = absurd (refused_or_builds g line f r b)
+  judged_once g t p _ _ _ _ (parsed f o b m n) (too_large h c q) = let w = m.within in absurd (omega (arith, q, w))
+  judged_once g t p _ _ _ _ (parsed f o b m n) (no_text h place c q) = absurd (laws.whole t place m q)
+  judged_once g t p _ _ _ _ (parsed f o b m n) (parsed h q c k r) = record { status = refl; bytes = λ z. absurd (z refl) }
 
-clean_judged : Laws → (g t p : Bytes) (s : Status) (b : Bytes) (files : Files) (words : List Bytes) (c : IsClean files words) → c.grammar ≡ g → c.text ≡ t → Judged g t p s b → s ≡ Done
-clean_judged laws g t p _ _ files words c gs ts (unbuilt n) = absurd (n c.normal (subst (λ (x : Bytes). IsBuilt x c.normal) gs c.built))
-clean_judged laws g t p _ _ files words c gs ts (too_large f i l) = let w = c.is_text.within in let e : length c.text ≡ length t = ap length ts in absurd (omega (arith, w, e, l))
-clean_judged laws g t p _ _ files words c gs ts (no_text f place i l) = absurd (laws.whole t place (subst IsText ts c.is_text) l)
-clean_judged laws g t p _ _ files words c gs ts (parsed f out i l o) = refl
+  has_once : (files : Files) (words : List Bytes) (g t p g2 t2 p2 : Bytes) → Has files words g t p → Has files words g2 t2 p2 → (g ≡ g2) × (t ≡ t2) × (p ≡ p2)
+  has_once files words g t p g2 t2 p2 h k =
+      let e = parses_once words h.grammar_path p k.grammar_path p2 h.parses k.parses in
+      (file_once files h.grammar_path k.grammar_path g g2 e.0 h.grammar_is k.grammar_is, file_once files p p2 t t2 e.1 h.text_is k.text_is, e.1)
 
-pub clean_is_done : Laws → (files : Files) (words : List Bytes) (s : Status) (b : Bytes) → IsClean files words → Answers files words s b → s ≡ Done
-clean_is_done laws files words _ _ c (usage u) = absurd (u c.has.grammar_path c.path c.has.parses)
-clean_is_done laws files words _ _ c (absent path a) = absurd (absent_or_there files words path c.grammar c.text c.path a c.has)
-clean_is_done laws files words _ _ c (judged g t p s b h j) =
-    let same = has_once files words c.grammar c.text c.path g t p c.has h in
-    clean_judged laws g t p s b files words c same.0 same.1 j
+  judged_there : (files : Files) (words : List Bytes) (g t p g2 t2 p2 : Bytes) (s s2 : Status) (b b2 : Bytes) → Has files words g t p → Has files words g2 t2 p2
+      → Judged g t p s b → Judged g2 t2 p2 s2 b2 → AreOne s s2 b b2
+  judged_there files words g t p g2 t2 p2 s s2 b b2 h k j i =
+      let e = has_once files words g t p g2 t2 p2 h k in
+      let grammar : Judged g t2 p2 s2 b2 = subst (λ (x : Bytes). Judged x t2 p2 s2 b2) (sym e.0) i in
+      let text : Judged g t p2 s2 b2 = subst (λ (x : Bytes). Judged g x p2 s2 b2) (sym e.1) grammar in
+      let path : Judged g t p s2 b2 = subst (λ (x : Bytes). Judged g t x s2 b2) (sym e.2) text in
+      judged_once g t p s s2 b b2 j path
+
+  -- ---- compiling
+
+  compiled_by : (w : Bytes) (s s2 : Status) (b b2 : Bytes) → Compiled w s b → Compiled w s2 b2 → (s ≡ s2) × (b ≡ b2)
+  compiled_by w _ _ _ _ (large l) (large k) = (refl, refl)
+  compiled_by w _ _ _ _ (large l) (refused line k r) = absurd (omega (arith, l, k))
+  compiled_by w _ _ _ _ (large l) (written bytes k r) = absurd (omega (arith, l, k))
+  compiled_by w _ _ _ _ (refused line k r) (large l) = absurd (omega (arith, l, k))
+  compiled_by w _ _ _ _ (refused line k r) (refused other l q) = (refl, laws.line_once w line other r q)
+  compiled_by w _ _ _ _ (refused line k r) (written bytes l q) = absurd (laws.line_or_compiled w line bytes r q)
+  compiled_by w _ _ _ _ (written bytes k r) (large l) = absurd (omega (arith, l, k))
+  compiled_by w _ _ _ _ (written bytes k r) (refused line l q) = absurd (laws.line_or_compiled w line bytes q r)
+  compiled_by w _ _ _ _ (written bytes k r) (written other l q) = (refl, laws.compiled_once w bytes other r q)
+
+  compiled_there : (files : Files) (words : List Bytes) (p q w v : Bytes) (s s2 : Status) (b b2 : Bytes) → Compiles words p → Compiles words q → file_at files p ≡ Some w → file_at files q ≡ Some v
+      → Compiled w s b → Compiled v s2 b2 → (s ≡ s2) × (b ≡ b2)
+  compiled_there files words p q w v s s2 b b2 c d x y j k =
+      let e : w ≡ v = file_once files p q w v (compiles_once words p q c d) x y in
+      compiled_by w s s2 b b2 j (subst (λ (z : Bytes). Compiled z s2 b2) (sym e) k)
+
+  lacking_or_there : (files : Files) (words : List Bytes) (p q w : Bytes) → Compiles words p → Compiles words q → file_at files p ≡ None → file_at files q ≡ Some w → ⊥
+  lacking_or_there files words p q w c d x y = none_there w (file_at files q) (sym (ap (file_at files) (compiles_once words p q c d)) ∙ x) y
+
+  -- ---- answers
+
+  once : (files : Files) (words : List Bytes) (s s2 : Status) (b b2 : Bytes) → Answers files words s b → Answers files words s2 b2 → AreOne s s2 b b2
+  once files words _ _ _ _ (usage u) (usage v) = record { status = refl; bytes = λ n. refl }
+  once files words _ _ _ _ (usage u) (absent path a) = absurd (u.no_parse a.grammar_path a.text_path a.parses)
+  once files words _ _ _ _ (usage u) (judged g t p s b h j) = absurd (u.no_parse h.grammar_path p h.parses)
+  once files words _ _ _ _ (usage u) (lacking path c n) = absurd (u.no_compile path c)
+  once files words _ _ _ _ (usage u) (compiled path w s b c at k) = absurd (u.no_compile path c)
+  once files words _ _ _ _ (absent path a) (usage v) = absurd (v.no_parse a.grammar_path a.text_path a.parses)
+  once files words _ _ _ _ (absent path a) (absent other c) = record { status = refl; bytes = λ n. ap absent_line (absent_once files words path other a c) }
+  once files words _ _ _ _ (absent path a) (judged g t p s b h j) = absurd (absent_or_there files words path g t p a h)
+  once files words _ _ _ _ (absent path a) (lacking other c n) = absurd (one_form words a.grammar_path a.text_path other a.parses c)
+  once files words _ _ _ _ (absent path a) (compiled other w s b c at k) = absurd (one_form words a.grammar_path a.text_path other a.parses c)
+  once files words _ _ _ _ (judged g t p s b h j) (usage v) = absurd (v.no_parse h.grammar_path p h.parses)
+  once files words _ _ _ _ (judged g t p s b h j) (absent path a) = absurd (absent_or_there files words path g t p a h)
+  once files words _ _ _ _ (judged g t p s b h j) (judged g2 t2 p2 s2 b2 k i) = judged_there files words g t p g2 t2 p2 s s2 b b2 h k j i
+  once files words _ _ _ _ (judged g t p s b h j) (lacking other c n) = absurd (one_form words h.grammar_path p other h.parses c)
+  once files words _ _ _ _ (judged g t p s b h j) (compiled other w s2 b2 c at k) = absurd (one_form words h.grammar_path p other h.parses c)
+  once files words _ _ _ _ (lacking path c n) (usage v) = absurd (v.no_compile path c)
+  once files words _ _ _ _ (lacking path c n) (absent other a) = absurd (one_form words a.grammar_path a.text_path path a.parses c)
+  once files words _ _ _ _ (lacking path c n) (judged g t p s b h j) = absurd (one_form words h.grammar_path p path h.parses c)
+  once files words _ _ _ _ (lacking path c n) (lacking other d m) = record { status = refl; bytes = λ z. ap absent_line (compiles_once words path other c d) }
+  once files words _ _ _ _ (lacking path c n) (compiled other w s b d at k) = absurd (lacking_or_there files words path other w c d n at)
+  once files words _ _ _ _ (compiled path w s b c at k) (usage v) = absurd (v.no_compile path c)
+  once files words _ _ _ _ (compiled path w s b c at k) (absent other a) = absurd (one_form words a.grammar_path a.text_path path a.parses c)
+  once files words _ _ _ _ (compiled path w s b c at k) (judged g t p s2 b2 h j) = absurd (one_form words h.grammar_path p path h.parses c)
+  once files words _ _ _ _ (compiled path w s b c at k) (lacking other d n) = absurd (lacking_or_there files words other path w d c n at)
+  once files words _ _ _ _ (compiled path w s b c at k) (compiled other v s2 b2 d there m) =
+      let e = compiled_there files words path other w v s s2 b b2 c d at there k m in
+      record { status = e.0; bytes = λ n. e.1 }
+
+  pub status_once : (files : Files) (words : List Bytes) (s s2 : Status) (b b2 : Bytes) → Answers files words s b → Answers files words s2 b2 → s ≡ s2
+  status_once files words s s2 b b2 a c = (once files words s s2 b b2 a c).status
+
+  pub bytes_once : (files : Files) (words : List Bytes) (s s2 : Status) (b b2 : Bytes) → Answers files words s b → Answers files words s2 b2 → (s ≡ Done → ⊥) → b ≡ b2
+  bytes_once files words s s2 b b2 a c = (once files words s s2 b b2 a c).bytes
+
+  pub compiled_bytes_once : (files : Files) (words : List Bytes) (path : Bytes) (s s2 : Status) (b b2 : Bytes) → Compiles words path → Answers files words s b → Answers files words s2 b2 → b ≡ b2
+  compiled_bytes_once files words path s s2 b b2 c a d = by s s2 b b2 a d (once files words s s2 b b2 a d)
+    where
+      by : (s s2 : Status) (b b2 : Bytes) → Answers files words s b → Answers files words s2 b2 → AreOne s s2 b b2 → b ≡ b2
+      by _ s2 _ b2 (usage u) d o = absurd (u.no_compile path c)
+      by _ s2 _ b2 (absent other a) d o = absurd (one_form words a.grammar_path a.text_path path a.parses c)
+      by _ s2 _ b2 (judged g t p s b h j) d o = absurd (one_form words h.grammar_path p path h.parses c)
+      by _ s2 _ b2 (lacking other k n) d o = o.bytes (λ e. cc)
+      by _ _ _ _ (compiled p w s b k at j) (usage u) o = absurd (u.no_compile path c)
+      by _ _ _ _ (compiled p w s b k at j) (absent other a) o = absurd (one_form words a.grammar_path a.text_path path a.parses c)
+      by _ _ _ _ (compiled p w s b k at j) (judged g t q s2 b2 h i) o = absurd (one_form words h.grammar_path q path h.parses c)
+      by _ _ _ _ (compiled p w s b k at j) (lacking other l n) o = absurd (lacking_or_there files words other p w l k n at)
+      by _ _ _ _ (compiled p w s b k at j) (compiled q v s2 b2 l there i) o = (compiled_there files words p q w v s s2 b b2 k l at there j i).1
+
+  -- ---- where nothing stands in the way
+
+  clean_judged : (g t p : Bytes) (s : Status) (b : Bytes) (f : FlatGrammar) → Builds g f → IsText t → Judged g t p s b → s ≡ Done
+  clean_judged g t p _ _ f b is (large_grammar l) = let w = b.small in absurd (omega (arith, l, w))
+  clean_judged g t p _ _ f b is (refused_grammar line k r) = absurd (refused_or_builds g line f r b)
+  clean_judged g t p _ _ f b is (too_large h c m) = let w = is.within in absurd (omega (arith, m, w))
+  clean_judged g t p _ _ f b is (no_text h place c m) = absurd (laws.whole t place is m)
+  clean_judged g t p _ _ f b is (parsed h o c m n) = refl
+
+  pub clean_is_done : (files : Files) (words : List Bytes) (s : Status) (b : Bytes) → IsClean files words → Answers files words s b → s ≡ Done
+  clean_is_done files words _ _ c (usage u) = absurd (u.no_parse c.has.grammar_path c.path c.has.parses)
+  clean_is_done files words _ _ c (absent path a) = absurd (absent_or_there files words path c.grammar c.text c.path a c.has)
+  clean_is_done files words _ _ c (judged g t p s b h j) =
+      let e = has_once files words c.grammar c.text c.path g t p c.has h in
+      clean_judged g t p s b c.form (subst (λ (x : Bytes). Builds x c.form) e.0 c.builds) (subst IsText e.1 c.is_text) j
+  clean_is_done files words _ _ c (lacking path d n) = absurd (one_form words c.has.grammar_path c.path path c.has.parses d)
+  clean_is_done files words _ _ c (compiled path w s b d at k) = absurd (one_form words c.has.grammar_path c.path path c.has.parses d)
+
+  pub compilable_is_done : (files : Files) (words : List Bytes) (s : Status) (b : Bytes) → IsCompilable files words → Answers files words s b → s ≡ Done
+  compilable_is_done files words s b c a = status_once files words s Done b c.bytes a (compiled c.path c.file Done c.bytes c.compiles c.file_is (written c.bytes c.small c.is_compiled))

@@ -1,20 +1,21 @@
 -- The words' paths, what the reads and the judgement come to, and what is known of an answer.
-use Rattle.std.proofs.Common.{◌≡◌, subst, refl, ℕ, ◌≤◌, inl, inr, List, [], ◌∷◌, length, get_or, Option, Some, None, Result, Ok, Err, String, string_bytes, arith}
+use Rattle.std.proofs.Common.{◌≡◌, sym, subst, refl, ℕ, ◌≤◌, inl, inr, List, [], ◌∷◌, length, get_or, Option, Some, None, Result, Ok, Err, String, string_bytes, arith}
 use Rattle.std.specs.declared.alloc.Global.{Global}
 use Rattle.std.specs.Result.{IfOk, IfErr}
 use Rattle.ts_base.specs.Bytes.{Bytes}
+use Rattle.std.specs.Borrow.{Bor}
+use Rattle.spec_output.specs.Faults.{absent_line, usage_line}
+use Rattle.spec_output.specs.declared.status.Status.{Status}
+use Rattle.spec_output.specs.declared.status.Status.TheVariants as status
 use Rattle.ts_io.specs.Outside.{Files, file_at, Rose, AppendsPrefix}
+use Rattle.ts_io.specs.Read.{AnswersFor}
 use Rattle.ts_io.specs.declared.folder.Found.{Found}
-use Rattle.ts_top.specs.Answer.{texts, Parses, Has, IsAbsent, Judged, Answers, usage, absent, judged, Told, WritesPrefix, IsClean}
-use Rattle.ts_top.specs.Limits.{most_grammar_bytes, most_text_bytes}
-use Rattle.ts_top.specs.Lines.{unbuilt_line, absent_line, text_size_line, text_line}
-use Rattle.ts_top.specs.Faults as faults
-use Rattle.ts_top.specs.Faults.{IsAnswer, Stopped, StoppedAt, AreRead, IsThere, ReadStopped, IsLate}
-use Rattle.ts_top.specs.declared.fault.Fault.TheVariants.{Usage, Unbuilt, Absent, TextSize, Text}
-use Rattle.ts_top.specs.declared.status.Status.{Status}
-use Rattle.ts_top.specs.declared.status.Status.TheVariants as status
+use Rattle.ts_top.specs.declared.answer.Answer.{Answer}
+use Rattle.ts_top.specs.Answer.{texts, IsUsage, Parses, Compiles, Compiled, Judged, Answers, usage, absent, judged, lacking, compiled, Told, WritesPrefix, IsClean, IsCompilable}
+use Rattle.ts_top.specs.Limits.{most_file_bytes, most_text_bytes}
+use Rattle.ts_top.specs.Stops.{IsAnswer, misused, other, IsJudged, Stopped, AreRead, IsThere, ReadStopped}
 use Rattle.ts_top.specs.declared.stop.Stop.{Stop}
-use Rattle.ts_top.specs.declared.stop.Stop.TheVariants as stop
+use Rattle.ts_top.specs.declared.stop.Stop.TheVariants.{Usage, Absent, Read, Memory}
 
 -- ---- words
 
@@ -26,104 +27,127 @@ three_texts (x ∷ y ∷ []) a b d h p q r = absurd (omega arith)
 three_texts (x ∷ y ∷ z ∷ []) a b d h p q r = cc
 three_texts (x ∷ y ∷ z ∷ v ∷ ws) a b d h p q r = absurd (omega arith)
 
+pub two_texts : (ws : List (String Global)) (a b : String Global) → length ws ≡ 2 → a ≡ get_or ws 0 a → b ≡ get_or ws 1 b → texts ws ≡ string_bytes a ∷ string_bytes b ∷ []
+two_texts [] a b h p q = absurd (omega arith)
+two_texts (x ∷ []) a b h p q = absurd (omega arith)
+two_texts (x ∷ y ∷ []) a b h p q = cc
+two_texts (x ∷ y ∷ z ∷ ws) a b h p q = absurd (omega arith)
+
 -- ---- reads
 
 pub rose_from : (a b c : ℕ) → a ≤ b → Rose b c → Rose a c
 rose_from a b c le rose = omega (arith, le, rose)
 
-absent_told : (files : Option Files) (words : List Bytes) (g t path : Bytes)
-    → Told files (λ known. IsAbsent known words path) → Told files (λ known. Answers known words status.Absent (absent_line path))
-absent_told None words g t path h = tt
-absent_told (Some known) words g t path h = absent path h
-
-no_grammar : (files : Option Files) (words : List Bytes) (g t path : Bytes) → Parses words g t → path ≡ g → Told files (λ known. file_at known g ≡ None) → Told files (λ known. IsAbsent known words path)
+no_grammar : (files : Option Files) (words : List Bytes) (g t path : Bytes) → Parses words g t → path ≡ g → Told files (λ known. file_at known g ≡ None)
+    → Told files (λ known. Answers known words status.Absent (absent_line path))
 no_grammar None words g t path p same h = tt
-no_grammar (Some known) words g t path p same h = record { grammar_path = g; text_path = t; parses = p; first = inl (h, same) }
+no_grammar (Some known) words g t path p same h = absent path (record { grammar_path = g; text_path = t; parses = p; first = inl (h, same) })
 
 no_file : (files : Option Files) (words : List Bytes) (g t path : Bytes) (limit : ℕ) (found : Found) → Parses words g t → path ≡ t → Told files (IsThere g limit found) → Told files (λ known. file_at known t ≡ None)
-    → Told files (λ known. IsAbsent known words path)
+    → Told files (λ known. Answers known words status.Absent (absent_line path))
 no_file None words g t path limit found p same there h = tt
-no_file (Some known) words g t path limit found p same there h = record { grammar_path = g; text_path = t; parses = p; first = inr (there.bytes, there.at, h, same) }
+no_file (Some known) words g t path limit found p same there h = absent path (record { grammar_path = g; text_path = t; parses = p; first = inr (there.bytes, there.at, h, same) })
 
 -- the read of the grammar file stops
 pub grammar_stopped : (files : Option Files) (words : List Bytes) (g t : Bytes) (rose : Type 0) (s : Stop) → Parses words g t → ReadStopped files g rose s → Stopped files words rose s
-grammar_stopped files words g t rose (stop.Fault Usage) p h = absurd h
-grammar_stopped files words g t rose (stop.Fault Unbuilt) p h = absurd h
-grammar_stopped files words g t rose (stop.Fault (Absent at)) p h =
-    faults.other status.Absent (absent_line at.now) (inr (inr (inl refl))) (λ u. u g t p) (absent_told files words g t at.now (no_grammar files words g t at.now p h.0 h.1))
-grammar_stopped files words g t rose (stop.Fault (TextSize at)) p h = absurd h
-grammar_stopped files words g t rose (stop.Fault (Text at place)) p h = absurd h
-grammar_stopped files words g t rose stop.Read p h = (h, (λ u. u g t p))
-grammar_stopped files words g t rose stop.Memory p h = tt
+grammar_stopped files words g t rose Usage p h = absurd h
+grammar_stopped files words g t rose (Absent at) p h = ((λ u. u.no_parse g t p), no_grammar files words g t at.now p h.0 h.1)
+grammar_stopped files words g t rose Read p h = (h, (λ u. u.no_parse g t p))
+grammar_stopped files words g t rose Memory p h = tt
 
 -- the read of the text stops, once that of the grammar file is done
 pub text_stopped : (files : Option Files) (words : List Bytes) (g t : Bytes) (limit : ℕ) (found : Found) (before rose : Type 0) (s : Stop) → Parses words g t
     → Told files (IsThere g limit found) → (before → rose) → ReadStopped files t before s → Stopped files words rose s
-text_stopped files words g t limit found before rose (stop.Fault Usage) p there on h = absurd h
-text_stopped files words g t limit found before rose (stop.Fault Unbuilt) p there on h = absurd h
-text_stopped files words g t limit found before rose (stop.Fault (Absent at)) p there on h =
-    faults.other status.Absent (absent_line at.now) (inr (inr (inl refl))) (λ u. u g t p) (absent_told files words g t at.now (no_file files words g t at.now limit found p h.0 there h.1))
-text_stopped files words g t limit found before rose (stop.Fault (TextSize at)) p there on h = absurd h
-text_stopped files words g t limit found before rose (stop.Fault (Text at place)) p there on h = absurd h
-text_stopped files words g t limit found before rose stop.Read p there on h = (on h, (λ u. u g t p))
-text_stopped files words g t limit found before rose stop.Memory p there on h = tt
+text_stopped files words g t limit found before rose Usage p there on h = absurd h
+text_stopped files words g t limit found before rose (Absent at) p there on h = ((λ u. u.no_parse g t p), no_file files words g t at.now limit found p h.0 there h.1)
+text_stopped files words g t limit found before rose Read p there on h = (on h, (λ u. u.no_parse g t p))
+text_stopped files words g t limit found before rose Memory p there on h = tt
+
+lacking_told : (files : Option Files) (words : List Bytes) (path at : Bytes) → Compiles words path → at ≡ path → Told files (λ known. file_at known path ≡ None)
+    → Told files (λ known. Answers known words status.Absent (absent_line at))
+lacking_told None words path at c same h = tt
+lacking_told (Some known) words path at c same h = subst (λ (p : Bytes). Answers known words status.Absent (absent_line p)) (sym same) (lacking path c h)
+
+-- the read of the file that is compiled stops
+pub compile_stopped : (files : Option Files) (words : List Bytes) (path : Bytes) (rose : Type 0) (s : Stop) → Compiles words path → ReadStopped files path rose s → Stopped files words rose s
+compile_stopped files words path rose Usage c h = absurd h
+compile_stopped files words path rose (Absent at) c h = ((λ u. u.no_compile path c), lacking_told files words path at.now c h.0 h.1)
+compile_stopped files words path rose Read c h = (h, (λ u. u.no_compile path c))
+compile_stopped files words path rose Memory c h = tt
+
+-- a stop for want of memory says nothing
+pub memory_stopped : {T : Type 0} (files : Option Files) (words : List Bytes) (rose : Type 0) (r : Result T Stop) → IfErr r (λ s. s ≡ Memory) → IfErr r (Stopped files words rose)
+memory_stopped files words rose (Ok t) h = tt
+memory_stopped files words rose (Err s) h = subst (Stopped files words rose) (sym h) tt
 
 -- ---- the judgement
 
-are_read : (g t : Found) (known : Files) (gp tp : Bytes) → (one : IsThere gp most_grammar_bytes g known) → (other : IsThere tp most_text_bytes t known) → AreRead g t one.bytes other.bytes
-are_read g t known gp tp one other = record { grammar_is = one.answers; text_is = other.answers }
-
-has : (known : Files) (words : List Bytes) (g t : Found) (gp tp : Bytes) → Parses words gp tp → (one : IsThere gp most_grammar_bytes g known) → (other : IsThere tp most_text_bytes t known) → Has known words one.bytes other.bytes tp
-has known words g t gp tp p one other = record { grammar_path = gp; parses = p; grammar_is = one.at; text_is = other.at }
-
 told_judged : (files : Option Files) (words : List Bytes) (g t : Found) (gp tp : Bytes) (ends : Status) (bytes : Bytes) → Parses words gp tp
-    → Told files (IsThere gp most_grammar_bytes g) → Told files (IsThere tp most_text_bytes t)
+    → Told files (IsThere gp most_file_bytes g) → Told files (IsThere tp most_text_bytes t)
     → ((gb tb : Bytes) → AreRead g t gb tb → Judged gb tb tp ends bytes) → Told files (λ known. Answers known words ends bytes)
-told_judged None words g t gp tp ends bytes p one other j = tt
-told_judged (Some known) words g t gp tp ends bytes p one other j =
-    judged one.bytes other.bytes tp ends bytes (has known words g t gp tp p one other) (j one.bytes other.bytes (are_read g t known gp tp one other))
+told_judged None words g t gp tp ends bytes p one two j = tt
+told_judged (Some known) words g t gp tp ends bytes p one two j =
+    judged one.bytes two.bytes tp ends bytes (record { grammar_path = gp; parses = p; grammar_is = one.at; text_is = two.at }) (j one.bytes two.bytes (record { grammar_is = one.answers; text_is = two.answers }))
 
-pub line_answers : (result : Result (String Global) Stop) (files : Option Files) (words : List Bytes) (g t : Found) (gp tp : Bytes) → Parses words gp tp
-    → Told files (IsThere gp most_grammar_bytes g) → Told files (IsThere tp most_text_bytes t)
-    → IfOk result (λ s. (gb tb : Bytes) → AreRead g t gb tb → Judged gb tb tp status.Done (string_bytes s)) → IfOk result (λ s. IsAnswer files words status.Done (string_bytes s))
-line_answers (Ok s) files words g t gp tp p one other j =
-    faults.other status.Done (string_bytes s) (inl refl) (λ u. u gp tp p) (told_judged files words g t gp tp status.Done (string_bytes s) p one other j)
-line_answers (Err s) files words g t gp tp p one other j = tt
+pub judge_answers : (files : Option Files) (words : List Bytes) (g t : Found) (gp tp : Bytes) (ends : Status) (bytes : Bytes) → Parses words gp tp
+    → Told files (IsThere gp most_file_bytes g) → Told files (IsThere tp most_text_bytes t) → IsJudged ends
+    → ((gb tb : Bytes) → AreRead g t gb tb → Judged gb tb tp ends bytes) → IsAnswer files words ends bytes
+judge_answers files words g t gp tp ends bytes p one two is j = other ends bytes is (λ u. u.no_parse gp tp p) (told_judged files words g t gp tp ends bytes p one two j)
 
-late_stopped : (files : Option Files) (words : List Bytes) (g t : Found) (gp tp : Bytes) (rose : Type 0) (s : Stop) → Parses words gp tp
-    → Told files (IsThere gp most_grammar_bytes g) → Told files (IsThere tp most_text_bytes t) → IsLate s
-    → ((gb tb : Bytes) → AreRead g t gb tb → StoppedAt gb tb tp s) → Stopped files words rose s
-late_stopped files words g t gp tp rose (stop.Fault Usage) p one other late j = absurd late
-late_stopped files words g t gp tp rose (stop.Fault Unbuilt) p one other late j =
-    faults.other status.Grammar unbuilt_line (inr (inl refl)) (λ u. u gp tp p) (told_judged files words g t gp tp status.Grammar unbuilt_line p one other j)
-late_stopped files words g t gp tp rose (stop.Fault (Absent at)) p one other late j = absurd late
-late_stopped files words g t gp tp rose (stop.Fault (TextSize at)) p one other late j =
-    faults.other status.Text (text_size_line at.now) (inr (inr (inr refl))) (λ u. u gp tp p) (told_judged files words g t gp tp status.Text (text_size_line at.now) p one other j)
-late_stopped files words g t gp tp rose (stop.Fault (Text at place)) p one other late j =
-    faults.other status.Text (text_line at.now place) (inr (inr (inr refl))) (λ u. u gp tp p) (told_judged files words g t gp tp status.Text (text_line at.now place) p one other j)
-late_stopped files words g t gp tp rose stop.Read p one other late j = absurd late
-late_stopped files words g t gp tp rose stop.Memory p one other late j = tt
+told_compiled : (files : Option Files) (words : List Bytes) (path : Bytes) (found : Found) (ends : Status) (bytes : Bytes) → Compiles words path → Told files (IsThere path most_file_bytes found)
+    → ((file : Bytes) → AnswersFor (Some file) most_file_bytes found → Compiled file ends bytes) → Told files (λ known. Answers known words ends bytes)
+told_compiled None words path found ends bytes c there j = tt
+told_compiled (Some known) words path found ends bytes c there j = compiled path there.bytes ends bytes c there.at (j there.bytes there.answers)
 
-pub judge_stopped : (result : Result (String Global) Stop) (files : Option Files) (words : List Bytes) (g t : Found) (gp tp : Bytes) (rose : Type 0) → Parses words gp tp
-    → Told files (IsThere gp most_grammar_bytes g) → Told files (IsThere tp most_text_bytes t) → IfErr result IsLate
-    → IfErr result (λ s. (gb tb : Bytes) → AreRead g t gb tb → StoppedAt gb tb tp s) → IfErr result (Stopped files words rose)
-judge_stopped (Ok s) files words g t gp tp rose p one other late j = tt
-judge_stopped (Err s) files words g t gp tp rose p one other late j = late_stopped files words g t gp tp rose s p one other late j
+pub compile_answers : (files : Option Files) (words : List Bytes) (path : Bytes) (found : Found) (ends : Status) (bytes : Bytes) → Compiles words path → Told files (IsThere path most_file_bytes found)
+    → IsJudged ends → ((file : Bytes) → AnswersFor (Some file) most_file_bytes found → Compiled file ends bytes) → IsAnswer files words ends bytes
+compile_answers files words path found ends bytes c there is j = other ends bytes is (λ u. u.no_compile path c) (told_compiled files words path found ends bytes c there j)
+
+-- ---- results
+
+pub compiled_ok : (r : Result Answer Stop) (files : Option Files) (words : List Bytes) (path : Bytes) (found : Found) → Compiles words path → Told files (IsThere path most_file_bytes found)
+    → IfOk r (λ a. IsJudged a.status) → IfOk r (λ a. (file : Bytes) → AnswersFor (Some file) most_file_bytes found → Compiled file a.status a.bytes.items)
+    → IfOk r (λ a. IsAnswer files words a.status a.bytes.items)
+compiled_ok (Ok a) files words path found c there is j = compile_answers files words path found a.status a.bytes.items c there is j
+compiled_ok (Err s) files words path found c there is j = tt
+
+pub judged_ok : (r : Result Answer Stop) (files : Option Files) (words : List Bytes) (g t : Found) (gp tp : Bytes) → Parses words gp tp
+    → Told files (IsThere gp most_file_bytes g) → Told files (IsThere tp most_text_bytes t)
+    → IfOk r (λ a. IsJudged a.status) → IfOk r (λ a. (gb tb : Bytes) → AreRead g t gb tb → Judged gb tb tp a.status a.bytes.items)
+    → IfOk r (λ a. IsAnswer files words a.status a.bytes.items)
+judged_ok (Ok a) files words g t gp tp p one two is j = judge_answers files words g t gp tp a.status a.bytes.items p one two is j
+judged_ok (Err s) files words g t gp tp p one two is j = tt
+
+pub usage_answer : (files : Option Files) (words : List Bytes) (rose : Type 0) (stop : Stop) (s : Status) (b : Bytes) → stop ≡ Usage → Stopped files words rose stop → s ≡ status.Usage → b ≡ usage_line → IsAnswer files words s b
+usage_answer files words rose stop s b is stopped ends line =
+    let u : IsUsage words = subst (Stopped files words rose) is stopped in
+    subst (λ (e : Status). IsAnswer files words e b) (sym ends) (subst (λ (w : Bytes). IsAnswer files words status.Usage w) (sym line) (misused u))
+
+pub absent_answer : (files : Option Files) (words : List Bytes) (rose : Type 0) (stop : Stop) (path : Bor Bytes) (s : Status) (b : Bytes) → stop ≡ Absent path → Stopped files words rose stop → s ≡ status.Absent → b ≡ absent_line path.now
+    → IsAnswer files words s b
+absent_answer files words rose stop path s b is stopped ends line =
+    let h : Stopped files words rose (Absent path) = subst (Stopped files words rose) is stopped in
+    subst (λ (e : Status). IsAnswer files words e b) (sym ends) (subst (λ (w : Bytes). IsAnswer files words status.Absent w) (sym line)
+    (other status.Absent (absent_line path.now) (inr (inr (inl refl))) h.0 h.1))
 
 -- ---- what is known of an answer
 
 -- where the files are told, an answer is theirs
 answer_of : (files : Option Files) (known : Files) (words : List Bytes) (ends : Status) (bytes : Bytes) → files ≡ Some known → IsAnswer files words ends bytes → Answers known words ends bytes
-answer_of files known words _ _ is (faults.usage u) = usage u
-answer_of files known words _ _ is (faults.other ends bytes j n told) = subst (λ (f : Option Files). Told f (λ k. Answers k words ends bytes)) is told
+answer_of files known words _ _ is (misused u) = usage u
+answer_of files known words _ _ is (other ends bytes j n told) = subst (λ (f : Option Files). Told f (λ k. Answers k words ends bytes)) is told
 
-pub answer_exact : ((files : Files) (words : List Bytes) (s t : Status) (b c : Bytes) → Answers files words s b → Answers files words t c → (s ≡ t) × (b ≡ c))
+pub answer_exact : ((files : Files) (words : List Bytes) (s t : Status) (b c : Bytes) → Answers files words s b → Answers files words t c → s ≡ t)
     → (files : Option Files) (known : Files) (words : List Bytes) (s s2 : Status) (b b2 : Bytes) → files ≡ Some known → IsAnswer files words s b → Answers known words s2 b2 → s ≡ s2
-answer_exact once files known words s s2 b b2 is a other = (once known words s s2 b b2 (answer_of files known words s b is a) other).0
+answer_exact once files known words s s2 b b2 is a two = once known words s s2 b b2 (answer_of files known words s b is a) two
 
 pub answer_complete : ((files : Files) (words : List Bytes) (s : Status) (b : Bytes) → IsClean files words → Answers files words s b → s ≡ status.Done)
     → (files : Option Files) (known : Files) (words : List Bytes) (s : Status) (b : Bytes) → files ≡ Some known → IsClean known words → IsAnswer files words s b → s ≡ status.Done
 answer_complete done files known words s b is clean a = done known words s b clean (answer_of files known words s b is a)
+
+pub answer_compilable : ((files : Files) (words : List Bytes) (s : Status) (b : Bytes) → IsCompilable files words → Answers files words s b → s ≡ status.Done)
+    → (files : Option Files) (known : Files) (words : List Bytes) (s : Status) (b : Bytes) → files ≡ Some known → IsCompilable known words → IsAnswer files words s b → s ≡ status.Done
+answer_compilable done files known words s b is clean a = done known words s b clean (answer_of files known words s b is a)
 
 pub answer_prefix : (files : Option Files) (words : List Bytes) (s : Status) (b : Bytes) (old new : Option Bytes) → IsAnswer files words s b → AppendsPrefix old new b → Told files (λ known. WritesPrefix known words old new)
 answer_prefix None words s b old new a prefix = tt

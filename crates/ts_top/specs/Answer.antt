@@ -1,20 +1,23 @@
 -- The answer of the program: which status and which bytes the words and the files come to.
-use Rattle.std.specs.Prelude.{◌≡◌, ℕ, ◌<◌, ◌⊎◌, List, [], ◌∷◌, length, map, Option, Some, None, String, string_bytes, codes}
+use Rattle.std.specs.Prelude.{◌≡◌, ℕ, ◌<◌, ◌≤◌, ◌⊎◌, List, [], ◌∷◌, length, map, Option, Some, None, String, string_bytes, codes}
 use Rattle.std.specs.declared.alloc.Global.{Global}
+use Rattle.serde_json.specs.Data.{string}
 use Rattle.ts_base.specs.Bytes.{Bytes}
+use Rattle.ts_core.specs.declared.flat.FlatGrammar.{FlatGrammar}
+use Rattle.ts_core.specs.declared.limits.Limited.TheVariants.{File}
+use Rattle.spec_runs.specs.Outcomes.{FreshOutcome, Fresh}
+use Rattle.spec_output.specs.Faults.{absent_line, at_line, broken_line, usage_line}
+use Rattle.spec_output.specs.GrammarFaults.{limit_line}
+use Rattle.spec_output.specs.Outcomes.{parse_line}
+use Rattle.spec_output.specs.declared.status.Status.{Status}
+use Rattle.spec_output.specs.declared.status.Status.TheVariants as status
 use Rattle.ts_io.specs.Outside.{Files, file_at, Appends, AppendsPrefix}
 use Rattle.ts_text.specs.Text.{IsText, BreaksAt}
-use Rattle.ts_top.specs.Tree.{node_of}
-use Rattle.ts_top.specs.Plain.{Plain}
-use Rattle.ts_top.specs.Visible.{Visible}
-use Rattle.ts_top.specs.Form.{IsBuilt}
-use Rattle.ts_top.specs.Limits.{most_text_bytes}
-use Rattle.ts_top.specs.Lines.{tree_line, stuck_line, deep_line, usage_line, unbuilt_line, absent_line, text_size_line, text_line}
-use Rattle.ts_top.specs.declared.status.Status.{Status}
-use Rattle.ts_top.specs.declared.status.Status.TheVariants as status
-use Rattle.ts_top.specs.declared.plain.PlainGrammar.{PlainGrammar}
-use Rattle.ts_top.specs.declared.plain.Outcome.{Outcome}
-use Rattle.ts_top.specs.declared.plain.Outcome.TheVariants.{Tree, Stuck, Deep}
+use Rattle.ts_print.specs.Printed.{shown_outcome}
+use Rattle.ts_front.specs.Compiled.{IsCompiled, IsRefusalLine}
+use Rattle.ts_front.specs.Grammars.{IsFormOf}
+use Rattle.ts_front.specs.Tables.{HasTable}
+use Rattle.ts_top.specs.Limits.{most_file_bytes, most_text_bytes}
 
 -- the words, as bytes
 abbrev pub texts : List (String Global) → List Bytes
@@ -26,9 +29,14 @@ texts words = map string_bytes words
 abbrev pub Parses : List Bytes → Bytes → Bytes → Type 0
 Parses words grammar text = words ≡ codes "parse" ∷ grammar ∷ text ∷ []
 
+-- the words ask to compile the grammar at a path
+abbrev pub Compiles : List Bytes → Bytes → Type 0
+Compiles words grammar = words ≡ codes "compile" ∷ grammar ∷ []
+
 -- the words have none of the forms
-abbrev pub IsUsage : List Bytes → Type 0
-IsUsage words = (grammar text : Bytes) → Parses words grammar text → ⊥
+pub record IsUsage (words : List Bytes) : Type 0 where
+  pub no_parse : (grammar text : Bytes) → Parses words grammar text → ⊥
+  pub no_compile : (grammar : Bytes) → Compiles words grammar → ⊥
 
 -- ---- what stands at the paths
 
@@ -49,27 +57,45 @@ pub record IsAbsent (files : Files) (words : List Bytes) (path : Bytes) : Type 0
       ⊎ ((grammar : Bytes) × (file_at files grammar_path ≡ Some grammar)
       × (file_at files text_path ≡ None) × (path ≡ text_path))
 
--- ---- the line of an outcome
+-- ---- lines
 
--- the line of what a parse comes to
-abbrev pub outcome_line : PlainGrammar → Bytes → Outcome → Bytes
-outcome_line g text (Tree tree) = tree_line (Visible g text (node_of tree))
-outcome_line g text (Stuck place) = stuck_line place
-outcome_line g text Deep = deep_line
+-- the line of what a text comes to
+abbrev pub outcome_line : FlatGrammar → Bytes → FreshOutcome → Bytes
+outcome_line f text o = parse_line (shown_outcome f text o)
+
+-- the text at the path is too large
+abbrev pub size_line : Bytes → Bytes
+size_line path = at_line (string path) (codes "text size") status.Text
 
 -- ---- the answer
+
+-- the file is not too large, stands for this grammar, and the grammar has a parse table
+pub record Builds (file : Bytes) (f : FlatGrammar) : Type 0 where
+  pub small : length file ≤ most_file_bytes
+  pub is_form : IsFormOf file f
+  pub table : HasTable f
 
 -- What a grammar file and a text come to, and what is printed of it: the status and the bytes. The
 -- grammar is judged first.
 pub data Judged (grammar text path : Bytes) : Status → Bytes → Type 0 where
-  unbuilt : ((g : PlainGrammar) → IsBuilt grammar g → ⊥)
-      → Judged grammar text path status.Grammar unbuilt_line
-  too_large : (g : PlainGrammar) → IsBuilt grammar g → most_text_bytes < length text
-      → Judged grammar text path status.Text (text_size_line path)
-  no_text : (g : PlainGrammar) (place : ℕ) → IsBuilt grammar g → BreaksAt text place
-      → Judged grammar text path status.Text (text_line path place)
-  parsed : (g : PlainGrammar) (out : Outcome) → IsBuilt grammar g → IsText text → Plain g text out
-      → Judged grammar text path status.Done (outcome_line g text out)
+  large_grammar : most_file_bytes < length grammar
+      → Judged grammar text path status.Grammar (limit_line File)
+  refused_grammar : (line : Bytes) → length grammar ≤ most_file_bytes
+      → IsRefusalLine grammar line → Judged grammar text path status.Grammar line
+  too_large : (f : FlatGrammar) → Builds grammar f → most_text_bytes < length text
+      → Judged grammar text path status.Text (size_line path)
+  no_text : (f : FlatGrammar) (place : ℕ) → Builds grammar f → BreaksAt text place
+      → Judged grammar text path status.Text (broken_line path place)
+  parsed : (f : FlatGrammar) (o : FreshOutcome) → Builds grammar f → IsText text
+      → Fresh f text o → Judged grammar text path status.Done (outcome_line f text o)
+
+-- What a file comes to where it is compiled, and what is printed of it: the status and the bytes.
+pub data Compiled (file : Bytes) : Status → Bytes → Type 0 where
+  large : most_file_bytes < length file → Compiled file status.Grammar (limit_line File)
+  refused : (line : Bytes) → length file ≤ most_file_bytes → IsRefusalLine file line
+      → Compiled file status.Grammar line
+  written : (bytes : Bytes) → length file ≤ most_file_bytes → IsCompiled file bytes
+      → Compiled file status.Done bytes
 
 -- Words and files come to this status and these bytes. The words are judged first, then the files
 -- are read, and then what they hold is judged.
@@ -80,17 +106,31 @@ pub data Answers (files : Files) (words : List Bytes) : Status → Bytes → Typ
   judged : (grammar text path : Bytes) (ends : Status) (bytes : Bytes)
       → Has files words grammar text path
       → Judged grammar text path ends bytes → Answers files words ends bytes
+  lacking : (path : Bytes) → Compiles words path → file_at files path ≡ None
+      → Answers files words status.Absent (absent_line path)
+  compiled : (path file : Bytes) (ends : Status) (bytes : Bytes) → Compiles words path
+      → file_at files path ≡ Some file → Compiled file ends bytes → Answers files words ends bytes
 
--- Both files are there, the grammar is built, and the text is one: nothing stands in the way of an
--- outcome.
+-- Both files are there, the grammar has a parse table, and the text is one: nothing stands in the
+-- way of an outcome.
 pub record IsClean (files : Files) (words : List Bytes) : Type 0 where
   pub grammar : Bytes
   pub text : Bytes
   pub path : Bytes
   pub has : Has files words grammar text path
-  pub normal : PlainGrammar
-  pub built : IsBuilt grammar normal
+  pub form : FlatGrammar
+  pub builds : Builds grammar form
   pub is_text : IsText text
+
+-- The words ask to compile a file that is there, is not too large and has a language file.
+pub record IsCompilable (files : Files) (words : List Bytes) : Type 0 where
+  pub path : Bytes
+  pub file : Bytes
+  pub compiles : Compiles words path
+  pub file_is : file_at files path ≡ Some file
+  pub small : length file ≤ most_file_bytes
+  pub bytes : Bytes
+  pub is_compiled : IsCompiled file bytes
 
 -- ---- what the sink is given
 

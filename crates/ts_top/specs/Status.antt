@@ -1,22 +1,18 @@
--- The statuses that the program ends with: their numbers, and which of them cut a run short.
+-- The numbers of statuses that these words end with, and which of them cut a run short.
 use Rattle.std.specs.Prelude.{◌≡◌, ℕ, ◌⊎◌}
-use Rattle.ts_top.specs.declared.status.Status.{Status}
-use Rattle.ts_top.specs.declared.status.Status.TheVariants.{Done, Usage, ReadFault, WriteFault, OutOfMemory, Grammar, Absent, Text}
+use Rattle.spec_output.specs.Status.{number_of}
+use Rattle.spec_output.specs.declared.status.Status.{Status}
+use Rattle.spec_output.specs.declared.status.Status.TheVariants.{ReadFault, WriteFault, OutOfMemory, Query, Script}
 
--- the number that the system is given
-abbrev pub number_of : Status → ℕ
-number_of Done = 0
-number_of Usage = 1
-number_of ReadFault = 2
-number_of WriteFault = 3
-number_of OutOfMemory = 4
-number_of Grammar = 5
-number_of Absent = 8
-number_of Text = 9
+-- no word of this program has a query or a script yet
+abbrev pub IsEnd : Status → Type 0
+IsEnd Query = ⊥
+IsEnd Script = ⊥
+IsEnd _ = Unit {0}
 
--- The number is a status's.
+-- The number is that of a status that words end with.
 abbrev pub IsStatus : ℕ → Type 0
-IsStatus number = (status : Status) × (number ≡ number_of status)
+IsStatus number = (status : Status) × IsEnd status × (number ≡ number_of status)
 
 -- A read failed, a write failed or memory ran out, and the answer was not given whole.
 abbrev pub IsCutShort : ℕ → Type 0

@@ -1,96 +1,111 @@
-//! What was read of a grammar file and a text in; the line of the outcome, or why there is none,
-//! out.
-ghost use Rattle.std.specs.Prelude.{◌≡◌, ◌<◌, ◌^◌, IfOk, IfErr, string_bytes};
+//! What was read of a grammar and a text in; the answer out.
+ghost use Rattle.std.specs.Prelude.{◌≡◌, ◌≤◌, Some, length, option_map, string_bytes, IfOk, IfErr};
+ghost use Rattle.spec_output.specs.GrammarFaults.{limit_line};
+ghost use Rattle.spec_output.specs.declared.status.Status.TheVariants as ends;
 ghost use Rattle.ts_base.specs.Bytes.{Bytes};
+ghost use Rattle.ts_core.specs.declared.flat.FlatGrammar.{FlatGrammar as AnyForm};
 ghost use Rattle.ts_io.specs.Read.{AnswersFor, KeepsLimit};
 ghost use Rattle.ts_text.specs.Text.{IsText};
-ghost use Rattle.ts_top.specs.Answer.{Judged, outcome_line};
-ghost use Rattle.ts_top.specs.Form.{IsBuilt};
-ghost use Rattle.ts_top.specs.Limits.{most_grammar_bytes, most_text_bytes};
-ghost use Rattle.ts_top.specs.declared.status.Status.TheVariants.{Done};
-ghost use Rattle.ts_top.specs.Plain.{Plain, start_of};
-ghost use Rattle.ts_top.specs.declared.plain.PlainGrammar.{PlainGrammar};
-ghost use Rattle.ts_top.specs.declared.plain.Outcome.{Outcome as AnyOutcome};
-ghost use Rattle.ts_top.specs.Faults.{AreRead, StoppedAt, IsTextFault, IsLate};
-ghost use Rattle.ts_top.specs.PlainForm.{IsForm};
+ghost use Rattle.ts_top.specs.Answer.{Builds, Judged};
+ghost use Rattle.ts_top.specs.Limits.{most_file_bytes, most_text_bytes};
+ghost use Rattle.ts_top.specs.Stops.{AreRead, IsJudged, IsTextFault};
+ghost use Rattle.ts_top.specs.declared.stop.Stop.TheVariants.{Memory};
 
-use crate::fault::Fault;
-use crate::grammar::plain_form;
-use crate::normal::NotPlain;
-use crate::plain::{Outcome, PlainGrammar};
+use crate::answer::Answer;
+use crate::compile::too_large;
+use crate::outcome::line_of;
 use crate::stop::Stop;
-use crate::visible::visible;
-use crate::{print, walk};
+use spec_output::Status;
 use std::alloc::{AllocError, Global};
+use ts_front::{Uncompiled, table_in};
 use ts_io::Found;
+use ts_table::Table;
 use ts_text::{Text, TextFault};
 
-/// The line of the outcome of a text, by the files that were read for the grammar and the text.
+/// The answer of the files that were read for a grammar and a text.
 pub(crate) fn judge<'a>(
     alloc: Global,
     grammar: &Found,
     text: &Found,
-    path: &'a str,
-) -> Result<String, Stop<'a>>
-    requires { KeepsLimit most_grammar_bytes grammar.now }
-    ensures line { IfOk result (λ s. (g t : Bytes) → AreRead grammar.now text.now g t
-        → Judged g t path.now Done (string_bytes s)) }
-    ensures stop { IfErr result (λ stop. (g t : Bytes) → AreRead grammar.now text.now g t
-        → StoppedAt g t path.now stop) }
-    ensures late { IfErr result IsLate }
+    path: &str,
+) -> Result<Answer, Stop<'a>>
+    requires { KeepsLimit most_file_bytes grammar.now }
+    ensures judged { IfOk result (λ a. IsJudged a.status) }
+    ensures answers { IfOk result (λ a. (g t : Bytes) → AreRead grammar.now text.now g t
+        → Judged g t path.now a.status a.bytes.items) }
+    ensures stop { IfErr result (λ stop. stop ≡ Memory) }
 {
-    let form = match read_grammar(alloc, grammar) {
-        Ok(form) => form,
-        Err(refusal) => return Err(grammar_stop(refusal)),
-    };
-    match read_text(alloc, text) {
-        Ok(text) => Ok(line(alloc, &form, &text)?),
-        Err(fault) => Err(text_stop(&fault, path)),
+    match grammar {
+        Found::Bytes(bytes) => by_grammar(alloc, bytes.as_slice(), text, path),
+        Found::Over => Ok(too_large(alloc)?),
+        Found::Absent => Ok(too_large(alloc)?),
     }
 }
 
-fn grammar_stop<'a>(refusal: NotPlain) -> Stop<'a>
-    ensures late { IsLate result }
-    ensures stop { (g t path : Bytes)
-        → (refusal ≡ NotPlain.Unbuilt → (normal : PlainGrammar) → IsBuilt g normal → ⊥)
-        → StoppedAt g t path result }
+/// The answer of the bytes of a grammar file, and of what was read of the text.
+fn by_grammar<'a>(
+    alloc: Global,
+    grammar: &[u8],
+    text: &Found,
+    path: &str,
+) -> Result<Answer, Stop<'a>>
+    requires { length grammar.now ≤ most_file_bytes }
+    ensures judged { IfOk result (λ a. IsJudged a.status) }
+    ensures answers { IfOk result (λ a. (t : Bytes) → AnswersFor (Some t) most_text_bytes text.now
+        → Judged grammar.now t path.now a.status a.bytes.items) }
+    ensures stop { IfErr result (λ stop. stop ≡ Memory) }
 {
-    match refusal {
-        NotPlain::Unbuilt => Stop::Fault(Fault::Unbuilt),
-        NotPlain::Memory => Stop::Memory,
-    }
-}
-
-fn text_stop<'a>(fault: &TextFault, path: &'a str) -> Stop<'a>
-    ensures late { IsLate result }
-    ensures stop { (g t : Bytes) (normal : PlainGrammar) → IsBuilt g normal
-        → IsTextFault t fault.now
-        → StoppedAt g t path.now result }
-{
-    match fault {
-        TextFault::Size(_) => Stop::Fault(Fault::TextSize(path)),
-        TextFault::Utf8(place) => Stop::Fault(Fault::Text {
-            path,
-            place: *place,
+    match table_in(alloc, grammar) {
+        Ok(table) => by_table(alloc, &table, text, path),
+        Err(Uncompiled::Refused(line)) => Ok(Answer {
+            status: Status::Grammar,
+            bytes: line.into_bytes(),
         }),
-        TextFault::Memory => Stop::Memory,
+        Err(Uncompiled::Memory) => Err(Stop::Memory),
     }
 }
 
-/// The normal form of the grammar file that was read. One with too many bytes isn't built.
-fn read_grammar(alloc: Global, file: &Found) -> Result<PlainGrammar, NotPlain>
-    requires { KeepsLimit most_grammar_bytes file.now }
-    ensures plain { IfOk result (λ form. (bytes : Bytes)
-        → AnswersFor (Some bytes) most_grammar_bytes file.now → IsBuilt bytes form) }
-    ensures form { IfOk result (λ form. IsForm form) }
-    ensures numbered { IfOk result (λ form. start_of form < 2 ^ 16) }
-    ensures unbuilt { result ≡ Err NotPlain.Unbuilt → (bytes : Bytes)
-        → AnswersFor (Some bytes) most_grammar_bytes file.now → (g : PlainGrammar) → IsBuilt bytes g
-        → ⊥ }
+/// The answer of what was read of the text, by a parse table.
+fn by_table<'a>(alloc: Global, table: &Table, text: &Found, path: &str) -> Result<Answer, Stop<'a>>
+    ensures judged { IfOk result (λ a. IsJudged a.status) }
+    ensures answers { IfOk result (λ a. (g t : Bytes) → Builds g table.now.grammar
+        → AnswersFor (Some t) most_text_bytes text.now
+        → Judged g t path.now a.status a.bytes.items) }
+    ensures stop { IfErr result (λ stop. stop ≡ Memory) }
 {
-    match file {
-        Found::Bytes(bytes) => plain_form(alloc, bytes.as_slice()),
-        Found::Absent | Found::Over => Err(NotPlain::Unbuilt),
+    match read_text(alloc, text) {
+        Ok(text) => Ok(parsed(alloc, table, &text)?),
+        Err(fault) => no_text(alloc, path, &fault),
+    }
+}
+
+/// The answer of a text.
+fn parsed(alloc: Global, table: &Table, text: &Text) -> Result<Answer, AllocError>
+    requires { length text.now ≤ most_text_bytes }
+    ensures status { IfOk result (λ a. a.status ≡ ends.Done) }
+    ensures answers { IfOk result (λ a. (g path : Bytes) → Builds g table.now.grammar
+        → IsText text.now → Judged g text.now path ends.Done a.bytes.items) }
+{
+    let line = line_of(alloc, table, text)?;
+    Ok(Answer {
+        status: Status::Done,
+        bytes: line.into_bytes(),
+    })
+}
+
+/// The answer of bytes that are no text.
+fn no_text<'a>(alloc: Global, path: &str, fault: &TextFault) -> Result<Answer, Stop<'a>>
+    ensures judged { IfOk result (λ a. IsJudged a.status) }
+    ensures answers { IfOk result (λ a. (g t : Bytes) (f : AnyForm) → Builds g f
+        → IsTextFault t fault.now → Judged g t path.now a.status a.bytes.items) }
+    ensures stop { IfErr result (λ stop. stop ≡ Memory) }
+{
+    match ts_lines::text_fault(alloc, path, fault)? {
+        Some(line) => Ok(Answer {
+            status: Status::Text,
+            bytes: line.into_bytes(),
+        }),
+        None => Err(Stop::Memory),
     }
 }
 
@@ -106,20 +121,5 @@ fn read_text(alloc: Global, file: &Found) -> Result<Text, TextFault>
     match file {
         Found::Bytes(bytes) => Text::from_bytes(alloc, bytes.as_slice()),
         Found::Absent | Found::Over => Err(TextFault::Size(u64::from(ts_text::MOST_BYTES) + 1)),
-    }
-}
-
-/// The line of the outcome of a text.
-fn line(alloc: Global, form: &PlainGrammar, text: &Text) -> Result<String, AllocError>
-    requires form { IsForm form.now }
-    requires numbered { start_of form.now < 2 ^ 16 }
-    ensures { IfOk result (λ s. (out : AnyOutcome) × Plain form.now text.now out
-        × (string_bytes s ≡ outcome_line form.now text.now out)) }
-{
-    let outcome = walk::parse(alloc, form, text.as_str())?;
-    match &outcome {
-        Outcome::Tree(tree) => print::tree(alloc, &visible(alloc, form, text, tree)?),
-        Outcome::Stuck(place) => print::stuck(alloc, *place),
-        Outcome::Deep => print::deep(alloc),
     }
 }

@@ -1,40 +1,35 @@
 //! Laws of the definitions, for whoever reads a contract of this crate: no values in, facts out.
-ghost use Rattle.std.specs.Prelude.{◌≡◌, ℕ, List};
+ghost use Rattle.std.specs.Prelude.{◌≡◌, List};
 ghost use Rattle.ts_base.specs.Bytes.{Bytes};
 ghost use Rattle.ts_io.specs.Outside.{Files};
-ghost use Rattle.ts_top.specs.Answer.{Answers, IsClean};
-ghost use Rattle.ts_top.specs.Plain.{Expands};
-ghost use Rattle.ts_top.specs.Tree.{Node};
-ghost use Rattle.ts_top.specs.declared.plain.PlainGrammar.{PlainGrammar as AnyGrammar};
-ghost use Rattle.ts_top.specs.declared.status.Status.{Status as AnyStatus};
-ghost use Rattle.ts_top.specs.declared.status.Status.TheVariants.{Done};
+ghost use Rattle.spec_output.specs.declared.status.Status.{Status as AnyStatus};
+ghost use Rattle.spec_output.specs.declared.status.Status.TheVariants.{Done};
+ghost use Rattle.ts_top.specs.Answer.{Answers, Compiles, IsClean, IsCompilable};
 
-/// The same words and files come to one status and one list of bytes.
+/// The same words and files come to one status, and to one list of bytes but for the line of a tree,
+/// where two trees may be equally good.
 pub fn answers_once()
-    ensures { (files : Files) (words : List Bytes) (s t : AnyStatus) (b c : Bytes)
-        → Answers files words s b → Answers files words t c → (s ≡ t) × (b ≡ c) }
+    ensures status { (files : Files) (words : List Bytes) (s t : AnyStatus) (b c : Bytes)
+        → Answers files words s b → Answers files words t c → s ≡ t }
+    ensures bytes { (files : Files) (words : List Bytes) (s t : AnyStatus) (b c : Bytes)
+        → Answers files words s b → Answers files words t c → (s ≡ Done → ⊥) → b ≡ c }
+    ensures compiled { (files : Files) (words : List Bytes) (path : Bytes) (s t : AnyStatus)
+        (b c : Bytes) → Compiles words path → Answers files words s b → Answers files words t c
+        → b ≡ c }
 {
-    ts_ojson::one_value();
     ts_text::breaks_once();
+    ts_front::one_compilation();
+    ts_front::one_answer();
 }
 
-/// All words and files come to an answer: it cannot be that each status and list of bytes is none.
-pub fn answers_exist()
-    ensures { (files : Files) (words : List Bytes)
-        → ((status : AnyStatus) (bytes : Bytes) → Answers files words status bytes → ⊥) → ⊥ }
-{}
-
-/// Where nothing stands in the way of an outcome, the program is done.
+/// Where nothing stands in the way of an outcome, or of a language file, the program is done.
 pub fn clean_is_done()
-    ensures { (files : Files) (words : List Bytes) (status : AnyStatus) (bytes : Bytes)
+    ensures parsed { (files : Files) (words : List Bytes) (status : AnyStatus) (bytes : Bytes)
         → IsClean files words → Answers files words status bytes → status ≡ Done }
+    ensures compiled { (files : Files) (words : List Bytes) (status : AnyStatus) (bytes : Bytes)
+        → IsCompilable files words → Answers files words status bytes → status ≡ Done }
 {
-    ts_ojson::one_value();
     ts_text::breaks_once();
+    ts_front::one_compilation();
+    ts_front::one_answer();
 }
-
-/// A symbol of a plain grammar expands to one tree at most.
-pub fn one_tree()
-    ensures { (g : AnyGrammar) (symbol : ℕ) (n m : Node) → Expands g symbol n → Expands g symbol m
-        → n ≡ m }
-{}

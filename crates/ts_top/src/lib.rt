@@ -1,22 +1,14 @@
 //! The one public call of the program, `run`, over its private parts.
 #![tactic(auto)]
 
-mod fault;
-mod form;
-mod grammar;
+mod answer;
+mod compile;
 mod judge;
 mod laws;
-mod normal;
-mod order;
-mod plain;
-mod print;
+mod outcome;
 mod program;
-mod status;
 mod stop;
-mod tree;
-mod visible;
-mod walk;
 
-pub use laws::{answers_exist, answers_once, clean_is_done, one_tree};
+pub use laws::{answers_once, clean_is_done};
 pub use program::run;
-pub use status::Status;
+pub use spec_output::Status;

@@ -1,34 +1,29 @@
-//! The top call: words and files in, a status and a line out.
-ghost use Rattle.std.specs.Prelude.{◌≡◌, ◌≤◌, ◌⊎◌, ℕ, IfOk, IfErr, IfSome, IfNone, Some, string_bytes};
+//! The top call: words and files in, a status and bytes out.
+ghost use Rattle.std.specs.Prelude.{◌≡◌, ◌≤◌, ◌⊎◌, ℕ, IfOk, IfErr, IfSome, IfNone, Some};
 ghost use Rattle.ts_base.specs.Bytes.{Bytes};
+ghost use Rattle.spec_output.specs.Faults.{absent_line, usage_line};
+ghost use Rattle.spec_output.specs.Status.{number_of};
+ghost use Rattle.spec_output.specs.declared.status.Status.{Status as AnyStatus};
+ghost use Rattle.spec_output.specs.declared.status.Status.TheVariants as ends;
 ghost use Rattle.ts_io.specs.Outside.{Files, Rose, Appends, AppendsPrefix};
 ghost use Rattle.ts_io.specs.Read.{KeepsLimit};
-ghost use Rattle.ts_top.specs.Answer.{texts, IsUsage, Parses, Answers, IsClean, Told, Writes, WritesPrefix};
-ghost use Rattle.ts_top.specs.Faults.{IsAnswer, Stopped, ReadStopped, IsThere, status_of, line_of};
-ghost use Rattle.ts_top.specs.Lines.{usage_line};
-ghost use Rattle.ts_top.specs.Status.{number_of, IsStatus, IsCutShort};
-ghost use Rattle.ts_top.specs.declared.status.Status.{Status as AnyStatus};
-ghost use Rattle.ts_top.specs.declared.status.Status.TheVariants as ends;
+ghost use Rattle.ts_top.specs.Answer.{texts, IsUsage, Parses, Compiles, Answers, IsClean, IsCompilable, Told, Writes, WritesPrefix};
+ghost use Rattle.ts_top.specs.Status.{IsStatus, IsCutShort};
+ghost use Rattle.ts_top.specs.Stops.{IsAnswer, Stopped, ReadStopped, IsThere};
 
-use crate::fault::Fault;
-use crate::grammar::MOST_GRAMMAR_BYTES;
+use crate::answer::Answer;
+use crate::compile::{MOST_FILE_BYTES, compiled};
 use crate::judge::judge;
 use crate::laws::{answers_once, clean_is_done};
-use crate::status::Status;
 use crate::stop::Stop;
+use spec_output::Status;
 use std::alloc::{AllocError, Global};
 use thiserror::Error;
 use ts_io::{Folder, Found, ReadFault, Sink, WriteFault, put};
+use ts_lines::number;
 
 /// The most bytes that a text has: 1 MiB.
 const MOST_TEXT_BYTES: u64 = ts_text::MOST_BYTES as u64;
-
-/// What is printed, and the status that goes with it.
-#[derive(Debug, Drop)]
-struct Answer {
-    status: Status,
-    line: String,
-}
 
 /// Why there is no answer.
 #[derive(Clone, Copy, Debug, PartialEq, Eq, Error)]
@@ -50,7 +45,7 @@ impl From<AllocError> for Unanswered {
 }
 
 /// Runs the program on its words: `parse GRAMMAR TEXT` writes the outcome of parsing the text as
-/// one line.
+/// one line, and `compile GRAMMAR` the language file of a grammar.
 ///
 /// It answers the number of a `Status`. The words are judged before any file is read, and GRAMMAR
 /// is read before TEXT. At `Usage`, `Grammar`, `Absent` and `Text` a line that says so is written.
@@ -98,6 +93,11 @@ pub fn run<R: AllocGlobal, F: Folder, S: Sink>(
         → (Rose (F.faults folder.old) (F.faults folder.new) → ⊥)
         → (Rose (S.faults sink.old) (S.faults sink.new) → ⊥)
         → (result ≡ number_of ends.Done) ⊎ (result ≡ number_of ends.OutOfMemory) }
+    ensures compilable { (files : Files) → F.files folder.old ≡ Some files
+        → IsCompilable files (texts words.now)
+        → (Rose (F.faults folder.old) (F.faults folder.new) → ⊥)
+        → (Rose (S.faults sink.old) (S.faults sink.new) → ⊥)
+        → (result ≡ number_of ends.Done) ⊎ (result ≡ number_of ends.OutOfMemory) }
 
     // Words of no form are judged before any read.
     ensures usage_only { IsUsage (texts words.now) → (result ≡ number_of ends.Usage)
@@ -112,12 +112,12 @@ pub fn run<R: AllocGlobal, F: Folder, S: Sink>(
     answers_once();
     clean_is_done();
     match answer_to(rt.alloc(), words, folder) {
-        Ok(answer) => match put(sink, answer.line.as_bytes()) {
-            Ok(()) => answer.status.number(),
-            Err(WriteFault::Failed) => Status::WriteFault.number(),
+        Ok(answer) => match put(sink, answer.bytes.as_slice()) {
+            Ok(()) => number(answer.status),
+            Err(WriteFault::Failed) => number(Status::WriteFault),
         },
-        Err(Unanswered::Read) => Status::ReadFault.number(),
-        Err(Unanswered::Memory) => Status::OutOfMemory.number(),
+        Err(Unanswered::Read) => number(Status::ReadFault),
+        Err(Unanswered::Memory) => number(Status::OutOfMemory),
     }
 }
 
@@ -128,44 +128,96 @@ fn answer_to<F: Folder>(
     folder: &mut F,
 ) -> Result<Answer, Unanswered>
     ensures answers { IfOk result (λ answer.
-        IsAnswer (F.files folder.old) (texts words.now) answer.status (string_bytes answer.line)) }
+        IsAnswer (F.files folder.old) (texts words.now) answer.status answer.bytes.items) }
     ensures read { result ≡ Err Unanswered.Read → Rose (F.faults folder.old) (F.faults folder.new) }
     ensures asked { result ≡ Err Unanswered.Read → IsUsage (texts words.now) → ⊥ }
     ensures unread { IsUsage (texts words.now) → folder.new ≡ folder.old }
     ensures files { F.files folder.new ≡ F.files folder.old }
     ensures later { F.faults folder.old ≤ F.faults folder.new }
 {
-    match outcome(alloc, words, folder) {
-        Ok(line) => Ok(Answer {
-            status: Status::Done,
-            line,
-        }),
-        Err(Stop::Fault(fault)) => Ok(refused(alloc, &fault)?),
+    match done(alloc, words, folder) {
+        Ok(answer) => Ok(answer),
+        Err(Stop::Usage) => Ok(usage(alloc)?),
+        Err(Stop::Absent(path)) => Ok(absent(alloc, path)?),
         Err(Stop::Read) => Err(Unanswered::Read),
         Err(Stop::Memory) => Err(Unanswered::Memory),
     }
 }
 
-/// The answer of a fault.
-fn refused(alloc: Global, fault: &Fault) -> Result<Answer, AllocError>
-    ensures status { IfOk result (λ answer. answer.status ≡ status_of fault.now) }
-    ensures line { IfOk result (λ answer. string_bytes answer.line ≡ line_of fault.now) }
+/// The answer of words of no form.
+fn usage(alloc: Global) -> Result<Answer, AllocError>
+    ensures status { IfOk result (λ answer. answer.status ≡ ends.Usage) }
+    ensures line { IfOk result (λ answer. answer.bytes.items ≡ usage_line) }
 {
-    let line = fault.line(alloc)?;
+    let line = ts_lines::usage(alloc)?;
     Ok(Answer {
-        status: fault.status(),
-        line,
+        status: Status::Usage,
+        bytes: line.into_bytes(),
     })
 }
 
-/// The line of the outcome of the text that the words name.
-fn outcome<'a, F: Folder>(
+/// The answer of a path at which there is no file.
+fn absent(alloc: Global, path: &str) -> Result<Answer, AllocError>
+    ensures status { IfOk result (λ answer. answer.status ≡ ends.Absent) }
+    ensures line { IfOk result (λ answer. answer.bytes.items ≡ absent_line path.now) }
+{
+    let line = ts_lines::absent(alloc, path)?;
+    Ok(Answer {
+        status: Status::Absent,
+        bytes: line.into_bytes(),
+    })
+}
+
+/// What the words ask for, done.
+fn done<'a, F: Folder>(
     alloc: Global,
     words: &'a [String],
     folder: &mut F,
-) -> Result<String, Stop<'a>>
-    ensures line { IfOk result (λ s.
-        IsAnswer (F.files folder.old) (texts words.now) ends.Done (string_bytes s)) }
+) -> Result<Answer, Stop<'a>>
+    ensures answers { IfOk result (λ answer.
+        IsAnswer (F.files folder.old) (texts words.now) answer.status answer.bytes.items) }
+    ensures stop { IfErr result (λ stop. Stopped (F.files folder.old) (texts words.now)
+        (Rose (F.faults folder.old) (F.faults folder.new)) stop) }
+    ensures unread { IsUsage (texts words.now) → folder.new ≡ folder.old }
+    ensures files { F.files folder.new ≡ F.files folder.old }
+    ensures later { F.faults folder.old ≤ F.faults folder.new }
+{
+    match compile_path(words) {
+        Some(path) => compile(alloc, words, folder, path),
+        None => parse(alloc, words, folder),
+    }
+}
+
+/// Compiles the file at a path.
+fn compile<'a, F: Folder>(
+    alloc: Global,
+    words: &[String],
+    folder: &mut F,
+    path: &'a str,
+) -> Result<Answer, Stop<'a>>
+    requires { Compiles (texts words.now) path.now }
+    ensures answers { IfOk result (λ answer.
+        IsAnswer (F.files folder.old) (texts words.now) answer.status answer.bytes.items) }
+    ensures stop { IfErr result (λ stop. Stopped (F.files folder.old) (texts words.now)
+        (Rose (F.faults folder.old) (F.faults folder.new)) stop) }
+    ensures files { F.files folder.new ≡ F.files folder.old }
+    ensures later { F.faults folder.old ≤ F.faults folder.new }
+{
+    match read(alloc, folder, path, MOST_FILE_BYTES) {
+        Ok(found) => compiled(alloc, &found),
+        Err(stop) => Err(stop),
+    }
+}
+
+/// Parses, where the words ask for it.
+fn parse<'a, F: Folder>(
+    alloc: Global,
+    words: &'a [String],
+    folder: &mut F,
+) -> Result<Answer, Stop<'a>>
+    requires { (path : Bytes) → Compiles (texts words.now) path → ⊥ }
+    ensures answers { IfOk result (λ answer.
+        IsAnswer (F.files folder.old) (texts words.now) answer.status answer.bytes.items) }
     ensures stop { IfErr result (λ stop. Stopped (F.files folder.old) (texts words.now)
         (Rose (F.faults folder.old) (F.faults folder.new)) stop) }
     ensures unread { IsUsage (texts words.now) → folder.new ≡ folder.old }
@@ -173,9 +225,9 @@ fn outcome<'a, F: Folder>(
     ensures later { F.faults folder.old ≤ F.faults folder.new }
 {
     let Some(paths) = paths_in(words) else {
-        return Err(Stop::Fault(Fault::Usage));
+        return Err(Stop::Usage);
     };
-    let grammar = read(alloc, folder, paths.grammar, MOST_GRAMMAR_BYTES)?;
+    let grammar = read(alloc, folder, paths.grammar, MOST_FILE_BYTES)?;
     let text = read(alloc, folder, paths.text, MOST_TEXT_BYTES)?;
     judge(alloc, &grammar, &text, paths.text)
 }
@@ -196,7 +248,7 @@ fn read<'a, F: Folder>(
         (Rose (F.faults folder.old) (F.faults folder.new)) stop) }
 {
     match folder.read(alloc, path, limit) {
-        Ok(Found::Absent) => Err(Stop::Fault(Fault::Absent(path))),
+        Ok(Found::Absent) => Err(Stop::Absent(path)),
         Ok(found) => Ok(found),
         Err(ReadFault::Failed) => Err(Stop::Read),
         Err(ReadFault::Memory) => Err(Stop::Memory),
@@ -210,9 +262,22 @@ struct Paths<'a> {
     text: &'a str,
 }
 
-/// The paths that the words name, or none where the words have another form.
+/// The path in `compile GRAMMAR`, or none where the words have another form.
+fn compile_path(words: &[String]) -> Option<&str>
+    ensures none { IfNone result ((path : Bytes) → Compiles (texts words.now) path → ⊥) }
+    ensures some { IfSome result (λ path. Compiles (texts words.now) path.now) }
+{
+    if words.len() == 2 && words[0].as_str() == "compile" {
+        Some(words[1].as_str())
+    } else {
+        None
+    }
+}
+
+/// The paths that `parse` names, or none where the words have another form.
 fn paths_in(words: &[String]) -> Option<Paths<'_>>
-    ensures none { IfNone result (IsUsage (texts words.now)) }
+    ensures none { IfNone result ((grammar text : Bytes) → Parses (texts words.now) grammar text
+        → ⊥) }
     ensures some { IfSome result
         (λ paths. Parses (texts words.now) paths.grammar.now paths.text.now) }
 {

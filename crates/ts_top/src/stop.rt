@@ -1,13 +1,14 @@
-//! Why there is no line of an outcome: a fault that is answered, a failed read, or no memory.
-use crate::fault::Fault;
+//! Why the words have no answer by what the files hold.
 use std::alloc::AllocError;
 use thiserror::Error;
 
-/// Why there is no line of an outcome.
-#[derive(Debug, Drop, Error)]
+/// Why the words have no answer by what the files hold.
+#[derive(Clone, Copy, Debug, Error)]
 pub(crate) enum Stop<'a> {
-    #[error("{0}")]
-    Fault(Fault<'a>),
+    #[error("the words have none of the forms")]
+    Usage,
+    #[error("there is no file at {0}")]
+    Absent(&'a str),
     #[error("a read failed")]
     Read,
     #[error("out of memory")]

@@ -1,17 +1,12 @@
-use Rattle.std.proofs.Common.{◌∙◌, ap, Err, Result}
-use Rattle.ts_top.specs.declared.normal.NotPlain.{NotPlain}
-use Rattle.ts_top.specs.declared.plain.PlainGrammar.{PlainGrammar}
-use Rattle.ts_top.proofs.JudgeLemmas.{line_judged}
+use Rattle.ts_top.specs.Limits.{most_file_bytes}
+use Rattle.ts_top.proofs.JudgeLemmas.{by_grammar_ok, judged_over, no_absence}
 use Rattle.ts_top.proofs.judge.judge.Goals as goal
 
-pub returns-in-Err-clause-stop : goal.returns-in-Err-clause-stop
-returns-in-Err-clause-stop c = λ g t are.
-    c.grammar_stop.ensures.stop g t c.args.path.now
-    (λ is. c.read_grammar.ensures.unbuilt (c.in-Err.is ∙ ap {B = Result PlainGrammar NotPlain} (λ (r : NotPlain). Err r) is) g are.grammar_is)
+pub returns-in-Bytes-clause-answers : goal.returns-in-Bytes-clause-answers
+returns-in-Bytes-clause-answers c = by_grammar_ok c.by_grammar.result c.args.grammar.now c.args.text.now c.in-Bytes.bytes c.as_slice.result.now c.args.path.now c.in-Bytes.is c.as_slice.ensures.value c.by_grammar.ensures.answers
 
-pub returns-in-Ok-read_text-clause-line : goal.returns-in-Ok-read_text-clause-line
-returns-in-Ok-read_text-clause-line c = λ g t are.
-    line_judged g t c.args.path.now _ c.in-Ok-read_text.text c.in-Ok.form (c.in-Ok.ensures.plain g are.grammar_is) (c.in-Ok-read_text.ensures.text t are.text_is) c.in_ok-line-in-Ok-read_text.ensures
+pub returns-in_ok-too_large-in-Over-clause-answers : goal.returns-in_ok-too_large-in-Over-clause-answers
+returns-in_ok-too_large-in-Over-clause-answers c = judged_over c.args.grammar.now c.args.text.now c.args.path.now _ _ c.in-Over.is c.in_ok-too_large-in-Over.ensures.status c.in_ok-too_large-in-Over.ensures.bytes
 
-pub returns-clause-stop : goal.returns-clause-stop
-returns-clause-stop c = λ g t are. c.text_stop.ensures.stop g t c.in-Ok.form (c.in-Ok.ensures.plain g are.grammar_is) (c.in-Err-read_text.ensures.fault t are.text_is)
+pub returns-in_ok-too_large-in-Absent-clause-answers : goal.returns-in_ok-too_large-in-Absent-clause-answers
+returns-in_ok-too_large-in-Absent-clause-answers c = λ g t are. absurd (no_absence c.args.grammar.now most_file_bytes g c.in-Absent.is are.grammar_is)

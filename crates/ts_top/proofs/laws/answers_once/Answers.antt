@@ -1,5 +1,7 @@
-use Rattle.ts_top.proofs.AnswerLemmas.{answers_once}
+use Rattle.ts_top.proofs.AnswerLemmas.{Laws, status_once, bytes_once, compiled_bytes_once}
 use Rattle.ts_top.proofs.laws.answers_once.Goals as goal
 
 pub returns : goal.returns
-returns c = answers_once (record { read_once = c.one_value.ensures.read; breaks_once = c.breaks_once.ensures.place; whole = c.breaks_once.ensures.text })
+returns c =
+    let laws : Laws = (record { breaks_once = c.breaks_once.ensures.place; whole = c.breaks_once.ensures.text; compiled_once = c.one_compilation.ensures.bytes; line_once = c.one_compilation.ensures.line; line_or_compiled = c.one_compilation.ensures.either }) in
+    record { status = status_once laws; bytes = bytes_once laws; compiled = compiled_bytes_once laws }

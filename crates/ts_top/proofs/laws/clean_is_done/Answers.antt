@@ -1,5 +1,7 @@
-use Rattle.ts_top.proofs.AnswerLemmas.{clean_is_done}
+use Rattle.ts_top.proofs.AnswerLemmas.{Laws, clean_is_done, compilable_is_done}
 use Rattle.ts_top.proofs.laws.clean_is_done.Goals as goal
 
 pub returns : goal.returns
-returns c = clean_is_done (record { read_once = c.one_value.ensures.read; breaks_once = c.breaks_once.ensures.place; whole = c.breaks_once.ensures.text })
+returns c =
+    let laws : Laws = (record { breaks_once = c.breaks_once.ensures.place; whole = c.breaks_once.ensures.text; compiled_once = c.one_compilation.ensures.bytes; line_once = c.one_compilation.ensures.line; line_or_compiled = c.one_compilation.ensures.either }) in
+    record { parsed = clean_is_done laws; compiled = compilable_is_done laws }

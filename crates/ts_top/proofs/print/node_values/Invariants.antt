@@ -1,7 +1,0 @@
-use Rattle.std.proofs.Common.{◌≡◌, map, take}
-use Rattle.serde_json.specs.View.{view}
-use Rattle.ts_top.specs.Lines.{node_data}
-use Rattle.ts_top.proofs.print.node_values.Given as goal
-
-abbrev pub invariant-loop-node : goal.invariant-loop-node
-invariant-loop-node l = map view l.values.items ≡ map node_data (take l.node-index l.nodes)
