@@ -1,0 +1,45 @@
+"""Builds a program over the proved crates, in a copy of them, and runs it."""
+import os
+import resource
+import shutil
+import subprocess
+import sys
+
+TOP = os.path.dirname(os.path.dirname(os.path.abspath(__file__)))
+
+
+def copied(folder, name, below, program):
+    """A copy of the crates with a program beside them."""
+    shutil.copytree(f"{TOP}/crates", f"{folder}/crates", ignore=shutil.ignore_patterns("must-fail", "out"))
+    with open(f"{TOP}/crates.txt") as lines, open(f"{folder}/crates.txt", "w") as out:
+        out.write(lines.read() + f"{name}: {below}\n")
+    home = f"{folder}/crates/{name}"
+    os.makedirs(f"{home}/src")
+    with open(f"{home}/src/main.rt", "w") as out:
+        out.write(program)
+    subprocess.run(["git", "init", "-q", folder], check=True)
+    return home
+
+
+def built(home):
+    """The path of the program, built in its folder. It ends where that fails."""
+    name = os.path.basename(home)
+    words = [os.environ.get("RT", "rt"), "run"]
+    done = subprocess.run(words, cwd=home, capture_output=True, text=True)
+    path = f"{home}/out/{name}"
+    if not os.path.exists(path):
+        sys.exit(done.stdout[-4000:] + done.stderr[-4000:])
+    return path
+
+
+def run(program, *words, stack=None):
+    """What the program prints, the most memory that it took in bytes, and its status."""
+
+    def limit():
+        if stack is not None:
+            resource.setrlimit(resource.RLIMIT_STACK, (stack, stack))
+
+    with subprocess.Popen([program, *words], stdout=subprocess.PIPE, text=True, preexec_fn=limit) as child:
+        text = child.stdout.read()
+        _, status, used = os.wait4(child.pid, 0)
+    return text.strip(), used.ru_maxrss * 1024, status

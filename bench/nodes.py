@@ -1,0 +1,400 @@
+"""Reckons the memory of the parse tree of a JSON text with `ts_node`, and runs a program that builds such a tree.
+
+    python3 bench/nodes.py [RECORDS]
+
+The text is an array of records of five members each, as
+`{"id": 1042, "name": "some item", "tags": ["a", "b"], "price": 1.50, "ok": true}`; 12,700 of them are 1 MiB. Its tree
+has the shape that the usual grammar of JSON gives: a hidden node for each value, a string of three tokens, a repetition
+for what follows the first member or item.
+
+The bytes are reckoned from the layout of the structs and the chunks of the allocator. The program then builds the tree
+of RECORDS records (1,000 if none is given), and a node of depth 998. It is run unproved, with the toolchain's checks of
+memory and arithmetic, so its times are several times those of a proved program: they show how the parts compare.
+"""
+import re
+import subprocess
+import sys
+import tempfile
+
+sys.dont_write_bytecode = True
+from built import copied
+
+NAME = "bench_nodes"
+BELOW = "ts_base ts_core ts_text spec_grammar spec_trees ts_node ts_cursor"
+
+# Bytes of each struct; its fields lie in their order, an enum has a tag of its own.
+NODE = 24
+RULE_NODE = 72
+REPETITION = 48
+RUN = 96
+ELEMENT = 8
+# The count of owners of what is shared.
+OWNERS = 8
+# The most elements and children together in a leaf of a run.
+LEAF = 48
+
+PROGRAM = r"""//! Memory and times of nodes: what is to be done and how many records go in as arguments.
+#![tactic(auto)]
+
+use std::alloc::{AllocError, Global};
+use std::time::Instant;
+use std::{env, io};
+use ts_base::{List, Str};
+use ts_core::{Assoc, FlatGrammar, FlatRule, Kind, Prec, Production, Re, Step, Symbol, TokenDef};
+use ts_cursor::Cursor;
+use ts_node::{Node, Productions, reduce};
+
+fn token(alloc: Global, name: &str) -> Result<TokenDef, AllocError> {
+    Ok(TokenDef {
+        name: Str::from_text(alloc, name)?,
+        kind: Kind::Named,
+        re: Re::Empty,
+        prec: 0,
+        literal: false,
+        immediate: false,
+        keyword: false,
+    })
+}
+
+/// A production of symbols, each two digits.
+fn production(alloc: Global, symbols: &str) -> Result<Production, AllocError> {
+    let mut steps = List::new(alloc);
+    for word in symbols.split(' ') {
+        let Ok(symbol) = word.parse::<u16>() else {
+            continue;
+        };
+        steps.push(Step {
+            symbol: Symbol(symbol),
+            prec: Prec::Absent,
+            assoc: Assoc::Absent,
+            alias: None,
+            field: None,
+        })?;
+    }
+    Ok(Production { dynamic: 0, steps })
+}
+
+/// A rule by its name, its owner and its productions, parted by bars. A name `_` is hidden.
+fn rule(alloc: Global, name: &str, owner: u16, rows: &str) -> Result<FlatRule, AllocError> {
+    let mut productions = List::new(alloc);
+    for row in rows.split('|') {
+        productions.push(production(alloc, row)?)?;
+    }
+    let kind = if name == "_" { Kind::Hidden } else { Kind::Named };
+    Ok(FlatRule {
+        name: Str::from_text(alloc, name)?,
+        kind,
+        owner: Symbol(owner),
+        productions,
+    })
+}
+
+fn rules(alloc: Global) -> Result<List<FlatRule>, AllocError> {
+    let mut rules = List::new(alloc);
+    rules.push(rule(alloc, "document", 11, "12")?)?;
+    rules.push(rule(alloc, "_", 12, "13|15|16|9|10")?)?;
+    rules.push(rule(alloc, "object", 13, "1 2|1 14 2|1 14 17 2")?)?;
+    rules.push(rule(alloc, "pair", 14, "16 5 12")?)?;
+    rules.push(rule(alloc, "array", 15, "3 4|3 12 4|3 12 18 4")?)?;
+    rules.push(rule(alloc, "string", 16, "7 7|7 8 7")?)?;
+    rules.push(rule(alloc, "_", 13, "6 14|17 6 14")?)?;
+    rules.push(rule(alloc, "_", 15, "6 12|18 6 12")?)?;
+    Ok(rules)
+}
+
+fn grammar(alloc: Global) -> Result<FlatGrammar, AllocError> {
+    let mut tokens = List::new(alloc);
+    for name in "{ } [ ] : , \" content number word".split(' ') {
+        tokens.push(token(alloc, name)?)?;
+    }
+    Ok(FlatGrammar {
+        name: Str::from_text(alloc, "json")?,
+        tokens,
+        rules: rules(alloc)?,
+        separators: List::new(alloc),
+        extras: List::new(alloc),
+        word: None,
+        fields: List::new(alloc),
+        precs: List::new(alloc),
+        conflicts: List::new(alloc),
+        precedences: List::new(alloc),
+        supertypes: List::new(alloc),
+    })
+}
+
+/// What builds nodes: the productions and the allocator.
+#[derive(Drop)]
+struct Maker {
+    productions: Productions,
+}
+
+fn leaf(token: u16, pad: u32, size: u32) -> Node {
+    Node::leaf(Symbol(token), pad, size, pad + size + 1, None)
+}
+
+impl Maker {
+    /// The node of a production over these children.
+    fn node(&self, alloc: Global, number: u32, children: List<Node>) -> Result<Node, AllocError> {
+            let mut extent = 1u32;
+        for child in children.as_slice() {
+            extent += child.pad() + child.size();
+        }
+        reduce(alloc, &self.productions, number, children, extent + 1, None)
+    }
+
+    fn one(&self, alloc: Global, number: u32, child: Node) -> Result<Node, AllocError> {
+        let mut children = List::with_capacity(alloc, 1)?;
+        children.push(child)?;
+        self.node(alloc, number, children)
+    }
+
+    fn two(&self, alloc: Global, number: u32, a: Node, b: Node) -> Result<Node, AllocError> {
+        let mut children = List::with_capacity(alloc, 2)?;
+        children.push(a)?;
+        children.push(b)?;
+        self.node(alloc, number, children)
+    }
+
+    fn three(
+        &self,
+        alloc: Global,
+        number: u32,
+        a: Node,
+        b: Node,
+        c: Node,
+    ) -> Result<Node, AllocError> {
+        let mut children = List::with_capacity(alloc, 3)?;
+        children.push(a)?;
+        children.push(b)?;
+        children.push(c)?;
+        self.node(alloc, number, children)
+    }
+
+    fn four(
+        &self,
+        alloc: Global,
+        number: u32,
+        a: Node,
+        b: Node,
+        c: Node,
+        d: Node,
+    ) -> Result<Node, AllocError> {
+        let mut children = List::with_capacity(alloc, 4)?;
+        children.push(a)?;
+        children.push(b)?;
+        children.push(c)?;
+        children.push(d)?;
+        self.node(alloc, number, children)
+    }
+
+    fn string(&self, alloc: Global, pad: u32, size: u32) -> Result<Node, AllocError> {
+        self.three(alloc, 14, leaf(7, pad, 1), leaf(8, 0, size), leaf(7, 0, 1))
+    }
+
+    fn string_value(&self, alloc: Global, pad: u32, size: u32) -> Result<Node, AllocError> {
+        let string = self.string(alloc, pad, size)?;
+        self.one(alloc, 3, string)
+    }
+
+    /// A member with a key of this size.
+    fn pair(&self, alloc: Global, pad: u32, key: u32, value: Node) -> Result<Node, AllocError> {
+        let key = self.string(alloc, pad, key)?;
+        self.three(alloc, 9, key, leaf(5, 0, 1), value)
+    }
+
+    /// One more member: the first of a repetition where there is none yet.
+    fn member(&self, alloc: Global, run: Option<Node>, pair: Node) -> Result<Node, AllocError> {
+        match run {
+            None => self.two(alloc, 15, leaf(6, 0, 1), pair),
+            Some(run) => self.three(alloc, 16, run, leaf(6, 0, 1), pair),
+        }
+    }
+
+    /// The value `["a", "b"]`.
+    fn tags(&self, alloc: Global) -> Result<Node, AllocError> {
+        let first = self.string_value(alloc, 0, 1)?;
+        let second = self.string_value(alloc, 1, 1)?;
+        let run = self.two(alloc, 17, leaf(6, 0, 1), second)?;
+        let array = self.four(alloc, 12, leaf(3, 1, 1), first, run, leaf(4, 0, 1))?;
+        self.one(alloc, 2, array)
+    }
+
+    /// The members after the first.
+    fn members(&self, alloc: Global) -> Result<Node, AllocError> {
+        let name = self.string_value(alloc, 1, 9)?;
+        let run = self.member(alloc, None, self.pair(alloc, 1, 4, name)?)?;
+        let tags = self.tags(alloc)?;
+        let run = self.member(alloc, Some(run), self.pair(alloc, 1, 4, tags)?)?;
+        let price = self.one(alloc, 4, leaf(9, 1, 4))?;
+        let run = self.member(alloc, Some(run), self.pair(alloc, 1, 5, price)?)?;
+        let ok = self.one(alloc, 5, leaf(10, 1, 4))?;
+        self.member(alloc, Some(run), self.pair(alloc, 1, 2, ok)?)
+    }
+
+    /// A record, as a value.
+    fn record(&self, alloc: Global) -> Result<Node, AllocError> {
+        let id = self.one(alloc, 4, leaf(9, 1, 4))?;
+        let first = self.pair(alloc, 0, 2, id)?;
+        let members = self.members(alloc)?;
+        let object = self.four(alloc, 8, leaf(1, 1, 1), first, members, leaf(2, 0, 1))?;
+        self.one(alloc, 1, object)
+    }
+
+    /// So many records after the first.
+    fn records(&self, alloc: Global, count: u32) -> Result<Node, AllocError> {
+        let mut run = self.two(alloc, 17, leaf(6, 0, 1), self.record(alloc)?)?;
+        for _ in 1..count {
+            run = self.three(alloc, 18, run, leaf(6, 0, 1), self.record(alloc)?)?;
+        }
+        Ok(run)
+    }
+
+    /// The whole tree.
+    fn document(&self, alloc: Global, count: u32) -> Result<Node, AllocError> {
+        let first = self.record(alloc)?;
+        let records = self.records(alloc, count)?;
+        let array = self.four(alloc, 12, leaf(3, 0, 1), first, records, leaf(4, 0, 1))?;
+        let value = self.one(alloc, 2, array)?;
+        self.one(alloc, 0, value)
+    }
+
+    /// A node over arrays of one array each, 498 levels with two nodes each, the deepest over so
+    /// many numbers.
+    fn deep(&self, alloc: Global, count: u32) -> Result<Node, AllocError> {
+        let mut run = self.two(alloc, 17, leaf(6, 0, 1), leaf(9, 0, 1))?;
+        for _ in 1..count {
+            run = self.three(alloc, 18, run, leaf(6, 0, 1), leaf(9, 0, 1))?;
+        }
+        let mut value = run;
+        for _ in 0..498u32 {
+            let array = self.three(alloc, 11, leaf(3, 0, 1), value, leaf(4, 0, 1))?;
+            value = self.one(alloc, 2, array)?;
+        }
+        Ok(value)
+    }
+}
+
+fn micros(rt: &HostRuntime, start: &Instant) -> io::Result<u64> {
+    Ok(start.elapsed(rt)?.as_micros().min(1_000_000_000) as u64)
+}
+
+/// How many nodes a cursor passes on its way over all of them, in preorder.
+fn walked(cursor: &mut Cursor) -> u32 {
+    let mut count = 1u32;
+    for _ in 0..u32::MAX {
+        let mut goes = cursor.first_child() || cursor.next_sibling();
+        if !goes {
+            for _ in 0..2_000u32 {
+                if !cursor.parent() {
+                    return count;
+                }
+                if cursor.next_sibling() {
+                    goes = true;
+                    break;
+                }
+            }
+        }
+        count += 1;
+    }
+    count
+}
+
+fn measured(rt: &HostRuntime, maker: &Maker, flat: &FlatGrammar, count: u32) -> io::Result<()> {
+    let alloc = rt.alloc();
+    let start = Instant::now(rt)?;
+    let root = maker.document(alloc, count)?;
+    let built = micros(rt, &start)?;
+    let start = Instant::now(rt)?;
+    let mut cursor = Cursor::new(alloc, flat, &root)?;
+    let made = micros(rt, &start)?;
+    let start = Instant::now(rt)?;
+    let visible = walked(&mut cursor);
+    let walked = micros(rt, &start)?;
+    drop(cursor);
+    let bytes = root.size();
+    let start = Instant::now(rt)?;
+    drop(root);
+    let dropped = micros(rt, &start)?;
+    println!(rt;
+        "bytes {bytes} visible {visible} built {built} cursor {made} walk {walked} drop {dropped}"
+    )?;
+    Ok(())
+}
+
+fn argument(rt: &HostRuntime, place: usize, other: u32) -> io::Result<u32> {
+    for (k, word) in env::args(rt)?.enumerate() {
+        if k == place {
+            if let Ok(n) = word.as_str().parse::<u32>() {
+                return Ok(n);
+            }
+        }
+    }
+    Ok(other)
+}
+
+fn main(rt: HostRuntime) -> io::Result<()> {
+    let alloc = rt.alloc();
+    let todo = argument(&rt, 1, 0)?;
+    let count = argument(&rt, 2, 1_000)?;
+    let flat = grammar(alloc)?;
+    let maker = Maker {
+        productions: Productions::new(alloc, &flat)?,
+    };
+    match todo {
+        2 => measured(&rt, &maker, &flat, count)?,
+        _ => {
+            let root = maker.deep(alloc, count)?;
+            println!(rt; "bytes {} depth {}", root.size(), root.depth())?;
+        }
+    }
+    Ok(())
+}
+"""
+
+
+def chunk(size):
+    """What the allocator takes for so many bytes."""
+    return max(32, (size + 8 + 15) // 16 * 16)
+
+
+def rule(children):
+    """The bytes of a rule's node with so many children, their places in its list among them."""
+    return chunk(OWNERS + RULE_NODE) + chunk(NODE * children)
+
+
+def leaf_of(elements, children):
+    """The bytes of a run of one leaf."""
+    return chunk(OWNERS + RUN) + chunk(ELEMENT * elements) + chunk(NODE * children)
+
+
+def repetition(elements, children):
+    """The bytes of a repetition that fits one leaf."""
+    return chunk(OWNERS + REPETITION) + leaf_of(elements, children)
+
+
+def reckoned():
+    """The bytes of one record and of its place in the array's repetition, and its visible nodes."""
+    string, pair, value = rule(3), rule(3), rule(1)
+    tags = rule(4) + repetition(1, 2)
+    members = rule(4) + repetition(4, 8)
+    record = members + 5 * pair + 8 * string + 8 * value + tags
+    many = LEAF // 3
+    place = (leaf_of(many, 2 * many) + chunk(OWNERS + RUN)) / many
+    tokens = 8 * 3 + 5 + 4 + 2 + 3 + 3 + 1
+    return record + place, 1 + 5 + 8 + 1 + tokens
+
+
+def main():
+    records = sys.argv[1] if len(sys.argv) > 1 else "1000"
+    size, visible = reckoned()
+    print(f"reckoned: {size:.0f} bytes a record of {visible} visible nodes, {size / visible:.1f} bytes each")
+    with tempfile.TemporaryDirectory() as folder:
+        home = copied(folder, NAME, BELOW, PROGRAM)
+        for words in (("2", records), ("3", "2000")):
+            command = ["rt", "try", "--seconds", "300", "--", *words]
+            done = subprocess.run(command, cwd=home, capture_output=True, text=True)
+            print(re.search(r"^bytes .*$|$", done.stdout, re.M)[0] or done.stdout + done.stderr)
+
+
+if __name__ == "__main__":
+    main()
