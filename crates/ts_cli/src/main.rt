@@ -13,6 +13,7 @@ mod trouble;
 use noted::Noted;
 use request::{Request, request_of};
 use say::say;
+use spec_output::Status;
 use std::alloc::AllocError;
 use std::env;
 use std::io::ErrorKind;
@@ -20,7 +21,6 @@ use std::process::ExitCode;
 use std::rt::Env;
 use trouble::tell;
 use ts_io::{OsFolder, OutSink};
-use spec_output::Status;
 use ts_lines::number;
 
 const HELP: &str = "\

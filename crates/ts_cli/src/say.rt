@@ -2,8 +2,8 @@
 ghost use Rattle.std.specs.Prelude.{◌≡◌, ◌⊎◌};
 ghost use Rattle.ts_io.specs.Outside.{Appends, AppendsPrefix, Rose};
 
-use ts_io::{Sink, WriteFault, put};
 use spec_output::Status;
+use ts_io::{Sink, WriteFault, put};
 
 /// Prints a text, and answers the status of that.
 pub(crate) fn say<S: Sink>(sink: &mut S, text: &str) -> Status

@@ -2,9 +2,9 @@
 use crate::noted::Noted;
 use crate::request::{Request, request_of};
 use crate::say::say;
+use spec_output::Status;
 use std::alloc::AllocError;
 use ts_io::{Folder, Found, MemFolder, MemSink, ReadFault};
-use spec_output::Status;
 
 #[test]
 fn asks_by_one_word(rt: HostRuntime) -> Result<(), AllocError> {
