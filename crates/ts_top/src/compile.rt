@@ -65,6 +65,7 @@ pub(crate) fn compiled<'a>(alloc: Global, found: &Found) -> Result<Answer, Stop<
     match found {
         Found::Bytes(bytes) => answer_of(alloc, bytes.as_slice()),
         Found::Over => Ok(too_large(alloc)?),
+        // Whoever reads the file has answered this before.
         Found::Absent => Ok(too_large(alloc)?),
     }
 }

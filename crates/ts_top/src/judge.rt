@@ -38,6 +38,7 @@ pub(crate) fn judge<'a>(
     match grammar {
         Found::Bytes(bytes) => by_grammar(alloc, bytes.as_slice(), text, path),
         Found::Over => Ok(too_large(alloc)?),
+        // Whoever reads the file has answered this before.
         Found::Absent => Ok(too_large(alloc)?),
     }
 }
