@@ -137,19 +137,19 @@ pub record IsPool (width : ℕ) (pool : List BitSet) : Type 0 where
   pub one : (m n : ℕ) (s r : BitSet) → slice_get pool m ≡ Some s → slice_get pool n ≡ Some r
       → s.words.items ≡ r.words.items → m ≡ n
 
--- no two parts have the same line and dot
-abbrev pub AreOneEach : List Part → Type 0
-AreOneEach parts = (p q : Part) → Contains parts p → Contains parts q → p.line ≡ q.line
+-- parts with one line and dot have one set of tokens, so that they are the same part
+abbrev pub HaveOneSetEach : List Part → Type 0
+HaveOneSetEach parts = (p q : Part) → Contains parts p → Contains parts q → p.line ≡ q.line
     → p.dot ≡ q.dot → p ≡ q
 
 -- parts with which a set begins: their dots are past a step, or they begin the start item
 pub record IsKernel (kernel : List Part) : Type 0 where
   pub dot : (q : Part) → Contains kernel q → (0 < q.dot) ⊎ (q.line ≡ 0)
-  pub apart : AreOneEach kernel
+  pub apart : HaveOneSetEach kernel
 
 -- the parts stand for the closed set of those of the kernel
 pub record Closes (g : FlatGrammar) (lines : ℕ) (pool : List BitSet)
     (kernel parts : List Part) : Type 0 where
   pub parts_are : AreLineParts lines pool parts
   pub items : SameItems (In pool parts) (Closed g (In pool kernel))
-  pub apart : IsKernel kernel → AreOneEach parts
+  pub apart : IsKernel kernel → HaveOneSetEach parts

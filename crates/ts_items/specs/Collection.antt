@@ -10,7 +10,7 @@ use Rattle.ts_items.specs.declared.part.Items.{Items}
 use Rattle.ts_items.specs.declared.part.Goto.{Goto}
 use Rattle.ts_items.specs.declared.part.State.{State}
 use Rattle.ts_items.specs.Parts.{In}
-use Rattle.ts_items.specs.Closing.{SameItems, AreLineParts, AreOneEach}
+use Rattle.ts_items.specs.Closing.{SameItems, AreLineParts, HaveOneSetEach}
 use Rattle.ts_items.specs.Edges.{AreFirstSets}
 
 -- the most sets that there may be
@@ -37,10 +37,11 @@ pub data IsReachedBy (items : Items) : List ℕ → ℕ → Type 0 where
   step : (read : List ℕ) (n symbol m : ℕ) → IsReachedBy items read n → IsGoto items n symbol m
       → IsReachedBy items (symbol ∷ read) m
 
--- no two parts have the same production and dot, each has some token, and the gotos' symbols rise
+-- parts with one production and dot are the same part, each has some token, and the gotos' symbols
+-- rise
 pub record IsLaidOut (g : FlatGrammar) (tokens : List BitSet) (s : State) : Type 0 where
   pub parts : AreLineParts (length (all_productions g)) tokens s.parts.items
-  pub apart : AreOneEach s.parts.items
+  pub apart : HaveOneSetEach s.parts.items
   pub rise : (j k : ℕ) (a b : Goto) → j < k → slice_get s.gotos.items j ≡ Some a
       → slice_get s.gotos.items k ≡ Some b → a.symbol < b.symbol
 

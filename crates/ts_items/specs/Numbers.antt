@@ -15,7 +15,7 @@ use Rattle.ts_items.specs.contracts.part.PartOrd.TheImpl as derived
 use Rattle.ts_items.specs.Productions.{right_of}
 use Rattle.ts_items.specs.Parts.{line_of, In}
 use Rattle.ts_items.specs.Rows.{RowHas, FromOne}
-use Rattle.ts_items.specs.Closing.{AddsSets, AtDot, Closed, SameItems, MovesPast, AreLineParts, AreOneEach, IsKernel, Closes}
+use Rattle.ts_items.specs.Closing.{AddsSets, AtDot, Closed, SameItems, MovesPast, AreLineParts, HaveOneSetEach, IsKernel, Closes}
 
 abbrev pub part_cmp : Part → Part → Ordering
 part_cmp = (derived.cmp-value).it
@@ -60,7 +60,7 @@ pub record HasRows (g : FlatGrammar) (lines : ℕ) (pool : List BitSet) (parts :
   pub read : List ℕ
   pub valid : SameItems (In pool parts) (Valid g read)
   pub are : AreLineParts lines pool parts
-  pub apart : AreOneEach parts
+  pub apart : HaveOneSetEach parts
   pub moved : AreMoved g parts rows
 
 -- each leads to the set that begins with the items past the symbol, and there is one for each

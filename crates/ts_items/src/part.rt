@@ -26,7 +26,7 @@ pub struct Goto {
 /// A set of items, and where it leads.
 #[derive(Debug, Drop)]
 pub struct State {
-    /// The items, in no order. No two parts have the same production and dot.
+    /// The items, in no order. Parts with the same production and dot have the same tokens.
     pub parts: Vec<Part>,
     /// Where the set leads, the symbols rising.
     pub gotos: Vec<Goto>,

@@ -1,17 +1,15 @@
 -- Rows that are added one by one, and the least conflict so far.
-use Rattle.std.proofs.Common.{◌≡◌, ◌∙◌, sym, ap, refl, subst, ℕ, zero, suc, ◌+◌, ◌<◌, ◌≤◌, ◌⊎◌, inl, inr, ⊎_elim, List, [], ◌∷◌, ◌++◌, length, length-append, slice_get, Option, Some, None, arith, ◌↔◌, append_assoc}
+use Rattle.std.proofs.Common.{◌≡◌, ◌∙◌, sym, ap, refl, subst, ℕ, suc, ◌+◌, ◌<◌, ◌⊎◌, inl, inr, ⊎_elim, List, [], ◌∷◌, ◌++◌, length, length-append, slice_get, Option, Some, None, arith, append_assoc}
 use Rattle.std.specs.Prelude.{MatchOption}
 use Rattle.std.specs.Global.{Vec}
-use Rattle.std.specs.List.{Contains}
 use Rattle.std.proofs.lemmas.List.{append-nil}
-use Rattle.std.proofs.lemmas.Option.{slice_get_within}
 use Rattle.ts_core.specs.declared.action.Action.{Action}
 use Rattle.ts_core.specs.declared.symbol.Symbol.{Symbol}
 use Rattle.ts_core.specs.declared.flat.FlatGrammar.{FlatGrammar}
-use Rattle.spec_grammar.specs.Symbols.{symbol_count, start_symbol}
+use Rattle.spec_grammar.specs.Symbols.{start_symbol}
 use Rattle.spec_tables.specs.Items.{Item, Valid, advanced, start_item}
-use Rattle.spec_tables.specs.Actions.{Move, shift, reduce, accept, Act, may_shift, may_reduce, may_accept}
-use Rattle.spec_tables.specs.Conflicts.{Conflicts, AreRules, IsDeclared, IsUndeclared, IsFirstUndeclared, NotAfter}
+use Rattle.spec_tables.specs.Actions.{Move, Act, may_shift, may_reduce, may_accept}
+use Rattle.spec_tables.specs.Conflicts.{Conflicts, IsDeclared, IsUndeclared, IsFirstUndeclared}
 use Rattle.ts_items.specs.declared.part.Items.{Items}
 use Rattle.ts_items.specs.Closing.{AddsSets}
 use Rattle.ts_items.specs.Collection.{IsReachedBy, StandsFor}
@@ -20,16 +18,16 @@ use Rattle.ts_table.specs.declared.arrays.RowPlaces.{RowPlaces}
 use Rattle.ts_table.specs.declared.refusals.Refusal.{Refusal}
 use Rattle.ts_table.specs.declared.rows.Ready.{Ready}
 use Rattle.ts_table.specs.declared.rows.Entry.{Entry}
-use Rattle.ts_table.specs.Rules.{IsUndeclaredAt, ComesFirst, IsLesser}
+use Rattle.ts_table.specs.Rules.{IsUndeclaredAt, ComesFirst}
 use Rattle.ts_table.specs.Rows.{IsReadySet, IsEntryOn, HoldsList, IsListOn, AreListPlaces, IsCellBefore, IsLeastTo, IsRowAt, AreRowsTo, IsStillLeast}
 use Rattle.ts_table.specs.Tables.{EachOnce}
 use Rattle.ts_table.proofs.ListLemmas.{at_front, snoc_at, three}
 use Rattle.ts_table.proofs.ItemLemmas.{valid_token, reached_within}
-use Rattle.ts_table.proofs.RefusalLemmas.{comes_through, not_after_itself, same_rising}
+use Rattle.ts_table.proofs.RefusalLemmas.{comes_through, same_rising}
 
 -- ---- lists that stay
 
-holds_grown : {X : Type 0} (old new : List (Vec X)) (k : ℕ) (xs : List X) → AddsSets old new → HoldsList old k xs → HoldsList new k xs
+pub holds_grown : {X : Type 0} (old new : List (Vec X)) (k : ℕ) (xs : List X) → AddsSets old new → HoldsList old k xs → HoldsList new k xs
 holds_grown {X} old new k xs grows h = (h.0, subst (λ (l : List (Vec X)). slice_get l k ≡ Some h.0) (sym grows.is) (at_front old grows.more k h.0 h.1), h.2)
 
 pub grows_not : {X : Type 0} (old : List X) → AddsSets old old

@@ -1,8 +1,8 @@
 -- The candidates of a set stand for its reductions and shift items.
-use Rattle.std.proofs.Common.{◌≡◌, ◌∙◌, sym, ap, refl, subst, ℕ, ◌<◌, List, length, slice_get, Option, Some, arith, ◌↔◌}
+use Rattle.std.proofs.Common.{◌≡◌, ◌∙◌, sym, ap, refl, subst, ℕ, ◌<◌, List, length, slice_get, Some, arith, ◌↔◌}
 use Rattle.std.specs.List.{Contains}
 use Rattle.ts_core.specs.declared.flat.FlatGrammar.{FlatGrammar}
-use Rattle.spec_tables.specs.Items.{Line, Item, Valid, line_steps, CanBeginWith}
+use Rattle.spec_tables.specs.Items.{Line, Item, line_steps, CanBeginWith}
 use Rattle.spec_tables.specs.Actions.{Reduces, ShiftItem}
 use Rattle.ts_bits.specs.declared.set.BitSet.{BitSet}
 use Rattle.ts_bits.specs.Members.{Has}

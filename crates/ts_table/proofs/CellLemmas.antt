@@ -1,21 +1,20 @@
 -- What stays of candidates is what stays of the items for which they stand.
-use Rattle.std.proofs.Common.{◌≡◌, ◌∙◌, sym, ap, refl, subst, ℕ, suc, ◌-◌, ◌<◌, ◌≤◌, ◌⊎◌, inl, inr, ⊎_elim, List, length, slice_get, Option, Some, arith, ◌↔◌}
+use Rattle.std.proofs.Common.{◌≡◌, ◌∙◌, sym, ap, ℕ, ◌≤◌, inl, inr, ⊎_elim, List, length, Option, Some, arith, ◌↔◌}
 use Rattle.std.specs.List.{Contains}
 use Rattle.ts_core.specs.declared.flat.FlatGrammar.{FlatGrammar}
 use Rattle.ts_core.specs.declared.flat.Assoc.{Assoc}
 use Rattle.ts_core.specs.declared.flat.Assoc.TheVariants.{Left, Right}
 use Rattle.spec_tables.specs.Fit.{Fit}
 use Rattle.spec_tables.specs.Items.{Item}
-use Rattle.spec_tables.specs.Actions.{Higher, Reduces, ShiftItem, Shifts, IsTop, Remains, SomeHigher, SomeLower, AllAre, AreBoth, ShiftAlone, ReduceAlone, Move, shift, reduce, Act, may_shift, may_reduce, may_accept, rule_in, item_assoc}
+use Rattle.spec_tables.specs.Actions.{Higher, Reduces, ShiftItem, Shifts, Remains, SomeHigher, SomeLower, AllAre, AreBoth, ShiftAlone, ReduceAlone, shift, reduce, Act, may_shift, may_reduce}
 use Rattle.ts_items.specs.declared.part.Items.{Items}
-use Rattle.ts_items.specs.Parts.{line_of}
 use Rattle.ts_items.specs.Collection.{IsReachedBy, IsGoto, StandsFor}
 use Rattle.ts_table.specs.declared.candidates.Candidate.{Candidate}
 use Rattle.ts_table.specs.declared.cells.Cell.{Cell}
-use Rattle.ts_table.specs.Marks.{weight_of, HigherBy}
+use Rattle.ts_table.specs.Marks.{HigherBy}
 use Rattle.ts_table.specs.Candidates.{StandsForItem, AreReductions}
-use Rattle.ts_table.specs.Deciding.{IsTopOf, StaysOf, OneHigher, AreAllOf, ShiftWins, ReduceWins}
-use Rattle.ts_table.specs.Cells.{AreRivals, ShiftOnly, ReduceOnly, IsCellOf, number_in}
+use Rattle.ts_table.specs.Deciding.{StaysOf, OneHigher, AreAllOf}
+use Rattle.ts_table.specs.Cells.{AreRivals, ShiftOnly, ReduceOnly, IsCellOf}
 use Rattle.ts_table.specs.Rows.{IsReductionBy, IsTokenCell}
 use Rattle.ts_table.proofs.ItemLemmas.{line_some, goto_shifts, shifts_goto}
 

@@ -1,5 +1,5 @@
 -- What each verdict leaves.
-use Rattle.std.proofs.Common.{◌≡◌, ◌∙◌, sym, ap, refl, subst, ℕ, ◌<◌, ◌≤◌, ◌⊎◌, inl, inr, ⊎_elim, Bool, true, false, List, [], ◌∷◌, ◌++◌, length, Option, Some, None, ◌↔◌}
+use Rattle.std.proofs.Common.{◌≡◌, ◌∙◌, sym, ap, refl, subst, ℕ, ◌<◌, ◌≤◌, inl, inr, ⊎_elim, Bool, true, false, List, [], ◌++◌, length, Option, Some, None, ◌↔◌}
 use Rattle.std.specs.Bool.{IsTrue}
 use Rattle.ts_core.specs.declared.action.Action.{Action}
 use Rattle.std.specs.Global.{Vec}
@@ -10,7 +10,7 @@ use Rattle.ts_table.specs.declared.candidates.Candidate.{Candidate}
 use Rattle.ts_table.specs.declared.cells.Cell.{Cell}
 use Rattle.ts_table.specs.declared.deciding.Verdict.{Verdict}
 use Rattle.ts_table.specs.declared.deciding.Verdict.TheVariants.{Shift, Reduce, Both}
-use Rattle.ts_table.specs.Deciding.{StaysOf, ShiftWins, ReduceWins}
+use Rattle.ts_table.specs.Deciding.{ShiftWins, ReduceWins}
 use Rattle.ts_table.specs.Cells.{AreRivals, IsCellOf, shift_in, reductions_in, accept_in, actions_in}
 use Rattle.ts_table.specs.Rules.{owners_in, AreRulesOf, AreRisen, AreSameSymbols, IsOneOf, IsRefusedBy}
 use Rattle.ts_table.proofs.ListLemmas.{false_not_true, none_in, some_in, append_cases, in_left, in_right}

@@ -1,5 +1,5 @@
 -- What stays of reductions and of a shift.
-use Rattle.std.proofs.Common.{◌≡◌, ◌∙◌, sym, ap, refl, ◌<◌, ◌⊎◌, inl, inr, ⊎_elim, List, [], ◌∷◌, length, arith, ◌↔◌, Bool, true, false}
+use Rattle.std.proofs.Common.{◌≡◌, ◌∙◌, sym, ◌<◌, ◌⊎◌, inl, inr, ⊎_elim, List, [], ◌∷◌, length, arith, ◌↔◌, Bool, true, false}
 use Rattle.std.specs.Bool.{IsTrue}
 use Rattle.std.specs.List.{Contains}
 use Rattle.std.proofs.lemmas.List.Elements.{Contains-get_or}
@@ -9,7 +9,7 @@ use Rattle.ts_table.specs.declared.candidates.Candidate.{Candidate}
 use Rattle.ts_table.specs.declared.deciding.Verdict.{Verdict}
 use Rattle.ts_table.specs.declared.deciding.Verdict.TheVariants.{Shift, Reduce}
 use Rattle.ts_table.specs.Marks.{HigherBy}
-use Rattle.ts_table.specs.Deciding.{IsTopOf, StaysOf, OneHigher, AreAllOf, AreAll, ShiftWins, ReduceWins}
+use Rattle.ts_table.specs.Deciding.{IsTopOf, StaysOf, OneHigher, AreAll, ShiftWins, ReduceWins}
 use Rattle.ts_table.proofs.ListLemmas.{kept_all, false_not_true}
 
 pub stays_iff : (g : FlatGrammar) (xs tops v : List Candidate) → ((r : Candidate) → Contains tops r ↔ (Contains xs r × IsTopOf g xs r)) → (length tops ≡ 0 → v ≡ xs) → (0 < length tops → v ≡ tops) → (r : Candidate) → Contains v r ↔ StaysOf g xs r

@@ -1,5 +1,5 @@
 -- The actions of a token, and whether they conflict.
-use Rattle.std.proofs.Common.{◌≡◌, ◌∙◌, sym, ap, refl, subst, ℕ, zero, suc, ◌-◌, ◌+◌, ◌<◌, ◌≤◌, ◌⊎◌, inl, inr, ⊎_elim, List, [], ◌∷◌, ◌++◌, length, map, slice_get, Option, Some, None, arith, ◌↔◌, Bool, true, false}
+use Rattle.std.proofs.Common.{◌≡◌, ◌∙◌, sym, ap, refl, subst, ℕ, zero, suc, ◌<◌, ◌≤◌, inl, inr, ⊎_elim, List, [], ◌∷◌, ◌++◌, length, map, slice_get, Option, Some, None, arith, ◌↔◌, Bool, true, false}
 use Rattle.std.specs.Bool.{IsTrue}
 use Rattle.std.specs.Prelude.{MatchOption}
 use Rattle.std.specs.Global.{Vec}
@@ -8,17 +8,17 @@ use Rattle.ts_core.specs.declared.action.Action.{Action}
 use Rattle.ts_core.specs.declared.action.Action.TheVariants.{Shift, Reduce, Accept}
 use Rattle.ts_core.specs.declared.symbol.Symbol.{Symbol}
 use Rattle.ts_core.specs.declared.flat.FlatGrammar.{FlatGrammar}
-use Rattle.spec_tables.specs.Items.{Item, Valid, advanced, start_item, end_token}
-use Rattle.spec_tables.specs.Actions.{Shifts, ShiftItem, Remains, Move, shift, reduce, accept, Act, may_shift, may_reduce, may_accept, rule_in}
+use Rattle.spec_tables.specs.Items.{Item, Valid, advanced, start_item}
+use Rattle.spec_tables.specs.Actions.{Shifts, Remains, Move, shift, reduce, accept, Act, may_shift, may_reduce, may_accept, rule_in}
 use Rattle.spec_tables.specs.Conflicts.{Conflicts, TakesPart, by_reduction, by_shift, AreRules, IsDeclared, owner_of}
 use Rattle.ts_items.specs.declared.part.Items.{Items}
-use Rattle.ts_items.specs.Collection.{IsReachedBy, IsGoto, StandsFor}
+use Rattle.ts_items.specs.Collection.{IsReachedBy, StandsFor}
 use Rattle.ts_table.specs.declared.candidates.Candidate.{Candidate}
 use Rattle.ts_table.specs.declared.cells.Cell.{Cell}
 use Rattle.ts_table.specs.Cells.{shift_in, reductions_in, accept_in, actions_in, number_in}
-use Rattle.ts_table.specs.Rules.{owners_in, AreRulesOf, AreSameSymbols, IsOneOf, IsRefusedBy, IsUndeclaredAt}
+use Rattle.ts_table.specs.Rules.{owners_in, AreRulesOf, IsOneOf, IsRefusedBy, IsUndeclaredAt}
 use Rattle.ts_table.specs.declared.rows.Entry.{Entry}
-use Rattle.ts_table.specs.Rows.{IsReductionBy, IsTokenCell, ActsAt, shift_to, reduce_by, accept_here, IsEntryOn}
+use Rattle.ts_table.specs.Rows.{IsTokenCell, ActsAt, shift_to, reduce_by, accept_here, IsEntryOn}
 use Rattle.ts_table.specs.Tables.{EachOnce}
 use Rattle.ts_table.proofs.ListLemmas.{one_at, some_at, at_of, in_of, none_in, append_cases, in_left, in_right}
 use Rattle.ts_table.proofs.ItemLemmas.{goto_once, shifts_goto}

@@ -1,5 +1,5 @@
 -- What the numbered sets say of the items that are valid after a list of symbols.
-use Rattle.std.proofs.Common.{◌≡◌, ◌∙◌, sym, ap, refl, subst, ℕ, zero, suc, ◌+◌, ◌<◌, ◌≤◌, ◌⊎◌, inl, inr, ⊎_elim, List, [], ◌∷◌, ◌++◌, length, map, slice_get, Option, Some, None, arith, ◌↔◌, All}
+use Rattle.std.proofs.Common.{◌≡◌, ◌∙◌, sym, ap, refl, subst, ℕ, zero, suc, ◌+◌, ◌<◌, ◌≤◌, ◌⊎◌, inl, inr, ⊎_elim, List, [], ◌∷◌, ◌++◌, length, map, slice_get, Option, Some, None, arith, All}
 use Rattle.std.specs.Prelude.{unwrap_or, option_map}
 use Rattle.std.specs.List.{Contains}
 use Rattle.std.proofs.lemmas.List.{length-map}
@@ -8,23 +8,19 @@ use Rattle.ts_core.specs.declared.flat.FlatGrammar.{FlatGrammar}
 use Rattle.ts_core.specs.declared.flat.FlatRule.{FlatRule}
 use Rattle.ts_core.specs.declared.flat.Production.{Production}
 use Rattle.ts_core.specs.declared.flat.Step.{Step}
-use Rattle.spec_grammar.specs.Symbols.{production_at, all_productions, productions_from, start_symbol}
+use Rattle.spec_grammar.specs.Symbols.{production_at, productions_from, start_symbol}
 use Rattle.spec_tables.specs.Fit.{Fit, IsFitProduction, IsFitStep}
-use Rattle.spec_tables.specs.Items.{Line, Item, IsToken, IsBefore, IsComplete, CanBeginWith, itself, by_first, MayStandBehind, MayFollow, Valid, begun, asked, advanced_past, advanced, start_item, line_steps}
+use Rattle.spec_tables.specs.Items.{Line, Item, IsToken, CanBeginWith, itself, by_first, MayStandBehind, Valid, begun, asked, advanced_past, advanced, start_item, line_steps}
 use Rattle.spec_tables.specs.Actions.{Shifts}
-use Rattle.ts_bits.specs.declared.set.BitSet.{BitSet}
-use Rattle.ts_bits.specs.Members.{Has}
-use Rattle.ts_items.specs.declared.part.Part.{Part}
 use Rattle.ts_items.specs.declared.part.Goto.{Goto}
 use Rattle.ts_items.specs.declared.part.State.{State}
 use Rattle.ts_items.specs.declared.part.Items.{Items}
 use Rattle.ts_items.specs.Productions.{symbols_in, right_of}
 use Rattle.ts_items.specs.Parts.{line_of, In}
-use Rattle.ts_items.specs.Sets.{HasAt}
 use Rattle.ts_items.specs.Closing.{SameItems}
 use Rattle.ts_items.specs.Collection.{IsReachedBy, here, step, IsGoto, StandsFor}
 use Rattle.ts_table.specs.Tables.{StandsBefore}
-use Rattle.ts_table.proofs.ListLemmas.{three, one_at, at_of, append_cases}
+use Rattle.ts_table.proofs.ListLemmas.{three, one_at, at_of}
 
 -- ---- lines
 

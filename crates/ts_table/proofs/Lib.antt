@@ -12,6 +12,7 @@ pub mod SortLemmas
 pub mod SetLemmas
 pub mod RowLemmas
 pub mod BuildLemmas
+pub mod IdleLemmas
 pub mod TableLemmas
 pub mod RankLemmas
 pub mod ContestLemmas

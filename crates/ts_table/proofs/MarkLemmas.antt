@@ -1,5 +1,5 @@
 -- Productions by their marks, and the weights of items.
-use Rattle.std.proofs.Common.{◌≡◌, ◌∙◌, sym, ap, refl, subst, ℕ, zero, suc, ◌+◌, ◌-◌, ◌<◌, ◌≤◌, List, [], ◌∷◌, ◌++◌, length, map, slice_get, Option, Some, None, arith, append_assoc, get_or, take}
+use Rattle.std.proofs.Common.{◌≡◌, ◌∙◌, sym, ap, refl, ℕ, zero, suc, ◌+◌, ◌-◌, ◌<◌, ◌≤◌, List, [], ◌∷◌, ◌++◌, length, map, slice_get, Option, Some, None, arith, append_assoc, get_or, take}
 use Rattle.std.specs.Prelude.{unwrap_or, option_map}
 use Rattle.std.proofs.lemmas.Option.{slice_get-map, slice_get_read}
 use Rattle.ts_core.specs.declared.flat.Prec.TheVariants as prec
@@ -11,14 +11,14 @@ use Rattle.ts_core.specs.declared.flat.Production.{Production}
 use Rattle.ts_core.specs.declared.flat.Step.{Step}
 use Rattle.spec_grammar.specs.Symbols.{production_at, all_productions, productions_from, start_symbol}
 use Rattle.spec_tables.specs.Items.{line_steps}
-use Rattle.spec_tables.specs.Actions.{step_before, rule_in}
+use Rattle.spec_tables.specs.Actions.{rule_in}
 use Rattle.ts_items.specs.Productions.{symbols_in, right_of}
 use Rattle.ts_items.specs.Parts.{line_of}
 use Rattle.ts_table.specs.declared.marks.Mark.{Mark}
 use Rattle.ts_table.specs.declared.marks.Marked.{Marked}
 use Rattle.ts_table.specs.declared.marks.Marks.{Marks}
 use Rattle.ts_table.specs.declared.marks.Weight.{Weight}
-use Rattle.ts_table.specs.Marks.{mark_of, marks_in, marked, marked_rule, marked_rules, seen_marked, AreMarksOf, mark_before, symbol_of_mark, weight_by, weight_of}
+use Rattle.ts_table.specs.Marks.{mark_of, marks_in, marked, marked_rule, marked_rules, AreMarksOf, mark_before, symbol_of_mark, weight_by, weight_of}
 
 -- ---- making them
 

@@ -1,5 +1,5 @@
 -- Where no symbol derives itself alone, following productions of one step up comes to an end.
-use Rattle.std.proofs.Common.{◌≡◌, ◌∙◌, sym, ap, refl, subst, ℕ, zero, suc, ◌+◌, ◌<◌, ◌≤◌, ◌⊎◌, inl, inr, ⊎_elim, List, [], ◌∷◌, length, slice_get, Option, Some, None, arith, max, Bool, true, false, nat_eq, eqb, if◌then◌else◌, ◌||◌}
+use Rattle.std.proofs.Common.{◌≡◌, ◌∙◌, sym, ap, refl, subst, ℕ, zero, suc, ◌+◌, ◌<◌, ◌≤◌, ⊎_elim, List, [], ◌∷◌, length, slice_get, Some, None, arith, max, Bool, true, false, nat_eq, eqb, if◌then◌else◌, ◌||◌}
 use Rattle.std.specs.List.{IsDistinct, AllByRecursion, list_any}
 use Rattle.std.proofs.lemmas.Bool.Decides.{nat_tests}
 use Rattle.std.proofs.lemmas.Map.Steps.{length-le_from_distinct_below}
@@ -11,7 +11,7 @@ use Rattle.ts_core.specs.declared.symbol.Symbol.{Symbol}
 use Rattle.spec_grammar.specs.Symbols.{all_productions, production_at, symbol_count, start_symbol}
 use Rattle.spec_tables.specs.Fit.{Fit, IsFitProduction, IsFitStep, Alone, Derives, at_once, through, rule_symbol}
 use Rattle.ts_table.specs.Ranks.{is_alone, greatest, unit_height, unit_rank, AreUnitRanks}
-use Rattle.ts_table.proofs.ListLemmas.{three, at_of, in_of}
+use Rattle.ts_table.proofs.ListLemmas.{three, in_of}
 use Rattle.ts_table.proofs.ItemLemmas.{all_at, from_at}
 
 -- ---- the greatest of a list

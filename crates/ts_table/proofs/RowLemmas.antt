@@ -1,23 +1,21 @@
 -- Rows of gotos, and what is known of a set of items.
-use Rattle.std.proofs.Common.{◌≡◌, ◌∙◌, sym, ap, refl, subst, ℕ, zero, suc, ◌+◌, ◌<◌, ◌≤◌, ◌⊎◌, inl, inr, ⊎_elim, List, [], ◌∷◌, length, map, take, set, replicate, get_or, slice_get, ◌++◌, Option, Some, None, arith, ◌↔◌, Bool, true, false, nat_eq, if◌then◌else◌}
+use Rattle.std.proofs.Common.{◌≡◌, ◌∙◌, sym, ap, refl, subst, ℕ, zero, suc, ◌+◌, ◌<◌, ◌≤◌, ◌⊎◌, inl, inr, ⊎_elim, List, [], ◌∷◌, length, take, set, replicate, get_or, slice_get, ◌++◌, Option, Some, None, arith, ◌↔◌, Bool, true, false, nat_eq, if◌then◌else◌}
 use Rattle.std.specs.Bool.{IsTrue}
-use Rattle.std.specs.Prelude.{option_map}
 use Rattle.std.specs.List.{Contains}
 use Rattle.std.proofs.lemmas.Bool.Decides.{nat_tests}
 use Rattle.std.proofs.lemmas.List.{take_more, length-map}
 use Rattle.std.proofs.lemmas.List.Elements.{Contains-push_cases}
-use Rattle.std.proofs.lemmas.Option.{slice_get_within, get_or_from_slice_get}
+use Rattle.std.proofs.lemmas.Option.{get_or_from_slice_get}
 use Rattle.ts_core.specs.declared.flat.FlatGrammar.{FlatGrammar}
-use Rattle.ts_core.specs.declared.flat.Production.{Production}
 use Rattle.spec_grammar.specs.Symbols.{all_productions, symbol_count, start_symbol}
-use Rattle.spec_tables.specs.Fit.{Fit}
-use Rattle.spec_tables.specs.Items.{Line, Item, Valid, advanced, start_item}
+use Rattle.spec_tables.specs.Items.{Line, Valid, advanced, start_item}
 use Rattle.ts_bits.specs.declared.set.BitSet.{BitSet}
+use Rattle.ts_bits.specs.Members.{Has}
 use Rattle.ts_items.specs.declared.part.Part.{Part}
 use Rattle.ts_items.specs.declared.part.Goto.{Goto}
 use Rattle.ts_items.specs.declared.part.State.{State}
 use Rattle.ts_items.specs.declared.part.Items.{Items}
-use Rattle.ts_items.specs.Parts.{line_of, In}
+use Rattle.ts_items.specs.Parts.{line_of}
 use Rattle.ts_items.specs.Sets.{HasAt}
 use Rattle.ts_items.specs.Collection.{IsReachedBy, IsGoto, StandsFor}
 use Rattle.ts_table.specs.declared.marks.Mark.{Mark}
@@ -26,16 +24,16 @@ use Rattle.ts_table.specs.declared.marks.Marks.{Marks}
 use Rattle.ts_table.specs.declared.candidates.Candidate.{Candidate}
 use Rattle.ts_table.specs.declared.cells.Cell.{Cell}
 use Rattle.ts_table.specs.declared.rows.Ready.{Ready}
-use Rattle.ts_table.specs.Marks.{marked, seen_marked, AreMarksOf}
+use Rattle.ts_table.specs.Marks.{marked, AreMarksOf}
 use Rattle.ts_table.specs.Arrays.{no_state, state_in}
-use Rattle.ts_table.specs.Candidates.{candidate_of, IsShiftPart, PicksFrom, IsCompletePart, AreReductions}
+use Rattle.ts_table.specs.Candidates.{IsShiftPart, PicksFrom, IsCompletePart, ComesAfter}
 use Rattle.ts_table.specs.Deciding.{StaysOf}
 use Rattle.ts_table.specs.Cells.{IsCellOf}
-use Rattle.ts_table.specs.Rows.{AreGotoNumbers, IsAcceptPart, HasAccept, IsReadySet, IsTokenCell, IsSource, AreRivalItems}
+use Rattle.ts_table.specs.Rows.{AreGotoNumbers, HasAccept, IsReadySet, IsTokenCell, IsSource, AreRivalItems}
 use Rattle.ts_table.proofs.ListLemmas.{one_at, at_of, in_of, read_at, none_in, in_left, in_right}
 use Rattle.ts_table.proofs.ItemLemmas.{line_none, valid_of, goto_within}
 use Rattle.ts_table.proofs.CandidateLemmas.{item_in, reductions_are, shift_item_of, of_shift_item}
-use Rattle.ts_table.proofs.CellLemmas.{AreShiftsBy, token_cell}
+use Rattle.ts_table.proofs.CellLemmas.{token_cell}
 
 -- ---- the lines of parts
 
@@ -244,12 +242,17 @@ ends_is g m items set read token b source ready reach test =
 pub within_gotos : (g : FlatGrammar) (m : Marks) (items : Items) (set : Ready) (token from : ℕ) → IsSource g m items → IsReadySet g items set → token < start_symbol g → from ≡ token → from < length set.gotos.items
 within_gotos g m items set token from source ready few e = let size = ready.gotos.size in omega (arith, size, few, e)
 
-pub ready_is : (g : FlatGrammar) (items : Items) (at : ℕ) (s : State) (set : Ready) → slice_get items.states.items at ≡ Some s → set.at ≡ at → ((q : Part) → Contains set.complete.items q ↔ (Contains s.parts.items q × IsCompletePart g q)) → AreGotoNumbers (symbol_count g) s.gotos.items set.gotos.items
+pub ready_is : (g : FlatGrammar) (items : Items) (at : ℕ) (s : State) (set : Ready) → slice_get items.states.items at ≡ Some s → set.at ≡ at → ((q : Part) → Contains set.complete.items q ↔ (Contains s.parts.items q × IsCompletePart g q))
+    → ((t : ℕ) → Has set.ends t ↔ ComesAfter items.tokens.keys set.complete.items t) → AreGotoNumbers (symbol_count g) s.gotos.items set.gotos.items
     → IsTrue set.accepts ↔ HasAccept items.tokens.keys s.parts.items → IsReadySet g items set
-ready_is g items at s set here e complete gotos accepts = record {
+ready_is g items at s set here e complete ends gotos accepts = record {
   state = s;
   at = subst (λ (n : ℕ). slice_get items.states.items n ≡ Some s) (sym e) here;
   complete = complete;
+  ends = ends;
   gotos = gotos;
   accepts = accepts;
 }
+
+pub some_symbol : (g : FlatGrammar) (sets seen : List BitSet) → seen ≡ sets → length sets ≡ symbol_count g → 0 < length seen
+some_symbol g sets seen same count = let e = ap (λ (l : List BitSet). length l) same in omega (arith, e, count)

@@ -1,12 +1,12 @@
 -- Actions and symbols in order, each once, and rows that are kept once.
-use Rattle.std.proofs.Common.{◌≡◌, ◌∙◌, sym, ap, refl, subst, ℕ, zero, suc, ◌<◌, ◌||◌, inl, inr, ⊎_elim, Bool, true, false, true≢false, List, [], ◌∷◌, ◌++◌, length, get_or, slice_get, Option, Some, None, IsPermutation, arith, rules, ◌↔◌, if◌then◌else◌, nat_eq}
+use Rattle.std.proofs.Common.{◌≡◌, ◌∙◌, sym, ap, refl, subst, ℕ, ◌<◌, ⊎_elim, Bool, true, false, true≢false, List, [], ◌∷◌, ◌++◌, get_or, slice_get, Some, IsPermutation, arith, rules, ◌↔◌, if◌then◌else◌, nat_eq}
 use Rattle.std.specs.Global.{Vec}
-use Rattle.std.specs.Bool.{IsTrue, Decides}
+use Rattle.std.specs.Bool.{Decides}
 use Rattle.std.specs.Cmp.{IsTotalOrder, IsEquivalence}
 use Rattle.std.specs.declared.cmp.Ordering.{Ordering}
 use Rattle.std.specs.declared.cmp.Ordering.TheVariants.{Less}
 use Rattle.std.specs.Ordering.{is_eq, eq_by_cmp}
-use Rattle.std.specs.List.{Contains, dedup, list_any, position}
+use Rattle.std.specs.List.{Contains, dedup, list_any}
 use Rattle.std.specs.List.Sorted.{IsStrictlySortedBy}
 use lib.Pointwise.{pointwise}
 use Rattle.std.proofs.lemmas.Bool.Decides.{nat_tests}
@@ -28,7 +28,6 @@ use Rattle.ts_core.specs.contracts.symbol.SymbolPartialEq.TheImpl as symbol_deri
 use Rattle.ts_core.specs.contracts.symbol.SymbolOrd.TheImpl as symbol_order
 use Rattle.ts_core.specs.contracts.symbol.SymbolOrd.TheImpl.Laws as symbol_laws
 use Rattle.ts_core.specs.contracts.symbol.SymbolEq.TheImpl.Laws as symbol_equal
-use Rattle.spec_tables.specs.Conflicts.{AreRisingRules}
 use Rattle.ts_items.specs.Closing.{AddsSets}
 use Rattle.ts_table.specs.Rules.{AreRisen}
 use Rattle.ts_table.specs.Tables.{EachOnce}

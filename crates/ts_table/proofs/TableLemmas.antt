@@ -1,32 +1,27 @@
 -- A grammar with the rows of all its sets is a table.
-use Rattle.std.proofs.Common.{◌≡◌, ◌∙◌, sym, ap, refl, subst, ℕ, zero, suc, ◌+◌, ◌<◌, ◌≤◌, ◌⊎◌, inl, inr, ⊎_elim, List, [], ◌∷◌, length, map, slice_get, Option, Some, None, arith, ◌↔◌}
+use Rattle.std.proofs.Common.{◌≡◌, ◌∙◌, sym, ap, refl, subst, ℕ, zero, suc, ◌<◌, ◌≤◌, ◌⊎◌, inl, inr, ⊎_elim, List, [], ◌∷◌, length, slice_get, Option, Some, None, arith, ◌↔◌}
 use Rattle.std.specs.Prelude.{option_map, unwrap_or}
 use Rattle.std.specs.Global.{Vec}
 use Rattle.std.specs.List.{Contains}
 use Rattle.std.proofs.lemmas.List.{length-map}
-use Rattle.std.proofs.lemmas.Option.{slice_get_within, slice_get_past}
+use Rattle.std.proofs.lemmas.Option.{slice_get_past}
 use Rattle.ts_core.specs.declared.action.Action.{Action}
-use Rattle.ts_core.specs.declared.action.Action.TheVariants.{Shift, Reduce, Accept}
 use Rattle.ts_core.specs.declared.flat.FlatGrammar.{FlatGrammar}
 use Rattle.spec_grammar.specs.Symbols.{symbol_count, start_symbol}
 use Rattle.spec_tables.specs.Fit.{Fit}
-use Rattle.spec_tables.specs.Items.{Item, Valid}
-use Rattle.spec_tables.specs.Actions.{Move, shift, reduce, accept, Act}
+use Rattle.spec_tables.specs.Actions.{shift, reduce, accept}
 use Rattle.spec_tables.specs.Conflicts.{Conflicts, IsDeclared}
-use Rattle.ts_items.specs.declared.part.Goto.{Goto}
-use Rattle.ts_items.specs.declared.part.State.{State}
 use Rattle.ts_items.specs.declared.part.Items.{Items}
-use Rattle.ts_items.specs.Closing.{SameItems}
-use Rattle.ts_items.specs.Collection.{IsReachedBy, here, step, IsGoto, HoldsItem, StandsFor}
+use Rattle.ts_items.specs.Collection.{IsReachedBy, here, step, IsGoto, StandsFor}
 use Rattle.ts_table.specs.declared.arrays.Arrays.{Arrays}
 use Rattle.ts_table.specs.declared.arrays.RowPlaces.{RowPlaces}
 use Rattle.ts_table.specs.declared.view.ParseTable.{ParseTable}
-use Rattle.ts_table.specs.Arrays.{items_at, no_state, state_in, placed_row, table_rows, table_of, goto_by, actions_by}
-use Rattle.ts_table.specs.Rows.{AreGotoNumbers, HoldsList, IsListOn, AreListPlaces, IsRowAt, AreRowsTo, ActsAt, shift_to, reduce_by, accept_here}
-use Rattle.ts_table.specs.Tables.{goto_of, actions_of, IsStateOf, at_first, by_goto, ActsBy, shifts, reduces, accepts, EachOnce, StandsBefore, IsTable}
+use Rattle.ts_table.specs.Arrays.{items_at, state_in, placed_row, table_rows, table_of, goto_by, actions_by}
+use Rattle.ts_table.specs.Rows.{HoldsList, IsListOn, IsRowAt, AreRowsTo, ActsAt, shift_to, reduce_by, accept_here}
+use Rattle.ts_table.specs.Tables.{IsStateOf, at_first, by_goto, ActsBy, shifts, reduces, accepts, EachOnce, IsTable}
 use Rattle.ts_table.proofs.ListLemmas.{some_at, none_in}
 use Rattle.ts_table.proofs.ViewLemmas.{goto_is, actions_are}
-use Rattle.ts_table.proofs.ItemLemmas.{first_there, goto_within, reached_within, reached_once, some_valid, goto_before, before_goto, goto_once}
+use Rattle.ts_table.proofs.ItemLemmas.{first_there, goto_within, reached_within, reached_once, some_valid, goto_before, before_goto}
 use Rattle.ts_table.proofs.RowLemmas.{target_is}
 use Rattle.ts_table.proofs.BuildLemmas.{act_token}
 

@@ -29,6 +29,10 @@ IsShiftPart g firsts token q = (0 < q.dot) × ((x : ℕ)
 abbrev pub PicksFrom : FlatGrammar → List Part → (Part → Type 0) → Candidate → Type 0
 PicksFrom g parts P c = (q : Part) × Contains parts q × P q × (c ≡ candidate_of g q)
 
+-- the token is among those that come after one of the parts
+abbrev pub ComesAfter : List BitSet → List Part → ℕ → Type 0
+ComesAfter pool parts t = (q : Part) × Contains parts q × HasAt pool q.tokens t
+
 -- the candidate stands for the item
 pub record StandsForItem (g : FlatGrammar) (c : Candidate) (i : Item) : Type 0 where
   pub line : i.line ≡ line_of c.line

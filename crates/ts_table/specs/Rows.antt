@@ -1,5 +1,5 @@
 -- The rows of states.
-use Rattle.std.specs.Prelude.{◌≡◌, ℕ, ◌<◌, ◌⊎◌, List, length, slice_get, Option, Some, None, MatchOption, IsTrue, ◌↔◌}
+use Rattle.std.specs.Prelude.{◌≡◌, ℕ, ◌<◌, ◌⊎◌, List, length, slice_get, Option, Some, MatchOption, IsTrue, ◌↔◌}
 use Rattle.std.specs.Global.{Vec}
 use Rattle.std.specs.List.{Contains}
 use Rattle.ts_core.specs.declared.action.Action.{Action}
@@ -12,6 +12,7 @@ use Rattle.spec_tables.specs.Actions.{Act, shift, reduce, accept, Remains, Shift
 use Rattle.spec_tables.specs.Conflicts.{Conflicts, IsDeclared}
 use Rattle.spec_tables.specs.Fit.{Fit}
 use Rattle.ts_bits.specs.declared.set.BitSet.{BitSet}
+use Rattle.ts_bits.specs.Members.{Has}
 use Rattle.ts_items.specs.declared.part.Goto.{Goto}
 use Rattle.ts_items.specs.declared.part.Items.{Items}
 use Rattle.ts_items.specs.declared.part.Part.{Part}
@@ -27,7 +28,7 @@ use Rattle.ts_table.specs.declared.refusals.Refusal.{Refusal}
 use Rattle.ts_table.specs.declared.rows.Ready.{Ready}
 use Rattle.ts_table.specs.declared.rows.Entry.{Entry}
 use Rattle.ts_table.specs.Arrays.{no_state}
-use Rattle.ts_table.specs.Candidates.{IsCompletePart, IsShiftPart, PicksFrom}
+use Rattle.ts_table.specs.Candidates.{IsCompletePart, IsShiftPart, PicksFrom, ComesAfter}
 use Rattle.ts_table.specs.Marks.{AreMarksOf}
 use Rattle.ts_table.specs.Cells.{number_in}
 use Rattle.ts_table.specs.Rules.{IsUndeclaredAt, ComesFirst, IsLesser}
@@ -54,8 +55,15 @@ pub record IsReadySet (g : FlatGrammar) (items : Items) (set : Ready) : Type 0 w
   pub at : slice_get items.states.items set.at ≡ Some state
   pub complete : (q : Part) → Contains set.complete.items q
       ↔ (Contains state.parts.items q × IsCompletePart g q)
+  pub ends : (t : ℕ) → Has set.ends t ↔ ComesAfter items.tokens.keys set.complete.items t
   pub gotos : AreGotoNumbers (symbol_count g) state.gotos.items set.gotos.items
   pub accepts : IsTrue set.accepts ↔ HasAccept items.tokens.keys state.parts.items
+
+-- the set does nothing on the token: it leads nowhere over it, no complete item stands before it,
+-- and the text is not accepted
+abbrev pub DoesNothingOn : Ready → ℕ → Type 0
+DoesNothingOn set token = (slice_get set.gotos.items token ≡ Some no_state) × (Has set.ends token → ⊥)
+    × (IsTrue set.accepts × (token ≡ 0) → ⊥)
 
 -- the candidate is that of the reduction by this item
 pub record IsReductionBy (g : FlatGrammar) (read : List ℕ) (token : ℕ) (c : Candidate) (i : Item)

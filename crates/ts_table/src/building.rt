@@ -8,7 +8,7 @@ ghost use Rattle.ts_table.specs.Rows.{IsReadySet, IsSource, HoldsList, AreListPl
 use crate::arrays::{Arrays, RowPlaces};
 use crate::marks::Marks;
 use crate::refusals::{Refusal, least};
-use crate::rows::{Ready, entry_on, prepare};
+use crate::rows::{Ready, entry_on, is_idle, prepare};
 use indexmap::IndexSet;
 use std::alloc::{AllocError, Global};
 use ts_core::{Action, FlatGrammar, Symbol};
@@ -88,7 +88,12 @@ fn token_row(
 {
     let mut row = Vec::new(alloc);
     let mut least = old;
+    let idle = place_of_list(lists, Vec::new(alloc))?;
     for token in 0..marks.start {
+        if is_idle(set, token) {
+            row.push(idle)?;
+            continue;
+        }
         let found = entry_on(alloc, grammar, marks, items, set, token)?;
         let place = place_of_list(lists, found.actions)?;
         row.push(place)?;

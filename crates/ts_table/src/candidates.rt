@@ -1,13 +1,14 @@
 //! The items that compete on a token: the parts of a set of items go in, and its reductions and
 //! shift items with their weights come out.
-ghost use Rattle.std.specs.Prelude.{◌≡◌, ℕ, ◌≤◌, length, IfOk, IsTrue, ◌↔◌};
+ghost use Rattle.std.specs.Prelude.{◌≡◌, ℕ, ◌<◌, ◌≤◌, length, IfOk, IsTrue, ◌↔◌, ◌⊎◌};
 ghost use Rattle.std.specs.List.{Contains};
 ghost use Rattle.ts_core.specs.declared.flat.FlatGrammar.{FlatGrammar as Flat};
 ghost use Rattle.ts_items.specs.declared.part.Part.{Part as Parts};
-ghost use Rattle.ts_items.specs.Sets.{HasAt};
+ghost use Rattle.ts_bits.specs.Members.{Has, IsWide};
+ghost use Rattle.ts_items.specs.Sets.{HasAt, AreWide};
 ghost use Rattle.ts_table.specs.declared.candidates.Candidate.{Candidate as Candidates};
 ghost use Rattle.ts_table.specs.Marks.{AreMarksOf};
-ghost use Rattle.ts_table.specs.Candidates.{candidate_of, IsCompletePart, IsShiftPart, PicksFrom};
+ghost use Rattle.ts_table.specs.Candidates.{candidate_of, IsCompletePart, IsShiftPart, PicksFrom, ComesAfter};
 
 use crate::marks::{Marks, Weight};
 use indexmap::IndexSet;
@@ -97,6 +98,44 @@ pub(crate) fn complete_parts(
         }
     }
     Ok(complete)
+}
+
+/// In how many words each of some sets is held, and 0 where there are none.
+pub(crate) fn width_of(sets: &[BitSet]) -> usize
+    ensures { (n : ℕ) → AreWide n sets.now → 0 < length sets.now → result ≡ n }
+{
+    match sets.first() {
+        Some(set) => set.words.len(),
+        None => 0,
+    }
+}
+
+/// Adds a set of a pool.
+fn add_set(found: &mut BitSet, pool: &IndexSet<BitSet>, at: usize)
+    requires { (n : ℕ) × IsWide n found.old × AreWide n pool.now.keys }
+    ensures members { (t : ℕ) → Has found.new t ↔ (Has found.old t ⊎ HasAt pool.now.keys at t) }
+    ensures wide { (n : ℕ) → IsWide n found.old → AreWide n pool.now.keys → IsWide n found.new }
+{
+    if let Some(set) = pool.get_index(at) {
+        found.union_with(set);
+    }
+}
+
+/// All tokens that come after some of the parts.
+pub(crate) fn lookaheads(
+    alloc: Global,
+    pool: &IndexSet<BitSet>,
+    parts: &[Part],
+    width: usize,
+) -> Result<BitSet, AllocError>
+    requires { AreWide width pool.now.keys }
+    ensures { IfOk result (λ s. (t : ℕ) → Has s t ↔ ComesAfter pool.now.keys parts.now t) }
+{
+    let mut found = BitSet::new(alloc, width)?;
+    for part in parts {
+        add_set(&mut found, pool, part.tokens);
+    }
+    Ok(found)
 }
 
 /// The reductions on a token, by the parts of complete items.

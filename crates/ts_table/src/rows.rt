@@ -7,12 +7,14 @@ ghost use Rattle.spec_grammar.specs.Symbols.{start_symbol};
 ghost use Rattle.ts_items.specs.declared.part.Goto.{Goto as Gotos};
 ghost use Rattle.ts_items.specs.declared.part.State.{State as States};
 ghost use Rattle.ts_items.specs.Collection.{IsReachedBy};
-ghost use Rattle.ts_table.specs.Rows.{AreGotoNumbers, IsAcceptPart, HasAccept, IsReadySet, IsTokenCell, IsEntryOn, IsSource, AreRivalItems};
+ghost use Rattle.ts_table.specs.Rows.{AreGotoNumbers, IsAcceptPart, HasAccept, IsReadySet, IsTokenCell, IsEntryOn, DoesNothingOn, IsSource, AreRivalItems};
 ghost use Rattle.ts_table.specs.Rules.{IsRefusedBy};
 ghost use Rattle.ts_table.specs.Tables.{EachOnce};
 
 use crate::arrays::{NO_STATE, state_of};
-use crate::candidates::{Candidate, complete_parts, pool_has, reductions, shift_items};
+use crate::candidates::{
+    Candidate, complete_parts, lookaheads, pool_has, reductions, shift_items, width_of,
+};
 use crate::cells::{Cell, actions_of, resolve_cell};
 use crate::conflicts::{is_declared, rules_of};
 use crate::marks::Marks;
@@ -29,6 +31,8 @@ pub(crate) struct Ready {
     pub at: usize,
     /// The parts of complete items.
     pub complete: Vec<Part>,
+    /// The tokens that come after them.
+    pub ends: BitSet,
     /// For each symbol the state to which the set leads, or `NO_STATE`.
     pub gotos: Vec<u16>,
     /// Whether the start item is complete.
@@ -97,13 +101,16 @@ pub(crate) fn prepare(
 {
     let state = &items.states[at];
     let complete = complete_parts(alloc, marks, state.parts.as_slice())?;
+    let width = width_of(items.firsts.as_slice());
+    let ends = lookaheads(alloc, &items.tokens, complete.as_slice(), width)?;
     let gotos = goto_row(alloc, items.firsts.len(), state.gotos.as_slice())?;
-    let ends = accepts(&items.tokens, state.parts.as_slice());
+    let accepting = accepts(&items.tokens, state.parts.as_slice());
     Ok(Ready {
         at,
         complete,
+        ends,
         gotos,
-        accepts: ends,
+        accepts: accepting,
     })
 }
 
@@ -169,6 +176,20 @@ fn accepts_on(set: &Ready, token: u16) -> bool
         return false;
     }
     set.accepts
+}
+
+/// Whether a set does nothing on a token.
+pub(crate) fn is_idle(set: &Ready, token: u16) -> bool
+    requires { token < length set.now.gotos.items }
+    ensures { IsTrue result ↔ DoesNothingOn set.now token }
+{
+    if set.gotos[usize::from(token)] != NO_STATE {
+        return false;
+    }
+    if set.ends.contains(usize::from(token)) {
+        return false;
+    }
+    !accepts_on(set, token)
 }
 
 /// The rules of what stays on a token with so many actions, where it is a conflict that the grammar

@@ -1,9 +1,8 @@
-use Rattle.std.proofs.Common.{◌≡◌, true, false, rules, ◌↔◌}
-use Rattle.std.specs.Bool.{IsTrue}
+use Rattle.std.proofs.Common.{◌≡◌, true, false, rules}
 use Rattle.std.proofs.lemmas.List.{take_all}
 use Rattle.std.proofs.lemmas.List.Elements.{Contains-get_or}
 use Rattle.ts_table.specs.Candidates.{IsCompletePart}
-use Rattle.ts_table.proofs.ListLemmas.{some_begin, some_yes, some_no, some_all, false_not_true}
+use Rattle.ts_table.proofs.ListLemmas.{some_yes, some_no, some_all, false_not_true}
 use Rattle.std.proofs.Common.{◌∙◌, sym}
 use Rattle.ts_table.proofs.candidates.complete_parts.Goals as goal
 use Rattle.ts_table.proofs.candidates.complete_parts.Goals.{then-is_complete+in_ok-push, else-is_complete}

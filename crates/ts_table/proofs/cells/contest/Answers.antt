@@ -1,7 +1,7 @@
-use Rattle.std.proofs.Common.{◌≡◌, refl, ◌↔◌, List}
+use Rattle.std.proofs.Common.{◌≡◌, refl, List}
 use Rattle.std.specs.List.{Contains}
 use Rattle.ts_table.specs.declared.candidates.Candidate.{Candidate}
-use Rattle.ts_table.specs.declared.deciding.Verdict.TheVariants.{Shift, Reduce, Both}
+use Rattle.ts_table.specs.declared.deciding.Verdict.TheVariants.{Shift, Reduce}
 use Rattle.ts_table.specs.Deciding.{ShiftWins, ReduceWins}
 use Rattle.ts_table.proofs.ContestLemmas.{cell_shift, cell_reduce, cell_both, iff_at}
 use Rattle.ts_table.proofs.cells.contest.Goals as goal

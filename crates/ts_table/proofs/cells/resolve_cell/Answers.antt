@@ -1,4 +1,4 @@
-use Rattle.std.proofs.Common.{◌≡◌, refl, sym, subst, ℕ, Option, Some}
+use Rattle.std.proofs.Common.{refl, sym, subst, ℕ, Option, Some}
 use Rattle.std.specs.List.{Contains}
 use Rattle.ts_table.specs.Deciding.{StaysOf}
 use Rattle.ts_table.specs.Cells.{IsCellOf}
