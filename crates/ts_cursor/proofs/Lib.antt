@@ -1,6 +1,6 @@
 pub mod NestLemmas
 pub mod NumberLemmas
-pub mod RowLemmas
+pub mod RiseLemmas
 pub mod ShapeLemmas
 pub mod StandLemmas
 pub mod WalkLemmas

@@ -149,7 +149,7 @@ nest_none depth low high = record { between = tt; begins = tt; inner = λ k m a 
 
 -- ---- the nodes of a tree
 
-within_child : (t c : Tree) (k : ℕ) → slice_get (children_of t) k ≡ Some c → (u : Tree) → IsNodeIn c u → IsNodeIn t u
+pub within_child : (t c : Tree) (k : ℕ) → slice_get (children_of t) k ≡ Some c → (u : Tree) → IsNodeIn c u → IsNodeIn t u
 within_child t c k e u itself = inside t c k itself e
 within_child t c k e u (inside v w j i at) = inside v w j (within_child t c k e v i) at
 
@@ -172,7 +172,7 @@ children_nest t depth place xs over none n = by (children_of t) refl
         let m : Nest depth (place + pad_of c) (place + all_spans (c ∷ cs)) xs = subst (λ (ts : List Tree). Nest depth (place + first_pad ts) (place + all_spans ts) xs) e n in
         nest_wider depth (place + pad_of c) (place + all_spans (c ∷ cs)) (place + pad_of t) (place + span_of t) xs (omega (arith, o.0)) (omega (arith, o.1)) m
 
-showing_nests : (n : ℕ) (g : FlatGrammar) (t : Tree) (depth place : ℕ) (fields : List ℕ) (m : Marks) → tree_depth t ≤ n → StandOver t → Nest depth (place + pad_of t) (place + span_of t) (showing g t depth place fields m)
+pub showing_nests : (n : ℕ) (g : FlatGrammar) (t : Tree) (depth place : ℕ) (fields : List ℕ) (m : Marks) → tree_depth t ≤ n → StandOver t → Nest depth (place + pad_of t) (place + span_of t) (showing g t depth place fields m)
 showing_nests zero g t depth place fields m h over = absurd (omega (arith, h, depth_is t))
 showing_nests (suc n) g t depth place fields m h over = by (is_shown g (symbol_of t) m.alias) refl
     (λ d fs. children_nest t d place (inner_nodes g t d place fs) (over t itself)

@@ -1,4 +1,4 @@
 pub mod Marked
 pub mod Numbered
 pub mod Linked
-pub mod Row
+pub mod Preorder

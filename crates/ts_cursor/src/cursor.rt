@@ -4,6 +4,7 @@ ghost use Rattle.std.specs.Prelude.{◌≡◌, ◌↔◌, ◌<◌, ◌^◌, ℕ,
 ghost use Rattle.spec_trees.specs.Trees.{span_of};
 ghost use Rattle.spec_trees.specs.VisibleNodes.{visible_nodes};
 ghost use Rattle.spec_trees.specs.Family.{LieWithin, IsFirstChild, IsNextSibling, IsParent, node_at};
+ghost use Rattle.ts_cursor.specs.Linked.{IsPast};
 ghost use Rattle.ts_cursor.specs.Marked.{seen_node, seen_nodes};
 
 use crate::links::{parents, pasts};
@@ -178,5 +179,70 @@ impl<'g> Cursor<'g> {
         ensures within { result < length self.now.nodes }
     {
         self.number
+    }
+
+    /// How many nodes the tree has.
+    pub fn count(&self) -> u32
+        ensures count { result ≡ length self.now.nodes }
+        ensures some { 0 < length self.now.nodes }
+        ensures few { length self.now.nodes < 2 ^ 32 }
+    {
+        self.nodes.len() as u32
+    }
+
+    /// How many nodes the node of a number stands in.
+    pub fn depth_at(&self, k: u32) -> u32
+        requires { k < length self.now.nodes }
+        ensures { option_map (λ node. node.depth) (slice_get self.now.nodes k) ≡ Some result }
+    {
+        self.nodes[k as usize].depth
+    }
+
+    /// The name under which the node of a number shows.
+    pub fn name_at(&self, k: u32) -> &str
+        requires { k < length self.now.nodes }
+        ensures { option_map (λ node. node.name) (slice_get self.now.nodes k) ≡ Some result.now }
+    {
+        self.nodes[k as usize].name
+    }
+
+    /// Whether the node of a number shows as named.
+    pub fn named_at(&self, k: u32) -> bool
+        requires { k < length self.now.nodes }
+        ensures { option_map (λ node. node.named) (slice_get self.now.nodes k) ≡ Some result }
+    {
+        self.nodes[k as usize].named
+    }
+
+    /// The fields of the node of a number, by the fields' numbers.
+    pub fn fields_at(&self, k: u32) -> &[u16]
+        requires { k < length self.now.nodes }
+        ensures { option_map (λ node. node.fields) (slice_get self.now.nodes k) ≡ Some result.now }
+    {
+        self.nodes[k as usize].fields.as_slice()
+    }
+
+    /// The place of the first byte of the node of a number.
+    pub fn start_at(&self, k: u32) -> u32
+        requires { k < length self.now.nodes }
+        ensures { option_map (λ node. node.start) (slice_get self.now.nodes k) ≡ Some result }
+    {
+        self.nodes[k as usize].start
+    }
+
+    /// The place after the last byte of the node of a number.
+    pub fn end_at(&self, k: u32) -> u32
+        requires { k < length self.now.nodes }
+        ensures { option_map (λ node. node.end) (slice_get self.now.nodes k) ≡ Some result }
+    {
+        self.nodes[k as usize].end
+    }
+
+    /// The number after the descendants of the node of a number.
+    pub fn past_at(&self, k: u32) -> u32
+        requires { k < length self.now.nodes }
+        ensures { IsPast self.now.nodes k result }
+    {
+        self.pasts[k as usize]
     }
 }

@@ -6,6 +6,7 @@ ghost use Rattle.spec_trees.specs.Inside.{StandOver, StandAll};
 ghost use Rattle.spec_trees.specs.Made.{leaf_of, as_extra, reduced, accepted};
 ghost use Rattle.spec_trees.specs.VisibleNodes.{visible_nodes};
 ghost use Rattle.spec_trees.specs.Family.{depth_at, IsParent, LieInParents};
+ghost use Rattle.ts_cursor.specs.Preorder.{StartsRise};
 
 /// The root is the first node, and at depth 0. Each other node has a parent, one less deep.
 pub fn nodes_have_parents()
@@ -19,6 +20,12 @@ pub fn nodes_have_parents()
 /// Where each node of a tree stands over its children, each visible node lies in its parent.
 pub fn nodes_lie_in_parents()
     ensures { (g : FlatGrammar) (t : Tree) → StandOver t → LieInParents (visible_nodes g t) }
+{}
+
+/// Where each node of a tree stands over its children, the starts of the visible nodes rise in
+/// preorder.
+pub fn starts_rise_in_preorder()
+    ensures { (g : FlatGrammar) (t : Tree) → StandOver t → StartsRise (visible_nodes g t) }
 {}
 
 /// The nodes that a parser makes stand over their children, and so do all nodes in them.

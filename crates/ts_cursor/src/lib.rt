@@ -9,12 +9,12 @@ mod links;
 mod moves;
 mod nodes;
 mod printed;
-#[cfg(test)]
-mod rows;
 mod steps;
 #[cfg(test)]
 mod tests;
 
 pub use cursor::Cursor;
-pub use laws::{made_nodes_stand_over, nodes_have_parents, nodes_lie_in_parents};
+pub use laws::{
+    made_nodes_stand_over, nodes_have_parents, nodes_lie_in_parents, starts_rise_in_preorder,
+};
 pub use printed::shown;

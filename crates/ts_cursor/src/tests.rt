@@ -1,18 +1,55 @@
-//! The visible tree of small trees: moves, names, fields, ranges.
+//! The visible tree of small trees: moves, names, ranges, points. What hidden nodes, aliases, fields
+//! and extras come to is in the rows of whole parses.
+ghost use Rattle.std.specs.Prelude.{◌↔◌, ◌≤◌, IsTrue, length};
+ghost use Rattle.spec_trees.specs.Trees.{span_of};
+
 use crate::nodes::Face;
-use crate::rows::{fits, grammar};
 use crate::{Cursor, shown};
-use std::alloc::Global;
+use std::alloc::{AllocError, Global};
 use std::process::Abort;
 use std::test::Fail;
-use ts_core::{List, Symbol};
+use ts_core::{FlatGrammar, Kind, List, Re, Str, Symbol, TokenDef};
 use ts_node::Node;
 use ts_text::Text;
+
+/// A grammar of one named token, `i`.
+fn grammar(alloc: Global) -> Result<FlatGrammar, AllocError> {
+    let mut tokens = List::new(alloc);
+    tokens.push(TokenDef {
+        name: Str::from_text(alloc, "i")?,
+        kind: Kind::Named,
+        re: Re::Empty,
+        prec: 0,
+        literal: false,
+        immediate: false,
+        keyword: false,
+    })?;
+    Ok(FlatGrammar {
+        name: Str::from_text(alloc, "g")?,
+        tokens,
+        rules: List::new(alloc),
+        separators: List::new(alloc),
+        extras: List::new(alloc),
+        word: None,
+        fields: List::new(alloc),
+        precs: List::new(alloc),
+        conflicts: List::new(alloc),
+        precedences: List::new(alloc),
+        supertypes: List::new(alloc),
+    })
+}
+
+/// Whether the text is long enough for the root.
+fn fits(root: &Node, text: &Text) -> bool
+    ensures { IsTrue result ↔ span_of root.now ≤ length text.now }
+{
+    u64::from(root.pad()) + u64::from(root.size()) <= u64::from(text.len())
+}
 
 #[test]
 fn a_cursor_tells_of_the_root(rt: HostRuntime) -> Result<(), Fail> {
     let alloc = rt.alloc();
-    let grammar = grammar(alloc, false)?;
+    let grammar = grammar(alloc)?;
     let root = Node::leaf(Symbol(1), 1, 2, 4, None);
     let cursor = Cursor::new(alloc, &grammar, &root)?;
     assert_eq!(rt; cursor.name(), "i");
@@ -26,7 +63,7 @@ fn a_cursor_tells_of_the_root(rt: HostRuntime) -> Result<(), Fail> {
 #[test]
 fn a_root_is_printed_with_its_point(rt: HostRuntime) -> Result<(), Fail> {
     let alloc = rt.alloc();
-    let grammar = grammar(alloc, false)?;
+    let grammar = grammar(alloc)?;
     let root = Node::leaf(Symbol(1), 2, 1, 4, None);
     let text = Text::from_bytes(alloc, b" \nx")?;
     assert!(rt; fits(&root, &text));

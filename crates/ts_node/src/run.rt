@@ -12,7 +12,7 @@ use std::alloc::{AllocError, Global};
 use ts_base::{List, Shared};
 
 /// The most elements and children together in a leaf, but for a leaf of one long element.
-const MOST_IN_LEAF: u64 = 48;
+const MOST_IN_LEAF: u64 = 96;
 
 impl Run {
     /// What is counted of it.
