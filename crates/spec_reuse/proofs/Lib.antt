@@ -1,0 +1,3 @@
+pub mod StayLemmas
+pub mod TokenLemmas
+pub mod AgainLemmas
