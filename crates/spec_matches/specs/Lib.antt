@@ -1,0 +1,4 @@
+pub mod Embedding
+pub mod Matches
+pub mod Siblings
+pub mod Taking

@@ -1,0 +1,6 @@
+use Rattle.std.proofs.Common.{◌≡◌, map, take}
+use Rattle.ts_predicate.specs.Predicates.{texts_of}
+use Rattle.ts_predicate.proofs.judging.texts.Given as goal
+
+abbrev pub invariant-loop-capture : goal.invariant-loop-capture
+invariant-loop-capture l = map (λ t. t.now) l.texts.items ≡ texts_of l.text l.name (take l.capture-index l.captures)

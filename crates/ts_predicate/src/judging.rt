@@ -1,0 +1,123 @@
+//! One predicate of a match: the texts of the match's captures and what is asked of them go in, and
+//! whether the predicate holds comes out.
+ghost use Rattle.std.specs.Prelude.{◌≡◌, ◌↔◌, ℕ, ◌<◌, true, false, map, length, IfOk, IsTrue};
+ghost use Rattle.std.specs.List.{Contains};
+ghost use Rattle.ts_base.specs.Bytes.{Bytes};
+ghost use Rattle.spec_matches.specs.declared.found.Capture.{Capture as Mark};
+ghost use Rattle.ts_query_syntax.specs.declared.read_query.ReadQuery.{ReadQuery as Asking};
+ghost use Rattle.ts_predicate.specs.Predicates.{AnswersOf, IsAs, IsCaptureIn, OfTexts, OfPairs, Holds, texts_of};
+ghost use Rattle.ts_predicate.specs.Asking.{IsOfOne, LeavesOpen};
+
+use crate::asking::{is_as, matcher_of};
+use crate::hosts::Hosts;
+use spec_matches::Capture;
+use std::alloc::{AllocError, Global};
+use ts_query_syntax::{Asked, Predicate};
+use ts_text::Text;
+
+/// The texts of the nodes that a capture names, in order.
+fn texts<'a>(
+    alloc: Global,
+    text: &'a Text,
+    captures: &[Capture],
+    name: u16,
+) -> Result<Vec<&'a str>, AllocError>
+    requires within { (query : Asking) × ((c : Mark) → Contains captures.now c
+        → IsCaptureIn query text.now c) }
+    ensures { IfOk result (λ texts. map (λ t. t.now) texts.items
+        ≡ texts_of text.now name captures.now) }
+{
+    let mut texts = Vec::new(alloc);
+    for capture in captures {
+        if capture.name == name {
+            texts.push(text.slice(capture.start, capture.end))?;
+        }
+    }
+    Ok(texts)
+}
+
+/// Whether all texts, or some text, are as they are asked to be.
+fn of_texts<H: Hosts>(
+    alloc: Global,
+    hosts: &H,
+    predicate: &Predicate,
+    texts: &[&str],
+) -> Result<bool, AllocError>
+    requires one { IsOfOne predicate.now.asked }
+    ensures { IfOk result (λ yes. IsTrue yes ↔ OfTexts predicate.now.some predicate.now.negated
+        (IsAs (AnswersOf (H.called hosts.now) (H.accepts hosts.now)) predicate.now.asked) (map (λ t. t.now) texts.now)) }
+{
+    let mut matcher = matcher_of(alloc, &predicate.asked)?;
+    for text in texts {
+        let is = is_as(hosts, &predicate.asked, &mut matcher, text);
+        if decides(predicate, is) {
+            return Ok(predicate.some);
+        }
+    }
+    Ok(!predicate.some)
+}
+
+/// Whether one text, or one pair, decides: one that is not as asked where all have to be, or one
+/// that is where some has to be.
+fn decides(predicate: &Predicate, is: bool) -> bool
+    ensures yes { result ≡ true → LeavesOpen predicate.now.some predicate.now.negated
+        (IsTrue is) → ⊥ }
+    ensures no { result ≡ false → LeavesOpen predicate.now.some predicate.now.negated
+        (IsTrue is) }
+{
+    (is != predicate.negated) == predicate.some
+}
+
+/// Whether two texts are equal.
+fn are_same(text: &str, other: &str) -> bool
+    ensures { IsTrue result ↔ (text.now ≡ other.now) }
+{
+    text == other
+}
+
+/// Whether lists of these lengths may be as asked: where they have to be equal, so have the lengths.
+fn may_be_equal(predicate: &Predicate, count: usize, other: usize) -> bool
+    ensures yes { result ≡ true → predicate.now.some ≡ false → predicate.now.negated ≡ false
+        → count ≡ other }
+    ensures no { result ≡ false → (predicate.now.some ≡ false) × (predicate.now.negated ≡ false)
+        × (count ≡ other → ⊥) }
+{
+    predicate.some || predicate.negated || count == other
+}
+
+/// Whether the lists are equal, or their pairs, or some pair, are equal or differ.
+fn of_pairs(predicate: &Predicate, texts: &[&str], others: &[&str]) -> bool
+    ensures { IsTrue result ↔ OfPairs predicate.now.some predicate.now.negated
+        (map (λ t. t.now) texts.now) (map (λ t. t.now) others.now) }
+{
+    if !may_be_equal(predicate, texts.len(), others.len()) {
+        return false;
+    }
+    for k in 0..texts.len().min(others.len()) {
+        if decides(predicate, are_same(texts[k], others[k])) {
+            return predicate.some;
+        }
+    }
+    !predicate.some
+}
+
+/// Whether a predicate holds of the captures of a match.
+pub(crate) fn holds<H: Hosts>(
+    alloc: Global,
+    hosts: &H,
+    text: &Text,
+    predicate: &Predicate,
+    captures: &[Capture],
+) -> Result<bool, AllocError>
+    requires within { (query : Asking) × ((c : Mark) → Contains captures.now c
+        → IsCaptureIn query text.now c) }
+    ensures { IfOk result (λ yes. IsTrue yes ↔ Holds (AnswersOf (H.called hosts.now)
+        (H.accepts hosts.now)) text.now captures.now predicate.now) }
+{
+    let own = texts(alloc, text, captures, predicate.capture)?;
+    if let Asked::Capture(other) = predicate.asked {
+        let others = texts(alloc, text, captures, other)?;
+        return Ok(of_pairs(predicate, own.as_slice(), others.as_slice()));
+    }
+    of_texts(alloc, hosts, predicate, own.as_slice())
+}

@@ -1,0 +1,13 @@
+//! Predicates of queries: a query, a text and what a host answers go in; which matches are kept
+//! comes out.
+#![tactic(auto)]
+
+mod asking;
+mod hosts;
+mod judging;
+mod predicates;
+#[cfg(test)]
+mod tests;
+
+pub use hosts::Hosts;
+pub use predicates::Predicates;

@@ -1,0 +1,46 @@
+-- Embeddings depend only on what the items take.
+use Rattle.std.proofs.Common.{◌≡◌, ℕ, zero, suc, ◌+◌, List, [], ◌∷◌, Option, Some, None, Bool, true, false, ◌↔◌}
+use Rattle.spec_matches.specs.declared.placing.Slot.{Slot}
+use Rattle.spec_matches.specs.declared.placing.Run.{Run}
+use Rattle.spec_matches.specs.declared.found.Capture.{Capture}
+use Rattle.spec_matches.specs.declared.placing.Placing.{Placing}
+use Rattle.spec_matches.specs.Embedding.{offset, Fits, Placed, Embeds, Full, Along, Gives, IsWay}
+
+module _ (t u : ℕ → ℕ → ℕ → List Capture → Type 0) (to : (k o p : ℕ) (c : List Capture) → t k o p c → u k o p c) where
+  fits_to : (n k : ℕ) (i : Slot) (r : Run) → Fits t n i k r → Fits u n i k r
+  fits_to n k i r f = record {
+    some = f.some;
+    inside = f.inside;
+    rounds = f.rounds;
+    covers = λ p low below. ((f.covers p low below).0, to k (offset i r.first p) p (f.covers p low below).0 (f.covers p low below).1);
+  }
+
+  pub embeds_to : (named : List Bool) (closed : Bool) (is : List Slot) (k lo : ℕ) (b : Bool) (rs : List (Option Run)) → Embeds t named closed is k lo b rs → Embeds u named closed is k lo b rs
+  embeds_to named closed [] k lo b [] e = e
+  embeds_to named closed [] k lo b (r ∷ rs) e = e
+  embeds_to named closed (i ∷ is) k lo b [] e = e
+  embeds_to named closed (i ∷ is) k lo b (None ∷ rs) e = (e.0, embeds_to named closed is (k + 1) lo false rs e.1)
+  embeds_to named closed (i ∷ is) k lo b (Some r ∷ rs) e = (record { fits = fits_to _ k i r e.0.fits; after = e.0.after; anchored = e.0.anchored }, embeds_to named closed is (k + 1) r.past true rs e.1)
+
+  along_to : (k : ℕ) (i : Slot) (first n p : ℕ) (c : List Capture) → Along t k i first n p c → Along u k i first n p c
+  along_to k i first zero p c e = e
+  along_to k i first (suc n) p c e = (e.0, e.1, e.2, to k (offset i first p) p e.0 e.3, along_to k i first n (p + 1) e.1 e.4)
+
+  pub gives_to : (is : List Slot) (k : ℕ) (rs : List (Option Run)) (c : List Capture) → Gives t is k rs c → Gives u is k rs c
+  gives_to [] k rs c e = e
+  gives_to (i ∷ is) k [] c e = e
+  gives_to (i ∷ is) k (None ∷ rs) c e = gives_to is (k + 1) rs c e
+  gives_to (i ∷ is) k (Some r ∷ rs) c e = (e.0, e.1, e.2, along_to k i r.first _ r.first e.0 e.3, gives_to is (k + 1) rs e.1 e.4)
+
+module _ (t u : ℕ → ℕ → ℕ → List Capture → Type 0) (to : (k o p : ℕ) (c : List Capture) → t k o p c → u k o p c) (from : (k o p : ℕ) (c : List Capture) → u k o p c → t k o p c) where
+  pub way_to : (named : List Bool) (closed : Bool) (is : List Slot) (f : Placing) → IsWay t named closed is 0 0 true f → IsWay u named closed is 0 0 true f
+  way_to named closed is f w = record {
+    runs = w.runs;
+    full = record {
+      embeds = embeds_to t u to named closed is 0 0 true w.runs w.full.embeds;
+      widest = λ ws more e. w.full.widest ws more (embeds_to u t from named closed is 0 0 true ws e);
+    };
+    gives = gives_to t u to is 0 w.runs f.captures w.gives;
+    first = w.first;
+    near = w.near;
+  }

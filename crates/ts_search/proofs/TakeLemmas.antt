@@ -1,0 +1,32 @@
+-- Lists that a loop has gone over in part.
+use Rattle.std.proofs.Common.{◌≡◌, ◌∙◌, sym, ap, refl, subst, ℕ, ◌+◌, ◌<◌, ◌≤◌, List, [], ◌∷◌, ◌++◌, length, take, get_or, map, ⊎_elim, true, false}
+use Rattle.std.specs.List.{Contains}
+use Rattle.std.proofs.lemmas.List.{take_more, take_all}
+use Rattle.std.proofs.lemmas.List.Elements.{Contains-push_cases, Contains-append_right}
+use Rattle.ts_search.specs.Adding.{Adds}
+
+module _ {X : Type 0} where
+  pub take_push : (xs : List X) (n : ℕ) (x : X) → n < length xs → x ≡ get_or xs n x → take (n + 1) xs ≡ take n xs ++ x ∷ []
+  take_push xs n x below is = take_more xs n x below ∙ ap (λ (z : X). take n xs ++ z ∷ []) (sym is)
+
+  pub none_more : (P : X → Type 0) (xs : List X) (n : ℕ) (x : X) → n < length xs → x ≡ get_or xs n x → ((y : X) → Contains (take n xs) y → P y → ⊥) → (P x → ⊥)
+      → (y : X) → Contains (take (n + 1) xs) y → P y → ⊥
+  none_more P xs n x below is before one y there p =
+      ⊎_elim (λ h. before y h p) (λ e. one (subst P (sym e) p)) (Contains-push_cases (take n xs) x y (subst (λ (l : List X). Contains l y) (take_push xs n x below is) there))
+
+  pub none_more_at : (P : X → Type 0) (xs : List X) (n : ℕ) (d : X) → n < length xs → ((y : X) → Contains (take n xs) y → P y → ⊥) → (P (get_or xs n d) → ⊥)
+      → (y : X) → Contains (take (n + 1) xs) y → P y → ⊥
+  none_more_at P xs n d below before one y there p =
+      ⊎_elim (λ h. before y h p) (λ e. one (subst P (sym e) p)) (Contains-push_cases (take n xs) (get_or xs n d) y (subst (λ (l : List X). Contains l y) (take_more xs n d below) there))
+
+  pub none_all : (P : X → Type 0) (xs : List X) (n : ℕ) → length xs ≤ n → ((y : X) → Contains (take n xs) y → P y → ⊥) → (y : X) → Contains xs y → P y → ⊥
+  none_all P xs n past before y there p = before y (subst (λ (l : List X). Contains l y) (sym (take_all n xs past)) there) p
+
+  pub adds_list : (old more new : List X) → new ≡ old ++ more → Adds (Contains more) old new
+  adds_list old more new e = record { more = more; is = e; only = λ i h. h; added = λ i h. subst (λ (l : List X). Contains l i) (sym e) (Contains-append_right old more i h) }
+
+pub no_truth : false ≡ true → ⊥
+no_truth h = cc
+
+pub read_there : {X : Type 0} (xs : List X) (n : ℕ) (x : X) → n < length xs → x ≡ get_or xs n x → Contains xs x
+read_there xs n x below is = (n, below, sym is)

@@ -1,0 +1,84 @@
+-- What an item takes, told of the item itself.
+use Rattle.std.specs.Prelude.{◌≡◌, ◌↔◌, ℕ, List, [], ◌∷◌, length, Some, slice_get}
+use Rattle.std.specs.List.{Contains}
+use Rattle.spec_trees.specs.declared.visible.VisibleNode.{VisibleNode}
+use Rattle.ts_query_syntax.specs.declared.read_query.Test.{Test}
+use Rattle.ts_query_syntax.specs.declared.read_query.Test.TheVariants.{Any, Named, Kind, Choice, Round}
+use Rattle.ts_query_syntax.specs.declared.read_query.Item.{Item}
+use Rattle.ts_query_syntax.specs.declared.read_query.Item.TheViews.{out-Item}
+use Rattle.spec_matches.specs.declared.found.Capture.{Capture}
+use Rattle.spec_matches.specs.declared.placing.Slot.{Slot}
+use Rattle.spec_matches.specs.declared.scene.Scene.{Scene}
+use Rattle.spec_matches.specs.Taking.{Head, head_by, shape_of, shapes_of, slots_of, Taken, Inside, Passes, Plainly}
+
+-- an item but for its parts, and what it asks beside its test
+abbrev pub head_of : Item → Head
+head_of i = head_by (out-Item i)
+
+abbrev pub slot_of : Item → Slot
+slot_of i = (head_of i).slot
+
+abbrev pub parts_of : Item → List Item
+parts_of i = (out-Item i).parts
+
+-- how many siblings a round takes
+abbrev pub size_by : Test → ℕ → ℕ
+size_by Any parts = 1
+size_by Named parts = 1
+size_by (Kind kind) parts = 1
+size_by Choice parts = 1
+size_by Round parts = parts
+
+abbrev pub size_of : Item → ℕ
+size_of i = size_by (out-Item i).test (length (parts_of i))
+
+-- what some items take
+abbrev pub TakenOf : Scene → List Item → ℕ → ℕ → ℕ → List Capture → Type 0
+TakenOf scene is = Taken scene (shapes_of is)
+
+-- an item takes a node at a place in its round
+abbrev pub ItemTakes : Scene → Item → ℕ → ℕ → List Capture → Type 0
+ItemTakes scene i o n c = Taken scene (shape_of i) 0 o n c
+
+abbrev pub PassesOf : Scene → Item → Test → ℕ → VisibleNode → List Capture → Type 0
+PassesOf scene i = Passes scene (TakenOf scene (parts_of i)) (slots_of (shapes_of (parts_of i))) (head_of i)
+
+abbrev pub InsideOf : Scene → Item → ℕ → List Capture → Type 0
+InsideOf scene i = Inside scene (TakenOf scene (parts_of i)) (slots_of (shapes_of (parts_of i))) (head_of i)
+
+abbrev pub PlainOf : Scene → Item → ℕ → List Capture → Type 0
+PlainOf scene i = Plainly scene (TakenOf scene (parts_of i)) (slots_of (shapes_of (parts_of i))) (head_of i)
+
+-- a node has one of these fields
+abbrev pub HasOne : List VisibleNode → List ℕ → ℕ → Type 0
+HasOne nodes without n =
+    (field : ℕ) × (node : VisibleNode) × (slice_get nodes n ≡ Some node)
+    × Contains without field × Contains node.fields field
+
+-- two lists of one length, whose elements agree in pairs
+abbrev pub Pairs : {X Y : Type 0} → (X → Y → Type 0) → List X → List Y → Type 0
+Pairs P [] [] = Unit {0}
+Pairs P [] (y ∷ ys) = ⊥
+Pairs P (x ∷ xs) [] = ⊥
+Pairs P (x ∷ xs) (y ∷ ys) = P x y × Pairs P xs ys
+
+-- a list whose elements agree with the numbers below a bound
+pub record Numbered {Y : Type 0} (P : ℕ → Y → Type 0) (count : ℕ) (ys : List Y) : Type 0 where
+  pub many : length ys ≡ count
+  pub each : (k : ℕ) (y : Y) → slice_get ys k ≡ Some y → P k y
+
+-- the ways of an item at a node
+abbrev pub AreWays : Scene → Item → ℕ → ℕ → List (List Capture) → Type 0
+AreWays scene i o n ways = (c : List Capture) → Contains ways c ↔ ItemTakes scene i o n c
+
+-- .. at each of some siblings
+abbrev pub IsRow : Scene → Item → ℕ → List ℕ → List (List (List Capture)) → Type 0
+IsRow scene i o siblings row = Pairs (AreWays scene i o) siblings row
+
+-- .. and each place in its round
+abbrev pub AreRowsOf : Scene → List ℕ → Item → List (List (List (List Capture))) → Type 0
+AreRowsOf scene siblings i rows = Numbered (λ o row. IsRow scene i o siblings row) (size_of i) rows
+
+-- .. of each of some items
+abbrev pub IsTable : Scene → List ℕ → List Item → List (List (List (List (List Capture)))) → Type 0
+IsTable scene siblings is table = Pairs (AreRowsOf scene siblings) is table

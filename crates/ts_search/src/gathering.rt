@@ -1,0 +1,75 @@
+//! Matches that are gathered: captures and matches go in, and a set of matches comes out, which
+//! takes one more than there may be, and no more.
+ghost use Rattle.std.specs.Prelude.{◌≡◌, ◌↔◌, IfOk, OnOk, IsTrue};
+ghost use Rattle.std.specs.List.{Contains};
+ghost use Rattle.std.specs.List.Sorted.{IsStrictlySortedBy};
+ghost use Rattle.spec_matches.specs.declared.found.Capture.{Capture as Mark};
+ghost use Rattle.spec_matches.specs.Matches.{capture_cmp, match_cmp};
+ghost use Rattle.ts_search.specs.Gathering.{Gathers, IsFull};
+
+use crate::keep::Keep;
+use spec_matches::{Capture, Match, one_order};
+use std::alloc::{AllocError, Global};
+use std::collections::BTreeSet;
+use ts_base::List;
+
+/// How many matches there may be.
+const MOST: usize = 100_000;
+
+/// Captures in order, each once.
+pub(crate) fn in_order(alloc: Global, captures: &[Capture]) -> Result<List<Capture>, AllocError>
+    ensures members { IfOk result (λ all. (c : Mark) → Contains all c ↔ Contains captures.now c) }
+    ensures order { IfOk result (λ all. IsStrictlySortedBy capture_cmp all) }
+{
+    one_order();
+    let mut items = Vec::new(alloc);
+    items.extend_from_slice(captures)?;
+    items.sort_unstable();
+    items.dedup();
+    Ok(List::from_vec(items))
+}
+
+/// Whether there are more matches than there may be.
+pub(crate) fn is_full(found: &BTreeSet<Match>) -> bool
+    ensures full { IsTrue result ↔ IsFull found.now }
+    ensures order { IsStrictlySortedBy match_cmp found.now.keys }
+{
+    found.len() > MOST
+}
+
+/// Adds a match, unless there are too many.
+fn put(found: &mut BTreeSet<Match>, one: Match) -> Result<(), AllocError>
+    ensures { OnOk result (Gathers (λ m. m ≡ one) found.old found.new) }
+{
+    one_order();
+    if is_full(found) {
+        return Ok(());
+    }
+    found.insert(one)?;
+    Ok(())
+}
+
+/// Adds a match, where it is kept.
+pub(crate) fn put_kept<K: Keep>(
+    alloc: Global,
+    found: &mut BTreeSet<Match>,
+    keep: &K,
+    one: Match,
+) -> Result<(), AllocError>
+    ensures { OnOk result (Gathers (λ m. (m ≡ one) × K.kept keep.now m) found.old found.new) }
+{
+    if keep.keeps(alloc, &one)? {
+        put(found, one)?;
+        return Ok(());
+    }
+    Ok(())
+}
+
+/// The matches in order.
+pub(crate) fn listed(alloc: Global, found: BTreeSet<Match>) -> Result<Vec<Match>, AllocError>
+    ensures matches { IfOk result (λ all. all.items ≡ found.keys) }
+    ensures order { IfOk result (λ all. IsStrictlySortedBy match_cmp all.items) }
+{
+    let all: Vec<Match> = found.into_iter().collect(alloc)?;
+    Ok(all)
+}

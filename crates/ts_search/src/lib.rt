@@ -1,0 +1,21 @@
+//! The matches of patterns: patterns and the rows of a visible tree go in, and the matches that are
+//! kept come out in order.
+#![tactic(auto)]
+
+mod gathering;
+mod keep;
+mod listing;
+mod memo;
+mod places;
+mod products;
+mod row;
+mod search;
+mod sight;
+mod single;
+mod stand;
+mod taking;
+
+pub use keep::{All, Keep};
+pub use listing::{MatchFault, matches};
+pub use row::Row;
+pub use sight::Sight;

@@ -1,0 +1,211 @@
+//! The matches of patterns: patterns and a visible tree go in, and the matches come out in order.
+ghost use Rattle.std.specs.Prelude.{◌≡◌, ◌<◌, ◌≤◌, ◌^◌, length, IfOk, OnOk, IfErr};
+ghost use Rattle.spec_matches.specs.Matches.{AreAll, AreMoreThan, OfPatterns, most_matches};
+ghost use Rattle.ts_search.specs.Adding.{OfSome};
+ghost use Rattle.ts_search.specs.Gathering.{Gathers, Hits, HitsIn, HitsOf, HitsUnder, IsGathered};
+
+use crate::gathering::{in_order, is_full, listed, put_kept};
+use crate::keep::Keep;
+use crate::sight::Sight;
+use crate::single::{add_single, single};
+use crate::taking::fully;
+use spec_matches::{Match, Placing, one_order};
+use std::alloc::{AllocError, Global};
+use std::collections::BTreeSet;
+use ts_base::List;
+use ts_query_syntax::Pattern;
+
+/// Why there is no list of matches.
+#[derive(Debug, PartialEq, Eq, Drop)]
+pub enum MatchFault {
+    /// There are more than 100,000.
+    Many,
+    /// Memory runs out.
+    Memory,
+}
+
+impl From<AllocError> for MatchFault {
+    ghost use Rattle.std.specs.Prelude.{◌≡◌};
+    ghost use Rattle.ts_search.specs.declared.listing.MatchFault.TheVariants.{Memory};
+
+    ghost from_gives = { λ _ e. e ≡ Memory };
+
+    fn from(_: AllocError) -> MatchFault {
+        MatchFault::Memory
+    }
+}
+
+/// Adds the match that an embedding gives, where it is kept.
+fn add_match<K: Keep>(
+    alloc: Global,
+    out: &mut BTreeSet<Match>,
+    keep: &K,
+    pattern: u32,
+    siblings: &[u32],
+    found: &Placing,
+) -> Result<(), AllocError>
+    ensures { OnOk result (Gathers (Hits (K.kept keep.now) pattern siblings.now found.now)
+        out.old out.new) }
+{
+    one_order();
+    let Some(place) = found.first else {
+        return Ok(());
+    };
+    if place >= siblings.len() {
+        return Ok(());
+    }
+    let captures = in_order(alloc, found.captures.as_slice())?;
+    let one = Match {
+        root: siblings[place],
+        pattern,
+        captures,
+    };
+    put_kept(alloc, out, keep, one)?;
+    Ok(())
+}
+
+/// Adds the matches that some embeddings give, where they are kept.
+fn add_matches<K: Keep>(
+    alloc: Global,
+    out: &mut BTreeSet<Match>,
+    keep: &K,
+    pattern: u32,
+    siblings: &[u32],
+    found: &[Placing],
+) -> Result<(), AllocError>
+    ensures { OnOk result (Gathers (OfSome (Hits (K.kept keep.now) pattern siblings.now) found.now)
+        out.old out.new) }
+{
+    for one in found {
+        add_match(alloc, out, keep, pattern, siblings, one)?;
+    }
+    Ok(())
+}
+
+/// Adds the matches of a pattern in some siblings.
+fn add_siblings<K: Keep>(
+    alloc: Global,
+    out: &mut BTreeSet<Match>,
+    keep: &K,
+    sight: &Sight,
+    number: u32,
+    pattern: &Pattern,
+    siblings: &[u32],
+) -> Result<(), AllocError>
+    ensures { OnOk result (Gathers (HitsIn sight.now (K.kept keep.now) number pattern.now siblings.now)
+        out.old out.new) }
+{
+    if is_full(out) {
+        return Ok(());
+    }
+    if let Some(item) = single(pattern) {
+        add_single(alloc, out, keep, sight, number, item, siblings)?;
+        return Ok(());
+    }
+    let found = fully(
+        alloc,
+        sight,
+        pattern.items.as_slice(),
+        pattern.closed,
+        siblings,
+    )?;
+    add_matches(alloc, out, keep, number, siblings, found.as_slice())?;
+    Ok(())
+}
+
+/// Adds the matches of a pattern in the children of a node.
+fn add_children<K: Keep>(
+    alloc: Global,
+    out: &mut BTreeSet<Match>,
+    keep: &K,
+    sight: &Sight,
+    number: u32,
+    pattern: &Pattern,
+    n: u32,
+) -> Result<(), AllocError>
+    requires { n < length sight.now.nodes }
+    ensures { OnOk result (Gathers (HitsUnder sight.now (K.kept keep.now) number pattern.now n)
+        out.old out.new) }
+{
+    let children = sight.children(alloc, n)?;
+    add_siblings(
+        alloc,
+        out,
+        keep,
+        sight,
+        number,
+        pattern,
+        children.as_slice(),
+    )?;
+    Ok(())
+}
+
+/// Adds the matches of a pattern.
+fn add_pattern<K: Keep>(
+    alloc: Global,
+    out: &mut BTreeSet<Match>,
+    keep: &K,
+    sight: &Sight,
+    number: u32,
+    pattern: &Pattern,
+) -> Result<(), AllocError>
+    ensures { OnOk result (Gathers (HitsOf sight.now (K.kept keep.now) number pattern.now)
+        out.old out.new) }
+{
+    add_siblings(alloc, out, keep, sight, number, pattern, &[0])?;
+    for n in 0..sight.count() {
+        add_children(alloc, out, keep, sight, number, pattern, n)?;
+    }
+    Ok(())
+}
+
+/// The matches of patterns that are kept, or more of them than there may be.
+fn gathered<K: Keep>(
+    alloc: Global,
+    keep: &K,
+    sight: &Sight,
+    patterns: &[Pattern],
+) -> Result<BTreeSet<Match>, AllocError>
+    requires few { length patterns.now < 2 ^ 32 }
+    ensures { IfOk result (λ out. IsGathered sight.now (K.kept keep.now) patterns.now out) }
+{
+    let mut out = BTreeSet::new(alloc);
+    for number in 0..patterns.len() as u32 {
+        add_pattern(
+            alloc,
+            &mut out,
+            keep,
+            sight,
+            number,
+            &patterns[number as usize],
+        )?;
+    }
+    Ok(out)
+}
+
+/// The matches of patterns that are kept, by root, then pattern, then captures, each once.
+///
+/// # Errors
+///
+/// `Many` where there are more than 100,000, and `Memory` where memory runs out.
+pub fn matches<K: Keep>(
+    alloc: Global,
+    sight: &Sight,
+    patterns: &[Pattern],
+    keep: &K,
+) -> Result<List<Match>, MatchFault>
+    requires few { length patterns.now < 2 ^ 32 }
+    ensures all { IfOk result (AreAll (λ m.
+        OfPatterns sight.now patterns.now m × K.kept keep.now m)) }
+    ensures few { IfOk result (λ ms. length ms ≤ most_matches) }
+    ensures many { IfErr result (λ e. e ≡ MatchFault.Many → AreMoreThan most_matches (λ m.
+        OfPatterns sight.now patterns.now m × K.kept keep.now m)) }
+{
+    one_order();
+    let found = gathered(alloc, keep, sight, patterns)?;
+    if is_full(&found) {
+        return Err(MatchFault::Many);
+    }
+    let found = listed(alloc, found)?;
+    Ok(List::from_vec(found))
+}

@@ -1,0 +1,118 @@
+//! The matches of a pattern of one plain item: a node that fails at its first test takes no memory.
+ghost use Rattle.std.specs.Prelude.{◌≡◌, ◌∷◌, [], IfSome, IsTrue, OnOk, false};
+ghost use Rattle.ts_search.specs.Adding.{OfSome};
+ghost use Rattle.ts_search.specs.Gathering.{Gathers};
+ghost use Rattle.ts_search.specs.Single.{HitAt, HitsAt, IsSingle};
+
+use crate::gathering::{in_order, put_kept};
+use crate::keep::Keep;
+use crate::sight::Sight;
+use crate::taking::{item_ways, slot};
+use spec_matches::{Capture, Match, one_order};
+use std::alloc::{AllocError, Global};
+use std::collections::BTreeSet;
+use ts_base::List;
+use ts_query_syntax::{Item, Pattern};
+
+/// Whether an item takes one sibling, with no anchor before it.
+fn is_single(item: &Item) -> bool
+    ensures { IsTrue result → IsSingle item.now }
+{
+    if item.tied {
+        return false;
+    }
+    let slot = slot(item);
+    !slot.optional && !slot.many && slot.more == 0
+}
+
+/// The item of a pattern that is one item, where it takes one sibling and no anchor stands by it.
+pub(crate) fn single(pattern: &Pattern) -> Option<&Item>
+    ensures { IfSome result (λ item. (pattern.now.items ≡ item.now ∷ []) × (pattern.now.closed ≡ false) × IsSingle item.now) }
+{
+    if pattern.closed || pattern.items.len() != 1 {
+        return None;
+    }
+    let item = pattern.items.get(0);
+    if !is_single(item) {
+        return None;
+    }
+    Some(item)
+}
+
+/// Adds the match at a node with these captures, where it is kept.
+fn add_way<K: Keep>(
+    alloc: Global,
+    out: &mut BTreeSet<Match>,
+    keep: &K,
+    pattern: u32,
+    n: u32,
+    captures: &[Capture],
+) -> Result<(), AllocError>
+    ensures { OnOk result (Gathers (HitAt (K.kept keep.now) pattern n captures.now)
+        out.old out.new) }
+{
+    one_order();
+    let captures = in_order(alloc, captures)?;
+    let one = Match {
+        root: n,
+        pattern,
+        captures,
+    };
+    put_kept(alloc, out, keep, one)?;
+    Ok(())
+}
+
+/// Adds the matches at a node with captures in each of some ways, where they are kept.
+fn add_ways<K: Keep>(
+    alloc: Global,
+    out: &mut BTreeSet<Match>,
+    keep: &K,
+    pattern: u32,
+    n: u32,
+    ways: &[List<Capture>],
+) -> Result<(), AllocError>
+    ensures { OnOk result (Gathers (OfSome (HitAt (K.kept keep.now) pattern n) ways.now)
+        out.old out.new) }
+{
+    for way in ways {
+        add_way(alloc, out, keep, pattern, n, way.as_slice())?;
+    }
+    Ok(())
+}
+
+/// Adds the matches at a node that an item takes.
+fn add_taken<K: Keep>(
+    alloc: Global,
+    out: &mut BTreeSet<Match>,
+    keep: &K,
+    sight: &Sight,
+    pattern: u32,
+    item: &Item,
+    n: u32,
+) -> Result<(), AllocError>
+    ensures { OnOk result (Gathers (HitsAt sight.now (K.kept keep.now) pattern item.now n)
+        out.old out.new) }
+{
+    let ways = item_ways(alloc, sight, item, 0, n)?;
+    add_ways(alloc, out, keep, pattern, n, ways.as_slice())?;
+    Ok(())
+}
+
+/// Adds the matches at each of some siblings that an item takes.
+pub(crate) fn add_single<K: Keep>(
+    alloc: Global,
+    out: &mut BTreeSet<Match>,
+    keep: &K,
+    sight: &Sight,
+    pattern: u32,
+    item: &Item,
+    siblings: &[u32],
+) -> Result<(), AllocError>
+    ensures { OnOk result (Gathers (OfSome (HitsAt sight.now (K.kept keep.now) pattern item.now)
+        siblings.now) out.old out.new) }
+{
+    for n in siblings {
+        add_taken(alloc, out, keep, sight, pattern, item, *n)?;
+    }
+    Ok(())
+}

@@ -1,0 +1,33 @@
+//! Where a search stands, and what it searches.
+
+use spec_matches::{Capture, Slot};
+use ts_base::List;
+
+/// Where a search stands: an item and its number, the place up to which siblings are taken, and
+/// whether the item just before took the last of them, or the list begins here.
+#[derive(Debug, Clone, Copy, PartialEq, Eq)]
+pub(crate) struct Stand {
+    pub slot: Slot,
+    pub number: usize,
+    pub lo: usize,
+    pub beside: bool,
+}
+
+/// A list of siblings as the items see it: for each item, place in its round, and sibling the
+/// captures of each way in which the item takes it; for each sibling whether it is named; and
+/// whether an anchor stands after the last item.
+#[derive(Debug, Drop)]
+pub(crate) struct Siblings {
+    pub table: List<List<List<List<List<Capture>>>>>,
+    pub named: List<bool>,
+    pub closed: bool,
+}
+
+/// Where a search goes on: an item's number, the place up to which siblings are taken, and whether
+/// the item just before took the last of them, or the list begins here.
+#[derive(Debug, Clone, Copy, PartialEq, Eq, Hash)]
+pub(crate) struct Key {
+    pub number: usize,
+    pub lo: usize,
+    pub beside: bool,
+}

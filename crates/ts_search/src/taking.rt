@@ -1,0 +1,429 @@
+//! What items take: an item and nodes go in, and the captures of each way in which it takes them
+//! come out.
+ghost use Rattle.std.specs.Prelude.{◌≡◌, ◌↔◌, ℕ, ◌∷◌, [], ◌<◌, IsTrue, IfOk, OnOk, true, map, length, Some, slice_get, List as Values};
+ghost use Rattle.std.specs.List.{Contains};
+ghost use Rattle.ts_query_syntax.specs.declared.read_query.Test.TheVariants as tests;
+ghost use Rattle.ts_query_syntax.specs.declared.read_query.Item.TheViews.{out-Item};
+ghost use Rattle.spec_matches.specs.declared.found.Capture.{Capture as Mark};
+ghost use Rattle.spec_matches.specs.declared.placing.Placing.{Placing as Way};
+ghost use Rattle.spec_matches.specs.Embedding.{IsWay};
+ghost use Rattle.spec_matches.specs.Taking.{Embedded, NoneHas};
+ghost use Rattle.spec_matches.specs.Taking as of_spec;
+ghost use Rattle.ts_search.specs.Adding.{Adds, OfSome};
+ghost use Rattle.ts_search.specs.Rows.{seen_row};
+ghost use Rattle.ts_search.specs.Ways.{AreRowsOf, AreWays, HasOne, InsideOf, IsRow, IsTable, PassesOf, PlainOf, TakenOf, size_of, slot_of};
+
+use crate::products::add_front;
+use crate::row::Row;
+use crate::search::embeddings;
+use crate::sight::{Sight, has_field};
+use crate::stand::Siblings;
+use spec_matches::{Capture, Placing, Slot};
+use std::alloc::{AllocError, Global};
+use ts_base::List;
+use ts_query_syntax::{Item, Quantity, Test};
+
+/// Whether an item may take nothing.
+fn is_optional(quantity: Quantity) -> bool
+    ensures { result ≡ of_spec.is_optional quantity }
+{
+    match quantity {
+        Quantity::One | Quantity::Several => false,
+        Quantity::Optional | Quantity::Many => true,
+    }
+}
+
+/// Whether an item may take more than one round.
+fn is_many(quantity: Quantity) -> bool
+    ensures { result ≡ of_spec.is_many quantity }
+{
+    match quantity {
+        Quantity::One | Quantity::Optional => false,
+        Quantity::Many | Quantity::Several => true,
+    }
+}
+
+/// How many siblings a round takes beside the first, where an item has so many parts.
+fn more_of(test: Test, parts: usize) -> usize
+    ensures { result ≡ of_spec.more_of test parts }
+{
+    match test {
+        Test::Any | Test::Named | Test::Kind(_) | Test::Choice => 0,
+        Test::Round => parts.saturating_sub(1),
+    }
+}
+
+/// What an item asks beside its test.
+pub(crate) fn slot(item: &Item) -> Slot
+    ensures { result ≡ slot_of item.now }
+{
+    Slot {
+        tied: item.tied,
+        optional: is_optional(item.quantity),
+        many: is_many(item.quantity),
+        more: more_of(item.test, item.parts.len()),
+    }
+}
+
+/// What items ask beside their tests.
+fn slots(alloc: Global, items: &[Item]) -> Result<Vec<Slot>, AllocError>
+    ensures { IfOk result (λ all. all.items ≡ map slot_of items.now) }
+{
+    let mut all = Vec::with_capacity(alloc, items.len())?;
+    for item in items {
+        all.push(slot(item))?;
+    }
+    Ok(all)
+}
+
+/// Whether two lists have a member in common.
+fn meet(without: &[u16], fields: &[u16]) -> bool
+    ensures { IsTrue result ↔ ((f : ℕ) × Contains without.now f × Contains fields.now f) }
+{
+    for field in without {
+        if is_in(fields, *field) {
+            return true;
+        }
+    }
+    false
+}
+
+/// Whether a field is one of some.
+fn is_in(fields: &[u16], field: u16) -> bool
+    ensures { IsTrue result ↔ Contains fields.now field }
+{
+    fields.contains(&field)
+}
+
+/// Whether a node has one of these fields.
+fn has_one(sight: &Sight, without: &[u16], n: u32) -> bool
+    ensures { IsTrue result ↔ HasOne sight.now.nodes without.now n }
+{
+    match sight.row(n) {
+        Some(row) => meet(without, row.fields),
+        None => false,
+    }
+}
+
+/// Whether none of some nodes has one of these fields.
+fn none_has(sight: &Sight, without: &[u16], numbers: &[u32]) -> bool
+    ensures { IsTrue result ↔ NoneHas sight.now.nodes without.now numbers.now }
+{
+    for n in numbers {
+        if has_one(sight, without, *n) {
+            return false;
+        }
+    }
+    true
+}
+
+/// A node under each of these captures.
+fn captured(alloc: Global, names: &[u16], n: u32, row: Row) -> Result<Vec<Capture>, AllocError>
+    ensures { IfOk result (λ all. all.items ≡ of_spec.captured names.now n (seen_row row.entry)) }
+{
+    let mut all = Vec::with_capacity(alloc, names.len())?;
+    for name in names {
+        all.push(Capture {
+            node: n,
+            name: *name,
+            start: row.start,
+            end: row.end,
+        })?;
+    }
+    Ok(all)
+}
+
+/// The list that has the empty list alone.
+fn only_empty(alloc: Global) -> Result<Vec<List<Capture>>, AllocError>
+    ensures { IfOk result (λ ways. ways.items ≡ [] ∷ []) }
+{
+    let mut out = Vec::new(alloc);
+    out.push(List::new(alloc))?;
+    Ok(out)
+}
+
+/// Whether there is no way.
+fn is_none(ways: &[List<Capture>]) -> bool
+    ensures { IsTrue result ↔ (ways.now ≡ []) }
+{
+    ways.is_empty()
+}
+
+/// Adds each of some lists.
+fn add_all(out: &mut Vec<List<Capture>>, more: Vec<List<Capture>>) -> Result<(), AllocError>
+    ensures { OnOk result (Adds (Contains more.items) out.old.items out.new.items) }
+{
+    let mut more = more;
+    out.append(&mut more)?;
+    Ok(())
+}
+
+/// The captures of embeddings.
+fn captures_of(alloc: Global, found: Vec<Placing>) -> Result<Vec<List<Capture>>, AllocError>
+    ensures { IfOk result (λ all. all.items ≡ map (λ f. f.captures) found.items) }
+{
+    let mut out = Vec::with_capacity(alloc, found.len())?;
+    for one in found {
+        let Placing {
+            first: _,
+            near: _,
+            captures,
+        } = one;
+        out.push(captures)?;
+    }
+    Ok(out)
+}
+
+/// Whether an item is a group.
+fn is_round(test: Test) -> bool
+    ensures { IsTrue result ↔ (test ≡ tests.Round) }
+{
+    match test {
+        Test::Round => true,
+        Test::Any | Test::Named | Test::Kind(_) | Test::Choice => false,
+    }
+}
+
+/// The captures of each way in which an item takes a node at a place in its round.
+#[cycle(taking)]
+pub(crate) fn item_ways(
+    alloc: Global,
+    sight: &Sight,
+    item: &Item,
+    at: usize,
+    n: u32,
+) -> Result<Vec<List<Capture>>, AllocError>
+    ensures { IfOk result (λ ways. AreWays sight.now item.now at n ways.items) }
+{
+    if is_round(item.test) {
+        let ways = part_ways(alloc, sight, item.parts.as_slice(), at, n)?;
+        return Ok(ways);
+    }
+    if at > 0 {
+        return Ok(Vec::new(alloc));
+    }
+    let ways = plain_ways(alloc, sight, item, n)?;
+    Ok(ways)
+}
+
+/// The captures of each way in which the part of a group at a place takes a node.
+#[cycle(taking)]
+fn part_ways(
+    alloc: Global,
+    sight: &Sight,
+    parts: &[Item],
+    at: usize,
+    n: u32,
+) -> Result<Vec<List<Capture>>, AllocError>
+    ensures { IfOk result (λ ways. (c : Values Mark)
+        → Contains ways.items c ↔ TakenOf sight.now parts.now at 0 n c) }
+{
+    if at >= parts.len() {
+        return Ok(Vec::new(alloc));
+    }
+    let ways = item_ways(alloc, sight, &parts[at], 0, n)?;
+    Ok(ways)
+}
+
+/// The captures of each way in which an item that is no group takes a node.
+#[cycle(taking)]
+fn plain_ways(
+    alloc: Global,
+    sight: &Sight,
+    item: &Item,
+    n: u32,
+) -> Result<Vec<List<Capture>>, AllocError>
+    ensures { IfOk result (λ ways. (c : Values Mark)
+        → Contains ways.items c ↔ PlainOf sight.now item.now n c) }
+{
+    let Some(row) = sight.row(n) else {
+        return Ok(Vec::new(alloc));
+    };
+    if !has_field(item.field, row) {
+        return Ok(Vec::new(alloc));
+    }
+    let inner = passing(alloc, sight, item, n, row)?;
+    if is_none(inner.as_slice()) {
+        return Ok(inner);
+    }
+    let own = captured(alloc, item.captures.as_slice(), n, row)?;
+    let mut ways = Vec::new(alloc);
+    add_front(alloc, &mut ways, own.as_slice(), inner.as_slice())?;
+    Ok(ways)
+}
+
+/// The captures inside a node in each way in which it is as an item's test asks.
+#[cycle(taking)]
+fn passing(
+    alloc: Global,
+    sight: &Sight,
+    item: &Item,
+    n: u32,
+    row: Row,
+) -> Result<Vec<List<Capture>>, AllocError>
+    requires { slice_get sight.now.nodes n ≡ Some (seen_row row) }
+    ensures { IfOk result (λ ways. (c : Values Mark) → Contains ways.items c
+        ↔ PassesOf sight.now item.now (out-Item item.now).test n (seen_row row.entry) c) }
+{
+    match item.test {
+        Test::Any => {
+            let ways = only_empty(alloc)?;
+            Ok(ways)
+        }
+        Test::Named => {
+            if !row.named {
+                return Ok(Vec::new(alloc));
+            }
+            let ways = inside(alloc, sight, item, n)?;
+            Ok(ways)
+        }
+        Test::Kind(kind) => {
+            if !sight.is_of_kind(kind, row) {
+                return Ok(Vec::new(alloc));
+            }
+            let ways = inside(alloc, sight, item, n)?;
+            Ok(ways)
+        }
+        Test::Choice => {
+            let ways = choices(alloc, sight, item.parts.as_slice(), n)?;
+            Ok(ways)
+        }
+        Test::Round => Ok(Vec::new(alloc)),
+    }
+}
+
+/// The captures of each way in which an item's parts embed in a node's children.
+#[cycle(taking)]
+fn inside(
+    alloc: Global,
+    sight: &Sight,
+    item: &Item,
+    n: u32,
+) -> Result<Vec<List<Capture>>, AllocError>
+    requires { n < length sight.now.nodes }
+    ensures { IfOk result (λ ways. (c : Values Mark)
+        → Contains ways.items c ↔ InsideOf sight.now item.now n c) }
+{
+    let children = sight.children(alloc, n)?;
+    if !none_has(sight, item.without.as_slice(), children.as_slice()) {
+        return Ok(Vec::new(alloc));
+    }
+    let found = fully(
+        alloc,
+        sight,
+        item.parts.as_slice(),
+        item.closed,
+        children.as_slice(),
+    )?;
+    let ways = captures_of(alloc, found)?;
+    Ok(ways)
+}
+
+/// The captures of each way in which one of some branches takes a node.
+#[cycle(taking)]
+fn choices(
+    alloc: Global,
+    sight: &Sight,
+    branches: &[Item],
+    n: u32,
+) -> Result<Vec<List<Capture>>, AllocError>
+    ensures { IfOk result (λ ways. (c : Values Mark)
+        → Contains ways.items c ↔ ((k : ℕ) × TakenOf sight.now branches.now k 0 n c)) }
+{
+    let mut out = Vec::new(alloc);
+    for branch in branches {
+        let more = item_ways(alloc, sight, branch, 0, n)?;
+        add_all(&mut out, more)?;
+    }
+    Ok(out)
+}
+
+/// The ways of an item, at a place in its round, at each of some siblings.
+#[cycle(taking)]
+fn row(
+    alloc: Global,
+    sight: &Sight,
+    item: &Item,
+    at: usize,
+    siblings: &[u32],
+) -> Result<List<List<List<Capture>>>, AllocError>
+    ensures { IfOk result (λ row. IsRow sight.now item.now at siblings.now row) }
+{
+    let mut out = Vec::with_capacity(alloc, siblings.len())?;
+    for n in siblings {
+        let ways = item_ways(alloc, sight, item, at, *n)?;
+        out.push(List::from_vec(ways))?;
+    }
+    Ok(List::from_vec(out))
+}
+
+/// The ways of an item at each place in its round and each of some siblings.
+#[cycle(taking)]
+fn rows(
+    alloc: Global,
+    sight: &Sight,
+    item: &Item,
+    siblings: &[u32],
+) -> Result<List<List<List<List<Capture>>>>, AllocError>
+    ensures { IfOk result (λ rows. AreRowsOf sight.now siblings.now item.now rows) }
+{
+    let mut out = Vec::new(alloc);
+    for at in 0..round_size(item) {
+        let row = row(alloc, sight, item, at, siblings)?;
+        out.push(row)?;
+    }
+    Ok(List::from_vec(out))
+}
+
+/// How many siblings an item takes in a round.
+fn round_size(item: &Item) -> usize
+    ensures { result ≡ size_of item.now }
+{
+    if is_round(item.test) {
+        item.parts.len()
+    } else {
+        1
+    }
+}
+
+/// The ways of each of some items, at each place in its round and each of some siblings.
+#[cycle(taking)]
+fn table(
+    alloc: Global,
+    sight: &Sight,
+    items: &[Item],
+    siblings: &[u32],
+) -> Result<List<List<List<List<List<Capture>>>>>, AllocError>
+    ensures { IfOk result (λ table. IsTable sight.now siblings.now items.now table) }
+{
+    let mut out = Vec::with_capacity(alloc, items.len())?;
+    for item in items {
+        let rows = rows(alloc, sight, item, siblings)?;
+        out.push(rows)?;
+    }
+    Ok(List::from_vec(out))
+}
+
+/// The full embeddings of items in siblings.
+#[cycle(taking)]
+pub(crate) fn fully(
+    alloc: Global,
+    sight: &Sight,
+    items: &[Item],
+    closed: bool,
+    siblings: &[u32],
+) -> Result<Vec<Placing>, AllocError>
+    ensures { IfOk result (λ found. (f : Way)
+        → Contains found.items f ↔ Embedded sight.now items.now closed siblings.now f) }
+{
+    let table = table(alloc, sight, items, siblings)?;
+    let named = sight.nameds(alloc, siblings)?;
+    let slots = slots(alloc, items)?;
+    let all = Siblings {
+        table,
+        named,
+        closed,
+    };
+    let found = embeddings(alloc, &all, slots.as_slice())?;
+    Ok(found)
+}
