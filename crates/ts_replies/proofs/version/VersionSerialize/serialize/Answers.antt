@@ -1,0 +1,11 @@
+use Rattle.std.proofs.Common.{Some, subst}
+use Rattle.std.proofs.lemmas.Result.{on_ok_weaker}
+use Rattle.serde.specs.Event.{Logs, map_begins}
+use Rattle.ts_replies.proofs.version.VersionSerialize.serialize.Goals as goal
+
+pub returns : goal.returns
+returns g c =
+    let first = g.S.Serializer.written c.begin_map.new.self in
+    let end = g.S.Serializer.written c.end_map.new.self in
+    let begun = subst (λ n. Logs (g.S.Serializer.written c.args.out.now) first (map_begins (Some n))) c.members_of.ensures c.in_ok-begin_map.ensures in
+    on_ok_weaker c.end_map.result (λ e. (first, begun, c.in_ok-send_version.ensures end e)) c.end_map.ensures

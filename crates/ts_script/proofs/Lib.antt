@@ -1,0 +1,5 @@
+mod DraftLemmas
+mod FormLemmas
+mod LineLemmas
+mod SaidLemmas
+mod ScriptLemmas
