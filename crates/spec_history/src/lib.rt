@@ -1,0 +1,7 @@
+//! What a run of a script may come to: the journal of each document, the text of each version, and
+//! the reply to each step. There is no code here but laws of these definitions.
+#![tactic(auto)]
+
+mod laws;
+
+pub use laws::{Finder, held_never_falls};
