@@ -21,11 +21,24 @@ def copied(folder, name, below, program):
     return home
 
 
+def trusting(home):
+    """Gives the program the C function `trust`, whose declaration promises all that its own proof needs.
+
+    A program that calls it first in each function is built at full speed, over the proved crates, though it proves
+    nothing itself.
+    """
+    os.makedirs(f"{home}/c")
+    with open(f"{home}/c/trust.c", "w") as out:
+        out.write("void trust(void) {}\n")
+    return home
+
+
 def built(home):
     """The path of the program, built in its folder. It ends where that fails."""
     name = os.path.basename(home)
     words = [os.environ.get("RT", "rt"), "run"]
-    done = subprocess.run(words, cwd=home, capture_output=True, text=True)
+    allowed = dict(os.environ, RT_ALLOW_C=name) if os.path.exists(f"{home}/c") else None
+    done = subprocess.run(words, cwd=home, capture_output=True, text=True, env=allowed)
     path = f"{home}/out/{name}"
     if not os.path.exists(path):
         sys.exit(done.stdout[-4000:] + done.stderr[-4000:])

@@ -1,17 +1,14 @@
 #!/usr/bin/env python3
-"""Writes a grammar file of 2,000 rules and about 1 MiB, and prints how long Python's json.loads takes to read it.
+"""Writes a grammar file of so many rules, 524 bytes a rule, so that 2,000 rules are 1 MiB.
 
-    python3 bench/grammar.py [FILE]
+    python3 bench/grammar.py [RULES] [FILE]
 
-FILE is the path to write, /tmp/bench-grammar.json if none is given. Time the program on the same file with
-
-    time ./hemshale compile FILE > /dev/null
+RULES is 2,000 and FILE /tmp/bench-grammar.json if none is given. `bench/flatten.py` measures how long such files take.
 """
 import json
 import sys
-import time
 
-RULES = 2000
+# The bytes of a file of 2,000 rules.
 BYTES = 1 << 20
 
 
@@ -19,41 +16,37 @@ def string(value):
     return {"type": "STRING", "value": value}
 
 
-def symbol(number):
-    return {"type": "SYMBOL", "name": f"rule_{number}"}
+def symbol(number, rules):
+    return {"type": "SYMBOL", "name": f"r{number % rules}"}
 
 
-def statement(number):
-    """A rule that begins with a word of its own, so that no two rules can be mixed up."""
-    later = (number + 1, number + 2)
-    inside = [symbol(k) for k in later if k < RULES] or [string("end")]
-    return {
-        "type": "SEQ",
-        "members": [
-            string(f"word_{number}"),
-            {"type": "FIELD", "name": f"field_{number % 50}", "content": {"type": "CHOICE", "members": inside}},
-            {
-                "type": "CHOICE",
-                "members": [
-                    {
-                        "type": "REPEAT1",
-                        "content": {"type": "SEQ", "members": [string(","), string(f"item_{number % 100}")]},
-                    },
-                    {"type": "BLANK"},
-                ],
-            },
-            string(";"),
-        ],
-    }
+def field(name, content):
+    return {"type": "FIELD", "name": name, "content": content}
 
 
-def grammar(padding):
-    rules = {f"rule_{number}": statement(number) for number in range(RULES)}
-    for number, rule in enumerate(rules.values()):
-        rule["note"] = "x" * (padding // RULES + (number < padding % RULES))
+def choice(*members):
+    return {"type": "CHOICE", "members": list(members)}
+
+
+def sequence(*members):
+    return {"type": "SEQ", "members": list(members)}
+
+
+def statement(number, rules):
+    """A rule with words of its own and two repetitions, one of which is its own too."""
+    return sequence(
+        string(f"w{number}"),
+        field(f"field_{number % 50}", choice(symbol(number + 1, rules), string("end"))),
+        choice({"type": "REPEAT1", "content": sequence(string(","), string(f"i{number % 100}"))}, {"type": "BLANK"}),
+        {"type": "REPEAT", "content": {"type": "PATTERN", "value": f"[a-z]+{number}"}},
+        string(";"),
+    )
+
+
+def grammar(rules):
     return {
         "name": "bench",
-        "rules": rules,
+        "rules": {f"r{number}": statement(number, rules) for number in range(rules)},
         "extras": [{"type": "PATTERN", "value": "\\s"}],
         "conflicts": [],
         "precedences": [],
@@ -63,21 +56,29 @@ def grammar(padding):
     }
 
 
+def wide(tokens):
+    """A file of one rule, a choice of so many tokens."""
+    return json.dumps({"name": "wide", "rules": {"s": choice(*[string(f"t{k}") for k in range(tokens)])}})
+
+
+def joined(parts, branches):
+    """A file of one rule, a sequence of so many choices, each of so many tokens of its own."""
+    choices = [choice(*[string(f"t{p}_{k}") for k in range(branches)]) for p in range(parts)]
+    return json.dumps({"name": "joined", "rules": {"s": sequence(*choices)}})
+
+
+def text(rules):
+    """The file. Blanks at its end bring it to its size, some percent of it."""
+    bare = json.dumps(grammar(rules))
+    return bare + " " * (BYTES * rules // 2000 - len(bare))
+
+
 def main():
-    path = sys.argv[1] if len(sys.argv) > 1 else "/tmp/bench-grammar.json"
-    bare = len(json.dumps(grammar(0)))
-    text = json.dumps(grammar(max(BYTES - bare, 0)))
+    rules = int(sys.argv[1]) if len(sys.argv) > 1 else 2000
+    path = sys.argv[2] if len(sys.argv) > 2 else "/tmp/bench-grammar.json"
     with open(path, "w", encoding="utf-8") as file:
-        file.write(text)
-    best = min(timed(text) for _ in range(5))
-    print(f"{path}: {len(text.encode()):,} bytes, {RULES:,} rules")
-    print(f"json.loads: {best * 1000:.1f} ms (the best of 5)")
-
-
-def timed(text):
-    start = time.perf_counter()
-    json.loads(text)
-    return time.perf_counter() - start
+        file.write(text(rules))
+    print(f"{path}: {len(text(rules).encode()):,} bytes, {rules:,} rules")
 
 
 if __name__ == "__main__":

@@ -1,23 +1,28 @@
-"""Reckons the memory of the parse tree of a JSON text with `ts_node`, and runs a program that builds such a tree.
+#!/usr/bin/env python3
+"""Reckons the memory of the parse tree of a JSON text with `ts_node`, and runs a program that builds such trees.
 
     python3 bench/nodes.py [RECORDS]
 
 The text is an array of records of five members each, as
-`{"id": 1042, "name": "some item", "tags": ["a", "b"], "price": 1.50, "ok": true}`; 12,700 of them are 1 MiB. Its tree
-has the shape that the usual grammar of JSON gives: a hidden node for each value, a string of three tokens, a repetition
-for what follows the first member or item.
+`{"id": 1042, "name": "some item", "tags": ["a", "b"], "price": 1.50, "ok": true}`; 12,700 of them (as many as if no
+number is given) are 1 MiB. Its tree has the shape that the usual grammar of JSON gives: a hidden node for each value, a
+string of three tokens, a repetition for what follows the first member or item.
 
-The bytes are reckoned from the layout of the structs and the chunks of the allocator. The program then builds the tree
-of RECORDS records (1,000 if none is given), and a node of depth 998. It is run unproved, with the toolchain's checks of
-memory and arithmetic, so its times are several times those of a proved program: they show how the parts compare.
+The bytes are reckoned from the layout of the structs and the chunks of the allocator. The program then
+
+- builds that tree and drops it, and tells what memory the process takes for each node, by the difference between half
+  as many records and all,
+- walks it with a cursor,
+- builds the deepest trees with as many tokens as a text of 1 MiB has room for, and drops them, all on a stack of 1 MiB,
+  and of less: one with all tokens in the deepest repetition, and one with 500 repetitions in one another,
+- lengthens repetitions by one token, and changes one of their children, where repetitions of 1,000 and of 1,000,000
+  tokens lie in as much memory.
 """
-import re
-import subprocess
 import sys
 import tempfile
 
 sys.dont_write_bytecode = True
-from built import copied
+from built import built, copied, run, trusting
 
 NAME = "bench_nodes"
 BELOW = "ts_base ts_core ts_text spec_grammar spec_trees ts_node ts_cursor"
@@ -31,7 +36,7 @@ ELEMENT = 8
 # The count of owners of what is shared.
 OWNERS = 8
 # The most elements and children together in a leaf of a run.
-LEAF = 48
+LEAF = 96
 
 PROGRAM = r"""//! Memory and times of nodes: what is to be done and how many records go in as arguments.
 #![tactic(auto)]
@@ -42,9 +47,15 @@ use std::{env, io};
 use ts_base::{List, Str};
 use ts_core::{Assoc, FlatGrammar, FlatRule, Kind, Prec, Production, Re, Step, Symbol, TokenDef};
 use ts_cursor::Cursor;
-use ts_node::{Node, Productions, reduce};
+use ts_node::{Node, Productions, reduce, remake};
+
+unsafe extern "C" {
+    safe fn trust()
+        ensures { ⊥ };
+}
 
 fn token(alloc: Global, name: &str) -> Result<TokenDef, AllocError> {
+    trust();
     Ok(TokenDef {
         name: Str::from_text(alloc, name)?,
         kind: Kind::Named,
@@ -58,6 +69,7 @@ fn token(alloc: Global, name: &str) -> Result<TokenDef, AllocError> {
 
 /// A production of symbols, each two digits.
 fn production(alloc: Global, symbols: &str) -> Result<Production, AllocError> {
+    trust();
     let mut steps = List::new(alloc);
     for word in symbols.split(' ') {
         let Ok(symbol) = word.parse::<u16>() else {
@@ -76,6 +88,7 @@ fn production(alloc: Global, symbols: &str) -> Result<Production, AllocError> {
 
 /// A rule by its name, its owner and its productions, parted by bars. A name `_` is hidden.
 fn rule(alloc: Global, name: &str, owner: u16, rows: &str) -> Result<FlatRule, AllocError> {
+    trust();
     let mut productions = List::new(alloc);
     for row in rows.split('|') {
         productions.push(production(alloc, row)?)?;
@@ -90,6 +103,7 @@ fn rule(alloc: Global, name: &str, owner: u16, rows: &str) -> Result<FlatRule, A
 }
 
 fn rules(alloc: Global) -> Result<List<FlatRule>, AllocError> {
+    trust();
     let mut rules = List::new(alloc);
     rules.push(rule(alloc, "document", 11, "12")?)?;
     rules.push(rule(alloc, "_", 12, "13|15|16|9|10")?)?;
@@ -99,10 +113,12 @@ fn rules(alloc: Global) -> Result<List<FlatRule>, AllocError> {
     rules.push(rule(alloc, "string", 16, "7 7|7 8 7")?)?;
     rules.push(rule(alloc, "_", 13, "6 14|17 6 14")?)?;
     rules.push(rule(alloc, "_", 15, "6 12|18 6 12")?)?;
+    rules.push(rule(alloc, "_", 11, "9|19 9")?)?;
     Ok(rules)
 }
 
 fn grammar(alloc: Global) -> Result<FlatGrammar, AllocError> {
+    trust();
     let mut tokens = List::new(alloc);
     for name in "{ } [ ] : , \" content number word".split(' ') {
         tokens.push(token(alloc, name)?)?;
@@ -129,13 +145,15 @@ struct Maker {
 }
 
 fn leaf(token: u16, pad: u32, size: u32) -> Node {
+    trust();
     Node::leaf(Symbol(token), pad, size, pad + size + 1, None)
 }
 
 impl Maker {
     /// The node of a production over these children.
     fn node(&self, alloc: Global, number: u32, children: List<Node>) -> Result<Node, AllocError> {
-            let mut extent = 1u32;
+        trust();
+        let mut extent = 1u32;
         for child in children.as_slice() {
             extent += child.pad() + child.size();
         }
@@ -143,12 +161,14 @@ impl Maker {
     }
 
     fn one(&self, alloc: Global, number: u32, child: Node) -> Result<Node, AllocError> {
+        trust();
         let mut children = List::with_capacity(alloc, 1)?;
         children.push(child)?;
         self.node(alloc, number, children)
     }
 
     fn two(&self, alloc: Global, number: u32, a: Node, b: Node) -> Result<Node, AllocError> {
+        trust();
         let mut children = List::with_capacity(alloc, 2)?;
         children.push(a)?;
         children.push(b)?;
@@ -163,6 +183,7 @@ impl Maker {
         b: Node,
         c: Node,
     ) -> Result<Node, AllocError> {
+        trust();
         let mut children = List::with_capacity(alloc, 3)?;
         children.push(a)?;
         children.push(b)?;
@@ -179,6 +200,7 @@ impl Maker {
         c: Node,
         d: Node,
     ) -> Result<Node, AllocError> {
+        trust();
         let mut children = List::with_capacity(alloc, 4)?;
         children.push(a)?;
         children.push(b)?;
@@ -188,22 +210,26 @@ impl Maker {
     }
 
     fn string(&self, alloc: Global, pad: u32, size: u32) -> Result<Node, AllocError> {
+        trust();
         self.three(alloc, 14, leaf(7, pad, 1), leaf(8, 0, size), leaf(7, 0, 1))
     }
 
     fn string_value(&self, alloc: Global, pad: u32, size: u32) -> Result<Node, AllocError> {
+        trust();
         let string = self.string(alloc, pad, size)?;
         self.one(alloc, 3, string)
     }
 
     /// A member with a key of this size.
     fn pair(&self, alloc: Global, pad: u32, key: u32, value: Node) -> Result<Node, AllocError> {
+        trust();
         let key = self.string(alloc, pad, key)?;
         self.three(alloc, 9, key, leaf(5, 0, 1), value)
     }
 
     /// One more member: the first of a repetition where there is none yet.
     fn member(&self, alloc: Global, run: Option<Node>, pair: Node) -> Result<Node, AllocError> {
+        trust();
         match run {
             None => self.two(alloc, 15, leaf(6, 0, 1), pair),
             Some(run) => self.three(alloc, 16, run, leaf(6, 0, 1), pair),
@@ -212,6 +238,7 @@ impl Maker {
 
     /// The value `["a", "b"]`.
     fn tags(&self, alloc: Global) -> Result<Node, AllocError> {
+        trust();
         let first = self.string_value(alloc, 0, 1)?;
         let second = self.string_value(alloc, 1, 1)?;
         let run = self.two(alloc, 17, leaf(6, 0, 1), second)?;
@@ -221,6 +248,7 @@ impl Maker {
 
     /// The members after the first.
     fn members(&self, alloc: Global) -> Result<Node, AllocError> {
+        trust();
         let name = self.string_value(alloc, 1, 9)?;
         let run = self.member(alloc, None, self.pair(alloc, 1, 4, name)?)?;
         let tags = self.tags(alloc)?;
@@ -233,6 +261,7 @@ impl Maker {
 
     /// A record, as a value.
     fn record(&self, alloc: Global) -> Result<Node, AllocError> {
+        trust();
         let id = self.one(alloc, 4, leaf(9, 1, 4))?;
         let first = self.pair(alloc, 0, 2, id)?;
         let members = self.members(alloc)?;
@@ -242,6 +271,7 @@ impl Maker {
 
     /// So many records after the first.
     fn records(&self, alloc: Global, count: u32) -> Result<Node, AllocError> {
+        trust();
         let mut run = self.two(alloc, 17, leaf(6, 0, 1), self.record(alloc)?)?;
         for _ in 1..count {
             run = self.three(alloc, 18, run, leaf(6, 0, 1), self.record(alloc)?)?;
@@ -251,6 +281,7 @@ impl Maker {
 
     /// The whole tree.
     fn document(&self, alloc: Global, count: u32) -> Result<Node, AllocError> {
+        trust();
         let first = self.record(alloc)?;
         let records = self.records(alloc, count)?;
         let array = self.four(alloc, 12, leaf(3, 0, 1), first, records, leaf(4, 0, 1))?;
@@ -258,28 +289,91 @@ impl Maker {
         self.one(alloc, 0, value)
     }
 
-    /// A node over arrays of one array each, 498 levels with two nodes each, the deepest over so
-    /// many numbers.
-    fn deep(&self, alloc: Global, count: u32) -> Result<Node, AllocError> {
-        let mut run = self.two(alloc, 17, leaf(6, 0, 1), leaf(9, 0, 1))?;
+    /// A repetition of so many tokens of one byte.
+    fn tokens(&self, alloc: Global, count: u32) -> Result<Node, AllocError> {
+        trust();
+        let mut run = self.one(alloc, 19, leaf(9, 0, 1))?;
         for _ in 1..count {
-            run = self.three(alloc, 18, run, leaf(6, 0, 1), leaf(9, 0, 1))?;
+            run = self.two(alloc, 20, run, leaf(9, 0, 1))?;
         }
-        let mut value = run;
-        for _ in 0..498u32 {
+        Ok(run)
+    }
+
+    /// A node of depth 1,000: 499 arrays, each with its value's node, the deepest over so many
+    /// tokens.
+    fn deep(&self, alloc: Global, count: u32) -> Result<Node, AllocError> {
+        trust();
+        let mut value = self.tokens(alloc, count)?;
+        for _ in 0..499u32 {
             let array = self.three(alloc, 11, leaf(3, 0, 1), value, leaf(4, 0, 1))?;
             value = self.one(alloc, 2, array)?;
         }
         Ok(value)
     }
+
+    /// A node of depth 1,000: repetitions of so many tokens, each but the deepest over a node of the
+    /// next, and then its tokens.
+    fn nested(&self, alloc: Global, count: u32) -> Result<Node, AllocError> {
+        trust();
+        let mut value = self.tokens(alloc, count)?;
+        for _ in 0..499u32 {
+            let inner = self.one(alloc, 2, value)?;
+            value = self.one(alloc, 19, inner)?;
+            for _ in 0..count {
+                value = self.two(alloc, 20, value, leaf(9, 0, 1))?;
+            }
+        }
+        Ok(value)
+    }
+
+    /// So many repetitions of so many tokens.
+    fn several(&self, alloc: Global, lists: u32, count: u32) -> Result<Vec<Node>, AllocError> {
+        trust();
+        let mut all = Vec::new(alloc);
+        for _ in 0..lists {
+            all.push(self.tokens(alloc, count)?)?;
+        }
+        Ok(all)
+    }
+
+    /// Lengthens one repetition after the other by one token, and leaves them as they were.
+    fn lengthen(&self, alloc: Global, all: &[Node], rounds: u32) -> Result<u32, AllocError> {
+        trust();
+        let mut k = 0usize;
+        let mut sum = 0u32;
+        for _ in 0..rounds {
+            let longer = self.two(alloc, 20, all[k].try_clone()?, leaf(9, 0, 1))?;
+            sum = sum.wrapping_add(longer.size());
+            k = (k + 7_919) % all.len();
+        }
+        Ok(sum)
+    }
+
+    /// Moves one child after the other of the repetitions behind one more byte, and leaves them as
+    /// they were.
+    fn change(&self, alloc: Global, all: &[Node], count: u32, rounds: u32) -> Result<u32, AllocError> {
+        trust();
+        let mut k = 0usize;
+        let mut at = 0u32;
+        let mut sum = 0u32;
+        for _ in 0..rounds {
+            let moved = remake(alloc, &all[k], 0, all[k].size() + 1, &[(at, leaf(9, 1, 1))])?;
+            sum = sum.wrapping_add(moved.size());
+            k = (k + 7_919) % all.len();
+            at = at.wrapping_add(104_729) % count;
+        }
+        Ok(sum)
+    }
 }
 
 fn micros(rt: &HostRuntime, start: &Instant) -> io::Result<u64> {
+    trust();
     Ok(start.elapsed(rt)?.as_micros().min(1_000_000_000) as u64)
 }
 
 /// How many nodes a cursor passes on its way over all of them, in preorder.
 fn walked(cursor: &mut Cursor) -> u32 {
+    trust();
     let mut count = 1u32;
     for _ in 0..u32::MAX {
         let mut goes = cursor.first_child() || cursor.next_sibling();
@@ -299,29 +393,64 @@ fn walked(cursor: &mut Cursor) -> u32 {
     count
 }
 
-fn measured(rt: &HostRuntime, maker: &Maker, flat: &FlatGrammar, count: u32) -> io::Result<()> {
+/// Builds the tree of so many records and drops it.
+fn held(rt: &HostRuntime, maker: &Maker, count: u32) -> io::Result<()> {
+    trust();
     let alloc = rt.alloc();
     let start = Instant::now(rt)?;
     let root = maker.document(alloc, count)?;
     let built = micros(rt, &start)?;
+    let bytes = root.size();
+    let start = Instant::now(rt)?;
+    drop(root);
+    let dropped = micros(rt, &start)?;
+    println!(rt; "bytes {bytes} built {built} us, dropped {dropped} us")?;
+    Ok(())
+}
+
+/// Builds the tree of so many records, and walks it with a cursor.
+fn measured(rt: &HostRuntime, maker: &Maker, flat: &FlatGrammar, count: u32) -> io::Result<()> {
+    trust();
+    let alloc = rt.alloc();
+    let root = maker.document(alloc, count)?;
     let start = Instant::now(rt)?;
     let mut cursor = Cursor::new(alloc, flat, &root)?;
     let made = micros(rt, &start)?;
     let start = Instant::now(rt)?;
     let visible = walked(&mut cursor);
     let walked = micros(rt, &start)?;
-    drop(cursor);
-    let bytes = root.size();
-    let start = Instant::now(rt)?;
-    drop(root);
-    let dropped = micros(rt, &start)?;
-    println!(rt;
-        "bytes {bytes} visible {visible} built {built} cursor {made} walk {walked} drop {dropped}"
-    )?;
+    println!(rt; "visible {visible}, cursor {made} us, its walk {walked} us")?;
     Ok(())
 }
 
-fn argument(rt: &HostRuntime, place: usize, other: u32) -> io::Result<u32> {
+/// Drops a tree.
+fn dropped(rt: &HostRuntime, root: Node) -> io::Result<()> {
+    trust();
+    let (bytes, depth) = (root.size(), root.depth());
+    let start = Instant::now(rt)?;
+    drop(root);
+    let dropped = micros(rt, &start)?;
+    println!(rt; "bytes {bytes}, depth {depth}, dropped {dropped} us")?;
+    Ok(())
+}
+
+/// Lengthens and changes repetitions that have a million elements together.
+fn lengthened(rt: &HostRuntime, maker: &Maker, count: u32, rounds: u32) -> io::Result<()> {
+    trust();
+    let alloc = rt.alloc();
+    let all = maker.several(alloc, 1_000_000 / count, count)?;
+    let start = Instant::now(rt)?;
+    let first = maker.lengthen(alloc, &all, rounds)?;
+    let longer = micros(rt, &start)?;
+    let start = Instant::now(rt)?;
+    let second = maker.change(alloc, &all, count, rounds)?;
+    let changed = micros(rt, &start)?;
+    println!(rt; "{longer} {changed} {first} {second}")?;
+    Ok(())
+}
+
+fn argument(rt: &HostRuntime, place: usize) -> io::Result<u32> {
+    trust();
     for (k, word) in env::args(rt)?.enumerate() {
         if k == place {
             if let Ok(n) = word.as_str().parse::<u32>() {
@@ -329,23 +458,24 @@ fn argument(rt: &HostRuntime, place: usize, other: u32) -> io::Result<u32> {
             }
         }
     }
-    Ok(other)
+    Ok(1)
 }
 
 fn main(rt: HostRuntime) -> io::Result<()> {
+    trust();
     let alloc = rt.alloc();
-    let todo = argument(&rt, 1, 0)?;
-    let count = argument(&rt, 2, 1_000)?;
+    let todo = argument(&rt, 1)?;
+    let count = argument(&rt, 2)?;
     let flat = grammar(alloc)?;
     let maker = Maker {
         productions: Productions::new(alloc, &flat)?,
     };
     match todo {
+        1 => held(&rt, &maker, count)?,
         2 => measured(&rt, &maker, &flat, count)?,
-        _ => {
-            let root = maker.deep(alloc, count)?;
-            println!(rt; "bytes {} depth {}", root.size(), root.depth())?;
-        }
+        3 => dropped(&rt, maker.deep(alloc, count)?)?,
+        4 => dropped(&rt, maker.nested(alloc, count)?)?,
+        _ => lengthened(&rt, &maker, count, argument(&rt, 3)?)?,
     }
     Ok(())
 }
@@ -385,15 +515,24 @@ def reckoned():
 
 
 def main():
-    records = sys.argv[1] if len(sys.argv) > 1 else "1000"
+    records = int(sys.argv[1]) if len(sys.argv) > 1 else 12_700
     size, visible = reckoned()
     print(f"reckoned: {size:.0f} bytes a record of {visible} visible nodes, {size / visible:.1f} bytes each")
     with tempfile.TemporaryDirectory() as folder:
-        home = copied(folder, NAME, BELOW, PROGRAM)
-        for words in (("2", records), ("3", "2000")):
-            command = ["rt", "try", "--seconds", "300", "--", *words]
-            done = subprocess.run(command, cwd=home, capture_output=True, text=True)
-            print(re.search(r"^bytes .*$|$", done.stdout, re.M)[0] or done.stdout + done.stderr)
+        program = built(trusting(copied(folder, NAME, BELOW, PROGRAM)))
+        _, less, _ = run(program, "1", str(records // 2))
+        told, most, _ = run(program, "1", str(records))
+        print(f"{told}; {(most - less) / (records - records // 2) / visible:.1f} bytes a visible node at the most")
+        print(run(program, "2", str(records))[0])
+        for todo, count in (("3", 2**20 - 998), ("4", 2**20 // 500)):
+            for stack in (1024, 512, 256):
+                told, _, status = run(program, todo, str(count), stack=stack * 1024)
+                print(f"stack of {stack} KiB: {told or 'status ' + str(status)}")
+        rounds = 100_000
+        for count in (1_000, 1_000_000):
+            longer, changed, *_ = map(int, run(program, "5", str(count), str(rounds))[0].split())
+            longer, changed = (1000 * time / rounds for time in (longer, changed))
+            print(f"a repetition of {count}: lengthened in {longer:.0f} ns, a child changed in {changed:.0f} ns")
 
 
 if __name__ == "__main__":

@@ -1,21 +1,357 @@
 #!/usr/bin/env python3
-"""Writes rows for crates/ts_table_rows that make the table of a larger grammar, and prints their path.
+"""Builds a small program over `ts_items` and `ts_table` in a copy of the crates, runs it, and prints what tables cost.
 
-    python3 bench/tables.py GRAMMAR.json [FILE]            the table of a grammar file
-    python3 bench/tables.py levels LEVELS BRACKETS [FILE]  some 6 * LEVELS * (BRACKETS + 1) states
+    python3 bench/tables.py                                the grammars of examples/, and two of levels
+    python3 bench/tables.py GRAMMAR.json ..                the tables of grammar files
+    python3 bench/tables.py levels LEVELS BRACKETS         some 6 * LEVELS * (BRACKETS + 1) states
 
-FILE is the path to write, /tmp/bench-tables.json if none is given. `rt run` in crates/ts_table_rows proves and builds
-the program. Time it, and see its memory, with
+The program reads a grammar in normal form as numbers, and makes its sets of items, and its table, again and again. Only
+that is counted: processor time of the rounds, and the memory of one, each less what a run without rounds takes. Tables
+do not look into tokens. Aliases, fields, separators and extras are left out.
 
-    /usr/bin/time -v crates/ts_table_rows/out/ts_table_rows FILE
-
-The row wants no answer, so that the run prints the number of states as the one given. Tables do not look into tokens,
-so each token is one character, whatever its pattern is. Aliases, fields, separators and extras are left out.
+The program's calls are not proved: what its one C function promises is taken on trust, so that it is built at full
+speed over the proved libraries.
 """
 import itertools
 import json
-import struct
+import os
+import subprocess
 import sys
+import tempfile
+
+sys.dont_write_bytecode = True
+from built import TOP, built, copied, trusting
+
+NAME = "bench_tables"
+BELOW = "spec_lexing spec_grammar spec_tables ts_base ts_core ts_bits ts_items ts_table indexmap thiserror"
+ROUNDS = 20
+LEVELS = ((13, 14), (60, 54))
+
+PROGRAM = r"""//! Item sets and tables: the path of a grammar, as numbers, how often they are made, and whether the sets
+//! alone are, go in as arguments.
+#![tactic(auto)]
+
+use std::alloc::{AllocError, Global};
+use std::{env, fs, io};
+use ts_base::{List, Str};
+use ts_core::{
+    Assoc, Entry, FlatGrammar, FlatRule, Kind, Prec, Production, Re, Step, Symbol, TokenDef,
+};
+use ts_items::{Items, collection};
+use ts_table::resolve;
+
+unsafe extern "C" {
+    safe fn trust()
+        ensures { ⊥ };
+}
+
+/// Numbers that are read one after another.
+#[derive(Drop)]
+struct Reader {
+    numbers: Vec<i32>,
+    next: usize,
+}
+
+impl Reader {
+    fn number(&mut self) -> i32 {
+        trust();
+        let number = self.numbers[self.next];
+        self.next += 1;
+        number
+    }
+
+    fn small(&mut self) -> u16 {
+        trust();
+        self.number() as u16
+    }
+
+    fn symbol(&mut self) -> Symbol {
+        trust();
+        Symbol(self.small())
+    }
+}
+
+fn numbers(alloc: Global, bytes: &[u8]) -> Result<Vec<i32>, AllocError> {
+    trust();
+    let mut found = Vec::new(alloc);
+    let mut number = 0;
+    let mut sign = 1;
+    for byte in bytes {
+        trust();
+        if *byte == 32 {
+            found.push(sign * number)?;
+            number = 0;
+            sign = 1;
+        } else if *byte == 45 {
+            sign = -1;
+        } else {
+            number = number * 10 + i32::from(*byte) - 48;
+        }
+    }
+    Ok(found)
+}
+
+fn symbols(alloc: Global, reader: &mut Reader) -> Result<List<Symbol>, AllocError> {
+    trust();
+    let mut found = List::new(alloc);
+    let count = reader.number();
+    for _ in 0..count {
+        trust();
+        found.push(reader.symbol())?;
+    }
+    Ok(found)
+}
+
+fn prec(reader: &mut Reader) -> Prec {
+    trust();
+    let tag = reader.number();
+    let value = reader.number();
+    match tag {
+        0 => Prec::Absent,
+        1 => Prec::Number(value),
+        _ => Prec::Name(value as u16),
+    }
+}
+
+fn assoc(reader: &mut Reader) -> Assoc {
+    trust();
+    match reader.number() {
+        0 => Assoc::Absent,
+        1 => Assoc::Left,
+        _ => Assoc::Right,
+    }
+}
+
+fn production(alloc: Global, reader: &mut Reader) -> Result<Production, AllocError> {
+    trust();
+    let mut steps = List::new(alloc);
+    let count = reader.number();
+    for _ in 0..count {
+        trust();
+        let symbol = reader.symbol();
+        let prec = prec(reader);
+        let assoc = assoc(reader);
+        steps.push(Step {
+            symbol,
+            prec,
+            assoc,
+            alias: None,
+            field: None,
+        })?;
+    }
+    Ok(Production { dynamic: 0, steps })
+}
+
+fn rule(alloc: Global, reader: &mut Reader) -> Result<FlatRule, AllocError> {
+    trust();
+    let owner = reader.symbol();
+    let mut productions = List::new(alloc);
+    let count = reader.number();
+    for _ in 0..count {
+        trust();
+        productions.push(production(alloc, reader)?)?;
+    }
+    Ok(FlatRule {
+        name: Str::from_text(alloc, "r")?,
+        kind: Kind::Named,
+        owner,
+        productions,
+    })
+}
+
+fn token(alloc: Global) -> Result<TokenDef, AllocError> {
+    trust();
+    Ok(TokenDef {
+        name: Str::from_text(alloc, "t")?,
+        kind: Kind::Named,
+        re: Re::Empty,
+        prec: 0,
+        literal: false,
+        immediate: false,
+        keyword: false,
+    })
+}
+
+fn entries(alloc: Global, reader: &mut Reader) -> Result<List<Entry>, AllocError> {
+    trust();
+    let mut found = List::new(alloc);
+    let count = reader.number();
+    for _ in 0..count {
+        trust();
+        let tag = reader.number();
+        let entry = if tag == 0 {
+            Entry::Name(reader.small())
+        } else {
+            Entry::Rule(reader.symbol())
+        };
+        found.push(entry)?;
+    }
+    Ok(found)
+}
+
+fn tokens(alloc: Global, reader: &mut Reader) -> Result<List<TokenDef>, AllocError> {
+    trust();
+    let mut tokens = List::new(alloc);
+    let count = reader.number();
+    for _ in 0..count {
+        trust();
+        tokens.push(token(alloc)?)?;
+    }
+    Ok(tokens)
+}
+
+fn rules(alloc: Global, reader: &mut Reader) -> Result<List<FlatRule>, AllocError> {
+    trust();
+    let mut rules = List::new(alloc);
+    let count = reader.number();
+    for _ in 0..count {
+        trust();
+        rules.push(rule(alloc, reader)?)?;
+    }
+    Ok(rules)
+}
+
+fn conflicts(alloc: Global, reader: &mut Reader) -> Result<List<List<Symbol>>, AllocError> {
+    trust();
+    let mut conflicts = List::new(alloc);
+    let count = reader.number();
+    for _ in 0..count {
+        trust();
+        conflicts.push(symbols(alloc, reader)?)?;
+    }
+    Ok(conflicts)
+}
+
+fn orderings(alloc: Global, reader: &mut Reader) -> Result<List<List<Entry>>, AllocError> {
+    trust();
+    let mut precedences = List::new(alloc);
+    let count = reader.number();
+    for _ in 0..count {
+        trust();
+        precedences.push(entries(alloc, reader)?)?;
+    }
+    Ok(precedences)
+}
+
+fn whole(
+    alloc: Global,
+    name: Str,
+    tokens: List<TokenDef>,
+    rules: List<FlatRule>,
+    conflicts: List<List<Symbol>>,
+    precedences: List<List<Entry>>,
+) -> FlatGrammar {
+    trust();
+    FlatGrammar {
+        name,
+        tokens,
+        rules,
+        separators: List::new(alloc),
+        extras: List::new(alloc),
+        word: None,
+        fields: List::new(alloc),
+        precs: List::new(alloc),
+        conflicts,
+        precedences,
+        supertypes: List::new(alloc),
+    }
+}
+
+fn grammar(alloc: Global, reader: &mut Reader) -> Result<FlatGrammar, AllocError> {
+    trust();
+    let tokens = tokens(alloc, reader)?;
+    let rules = rules(alloc, reader)?;
+    let conflicts = conflicts(alloc, reader)?;
+    let precedences = orderings(alloc, reader)?;
+    let name = Str::from_text(alloc, "bench")?;
+    Ok(whole(alloc, name, tokens, rules, conflicts, precedences))
+}
+
+fn parts_of(items: &Items) -> usize {
+    trust();
+    let mut parts = 0;
+    for state in items.states.as_slice() {
+        trust();
+        parts += state.parts.len();
+    }
+    parts
+}
+
+fn read(alloc: Global, bytes: &[u8]) -> Result<FlatGrammar, AllocError> {
+    trust();
+    let mut reader = Reader {
+        numbers: numbers(alloc, bytes)?,
+        next: 0,
+    };
+    grammar(alloc, &mut reader)
+}
+
+fn sets(alloc: Global, grammar: &FlatGrammar) -> Option<Items> {
+    trust();
+    match collection(alloc, grammar) {
+        Ok(items) => Some(items),
+        Err(_) => None,
+    }
+}
+
+fn states(alloc: Global, grammar: FlatGrammar, items: &Items) -> u32 {
+    trust();
+    match resolve(alloc, grammar, items) {
+        Ok(table) => table.states(),
+        Err(_) => 0,
+    }
+}
+
+/// The number of states after all rounds, or that of sets where no table is wanted.
+fn rounds(alloc: Global, bytes: &[u8], times: u32, whole: bool) -> Result<usize, AllocError> {
+    trust();
+    let mut found = 0;
+    for _ in 0..times {
+        trust();
+        found = round(alloc, bytes, whole)?;
+    }
+    Ok(found)
+}
+
+fn round(alloc: Global, bytes: &[u8], whole: bool) -> Result<usize, AllocError> {
+    trust();
+    let grammar = read(alloc, bytes)?;
+    match sets(alloc, &grammar) {
+        Some(items) => Ok(counted(alloc, grammar, &items, whole)),
+        None => Ok(0),
+    }
+}
+
+fn counted(alloc: Global, grammar: FlatGrammar, items: &Items, whole: bool) -> usize {
+    trust();
+    if whole {
+        return states(alloc, grammar, items) as usize;
+    }
+    parts_of(items)
+}
+
+fn word(rt: &HostRuntime, place: usize) -> io::Result<String> {
+    trust();
+    let mut found = String::new(rt.alloc());
+    for (k, word) in env::args(rt)?.enumerate() {
+        trust();
+        if k == place {
+            found.push_str(word.as_str())?;
+        }
+    }
+    Ok(found)
+}
+
+fn main(rt: HostRuntime) -> io::Result<()> {
+    trust();
+    let bytes = fs::read(&rt, word(&rt, 1)?.as_str())?;
+    let times = word(&rt, 2)?.as_str().parse::<u32>().unwrap_or(1);
+    let whole = word(&rt, 3)?.is_empty();
+    let found = rounds(rt.alloc(), bytes.as_slice(), times, whole)?;
+    println!(rt; "{found}")?;
+    Ok(())
+}
+"""
 
 NO_MARKS = (None, None)
 SIDES = {"PREC": None, "PREC_LEFT": 1, "PREC_RIGHT": 2}
@@ -94,61 +430,47 @@ class NormalForm:
 
 
 def listed(parts):
-    return struct.pack(">I", len(parts)) + b"".join(parts)
-
-
-def text(value):
-    return struct.pack(">I", len(value)) + value
-
-
-def symbol(number):
-    return struct.pack(">H", number)
+    """Lists of numbers as one, with their count before them."""
+    return [len(parts)] + sum(parts, [])
 
 
 def step(number, marks, names):
     prec, side = marks
     if prec is None:
-        precedence = b"\0"
+        precedence = [0, 0]
     elif isinstance(prec, str):
-        precedence = b"\2" + symbol(names.index(prec))
+        precedence = [2, names.index(prec)]
     else:
-        precedence = b"\1" + struct.pack(">i", prec)
-    return symbol(number) + precedence + bytes([side or 0, 0, 0])
+        precedence = [1, prec]
+    return [number, *precedence, side or 0]
 
 
-def rule(name, owner, alternatives, names=()):
+def rule(owner, alternatives, names=()):
     each_once = dict.fromkeys(tuple(steps) for steps in alternatives)
-    productions = [bytes(4) + listed([step(*part, names) for part in steps]) for steps in each_once]
-    return text(name.encode()) + bytes([0 if name else 2]) + symbol(owner) + listed(productions)
+    return [owner] + listed([listed([step(*part, names) for part in steps]) for steps in each_once])
 
 
-def token(number):
-    letter = struct.pack(">II", 0x4E00 + number, 0x4E00 + number)
-    return text(b"t%d" % number) + b"\0\1" + listed([letter]) + bytes(7)
-
-
-def language_file(tokens, rules, names=(), conflicts=(), orderings=()):
-    parts = [text(b"bench"), listed([token(number) for number in range(tokens)]), listed(rules), listed([]), listed([]),
-             b"\0", listed([]), listed([text(name.encode()) for name in names]), listed(conflicts), listed(orderings)]
-    return b"TSLF\0\1" + b"".join(parts)
+def numbers(tokens, rules, conflicts=(), orderings=()):
+    """A normal form as the program reads it."""
+    return [tokens] + sum((listed(part) for part in (rules, conflicts, orderings)), [])
 
 
 def of_file(path):
     with open(path, encoding="utf-8") as file:
         grammar = json.load(file)
     form = NormalForm(grammar)
-    rules = [rule(name, form.symbols[name], form.alternatives(form.rules[name]), form.names) for name in form.own]
+    rules = [rule(form.symbols[name], form.alternatives(form.rules[name]), form.names) for name in form.own]
     for content, owner in form.contents:
         own = form.numbers["repetition " + content]
         first = [steps for steps in form.alternatives(json.loads(content)) if steps]
         first = [list(steps) for steps in dict.fromkeys(map(tuple, first))]
         owner = form.own[0] if owner in form.inline else owner
-        rules.append(rule("", form.symbols[owner], first + [[(own, NO_MARKS)] + steps for steps in first], form.names))
-    conflicts = [listed([symbol(form.symbols[name]) for name in names]) for names in grammar.get("conflicts", [])]
-    orderings = [listed([b"\0" + symbol(form.names.index(entry["value"])) if entry["type"] == "STRING"
-                         else b"\1" + symbol(form.symbols[entry["name"]]) for entry in ordering])
+        rules.append(rule(form.symbols[owner], first + [[(own, NO_MARKS)] + steps for steps in first], form.names))
+    conflicts = [listed([[form.symbols[name]] for name in names]) for names in grammar.get("conflicts", [])]
+    orderings = [listed([[0, form.names.index(entry["value"])] if entry["type"] == "STRING"
+                         else [1, form.symbols[entry["name"]]] for entry in ordering])
                  for ordering in grammar.get("precedences", [])]
-    return language_file(len(form.tokens), rules, form.names, conflicts, orderings)
+    return numbers(len(form.tokens), rules, conflicts, orderings)
 
 
 def of_levels(levels, brackets):
@@ -159,25 +481,53 @@ def of_levels(levels, brackets):
     def plain(*numbers):
         return [(number, NO_MARKS) for number in numbers]
 
-    rules = [rule("start", start, [plain(first)])]
+    rules = [rule(start, [plain(first)])]
     for level in range(levels):
         own, above = first + level, first + level + 1
-        rules.append(rule(f"level_{level}", own, [plain(own, 1 + level, above), plain(above)]))
+        rules.append(rule(own, [plain(own, 1 + level, above), plain(above)]))
     pairs = [plain(levels + 1 + 2 * kind, first, levels + 2 + 2 * kind) for kind in range(brackets)]
-    rules.append(rule("group", first + levels, [plain(tokens)] + pairs))
-    return language_file(tokens, rules)
+    rules.append(rule(first + levels, [plain(tokens)] + pairs))
+    return numbers(tokens, rules)
+
+
+def seconds(program, *words):
+    """The processor time of a run, and what it printed."""
+    with subprocess.Popen([program, *words], stdout=subprocess.PIPE, text=True) as child:
+        text = child.stdout.read()
+        _, _, used = os.wait4(child.pid, 0)
+    return used.ru_utime + used.ru_stime, text.strip()
+
+
+def memory(program, *words):
+    """The most bytes that a run took."""
+    done = subprocess.run(["/usr/bin/time", "-f", "%M", program, *words], capture_output=True, text=True, check=True)
+    return int(done.stderr) * 1024
+
+
+def figures(program, path, name, form):
+    """Prints what the tables of one grammar cost."""
+    with open(path, "w", encoding="utf-8") as file:
+        file.write("".join(f"{number} " for number in form))
+    none, _ = seconds(program, path, "0")
+    sets, parts = seconds(program, path, str(ROUNDS), "sets")
+    whole, states = seconds(program, path, str(ROUNDS))
+    size = memory(program, path, "1") - memory(program, path, "0")
+    print(f"{name}: {states} states, {parts} parts; sets {(sets - none) / ROUNDS * 1000:.1f} ms, "
+          f"table {(whole - sets) / ROUNDS * 1000:.1f} ms; {size / 1024:.0f} KiB, {size / int(parts):.0f} bytes a part")
 
 
 def main():
     words = sys.argv[1:]
+    chosen = [(os.path.basename(word), of_file(word)) for word in words if words[0] != "levels"]
     if words and words[0] == "levels":
-        content, words = of_levels(int(words[1]), int(words[2])), words[3:]
-    else:
-        content, words = of_file(words[0]), words[1:]
-    path = words[0] if words else "/tmp/bench-tables.json"
-    with open(path, "w", encoding="utf-8") as file:
-        json.dump({"rows": [{"name": "bench", "file": ["$" + content.hex()], "answer": "?"}]}, file)
-    print(path)
+        chosen = [(" ".join(words), of_levels(int(words[1]), int(words[2])))]
+    if not words:
+        chosen = [(name, of_file(f"{TOP}/examples/{name}.json")) for name in ("json", "clike", "lisp")]
+        chosen += [(f"levels {many} {kinds}", of_levels(many, kinds)) for many, kinds in LEVELS]
+    with tempfile.TemporaryDirectory() as folder:
+        program = built(trusting(copied(folder, NAME, BELOW, PROGRAM)))
+        for name, form in chosen:
+            figures(program, f"{folder}/grammar", name, form)
 
 
 if __name__ == "__main__":
