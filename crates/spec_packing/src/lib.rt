@@ -1,0 +1,9 @@
+//! When one reading of a text may be dropped, since another stands for it: definitions with their
+//! laws alone. No value goes in or out.
+#![tactic(auto)]
+
+mod laws;
+
+pub use laws::{
+    configurations_serve, ends_are_served, no_better_through, runs_are_served, trees_serve,
+};
