@@ -18,6 +18,6 @@ mod tests;
 mod walk;
 
 pub use automaton::{Automaton, build};
-pub use machine::{Machine, Reader, machine_of, reader_of};
+pub use machine::{Machine, Reader, reader_of};
 pub use node::Node;
 pub use walk::Walk;

@@ -34,21 +34,6 @@ pub enum Reader {
     Nodes(Automaton),
 }
 
-/// The tables of an automaton.
-///
-/// # Errors
-///
-/// `AllocError` where there is no memory for them. There can be more sets than any memory holds.
-pub fn machine_of(alloc: Global, automaton: Automaton) -> Result<Machine, AllocError>
-    ensures made { IfOk result (λ m. IsMachine m) }
-    ensures automaton { IfOk result (λ m. m.automaton ≡ automaton) }
-{
-    match tables_within(alloc, automaton, false)? {
-        Reader::Tables(machine) => Ok(machine),
-        Reader::Nodes(_) => Err(AllocError),
-    }
-}
-
 /// The tables of an automaton, where they are not too large: at most 16,384 sets, with 4,194,304
 /// nodes, and 8,388,608 places for the sets that follow, by their classes. Where they are, the
 /// automaton itself.
@@ -59,21 +44,10 @@ pub fn machine_of(alloc: Global, automaton: Automaton) -> Result<Machine, AllocE
 pub fn reader_of(alloc: Global, automaton: Automaton) -> Result<Reader, AllocError>
     ensures { IfOk result (IsReader automaton) }
 {
-    tables_within(alloc, automaton, true)
-}
-
-/// The tables of an automaton, bounded or not.
-fn tables_within(
-    alloc: Global,
-    automaton: Automaton,
-    is_bounded: bool,
-) -> Result<Reader, AllocError>
-    ensures { IfOk result (IsReader automaton) }
-{
     let bounds = bounds_of(alloc, automaton.nodes.as_slice())?;
     let ascii = ascii_of(alloc, bounds.as_slice())?;
     let kernels = kernels_of(alloc, automaton.entries.as_slice())?;
-    let mut room = room_for(is_bounded, bounds.len());
+    let mut room = Room::ahead(bounds.len());
     let numbered = match determinise(
         alloc,
         automaton.nodes.as_slice(),
@@ -95,15 +69,6 @@ fn tables_within(
         ascii,
         first,
     }))
-}
-
-/// The room for tables, by the number of classes.
-fn room_for(is_bounded: bool, classes: usize) -> Room {
-    if is_bounded {
-        Room::ahead(classes)
-    } else {
-        Room::endless()
-    }
 }
 
 /// One list of first nodes.

@@ -26,14 +26,6 @@ pub(crate) enum Unnumbered {
 }
 
 impl Room {
-    /// As much room as there are numbers.
-    pub(crate) fn endless() -> Room {
-        Room {
-            sets: usize::MAX,
-            nodes: usize::MAX,
-        }
-    }
-
     /// Room for a machine that is made ahead, by the classes of its characters: each set has a place
     /// for each class.
     pub(crate) fn ahead(classes: usize) -> Room {

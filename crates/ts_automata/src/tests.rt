@@ -1,8 +1,6 @@
 //! That building succeeds where memory is there, and what it comes to on a small grammar.
 
-ghost use Rattle.ts_automata.specs.Machine.{IsMachine};
-
-use crate::{Automaton, Machine, Node, build, machine_of};
+use crate::{Automaton, Node, Reader, Walk, build, reader_of};
 use std::alloc::{AllocError, Global};
 use std::test::Fail;
 use ts_core::{Boxed, FlatGrammar, Kind, List, Re, Str, TokenDef};
@@ -65,24 +63,25 @@ fn has_end(automaton: &Automaton, members: &[usize], part: usize) -> bool {
 }
 
 /// Which parts have the text as a word.
-fn parts_with(machine: &Machine, text: &str) -> (bool, bool, bool)
-    requires { IsMachine machine.now }
-{
-    let mut state = machine.first();
+fn parts_with(automaton: &Automaton, walk: &mut Walk, text: &str) -> (bool, bool, bool) {
+    walk.begin(automaton);
     for c in text.chars() {
-        if state < machine.states() {
-            state = machine.next(state, c);
-        }
+        walk.step(automaton, c);
     }
-    if state >= machine.states() {
-        return (false, false, false);
-    }
-    let members = machine.members(state);
+    let members = walk.members();
     (
-        has_end(&machine.automaton, members, 0),
-        has_end(&machine.automaton, members, 1),
-        has_end(&machine.automaton, members, 2),
+        has_end(automaton, members, 0),
+        has_end(automaton, members, 1),
+        has_end(automaton, members, 2),
     )
+}
+
+/// How many sets the tables have, and none where there are no tables.
+fn sets_of(reader: &Reader) -> usize {
+    match reader {
+        Reader::Tables(machine) => machine.states(),
+        Reader::Nodes(_) => 0,
+    }
 }
 
 #[test]
@@ -91,7 +90,7 @@ fn parts_read_their_words(rt: HostRuntime) -> Result<(), Fail> {
     let automaton = build(alloc, &grammar(alloc)?)?;
     assert_eq!(rt; automaton.entries.len(), 3);
     assert_eq!(rt; automaton.owners.len(), automaton.nodes.len());
-    let machine = machine_of(alloc, automaton)?;
+    let mut walk = Walk::new(alloc, automaton.nodes.len())?;
     for (text, parts) in [
         ("", (false, true, false)),
         ("a", (true, false, false)),
@@ -103,7 +102,9 @@ fn parts_read_their_words(rt: HostRuntime) -> Result<(), Fail> {
         (" ", (false, false, true)),
         ("  ", (false, false, false)),
     ] {
-        assert_eq!(rt; parts_with(&machine, text), parts);
+        assert_eq!(rt; parts_with(&automaton, &mut walk, text), parts);
     }
+    let reader = reader_of(alloc, automaton)?;
+    assert_eq!(rt; sets_of(&reader), 7);
     Ok(())
 }

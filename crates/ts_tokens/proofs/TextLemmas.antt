@@ -1,14 +1,15 @@
 -- The characters of a text, and the words of the one token of a grammar.
-use Rattle.std.proofs.Common.{◌≡◌, ◌∙◌, sym, ap, subst, refl, ℕ, zero, suc, ◌<◌, List, [], ◌∷◌, map, length, slice_get, Some, IsTrue, ◌↔◌, Bool, arith}
+use Rattle.std.proofs.Common.{◌≡◌, sym, ap, subst, refl, ℕ, zero, suc, List, [], ◌∷◌, map, length, slice_get, Some, ◌↔◌, arith}
 use Rattle.std.specs.List.{Contains}
 use Rattle.std.proofs.lemmas.Option.{slice_get_within}
 use Rattle.spec_lexing.specs.Words.{Regular, Word}
-use Rattle.ts_automata.specs.declared.machine.Machine.{Machine}
-use Rattle.ts_automata.specs.declared.node.Node.{Node}
-use Rattle.ts_automata.specs.Machine.{HasRead}
+use Rattle.ts_automata.specs.declared.automaton.Automaton.{Automaton}
+use Rattle.ts_automata.specs.declared.node.Node.TheVariants.{End}
+use Rattle.ts_automata.specs.declared.walk.Walk.{Walk}
 use Rattle.ts_automata.specs.Parts.{IsPart}
-use Rattle.ts_automata.specs.Sets.{sets_of}
-use Rattle.ts_tokens.specs.Keywords.{IsWordMachine, HasEnd}
+use Rattle.ts_automata.specs.Reads.{LeadsOver}
+use Rattle.ts_automata.specs.Walks.{HasCome, members_of}
+use Rattle.ts_tokens.specs.Keywords.{IsWordAutomaton, HasEnd}
 
 pub map_same : (xs : List ℕ) → map (λ (x : ℕ). x) xs ≡ xs
 map_same [] = refl
@@ -24,31 +25,28 @@ only : (e x : ℕ) → Contains (e ∷ []) x → x ≡ e
 only e x (zero, lt, is) = sym is
 only e x (suc k, lt, is) = absurd (omega arith)
 
--- a text is a word exactly where a word ends in the set that it leads to
-pub word_ends : (p : Regular) (m : Machine) (w : List ℕ) (state : ℕ) (members : List ℕ) → IsWordMachine p m → HasRead m w state → slice_get (sets_of m.sets.keys) state ≡ Some members
-    → HasEnd m.automaton.nodes.items members ↔ Word p w
-word_ends p m w state members made read at = (forward, backward)
+-- a text is a word exactly where a word ends at one of the nodes to which it leads
+pub word_ends : (p : Regular) (a : Automaton) (walk : Walk) (w members : List ℕ) → IsWordAutomaton p a → HasCome a w walk → members ≡ members_of walk → HasEnd a.nodes.items members ↔ Word p w
+word_ends p a walk w members made come same = (forward, backward)
   where
-    one : (e : ℕ) × (m.automaton.entries.items ≡ e ∷ [])
-    one = entry_of m.automaton.entries.items p made.parts.count
+    one : (e : ℕ) × (a.entries.items ≡ e ∷ [])
+    one = entry_of a.entries.items p made.count
 
-    part : IsPart m.automaton.nodes.items (λ (t : ℕ). slice_get m.automaton.owners.items t ≡ Some 0) p one.0
-    part = made.parts.part 0 one.0 p (ap (λ (xs : List ℕ). slice_get xs 0) one.1) refl
+    part : IsPart a.nodes.items (λ (t : ℕ). slice_get a.owners.items t ≡ Some 0) p one.0
+    part = made.part 0 one.0 p (ap (λ (xs : List ℕ). slice_get xs 0) one.1) refl
 
-    same : read.set ≡ members
-    same = let e : Some read.set ≡ Some members = sym read.at ∙ at in cc
-
-    forward : HasEnd m.automaton.nodes.items members → Word p w
+    forward : HasEnd a.nodes.items members → Word p w
     forward h =
-        let come = (read.holds h.node).0 (subst (λ (xs : List ℕ). Contains xs h.node) (sym same) h.member) in
-        let is : come.0 ≡ one.0 = only one.0 come.0 (subst (λ (xs : List ℕ). Contains xs come.0) one.1 come.1) in
-        part.ends w h.node (subst (λ (e : ℕ). Rattle.ts_automata.specs.Reads.LeadsOver m.automaton.nodes.items e w h.node) is come.2) h.ends
+        let led = ((come h.node).0 (subst (λ (xs : List ℕ). Contains xs h.node) same h.member)).0 in
+        let is : led.0 ≡ one.0 = only one.0 led.0 (subst (λ (xs : List ℕ). Contains xs led.0) one.1 led.1) in
+        part.ends w h.node (subst (λ (e : ℕ). LeadsOver a.nodes.items e w h.node) is led.2) h.ends
 
-    backward : Word p w → HasEnd m.automaton.nodes.items members
+    backward : Word p w → HasEnd a.nodes.items members
     backward word =
         let end = part.word w word in
+        let entry : Contains a.entries.items one.0 = subst (λ (xs : List ℕ). Contains xs one.0) (sym one.1) (0, omega arith, refl) in
         record {
           node = end.0;
-          member = subst (λ (xs : List ℕ). Contains xs end.0) same ((read.holds end.0).1 (one.0, subst (λ (xs : List ℕ). Contains xs one.0) (sym one.1) (0, omega arith, refl), end.1));
+          member = subst (λ (xs : List ℕ). Contains xs end.0) (sym same) ((come end.0).1 ((one.0, entry, end.1), slice_get_within a.nodes.items end.0 End end.2));
           ends = end.2;
         }

@@ -2,7 +2,7 @@
 
 ghost use Rattle.std.specs.Prelude.{◌≡◌, ◌↔◌, IsTrue, IfOk, Some, None, length, MatchOption};
 ghost use Rattle.spec_lexing.specs.Words.{regular_of};
-ghost use Rattle.ts_automata.specs.Machine.{IsMachine};
+ghost use Rattle.ts_automata.specs.Walks.{walk_room};
 ghost use Rattle.ts_base.specs.Bytes.{Bytes};
 ghost use Rattle.ts_core.specs.declared.rule.Grammar.{Grammar as AnyGrammar};
 ghost use Rattle.ts_core.specs.declared.rule.Rule.TheVariants.{Literal};
@@ -11,15 +11,15 @@ ghost use Rattle.ts_rules.specs.FirstSights.{Not};
 ghost use Rattle.ts_rules.specs.Numbers.{NamesToken};
 ghost use Rattle.ts_rules.specs.Tokens.{Patterns, IsKeyword, re_of};
 ghost use Rattle.ts_tokens.specs.Definitions.{AreKeywords, IsWordTree, trees_of};
-ghost use Rattle.ts_tokens.specs.Keywords.{IsWordMachine};
+ghost use Rattle.ts_tokens.specs.Keywords.{HasRoomFor, IsWordAutomaton};
 ghost use Rattle.ts_tokens.specs.Patterns.{meaning};
 
 use crate::definition::NamedToken;
 use crate::expression::expression_of;
 use crate::table::PatternTable;
-use crate::word::{is_word, word_machine};
+use crate::word::{is_word, word_automaton};
 use std::alloc::{AllocError, Global};
-use ts_automata::Machine;
+use ts_automata::{Automaton, Walk};
 use ts_core::{Rule, Str};
 
 /// The text of a STRING.
@@ -80,19 +80,19 @@ fn is_literal(tree: &Rule, text: &Str) -> bool
 }
 
 /// Whether a token is a keyword of the word token.
-fn is_keyword(word: &Rule, machine: &Machine, tree: &Rule) -> bool
-    requires { IsMachine machine.now }
-    ensures { (pattern : Patterns) (g : AnyGrammar) (name : Bytes) → IsFileGrammar g
+fn is_keyword(word: &Rule, automaton: &Automaton, walk: &mut Walk, tree: &Rule) -> bool
+    ensures room { walk_room walk.new ≡ walk_room walk.old }
+    ensures keyword { (pattern : Patterns) (g : AnyGrammar) (name : Bytes) → IsFileGrammar g
         → g.word ≡ Some name → NamesToken g name word.now
-        → IsWordMachine (regular_of (re_of pattern word.now)) machine.now
-        → IsTrue result ↔ IsKeyword pattern g tree.now }
+        → IsWordAutomaton (regular_of (re_of pattern word.now)) automaton.now
+        → HasRoomFor automaton.now walk.old → IsTrue result ↔ IsKeyword pattern g tree.now }
 {
     match literal_text(tree) {
         Some(text) => {
             if is_literal(word, text) {
                 return false;
             }
-            is_word(machine, text.text())
+            is_word(automaton, walk, text.text())
         },
         None => false,
     }
@@ -110,10 +110,11 @@ fn keywords_of(
         → g.word ≡ Some name → NamesToken g name word.now
         → AreKeywords (meaning patterns.now) g (trees_of tokens.now) flags.items) }
 {
-    let machine = word_machine(alloc, expression_of(alloc, patterns, word)?)?;
+    let automaton = word_automaton(alloc, expression_of(alloc, patterns, word)?)?;
+    let mut walk = Walk::new(alloc, automaton.nodes.len())?;
     let mut flags = Vec::with_capacity(alloc, tokens.len())?;
     for token in tokens {
-        flags.push(is_keyword(word, &machine, token.tree))?;
+        flags.push(is_keyword(word, &automaton, &mut walk, token.tree))?;
     }
     Ok(flags)
 }

@@ -1,16 +1,16 @@
-//! The word token's words: its expression comes in, and a machine goes out that tells which texts
-//! are words of it.
+//! The word token's words: its expression comes in, and an automaton goes out whose nodes tell which
+//! texts are words of it.
 
 ghost use Rattle.std.specs.Prelude.{◌≡◌, ◌↔◌, ◌∷◌, [], map, IfOk, IsTrue};
 ghost use Rattle.std.specs.Str.{chars};
 ghost use Rattle.spec_lexing.specs.Words.{Regular, Word, regular_of};
 ghost use Rattle.ts_automata.specs.Automata.{parts_of};
-ghost use Rattle.ts_automata.specs.Machine.{IsMachine};
 ghost use Rattle.ts_automata.specs.Reads.{IsEnd};
-ghost use Rattle.ts_tokens.specs.Keywords.{IsWordMachine, HasEnd};
+ghost use Rattle.ts_automata.specs.Walks.{walk_room};
+ghost use Rattle.ts_tokens.specs.Keywords.{HasEnd, HasRoomFor, IsWordAutomaton};
 
 use std::alloc::{AllocError, Global};
-use ts_automata::{Machine, Node, build, machine_of};
+use ts_automata::{Automaton, Node, Walk, build};
 use ts_core::{FlatGrammar, Kind, List, Re, Str, TokenDef};
 
 /// The one token of a grammar, with this expression.
@@ -50,15 +50,13 @@ fn grammar_of(alloc: Global, re: Re) -> Result<FlatGrammar, AllocError>
     })
 }
 
-/// The machine that reads the words of an expression. It has at most as many sets of nodes as the
-/// machine of any grammar with this token.
-pub(crate) fn word_machine(alloc: Global, re: Re) -> Result<Machine, AllocError>
-    ensures { IfOk result (IsWordMachine (regular_of re)) }
+/// The automaton that reads the words of an expression.
+pub(crate) fn word_automaton(alloc: Global, re: Re) -> Result<Automaton, AllocError>
+    ensures { IfOk result (IsWordAutomaton (regular_of re)) }
 {
     let grammar = grammar_of(alloc, re)?;
     let automaton = build(alloc, &grammar)?;
-    let machine = machine_of(alloc, automaton)?;
-    Ok(machine)
+    Ok(automaton)
 }
 
 /// Whether a word ends at a node.
@@ -87,15 +85,16 @@ fn has_end(nodes: &[Node], members: &[usize]) -> bool
     false
 }
 
-/// Whether a text is a word of the machine's expression.
-pub(crate) fn is_word(machine: &Machine, text: &str) -> bool
-    requires { IsMachine machine.now }
-    ensures { (p : Regular) → IsWordMachine p machine.now
-        → IsTrue result ↔ Word p (chars text.now) }
+/// Whether a text is a word of the automaton's expression. It takes no memory, and each character
+/// costs at most a look at each node.
+pub(crate) fn is_word(automaton: &Automaton, walk: &mut Walk, text: &str) -> bool
+    ensures room { walk_room walk.new ≡ walk_room walk.old }
+    ensures word { (p : Regular) → IsWordAutomaton p automaton.now
+        → HasRoomFor automaton.now walk.old → IsTrue result ↔ Word p (chars text.now) }
 {
-    let mut state = machine.first();
+    walk.begin(automaton);
     for c in text.chars() {
-        state = machine.next(state, c);
+        walk.step(automaton, c);
     }
-    has_end(machine.automaton.nodes.as_slice(), machine.members(state))
+    has_end(automaton.nodes.as_slice(), walk.members())
 }

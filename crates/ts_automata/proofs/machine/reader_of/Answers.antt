@@ -1,7 +1,7 @@
 use Rattle.std.proofs.Common.{refl}
 use Rattle.ts_automata.proofs.CutLemmas.{zero_first}
 use Rattle.ts_automata.proofs.MachineLemmas.{first_is}
-use Rattle.ts_automata.proofs.machine.tables_within.Goals as goal
+use Rattle.ts_automata.proofs.machine.reader_of.Goals as goal
 
 pub ascii_of-requires : goal.ascii_of-requires
 ascii_of-requires c =
