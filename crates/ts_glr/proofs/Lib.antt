@@ -8,5 +8,6 @@ pub mod RootLemmas
 pub mod LightLemmas
 pub mod ActLemmas
 pub mod SpentLemmas
+pub mod JoinLemmas
 pub mod SearchLemmas
 pub mod FollowLemmas

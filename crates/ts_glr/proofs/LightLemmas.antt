@@ -1,6 +1,7 @@
 -- Each step makes a configuration lighter, and all heads come to less after one was followed.
-use Rattle.std.proofs.Common.{◌≡◌, ◌∙◌, sym, ap, refl, subst, ℕ, ◌+◌, ◌-◌, ◌^◌, ◌<◌, ◌≤◌, suc, true, false, List, [], ◌∷◌, ◌++◌, length, map, reverse, Option, Some, None, unwrap_or, option_map, drop, arith, add-one, length-append}
+use Rattle.std.proofs.Common.{◌≡◌, ◌∙◌, sym, ap, refl, subst, ℕ, ◌+◌, ◌-◌, ◌^◌, ◌<◌, ◌≤◌, suc, true, false, List, [], ◌∷◌, ◌++◌, length, map, reverse, Option, Some, None, unwrap_or, option_map, drop, ⊎_elim, arith, add-one, length-append}
 use Rattle.std.proofs.lemmas.List.{length-map, length-reverse, map-append, length-drop}
+use Rattle.std.proofs.Math.Nat.{one-le-pow}
 use lib.IntN.{ℤ, pos, ◌+ℤ◌}
 use Rattle.ts_base.specs.Bytes.{Bytes}
 use Rattle.ts_core.specs.declared.flat.FlatGrammar.{FlatGrammar}
@@ -27,6 +28,7 @@ use Rattle.ts_moves.specs.declared.head.StackHead.{StackHead}
 use Rattle.ts_moves.specs.Laws.{Laws}
 use Rattle.ts_moves.specs.Heads.{config_of, IsLiveHead, GainsStacks}
 use Rattle.ts_glr.specs.Lists.{Each}
+use Rattle.ts_glr.specs.Joining.{IsTakenOut, JoinsOne}
 use Rattle.ts_glr.specs.Weights.{weight, weight_of, last_of, config_weight, head_weight, powers, live_weight}
 use Rattle.ts_glr.proofs.LexLemmas.{next_some}
 use Rattle.ts_glr.proofs.TableLemmas.{extra_token}
@@ -231,8 +233,8 @@ module _ (laws : Laws) (t : ParseTable) (fit : Fit t.grammar) (ranks : AreUnitRa
   same_length w [] = refl
   same_length w (h ∷ hs) = ap suc (same_length w hs)
 
-  -- the live stacks come to less after one was followed
-  pub live_falls : (h : StackHead) (rest more live live' : List StackHead) → GainsStacks old new → live ≡ rest ++ h ∷ [] → live' ≡ rest ++ more → length more ≤ suc (most_actions t) → IsLiveHead t (length text) old h
+  -- the live stacks come to less after the last one was followed
+  live_falls : (h : StackHead) (rest more live live' : List StackHead) → GainsStacks old new → live ≡ rest ++ h ∷ [] → live' ≡ rest ++ more → length more ≤ suc (most_actions t) → IsLiveHead t (length text) old h
       → Each (λ k. IsLiveHead t (length text) old k) rest
       → Each (λ k. IsLiveHead t (length text) new k × StepsOn t.grammar text (config_of old h) (config_of new k)) more
       → live_weight t (length text) new live' < live_weight t (length text) old live
@@ -247,3 +249,49 @@ module _ (laws : Laws) (t : ParseTable) (fit : Fit t.grammar) (ranks : AreUnitRa
       let many : length (map v more) < base = let e = same_length v more in omega arith in
       let fall : powers base (map v more) < base ^ w h = powers_fall base (w h) (map v more) many (each_lighter h more is all) in
       omega arith
+
+-- ---- fewer heads
+
+module _ (t : ParseTable) (size : ℕ) (stacks : List (List Layer)) where
+  abbrev Weight : List StackHead → ℕ
+  Weight live = live_weight t size stacks live
+
+  cut_weight : (left : List StackHead) (h : StackHead) (right live : List StackHead) → live ≡ left ++ h ∷ right → Weight live ≡ Weight left + ((most_actions t + 2) ^ head_weight t.grammar size stacks h + Weight right)
+  cut_weight left h right live is =
+      let w : StackHead → ℕ = head_weight t.grammar size stacks in
+      ap Weight is ∙ ap (powers (most_actions t + 2)) (map-append w left (h ∷ right)) ∙ powers_append (most_actions t + 2) (map w left) (map w (h ∷ right))
+
+  join_weight : (left right live : List StackHead) → live ≡ left ++ right → Weight live ≡ Weight left + Weight right
+  join_weight left right live is =
+      let w : StackHead → ℕ = head_weight t.grammar size stacks in
+      ap Weight is ∙ ap (powers (most_actions t + 2)) (map-append w left right) ∙ powers_append (most_actions t + 2) (map w left) (map w right)
+
+  -- a head that stands last weighs as much
+  taken_weighs : (live rest : List StackHead) (h : StackHead) → IsTakenOut stacks live rest h → Weight (rest ++ h ∷ []) ≡ Weight live
+  taken_weighs live rest h k =
+      let all = cut_weight k.left h k.right live k.old_is in
+      let two = join_weight k.left k.right rest k.new_is in
+      let last = cut_weight rest h [] (rest ++ h ∷ []) refl in
+      omega (arith, all, two, last)
+
+  -- of two heads one is left
+  pub joined_falls : (live rest new : List StackHead) (h : StackHead) → IsTakenOut stacks live rest h → JoinsOne stacks rest new h → Weight new < Weight live
+  joined_falls live rest new h k j =
+      let all = taken_weighs live rest h k in
+      let last = cut_weight rest h [] (rest ++ h ∷ []) refl in
+      let before = cut_weight j.left j.other j.right rest j.old_is in
+      let after = cut_weight j.left j.kept j.right new j.new_is in
+      let one = one-le-pow (head_weight t.grammar size stacks h) (most_actions t + 2) (omega arith) in
+      let two = one-le-pow (head_weight t.grammar size stacks j.other) (most_actions t + 2) (omega arith) in
+      ⊎_elim (λ w. let same = ap (λ (x : StackHead). (most_actions t + 2) ^ head_weight t.grammar size stacks x) w.0 in omega (arith, all, last, before, after, one, same))
+      (λ w. let same = ap (λ (x : StackHead). (most_actions t + 2) ^ head_weight t.grammar size stacks x) w.0 in omega (arith, all, last, before, after, two, same)) j.kept_is
+
+-- the live stacks come to less after one was taken out and followed
+pub followed_falls : (laws : Laws) (t : ParseTable) (fit : Fit t.grammar) (ranks : AreUnitRanks t.grammar (unit_rank t.grammar) (symbol_count t.grammar)) (text : Bytes) (old new : List (List Layer)) (h : StackHead) (rest more live live' : List StackHead) → GainsStacks old new → IsTakenOut old live rest h
+    → live' ≡ rest ++ more → length more ≤ suc (most_actions t) → IsLiveHead t (length text) old h → Each (λ k. IsLiveHead t (length text) old k) rest
+    → Each (λ k. IsLiveHead t (length text) new k × StepsOn t.grammar text (config_of old h) (config_of new k)) more
+    → live_weight t (length text) new live' < live_weight t (length text) old live
+followed_falls laws t fit ranks text old new h rest more live live' grows k live_is le is others all =
+    let fall = live_falls laws t fit ranks text old new h rest more (rest ++ h ∷ []) live' grows refl live_is le is others all in
+    let same = taken_weighs t (length text) old live rest h k in
+    omega (arith, fall, same)

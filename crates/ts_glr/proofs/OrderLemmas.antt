@@ -50,6 +50,9 @@ module _ (laws : Laws) where
   second_bare t u (inl a) = inl (subst (λ (n : ℤ). n <ℤ total_of t) (sym (laws.keeps u).total) a)
   second_bare t u (inr a) = inr (a.0 ∙ sym (laws.keeps u).total, subst (λ (l : List ℕ). ComesBefore (code_of t) l) (sym (laws.keeps u).code) a.1)
 
+  pub bare_better : (t u : Tree) → Better (bare t) (bare u) → Better t u
+  bare_better t u b = bare_first t u (bare_second (bare t) u b)
+
   strict_bare : (t : Tree) → Better (bare t) (bare t) → ⊥
   strict_bare t b = better_strict (bare t) b
 

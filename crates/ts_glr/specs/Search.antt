@@ -7,8 +7,9 @@ use Rattle.ts_core.specs.declared.flat.FlatGrammar.{FlatGrammar}
 use Rattle.spec_trees.specs.declared.tree.Tree.{Tree}
 use Rattle.spec_trees.specs.Trees.{bare}
 use Rattle.spec_runs.specs.Configurations.{Configuration}
-use Rattle.spec_runs.specs.Runs.{StepsOn, Run, IsReached, ComesTooDeep, AcceptsTree, StopsAt}
+use Rattle.spec_runs.specs.Runs.{StepsOn, IsReached, ComesTooDeep, AcceptsTree, StopsAt}
 use Rattle.spec_runs.specs.Outcomes.{SomeAccepts, SomeStopsAt}
+use Rattle.spec_packing.specs.Serving.{ComesToServe}
 use Rattle.ts_table.specs.declared.view.ParseTable.{ParseTable}
 use Rattle.ts_gss.specs.declared.layer.Layer.{Layer}
 use Rattle.ts_moves.specs.declared.found.FoundToken.{FoundToken}
@@ -90,14 +91,14 @@ pub record Spent (t : ParseTable) (text : Bytes) (stacks : List (List Layer)) (m
   pub fruitful : HasSome more best stuck
 
 -- All runs are accounted for: the ends at a configuration that is reached are known, or some live
--- head leads to it.
+-- head leads to one that may stand for it, or to a node that is too deep.
 pub record Searching (t : ParseTable) (text : Bytes) (stacks : List (List Layer))
     (live : List StackHead) (best : Option Tree) (stuck : Option ℕ) : Type 0 where
   pub heads : Each (λ h. IsLiveHead t (length text) stacks h
       × IsReached t.grammar text (config_of stacks h)) live
   pub done : (c : Configuration) → IsReached t.grammar text c
       → Covers t.grammar text best stuck c
-      ⊎ Any (λ h. Run t.grammar text (config_of stacks h) c) live
+      ⊎ Any (λ h. ComesToServe t.grammar text (config_of stacks h) c) live
   pub tree_from : (b : Tree) → best ≡ Some b → SomeAccepts t.grammar text (bare b)
   pub stuck_from : (q : ℕ) → stuck ≡ Some q → SomeStopsAt t.grammar text q
   pub some : HasSome live best stuck

@@ -1,7 +1,11 @@
 //! The laws of other crates that the proofs here rest on. No value goes in or out.
 ghost use Rattle.ts_moves.specs.Laws.{Laws};
+ghost use Rattle.ts_glr.specs.Laws.{PackingLaws};
 
 use spec_lexing::{beginnings, token_within};
+use spec_packing::{
+    configurations_serve, ends_are_served, no_better_through, runs_are_served, trees_serve,
+};
 use spec_runs::{
     bare_trees, empty_rules_are_unused, moves_have_their_place, one_reduction, one_sight,
     repetitions_repeat, start_is_no_repetition,
@@ -20,4 +24,15 @@ pub(crate) fn laws_hold()
     start_is_no_repetition();
     beginnings();
     token_within();
+}
+
+/// All laws of readings that stand for others hold.
+pub(crate) fn packing_laws_hold()
+    ensures { PackingLaws }
+{
+    no_better_through();
+    trees_serve();
+    configurations_serve();
+    ends_are_served();
+    runs_are_served();
 }

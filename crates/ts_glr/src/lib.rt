@@ -5,6 +5,7 @@
 mod acting;
 mod choosing;
 mod following;
+mod joining;
 mod laws;
 mod outcome;
 mod parsing;

@@ -6,7 +6,8 @@ ghost use Rattle.spec_runs.specs.Outcomes.{Fresh};
 ghost use Rattle.ts_glr.specs.Outcomes.{value_of_outcome, EndsAs, IsTreeOf};
 
 use crate::following::advance;
-use crate::laws::laws_hold;
+use crate::joining::{join, next_head};
+use crate::laws::{laws_hold, packing_laws_hold};
 use crate::outcome::Outcome;
 use crate::readings::{Readings, readings_of};
 use std::alloc::{AllocError, Global};
@@ -48,11 +49,15 @@ pub fn parse<L: Tokens>(
     ensures form { IfOk result (IsTreeOf table.now.grammar) }
 {
     laws_hold();
+    packing_laws_hold();
     table.stands();
     unit_ranks();
     let setting = setting_of(alloc, table, text.len())?;
     let mut readings = readings_of(alloc)?;
-    while let Some(head) = readings.live.pop() {
+    while let Some(head) = next_head(&readings.graph, &mut readings.live) {
+        if join(&readings.graph, &mut readings.live, head) {
+            continue;
+        }
         let deep = advance(alloc, table, &setting, lexer, text, &mut readings, head)?;
         if deep {
             return Ok(Outcome::Deep);

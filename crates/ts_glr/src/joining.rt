@@ -1,0 +1,162 @@
+//! Readings side by side: the live heads go in, and the one that goes on next comes out; or it is
+//! joined with another, where one of the two stands for both.
+ghost use Rattle.std.specs.Prelude.{◌≡◌, ℕ, ◌<◌, ◌↔◌, IsTrue, true, false, [], length, get_or, slice_get, Some, MatchOption};
+ghost use Rattle.std.specs.List.{Contains};
+ghost use Rattle.spec_trees.specs.Choice.{AreOfOneGrammar};
+ghost use Rattle.spec_packing.specs.Serving.{ServesFor};
+ghost use Rattle.ts_table.specs.declared.view.ParseTable.{ParseTable};
+ghost use Rattle.ts_moves.specs.Heads.{IsLiveHead};
+ghost use Rattle.ts_glr.specs.Lists.{Each};
+ghost use Rattle.ts_glr.specs.Joining.{start_of, GoesBefore, IsTakenOut, HeadServes, IsKeptOf, JoinsOne};
+
+use crate::laws::{laws_hold, packing_laws_hold};
+use ts_gss::Graph;
+use ts_moves::StackHead;
+use ts_node::Node;
+use ts_order::better;
+
+/// Where the topmost tree of a head's stack begins, with its pad.
+fn top_start(graph: &Graph, head: StackHead) -> u32
+    requires { (t : ParseTable) × (size : ℕ) × IsLiveHead t size graph.now head }
+    ensures { result ≡ start_of graph.now head }
+{
+    if head.place == 0 {
+        0
+    } else {
+        let node = graph.node(head.top);
+        head.place - (node.pad() + node.size())
+    }
+}
+
+/// Whether a head goes on before another: it is at a lower place, or at the same place with a tree
+/// on top that begins later. So all reductions that end at a place are done before a token is
+/// shifted past it, the smallest first.
+fn goes_before(graph: &Graph, a: StackHead, b: StackHead) -> bool
+    requires { (t : ParseTable) × (size : ℕ) × IsLiveHead t size graph.now a
+        × IsLiveHead t size graph.now b }
+    ensures { IsTrue result ↔ GoesBefore graph.now a b }
+{
+    if a.place == b.place {
+        top_start(graph, b) < top_start(graph, a)
+    } else {
+        a.place < b.place
+    }
+}
+
+/// The head of a number.
+fn head_at(live: &[StackHead], k: usize) -> StackHead
+    requires { k < length live.now }
+    ensures { slice_get live.now k ≡ Some result }
+{
+    live[k]
+}
+
+/// The number of the head that goes on next: the first of those before which none goes.
+fn first_of(graph: &Graph, live: &[StackHead]) -> usize
+    requires some { 0 < length live.now }
+    requires live { (t : ParseTable) × (size : ℕ) × Each (IsLiveHead t size graph.now) live.now }
+    ensures within { result < length live.now }
+    ensures first { (k h : StackHead) → Contains live.now k
+        → GoesBefore graph.now k (get_or live.now result h) → ⊥ }
+{
+    let mut first = 0;
+    for k in 1..live.len() {
+        let next = head_at(live, k);
+        let best = head_at(live, first);
+        if goes_before(graph, next, best) {
+            first = k;
+        }
+    }
+    first
+}
+
+/// Takes out the head that goes on next.
+pub(crate) fn next_head(graph: &Graph, live: &mut Vec<StackHead>) -> Option<StackHead>
+    requires { (t : ParseTable) × (size : ℕ) × Each (IsLiveHead t size graph.now) live.old.items }
+    ensures { MatchOption result (live.old.items ≡ [])
+        (IsTakenOut graph.now live.old.items live.new.items) }
+{
+    if live.is_empty() {
+        return None;
+    }
+    let first = first_of(graph, live.as_slice());
+    Some(live.remove(first))
+}
+
+/// Whether a tree may stand for another: both have one symbol and the same bytes, the other is no
+/// deeper, and it is not better.
+fn tree_serves(kept: &Node, other: &Node) -> bool
+    requires { AreOfOneGrammar other.now kept.now }
+    ensures { IsTrue result ↔ ServesFor kept.now other.now }
+{
+    kept.symbol().0 == other.symbol().0
+        && kept.extra() == other.extra()
+        && kept.pad() == other.pad()
+        && kept.size() == other.size()
+        && other.depth() <= kept.depth()
+        && !better(other, kept)
+}
+
+/// Whether a head may stand for another: each tree of its stack for the one in its place. The part
+/// that both stacks share is not looked at. At the start of the text none stands for another.
+fn head_serves(graph: &Graph, kept: StackHead, other: StackHead) -> bool
+    requires { (t : ParseTable) × (size : ℕ) × IsLiveHead t size graph.now kept
+        × IsLiveHead t size graph.now other }
+    ensures { result ≡ true → HeadServes graph.now kept other }
+{
+    laws_hold();
+    packing_laws_hold();
+    if kept.place != other.place {
+        return false;
+    }
+    let mut over = kept.top;
+    let mut under = other.top;
+    let mut place = kept.place;
+    while over != under {
+        if place == 0 {
+            return false;
+        }
+        let node = graph.node(over);
+        let instead = graph.node(under);
+        if !tree_serves(node, instead) {
+            return false;
+        }
+        place -= node.pad() + node.size();
+        over = graph.below(over);
+        under = graph.below(under);
+    }
+    true
+}
+
+/// The one of two heads that may stand for the other.
+fn kept_of(graph: &Graph, a: StackHead, b: StackHead) -> Option<StackHead>
+    requires { (t : ParseTable) × (size : ℕ) × IsLiveHead t size graph.now a
+        × IsLiveHead t size graph.now b }
+    ensures { (kept : StackHead) → result ≡ Some kept → IsKeptOf graph.now a b kept }
+{
+    if head_serves(graph, a, b) {
+        Some(a)
+    } else if head_serves(graph, b, a) {
+        Some(b)
+    } else {
+        None
+    }
+}
+
+/// Joins a head with a live one, where one of the two may stand for the other, and tells whether
+/// there is such a one. The one that is kept then is in the live one's place.
+pub(crate) fn join(graph: &Graph, live: &mut Vec<StackHead>, head: StackHead) -> bool
+    requires { (t : ParseTable) × (size : ℕ) × IsLiveHead t size graph.now head
+        × Each (IsLiveHead t size graph.now) live.old.items }
+    ensures joined { result ≡ true → JoinsOne graph.now live.old.items live.new.items head }
+    ensures alone { result ≡ false → live.new.items ≡ live.old.items }
+{
+    for k in 0..live.len() {
+        let other = head_at(live.as_slice(), k);
+        if let Some(kept) = kept_of(graph, other, head) {
+            live[k] = kept;
+            return true;
+        }
+    }
+    false
+}
