@@ -80,19 +80,19 @@ fn versions_have_lines(rt: HostRuntime) -> Result<(), Fail> {
     Ok(())
 }
 
-fn capture(alloc: Global, name: &str, start: u32) -> Result<ShownCapture, AllocError> {
+fn capture(alloc: Global, name: &str, start: u32, end: u32) -> Result<ShownCapture, AllocError> {
     Ok(ShownCapture {
         name: Str::from_text(alloc, name)?,
         start,
-        end: start + 1,
+        end,
     })
 }
 
 /// Too many matches, none, and two.
 fn results(alloc: Global) -> Result<List<ShownResult>, AllocError> {
     let mut captures = List::new(alloc);
-    captures.push(capture(alloc, "n", 3)?)?;
-    captures.push(capture(alloc, "a\"b", 5)?)?;
+    captures.push(capture(alloc, "n", 3, 4)?)?;
+    captures.push(capture(alloc, "a\"b", 5, 6)?)?;
     let mut matches = List::new(alloc);
     matches.push(ShownMatch {
         pattern: 0,
