@@ -1,4 +1,6 @@
+pub mod Books
 pub mod Histories
 pub mod Legal
 pub mod Orders
+pub mod Printed
 pub mod Replies

@@ -1,5 +1,5 @@
 //! What a parse comes to as it is printed: a grammar, a text and the outcome of parsing it go in,
-//! and the outcome's line comes out.
+//! and what is shown of the outcome, or its line, comes out.
 #![tactic(auto)]
 
 mod laws;
@@ -8,4 +8,4 @@ mod printing;
 mod tests;
 
 pub use laws::fresh_trees_lie_in_the_text;
-pub use printing::outcome_line;
+pub use printing::{outcome_line, outcome_shown};

@@ -47,12 +47,31 @@ fn line(
     ensures { IfOk result (λ s. string_bytes s
         ≡ parse_line (shown_outcome grammar.now text.now (value_of_outcome outcome.now))) }
 {
+    let shown = outcome_shown(alloc, grammar, text, outcome)?;
+    parsed(alloc, &shown)
+}
+
+/// What a text comes to, as a line tells it, in time by the sizes of the text and its tree.
+///
+/// # Errors
+///
+/// `AllocError` where memory runs out.
+pub fn outcome_shown(
+    alloc: Global,
+    grammar: &FlatGrammar,
+    text: &Text,
+    outcome: &Outcome,
+) -> Result<ShownOutcome, AllocError>
+    requires lies { TreeLiesIn text.now (value_of_outcome outcome.now) }
+    ensures shown { IfOk result (λ shown.
+        shown ≡ shown_outcome grammar.now text.now (value_of_outcome outcome.now)) }
+{
     match outcome {
         Outcome::Accepted(root) => {
             let nodes = shown(alloc, grammar, text, root)?;
-            parsed(alloc, &ShownOutcome::Tree(nodes))
+            Ok(ShownOutcome::Tree(nodes))
         }
-        Outcome::Stuck(place) => parsed(alloc, &ShownOutcome::Stuck(*place)),
-        Outcome::Deep => parsed(alloc, &ShownOutcome::Deep),
+        Outcome::Stuck(place) => Ok(ShownOutcome::Stuck(*place)),
+        Outcome::Deep => Ok(ShownOutcome::Deep),
     }
 }

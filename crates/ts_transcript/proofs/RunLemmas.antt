@@ -1,0 +1,98 @@
+-- What is printed of journals and replies is what is printed of the run that left them.
+use Rattle.std.proofs.Common.{arith, ◌≡◌, ◌∙◌, refl, sym, ap, subst, ℕ, suc, List, [], ◌++◌, append_assoc, Some, slice_get, All}
+use Rattle.std.proofs.lemmas.Option.{slice_get_within, get_or_from_slice_get, same_Some}
+use Rattle.ts_base.specs.Bytes.{Bytes}
+use Rattle.ts_core.specs.declared.flat.FlatGrammar.{FlatGrammar}
+use Rattle.ts_table.specs.declared.view.ParseTable.{ParseTable}
+use Rattle.ts_shelf.specs.declared.journal.Entry.{Entry}
+use Rattle.ts_replies.specs.declared.reply.Head.{Head}
+use Rattle.ts_replies.specs.declared.reply.Head.TheVariants as head
+use Rattle.ts_replies.specs.declared.reply.Reply.{Reply}
+use Rattle.ts_docs.specs.declared.parsed.Drafted.{Drafted}
+use Rattle.ts_docs.specs.declared.parsed.Pages.{Pages}
+use Rattle.ts_docs.specs.Books.{AreVersions}
+use Rattle.ts_docs.specs.Versions.{IsOfTable}
+use Rattle.spec_history.specs.Histories.{JournalEntry, History, version_text}
+use Rattle.spec_history.specs.Books.{journal_entry_of, journal_of, TellsTexts, IsHistoryOf}
+use Rattle.spec_history.specs.Printed.{TellsEach, IsVersionLine, AreOpeningLines, AreEntryLines, AreReplyLines, IsPrinted}
+use Rattle.ts_transcript.specs.Told.{Adds, entry_head, TellsOpening, TellsEntry, IsEntryLine, TellsJournal}
+use Rattle.ts_transcript.proofs.PieceLemmas.{there_is, beside, told_mapped}
+
+-- ---- one document
+
+each_of : {X : Type 0} (P : X → Type 0) (xs : List X) (n : ℕ) (x : X) → All P xs → slice_get xs n ≡ Some x → P x
+each_of P xs n x all is = subst P (get_or_from_slice_get xs n x x is) (all n x (slice_get_within xs n x is))
+
+same_at : {X : Type 0} (xs : List X) (n : ℕ) (x y : X) → slice_get xs n ≡ Some x → slice_get xs n ≡ Some y → x ≡ y
+same_at xs n x y a b = same_Some x y (sym a ∙ b)
+
+-- the lines of a journal, all of whose versions were parsed by the table of the first one
+pub journal_told : (g : FlatGrammar) (document : ℕ) (b : Pages) (lines : Bytes) → AreVersions b
+    → TellsEach (TellsEntry g document) b.entries lines → TellsJournal g document b lines
+journal_told g document b lines versions told grammar =
+    beside (TellsEntry g document) (IsEntryLine g document) b.entries b.entries lines refl
+    (λ n e f piece here there tells.
+    let same : e ≡ f = same_at b.entries n e f here there in
+    let of_table : f.item.version.table ≡ b.opening.table = each_of (λ (e : Entry Drafted). IsOfTable b.opening e.item) b.entries n f versions.fit there in
+    subst (λ (d : Entry Drafted). TellsEntry g document n d piece) same tells (ap (λ (t : ParseTable). t.grammar) of_table ∙ grammar))
+    told
+
+-- ---- a run
+
+module _ (g : FlatGrammar) (h : History) (books : List Pages) (replies : List (List Reply)) (grammar : h.grammar ≡ g) (is : IsHistoryOf h books replies) where
+  texts_at : (document : ℕ) (b : Pages) → slice_get books document ≡ Some b → (text : Bytes) × (slice_get h.openings document ≡ Some text) × TellsTexts h.plan h.grammar text b
+  texts_at document b here =
+      let within = slice_get_within books document b here in
+      let many = is.documents in
+      let found = there_is h.openings document (omega (arith, within, many)) in
+      (found.0, found.1, is.texts document found.0 b found.1 here)
+
+  version_told : (head : Head) (text other line : Bytes) → text ≡ other → IsVersionLine g head text line → IsVersionLine h.grammar head other line
+  version_told head text other line same told =
+      subst (λ (f : FlatGrammar). IsVersionLine f head other line) (sym grammar)
+      (subst (λ (t : Bytes). IsVersionLine g head t line) same told)
+
+  openings_told : (bytes : Bytes) → TellsEach (TellsOpening g) books bytes → AreOpeningLines h.grammar h.openings bytes
+  openings_told bytes told =
+      beside (TellsOpening g) (λ (document : ℕ) (text line : Bytes). IsVersionLine h.grammar (head.Opening document) text line) books h.openings bytes is.documents
+      (λ document b text line here there tells.
+      let t = is.texts document text b there here in
+      version_told (head.Opening document) b.opening.text text line t.opening_is (tells (t.grammar_is ∙ grammar)))
+      told
+
+  entries_told : (document : ℕ) (b : Pages) (lines : Bytes) → slice_get books document ≡ Some b → TellsJournal g document b lines → AreEntryLines h document (journal_of b) lines
+  entries_told document b lines here tells =
+      let at = texts_at document b here in
+      record {
+        opening = at.0;
+        opening_is = at.1;
+        lines_are = told_mapped (IsEntryLine g document)
+            (λ (number : ℕ) (e : JournalEntry) (line : Bytes). IsVersionLine h.grammar (head.Accepted e.client document e.step e.turn (suc number)) (version_text h.plan at.0 (journal_of b) (suc number)) line)
+            journal_entry_of b.entries lines
+            (λ number e line there told.
+            version_told (entry_head document number e) e.item.version.text (version_text h.plan at.0 (journal_of b) (suc number)) line (at.2.texts_are number e there) told)
+            (tells (at.2.grammar_is ∙ grammar));
+      }
+
+  journals_told : (bytes : Bytes) → TellsEach (TellsJournal g) books bytes → TellsEach (AreEntryLines h) h.journals bytes
+  journals_told bytes told =
+      subst (λ (all : List (List JournalEntry)). TellsEach (AreEntryLines h) all bytes) (sym is.journals_are)
+      (told_mapped (TellsJournal g) (AreEntryLines h) journal_of books bytes entries_told told)
+
+  replies_told : (bytes : Bytes) → TellsEach AreReplyLines replies bytes → TellsEach AreReplyLines h.replies bytes
+  replies_told bytes told = subst (λ (all : List (List Reply)). TellsEach AreReplyLines all bytes) (sym is.replies_are) told
+
+  -- lines that were added one after another are what is printed of the run
+  pub is_printed : (first second bytes : Bytes) → Adds (TellsEach (TellsOpening g) books) [] first → Adds (TellsEach (TellsJournal g) books) first second
+      → Adds (TellsEach AreReplyLines replies) second bytes → IsPrinted h bytes
+  is_printed first second bytes a b c = record {
+    openings = a.0;
+    journals = b.0;
+    replies = c.0;
+    openings_are = openings_told a.0 a.1;
+    journals_are = journals_told b.0 b.1;
+    replies_are = replies_told c.0 c.1;
+    bytes_are = c.2
+        ∙ ap (λ (w : Bytes). w ++ c.0) (b.2 ∙ ap (λ (w : Bytes). w ++ b.0) a.2)
+        ∙ append_assoc a.0 b.0 c.0;
+  }

@@ -1,0 +1,9 @@
+//! What is printed of a run: the journals of its documents and the replies to its clients come in,
+//! and the lines that tell them go out, in their order.
+#![tactic(auto)]
+
+mod entry;
+mod printing;
+mod told;
+
+pub use printing::transcript;
