@@ -1,0 +1,12 @@
+mod DoesLemmas
+mod EndLemmas
+mod JournalLemmas
+mod LoopLemmas
+mod NextLemmas
+mod OrderLemmas
+mod ReplyLemmas
+mod RunningLemmas
+mod ScriptLemmas
+mod StartLemmas
+mod StepLemmas
+mod ToldLemmas

@@ -1,0 +1,20 @@
+use Rattle.std.proofs.Common.{◌≡◌, ℕ, List, [], length}
+use Rattle.ts_base.specs.Bytes.{Bytes}
+use Rattle.ts_lexer.specs.Lexers.{IsLexerOf}
+use Rattle.ts_script.specs.declared.plan.Plan.{Plan}
+use Rattle.ts_replay.specs.Running.{CanRun, IsRunAt, SameOthers, steps_left}
+use Rattle.ts_replay.proofs.running.take_own.Given as goal
+
+abbrev pub invariant-loop-alloc : goal.invariant-loop-alloc
+invariant-loop-alloc l = record {
+  lexer : IsLexerOf l.lexer l.table;
+  can : CanRun l.table l.documents.items l.clients.items;
+  count : length l.clients.items ≡ length l.fn.clients.items;
+  others : SameOthers l.client l.fn.clients.items l.clients.items;
+  runs : (plan : Plan) (openings : List Bytes) (order : List ℕ)
+      → IsRunAt plan openings order [] l.table l.fn.documents.items l.fn.clients.items
+      → IsRunAt plan openings order [] l.table l.documents.items l.clients.items;
+}
+
+abbrev pub decreases-loop-alloc : goal.decreases-loop-alloc
+decreases-loop-alloc l = steps_left l.clients.items l.client

@@ -1,0 +1,4 @@
+pub mod Replays
+pub mod Running
+pub mod Runs
+pub mod Steps

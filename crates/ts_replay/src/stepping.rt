@@ -1,0 +1,239 @@
+//! One step of a client on its document: the document, the version that the client holds and the
+//! step go in; the reply comes out, and the document and the held version are changed.
+ghost use Rattle.std.specs.Prelude.{◌≡◌, ℕ, ◌<◌, length, IfOk};
+ghost use Rattle.ts_shelf.specs.Entries.{RisesWithin};
+ghost use Rattle.ts_text.specs.declared.edit.Edit.{Edit as AnyEdit};
+ghost use Rattle.ts_docs.specs.Steps.{newest};
+ghost use Rattle.ts_docs.specs.Versions.{Drafts, IsOfTable};
+ghost use Rattle.ts_lexer.specs.Lexers.{IsLexerOf};
+ghost use Rattle.ts_script.specs.declared.plan.ScriptStep.TheVariants as script_step;
+ghost use Rattle.spec_history.specs.Legal.{CanEdit};
+ghost use Rattle.ts_replay.specs.Replays.{AsksNone};
+ghost use Rattle.ts_replay.specs.Steps.{Place, place, MayStep, NeedsRoom, DoesStep};
+
+use crate::document::Document;
+use crate::outcome::shown;
+use std::alloc::{AllocError, Global};
+use ts_base::Shared;
+use ts_docs::{Draft, Event, Refused, Told, Version, prepare, step};
+use ts_lexer::Lexer;
+use ts_replies::Reply;
+use ts_script::ScriptStep;
+use ts_shelf::{Offered, Seen};
+use ts_table::Table;
+use ts_text::Edit;
+
+/// How many looks an await makes at most.
+const MOST_LOOKS: u64 = 10_000_000;
+
+/// The step of this number of a client.
+#[derive(Clone, Copy, Debug, PartialEq, Eq)]
+pub(crate) struct Asker {
+    pub(crate) client: u32,
+    pub(crate) number: u32,
+}
+
+/// Does a step. Want of memory is its reply, and then nothing is changed.
+pub(crate) fn answer(
+    alloc: Global,
+    table: &Table,
+    lexer: &mut Lexer,
+    document: &mut Document,
+    held: &mut Shared<Version>,
+    asker: Asker,
+    step: &ScriptStep,
+) -> Reply
+    requires lexer { IsLexerOf lexer.old table.now }
+    requires table { held.old.table ≡ table.now }
+    requires place { MayStep (place document.old.turn document.old.book held.old) }
+    requires room { NeedsRoom step.now document.old.book.room }
+    requires asks_none { AsksNone step.now }
+    ensures lexer { IsLexerOf lexer.new table.now }
+    ensures does { DoesStep asker.client asker.number
+        (place document.old.turn document.old.book held.old) step.now result
+        (place document.new.turn document.new.book held.new) }
+{
+    match step {
+        ScriptStep::Edit { document: _, edit } => change(
+            alloc, table, lexer, document, held, asker, edit,
+        ),
+        ScriptStep::Look { document: _ } => look(document, held),
+        ScriptStep::Query {
+            document: _,
+            queries: _,
+        } => unreachable!(),
+        ScriptStep::Tree { document: _ } => tree(alloc, table, held.get()),
+        ScriptStep::Await {
+            document: _,
+            version,
+        } => wait(document, held, *version),
+    }
+}
+
+/// Changes the held version, and offers what comes of it.
+fn change(
+    alloc: Global,
+    table: &Table,
+    lexer: &mut Lexer,
+    document: &mut Document,
+    held: &mut Shared<Version>,
+    asker: Asker,
+    edit: &Edit,
+) -> Reply
+    requires lexer { IsLexerOf lexer.old table.now }
+    requires table { held.old.table ≡ table.now }
+    requires place { MayStep (place document.old.turn document.old.book held.old) }
+    requires room { 0 < document.old.book.room }
+    ensures lexer { IsLexerOf lexer.new table.now }
+    ensures does { (number : ℕ) → DoesStep asker.client asker.number
+        (place document.old.turn document.old.book held.old) (script_step.Edit number edit.now)
+        result (place document.new.turn document.new.book held.new) }
+{
+    let version = held.get().number();
+    match prepare(
+        alloc,
+        table,
+        lexer,
+        held.get(),
+        asker.client,
+        asker.number,
+        edit,
+    ) {
+        Ok(draft) => offer(document, held, draft),
+        Err(Refused::Range) => Reply::Range { version },
+        Err(Refused::Size(size)) => Reply::Size { size, version },
+        Err(Refused::Memory) => Reply::Memory { version },
+    }
+}
+
+/// Offers a draft over the held version, at the next turn.
+fn offer(document: &mut Document, held: &mut Shared<Version>, draft: Draft) -> Reply
+    requires place { MayStep (place document.old.turn document.old.book held.old) }
+    requires room { 0 < document.old.book.room }
+    requires table { IsOfTable document.old.book.opening draft }
+    ensures does { (client number at : ℕ) (edit : AnyEdit)
+        → Drafts held.old client number edit draft → CanEdit held.old.text edit
+        → DoesStep client number (place document.old.turn document.old.book held.old)
+        (script_step.Edit at edit) result
+        (place document.new.turn document.new.book held.new) }
+{
+    let base = held.get().number();
+    let Ok(made) = draft.version().try_clone() else {
+        return Reply::Memory { version: base };
+    };
+    match step(
+        &mut document.book,
+        document.turn,
+        Event::Offer { base, draft },
+    ) {
+        Ok(Told::Offered(Offered::Published { turn, number })) => {
+            document.turn += 1;
+            *held = made;
+            Reply::Published {
+                turn,
+                version: number,
+            }
+        }
+        Ok(
+            Told::Offered(
+                Offered::Newer {
+                    turn,
+                    number,
+                    latest,
+                },
+            ),
+        ) => {
+            document.turn += 1;
+            *held = latest;
+            Reply::Newer {
+                turn,
+                version: number,
+            }
+        }
+        Ok(Told::Seen(_)) => unreachable!(),
+        Err(_) => Reply::Memory { version: base },
+    }
+}
+
+/// Takes the newest version.
+fn look(document: &mut Document, held: &mut Shared<Version>) -> Reply
+    requires place { MayStep (place document.old.turn document.old.book held.old) }
+    ensures does { (client number at : ℕ)
+        → DoesStep client number (place document.old.turn document.old.book held.old)
+        (script_step.Look at) result (place document.new.turn document.new.book held.new) }
+{
+    match see(document) {
+        Ok(seen) => {
+            document.turn += 1;
+            *held = seen.latest;
+            Reply::Look {
+                turn: seen.turn,
+                version: seen.number,
+            }
+        }
+        Err(_) => Reply::Memory {
+            version: held.get().number(),
+        },
+    }
+}
+
+/// Looks until there is a version. Nothing happens between its looks, so each shows what the first
+/// one does, and the others are only counted.
+fn wait(document: &mut Document, held: &mut Shared<Version>, wanted: u32) -> Reply
+    requires place { MayStep (place document.old.turn document.old.book held.old) }
+    ensures does { (client number at : ℕ)
+        → DoesStep client number (place document.old.turn document.old.book held.old)
+        (script_step.Await at wanted) result
+        (place document.new.turn document.new.book held.new) }
+{
+    match see(document) {
+        Ok(seen) => {
+            let version = seen.number;
+            *held = seen.latest;
+            if wanted <= version {
+                document.turn += 1;
+                Reply::Await {
+                    turn: seen.turn,
+                    version,
+                }
+            } else {
+                document.turn += MOST_LOOKS;
+                Reply::Late {
+                    turn: document.turn - 1,
+                    version,
+                }
+            }
+        }
+        Err(_) => Reply::Memory {
+            version: held.get().number(),
+        },
+    }
+}
+
+/// A look at the next turn, which is not yet counted.
+fn see(document: &mut Document) -> Result<Seen<Shared<Version>>, AllocError>
+    requires { RisesWithin 0 document.old.turn document.old.book.entries }
+    ensures turn { document.new.turn ≡ document.old.turn }
+    ensures book { document.new.book ≡ document.old.book }
+    ensures seen { IfOk result (λ s. (s.turn ≡ document.old.turn)
+        × (s.number ≡ length document.old.book.entries) × (s.latest ≡ newest document.old.book)) }
+{
+    match step(&mut document.book, document.turn, Event::Look) {
+        Ok(Told::Seen(seen)) => Ok(seen),
+        Ok(Told::Offered(_)) => unreachable!(),
+        Err(fault) => Err(fault),
+    }
+}
+
+/// What the held version comes to.
+fn tree(alloc: Global, table: &Table, held: &Version) -> Reply
+    requires { held.now.table ≡ table.now }
+    ensures does { (client number at : ℕ) (before : Place) → before.held ≡ held.now
+        → DoesStep client number before (script_step.Tree at) result before }
+{
+    let version = held.number();
+    match shown(alloc, table.grammar(), held) {
+        Ok(outcome) => Reply::Tree { outcome, version },
+        Err(_) => Reply::Memory { version },
+    }
+}
