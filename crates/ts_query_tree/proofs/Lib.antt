@@ -1,0 +1,10 @@
+pub mod Shapes
+pub mod ShapeLemmas
+pub mod GrowLemmas
+pub mod WordLemmas
+pub mod RunLemmas
+pub mod CloseLemmas
+pub mod DepthLemmas
+pub mod LawLemmas
+pub mod StateLemmas
+pub mod ReaderLemmas

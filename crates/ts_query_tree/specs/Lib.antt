@@ -1,0 +1,6 @@
+pub mod Words
+pub mod Signs
+pub mod Trees
+pub mod Reads
+pub mod Machine
+pub mod States

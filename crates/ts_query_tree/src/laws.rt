@@ -1,0 +1,28 @@
+//! Laws of what is read, which other crates call: they take nothing and give their clauses.
+ghost use Rattle.std.specs.Prelude.{◌≡◌, ◌≢◌, List, ℕ};
+ghost use Rattle.ts_base.specs.Bytes.{Bytes};
+ghost use Rattle.ts_query_tree.specs.declared.tree.Part.{Part as AnyPart};
+ghost use Rattle.ts_query_tree.specs.declared.fault.TreeFault.{TreeFault as AnyFault};
+ghost use Rattle.ts_query_tree.specs.Trees.{Parts, values_of};
+ghost use Rattle.ts_query_tree.specs.Reads.{IsQueryText, Reads, IsFault};
+
+use crate::fault::TreeFault;
+
+/// A text spells one query at most, and is read as one.
+pub fn one_query()
+    ensures spelled { (p q : Parts) (w : Bytes) → IsQueryText w p → IsQueryText w q
+        → values_of p ≡ values_of q }
+    ensures read { (x y : List AnyPart) (w : Bytes) → Reads w x → Reads w y → x ≡ y }
+{}
+
+/// What is refused is read as no query, unless memory ran out.
+pub fn refused_is_not_read()
+    ensures { (e : AnyFault) (x : List AnyPart) (w : Bytes) → e ≢ TreeFault.Memory → IsFault w e
+        → Reads w x → ⊥ }
+{}
+
+/// Each refusal has a cause that no other has, and one place.
+pub fn one_fault()
+    ensures { (e f : AnyFault) (w : Bytes) → e ≢ TreeFault.Memory → f ≢ TreeFault.Memory
+        → IsFault w e → IsFault w f → e ≡ f }
+{}
