@@ -24,15 +24,17 @@ use ts_io::{OsFolder, OutSink};
 use ts_lines::number;
 
 const HELP: &str = "\
-hemshale builds parsers from grammar files and parses texts with them.
+hemshale builds parsers from grammar files, parses texts with them, and replays edits of texts.
 
-  hemshale parse GRAMMAR TEXT    parse the file TEXT by the grammar GRAMMAR, and print the tree
-  hemshale compile GRAMMAR       write the language file of the grammar GRAMMAR
-  hemshale --help                print this
-  hemshale --version             print the version
+  hemshale parse GRAMMAR TEXT           parse the file TEXT by the grammar GRAMMAR, and print the tree
+  hemshale compile GRAMMAR              write the language file of the grammar GRAMMAR
+  hemshale replay GRAMMAR SCRIPT ORDER  run the clients' steps in the file SCRIPT in this order of
+                                        clients, as 0,1,0, and print each version and each reply
+  hemshale --help                       print this
+  hemshale --version                    print the version
 
 Status: 0 done, 1 usage, 2 read fault, 3 write fault, 4 out of memory, 5 grammar,
-        8 no such file, 9 text. At 2, 3 and 4 a line on standard error says more.
+        7 script, 8 no such file, 9 text. At 2, 3 and 4 a line on standard error says more.
 ";
 
 const VERSION: &str = "hemshale 0.1.0\n";

@@ -1,4 +1,5 @@
--- Words and files come to one status, and to one list of bytes but for the line of an outcome.
+-- Words and files come to one status, and to one list of bytes but for the line of an outcome and the
+-- print of a run.
 use Rattle.std.proofs.Common.{◌≡◌, ◌∙◌, sym, ap, subst, refl, ℕ, inl, inr, List, [], ◌∷◌, length, Option, Some, None, codes, arith}
 use Rattle.ts_base.specs.Bytes.{Bytes}
 use Rattle.ts_core.specs.declared.flat.FlatGrammar.{FlatGrammar}
@@ -9,17 +10,23 @@ use Rattle.ts_io.specs.Outside.{Files, file_at}
 use Rattle.ts_langfile.specs.Spelling.{spelling}
 use Rattle.ts_text.specs.Text.{IsText, BreaksAt}
 use Rattle.ts_front.specs.Compiled.{IsCompiled, IsRefusalLine}
-use Rattle.ts_top.specs.Answer.{Parses, Compiles, Has, IsAbsent, Builds, Judged, large_grammar, refused_grammar, too_large, no_text, parsed, Compiled, large, refused, written, Answers, usage, absent, judged, lacking, compiled, IsClean, IsCompilable}
+use Rattle.ts_turns.specs.Turns.{Spells}
+use Rattle.ts_session.specs.Grammars.{Builds}
+use Rattle.ts_session.specs.Replays.{Replays, IsReplayable}
+use Rattle.ts_top.specs.Answer.{Parses, Compiles, AsksReplay, Has, IsAbsent, Judged, large_grammar, refused_grammar, too_large, no_text, parsed, Compiled, large, refused, written, Answers, usage, absent, judged, lacking, compiled, replayed, IsClean, IsCompilable, CanReplay}
 
--- what is known of the bytes of files
+-- what is known of the bytes of files, of the word of an order, and of replays
 pub record Laws : Type 0 where
   pub breaks_once : (bytes : Bytes) (m n : ℕ) → BreaksAt bytes m → BreaksAt bytes n → m ≡ n
   pub whole : (bytes : Bytes) (n : ℕ) → IsText bytes → BreaksAt bytes n → ⊥
   pub compiled_once : (w a b : Bytes) → IsCompiled w a → IsCompiled w b → a ≡ b
   pub line_once : (w a b : Bytes) → IsRefusalLine w a → IsRefusalLine w b → a ≡ b
   pub line_or_compiled : (w a b : Bytes) → IsRefusalLine w a → IsCompiled w b → ⊥
+  pub spelled_once : (word : Bytes) (a b : List ℕ) → Spells word a → Spells word b → a ≡ b
+  pub replay_status_once : (files : Files) (grammar script : Bytes) (order : List ℕ) (s t : Status) (b c : Bytes) → Replays files grammar script order s b → Replays files grammar script order t c → s ≡ t
+  pub replay_bytes_once : (files : Files) (grammar script : Bytes) (order : List ℕ) (s t : Status) (b c : Bytes) → Replays files grammar script order s b → Replays files grammar script order t c → (s ≡ Done → ⊥) → b ≡ c
 
--- one status, and one list of bytes but where a text was parsed
+-- one status, and one list of bytes but where a text was parsed or a script was run
 pub record AreOne (s t : Status) (b c : Bytes) : Type 0 where
   pub status : s ≡ t
   pub bytes : (s ≡ Done → ⊥) → b ≡ c
@@ -43,6 +50,18 @@ compiles_once words path other p q =
 one_form : (words : List Bytes) (g t path : Bytes) → Parses words g t → Compiles words path → ⊥
 one_form words g t path p q =
     let e : length (codes "parse" ∷ g ∷ t ∷ []) ≡ length (codes "compile" ∷ path ∷ []) = ap length (sym p ∙ q) in
+    let never : ⊥ = omega (arith, e) in
+    never
+
+parse_or_replay : (words : List Bytes) (g t grammar script : Bytes) (order : List ℕ) → Parses words g t → AsksReplay words grammar script order → ⊥
+parse_or_replay words g t grammar script order p a =
+    let e : length (codes "parse" ∷ g ∷ t ∷ []) ≡ length (codes "replay" ∷ grammar ∷ script ∷ a.word ∷ []) = ap length (sym p ∙ a.words_are) in
+    let never : ⊥ = omega (arith, e) in
+    never
+
+compile_or_replay : (words : List Bytes) (path grammar script : Bytes) (order : List ℕ) → Compiles words path → AsksReplay words grammar script order → ⊥
+compile_or_replay words path grammar script order p a =
+    let e : length (codes "compile" ∷ path ∷ []) ≡ length (codes "replay" ∷ grammar ∷ script ∷ a.word ∷ []) = ap length (sym p ∙ a.words_are) in
     let never : ⊥ = omega (arith, e) in
     never
 
@@ -149,6 +168,25 @@ module _ (laws : Laws) where
   lacking_or_there : (files : Files) (words : List Bytes) (p q w : Bytes) → Compiles words p → Compiles words q → file_at files p ≡ None → file_at files q ≡ Some w → ⊥
   lacking_or_there files words p q w c d x y = none_there w (file_at files q) (sym (ap (file_at files) (compiles_once words p q c d)) ∙ x) y
 
+  -- ---- replaying
+
+  asks_once : (words : List Bytes) (g c g2 c2 : Bytes) (o o2 : List ℕ) → AsksReplay words g c o → AsksReplay words g2 c2 o2 → (g ≡ g2) × (c ≡ c2) × (o ≡ o2)
+  asks_once words g c g2 c2 o o2 a d =
+      let e : codes "replay" ∷ g ∷ c ∷ a.word ∷ [] ≡ codes "replay" ∷ g2 ∷ c2 ∷ d.word ∷ [] = sym a.words_are ∙ d.words_are in
+      let grammar : g ≡ g2 = cc in
+      let script : c ≡ c2 = cc in
+      let word : a.word ≡ d.word = cc in
+      (grammar, script, laws.spelled_once a.word o o2 a.spells (subst (λ (w : Bytes). Spells w o2) (sym word) d.spells))
+
+  replayed_there : (files : Files) (words : List Bytes) (g c g2 c2 : Bytes) (o o2 : List ℕ) (s s2 : Status) (b b2 : Bytes) → AsksReplay words g c o → AsksReplay words g2 c2 o2
+      → Replays files g c o s b → Replays files g2 c2 o2 s2 b2 → AreOne s s2 b b2
+  replayed_there files words g c g2 c2 o o2 s s2 b b2 a d j k =
+      let e = asks_once words g c g2 c2 o o2 a d in
+      let grammar : Replays files g c2 o2 s2 b2 = subst (λ (x : Bytes). Replays files x c2 o2 s2 b2) (sym e.0) k in
+      let script : Replays files g c o2 s2 b2 = subst (λ (x : Bytes). Replays files g x o2 s2 b2) (sym e.1) grammar in
+      let order : Replays files g c o s2 b2 = subst (λ (x : List ℕ). Replays files g c x s2 b2) (sym e.2) script in
+      record { status = laws.replay_status_once files g c o s s2 b b2 j order; bytes = laws.replay_bytes_once files g c o s s2 b b2 j order }
+
   -- ---- answers
 
   once : (files : Files) (words : List Bytes) (s s2 : Status) (b b2 : Bytes) → Answers files words s b → Answers files words s2 b2 → AreOne s s2 b b2
@@ -157,21 +195,25 @@ module _ (laws : Laws) where
   once files words _ _ _ _ (usage u) (judged g t p s b h j) = absurd (u.no_parse h.grammar_path p h.parses)
   once files words _ _ _ _ (usage u) (lacking path c n) = absurd (u.no_compile path c)
   once files words _ _ _ _ (usage u) (compiled path w s b c at k) = absurd (u.no_compile path c)
+  once files words _ _ _ _ (usage u) (replayed g c o s b r k) = absurd (u.no_replay g c o r)
   once files words _ _ _ _ (absent path a) (usage v) = absurd (v.no_parse a.grammar_path a.text_path a.parses)
   once files words _ _ _ _ (absent path a) (absent other c) = record { status = refl; bytes = λ n. ap absent_line (absent_once files words path other a c) }
   once files words _ _ _ _ (absent path a) (judged g t p s b h j) = absurd (absent_or_there files words path g t p a h)
   once files words _ _ _ _ (absent path a) (lacking other c n) = absurd (one_form words a.grammar_path a.text_path other a.parses c)
   once files words _ _ _ _ (absent path a) (compiled other w s b c at k) = absurd (one_form words a.grammar_path a.text_path other a.parses c)
+  once files words _ _ _ _ (absent path a) (replayed g c o s b r k) = absurd (parse_or_replay words a.grammar_path a.text_path g c o a.parses r)
   once files words _ _ _ _ (judged g t p s b h j) (usage v) = absurd (v.no_parse h.grammar_path p h.parses)
   once files words _ _ _ _ (judged g t p s b h j) (absent path a) = absurd (absent_or_there files words path g t p a h)
   once files words _ _ _ _ (judged g t p s b h j) (judged g2 t2 p2 s2 b2 k i) = judged_there files words g t p g2 t2 p2 s s2 b b2 h k j i
   once files words _ _ _ _ (judged g t p s b h j) (lacking other c n) = absurd (one_form words h.grammar_path p other h.parses c)
   once files words _ _ _ _ (judged g t p s b h j) (compiled other w s2 b2 c at k) = absurd (one_form words h.grammar_path p other h.parses c)
+  once files words _ _ _ _ (judged g t p s b h j) (replayed g2 c o s2 b2 r k) = absurd (parse_or_replay words h.grammar_path p g2 c o h.parses r)
   once files words _ _ _ _ (lacking path c n) (usage v) = absurd (v.no_compile path c)
   once files words _ _ _ _ (lacking path c n) (absent other a) = absurd (one_form words a.grammar_path a.text_path path a.parses c)
   once files words _ _ _ _ (lacking path c n) (judged g t p s b h j) = absurd (one_form words h.grammar_path p path h.parses c)
   once files words _ _ _ _ (lacking path c n) (lacking other d m) = record { status = refl; bytes = λ z. ap absent_line (compiles_once words path other c d) }
   once files words _ _ _ _ (lacking path c n) (compiled other w s b d at k) = absurd (lacking_or_there files words path other w c d n at)
+  once files words _ _ _ _ (lacking path c n) (replayed g d o s b r k) = absurd (compile_or_replay words path g d o c r)
   once files words _ _ _ _ (compiled path w s b c at k) (usage v) = absurd (v.no_compile path c)
   once files words _ _ _ _ (compiled path w s b c at k) (absent other a) = absurd (one_form words a.grammar_path a.text_path path a.parses c)
   once files words _ _ _ _ (compiled path w s b c at k) (judged g t p s2 b2 h j) = absurd (one_form words h.grammar_path p path h.parses c)
@@ -179,6 +221,13 @@ module _ (laws : Laws) where
   once files words _ _ _ _ (compiled path w s b c at k) (compiled other v s2 b2 d there m) =
       let e = compiled_there files words path other w v s s2 b b2 c d at there k m in
       record { status = e.0; bytes = λ n. e.1 }
+  once files words _ _ _ _ (compiled path w s b c at k) (replayed g d o s2 b2 r m) = absurd (compile_or_replay words path g d o c r)
+  once files words _ _ _ _ (replayed g c o s b r k) (usage v) = absurd (v.no_replay g c o r)
+  once files words _ _ _ _ (replayed g c o s b r k) (absent path a) = absurd (parse_or_replay words a.grammar_path a.text_path g c o a.parses r)
+  once files words _ _ _ _ (replayed g c o s b r k) (judged g2 t p s2 b2 h j) = absurd (parse_or_replay words h.grammar_path p g c o h.parses r)
+  once files words _ _ _ _ (replayed g c o s b r k) (lacking path d n) = absurd (compile_or_replay words path g c o d r)
+  once files words _ _ _ _ (replayed g c o s b r k) (compiled path w s2 b2 d at m) = absurd (compile_or_replay words path g c o d r)
+  once files words _ _ _ _ (replayed g c o s b r k) (replayed g2 c2 o2 s2 b2 q m) = replayed_there files words g c g2 c2 o o2 s s2 b b2 r q k m
 
   pub status_once : (files : Files) (words : List Bytes) (s s2 : Status) (b b2 : Bytes) → Answers files words s b → Answers files words s2 b2 → s ≡ s2
   status_once files words s s2 b b2 a c = (once files words s s2 b b2 a c).status
@@ -194,11 +243,13 @@ module _ (laws : Laws) where
       by _ s2 _ b2 (absent other a) d o = absurd (one_form words a.grammar_path a.text_path path a.parses c)
       by _ s2 _ b2 (judged g t p s b h j) d o = absurd (one_form words h.grammar_path p path h.parses c)
       by _ s2 _ b2 (lacking other k n) d o = o.bytes (λ e. cc)
+      by _ s2 _ b2 (replayed g t order s b r j) d o = absurd (compile_or_replay words path g t order c r)
       by _ _ _ _ (compiled p w s b k at j) (usage u) o = absurd (u.no_compile path c)
       by _ _ _ _ (compiled p w s b k at j) (absent other a) o = absurd (one_form words a.grammar_path a.text_path path a.parses c)
       by _ _ _ _ (compiled p w s b k at j) (judged g t q s2 b2 h i) o = absurd (one_form words h.grammar_path q path h.parses c)
       by _ _ _ _ (compiled p w s b k at j) (lacking other l n) o = absurd (lacking_or_there files words other p w l k n at)
       by _ _ _ _ (compiled p w s b k at j) (compiled q v s2 b2 l there i) o = (compiled_there files words p q w v s s2 b b2 k l at there j i).1
+      by _ _ _ _ (compiled p w s b k at j) (replayed g t order s2 b2 r i) o = absurd (compile_or_replay words path g t order c r)
 
   -- ---- where nothing stands in the way
 
@@ -217,6 +268,20 @@ module _ (laws : Laws) where
       clean_judged g t p s b c.form (subst (λ (x : Bytes). Builds x c.form) e.0 c.builds) (subst IsText e.1 c.is_text) j
   clean_is_done files words _ _ c (lacking path d n) = absurd (one_form words c.has.grammar_path c.path path c.has.parses d)
   clean_is_done files words _ _ c (compiled path w s b d at k) = absurd (one_form words c.has.grammar_path c.path path c.has.parses d)
+  clean_is_done files words _ _ c (replayed g d o s b r k) = absurd (parse_or_replay words c.has.grammar_path c.path g d o c.has.parses r)
 
   pub compilable_is_done : (files : Files) (words : List Bytes) (s : Status) (b : Bytes) → IsCompilable files words → Answers files words s b → s ≡ Done
   compilable_is_done files words s b c a = status_once files words s Done b c.bytes a (compiled c.path c.file Done c.bytes c.compiles c.file_is (written c.bytes c.small c.is_compiled))
+
+  module _ (replayable_is_done : (files : Files) (grammar script : Bytes) (order : List ℕ) (s : Status) (b : Bytes) → IsReplayable files grammar script → Replays files grammar script order s b → s ≡ Done) where
+    pub replay_is_done : (files : Files) (words : List Bytes) (s : Status) (b : Bytes) → CanReplay files words → Answers files words s b → s ≡ Done
+    replay_is_done files words _ _ c (usage u) = absurd (u.no_replay c.grammar c.script c.order c.asks)
+    replay_is_done files words _ _ c (absent path a) = absurd (parse_or_replay words a.grammar_path a.text_path c.grammar c.script c.order a.parses c.asks)
+    replay_is_done files words _ _ c (judged g t p s b h j) = absurd (parse_or_replay words h.grammar_path p c.grammar c.script c.order h.parses c.asks)
+    replay_is_done files words _ _ c (lacking path d n) = absurd (compile_or_replay words path c.grammar c.script c.order d c.asks)
+    replay_is_done files words _ _ c (compiled path w s b d at k) = absurd (compile_or_replay words path c.grammar c.script c.order d c.asks)
+    replay_is_done files words _ _ c (replayed g t o s b r k) =
+        let e = asks_once words c.grammar c.script g t c.order o c.asks r in
+        let grammar : IsReplayable files g c.script = subst (λ (x : Bytes). IsReplayable files x c.script) e.0 c.replayable in
+        let both : IsReplayable files g t = subst (λ (x : Bytes). IsReplayable files g x) e.1 grammar in
+        replayable_is_done files g t o s b both k

@@ -16,13 +16,14 @@ use Rattle.ts_io.specs.declared.folder.Found.TheVariants as variant
 use Rattle.ts_text.specs.Text.{IsText, BreaksAt}
 use Rattle.ts_text.specs.declared.text.TextFault.{TextFault}
 use Rattle.ts_text.specs.declared.text.TextFault.TheVariants.{Size, Utf8, Memory}
-use Rattle.ts_top.specs.Limits.{most_file_bytes, most_text_bytes}
-use Rattle.ts_top.specs.Answer.{Builds, Judged, large_grammar, too_large, no_text, parsed, Compiled, large, outcome_line}
+use Rattle.ts_session.specs.Limits.{most_file_bytes, most_text_bytes}
+use Rattle.ts_session.specs.Grammars.{Builds}
+use Rattle.ts_top.specs.Answer.{Judged, large_grammar, too_large, no_text, parsed, Compiled, large, outcome_line}
 use Rattle.ts_front.specs.Compiled.{IsRefusalLine, IsUncompiled}
 use Rattle.ts_front.specs.declared.compile.Uncompiled.{Uncompiled}
 use Rattle.ts_front.specs.declared.compile.Uncompiled.TheVariants.{Refused}
 use Rattle.ts_top.specs.Stops.{AreRead, IsTextFault}
-use Rattle.ts_top.specs.declared.answer.Answer.{Answer}
+use Rattle.ts_session.specs.declared.answer.Answer.{Answer}
 use Rattle.ts_top.specs.declared.stop.Stop.{Stop}
 
 -- the bytes that were read are those of the file

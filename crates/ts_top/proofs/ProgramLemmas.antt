@@ -1,19 +1,21 @@
 -- The words' paths, what the reads and the judgement come to, and what is known of an answer.
-use Rattle.std.proofs.Common.{◌≡◌, sym, subst, refl, ℕ, ◌≤◌, inl, inr, List, [], ◌∷◌, length, get_or, Option, Some, None, Result, Ok, Err, String, string_bytes, arith}
+use Rattle.std.proofs.Common.{◌≡◌, sym, subst, refl, ℕ, ◌≤◌, ◌⊎◌, inl, inr, List, [], ◌∷◌, length, get_or, Option, Some, None, Result, Ok, Err, String, string_bytes, arith}
 use Rattle.std.specs.declared.alloc.Global.{Global}
 use Rattle.std.specs.Result.{IfOk, IfErr}
 use Rattle.ts_base.specs.Bytes.{Bytes}
 use Rattle.std.specs.Borrow.{Bor}
 use Rattle.spec_output.specs.Faults.{absent_line, usage_line}
+use Rattle.spec_output.specs.Status.{number_of}
 use Rattle.spec_output.specs.declared.status.Status.{Status}
 use Rattle.spec_output.specs.declared.status.Status.TheVariants as status
 use Rattle.ts_io.specs.Outside.{Files, file_at, Rose, AppendsPrefix}
 use Rattle.ts_io.specs.Read.{AnswersFor}
 use Rattle.ts_io.specs.declared.folder.Found.{Found}
-use Rattle.ts_top.specs.declared.answer.Answer.{Answer}
-use Rattle.ts_top.specs.Answer.{texts, IsUsage, Parses, Compiles, Compiled, Judged, Answers, usage, absent, judged, lacking, compiled, Told, WritesPrefix, IsClean, IsCompilable}
-use Rattle.ts_top.specs.Limits.{most_file_bytes, most_text_bytes}
-use Rattle.ts_top.specs.Stops.{IsAnswer, misused, other, IsJudged, Stopped, AreRead, IsThere, ReadStopped}
+use Rattle.ts_session.specs.declared.answer.Answer.{Answer}
+use Rattle.ts_top.specs.Answer.{texts, IsUsage, Parses, Compiles, AsksReplay, Compiled, Judged, Answers, usage, absent, judged, lacking, compiled, replayed, Told, WritesPrefix, IsClean, IsCompilable, CanReplay}
+use Rattle.ts_session.specs.Limits.{most_file_bytes, most_text_bytes}
+use Rattle.ts_session.specs.Replays.{IsJudged, Replays}
+use Rattle.ts_top.specs.Stops.{IsAnswer, misused, other, Stopped, AreRead, IsThere, ReadStopped}
 use Rattle.ts_top.specs.declared.stop.Stop.{Stop}
 use Rattle.ts_top.specs.declared.stop.Stop.TheVariants.{Usage, Absent, Read, Memory}
 
@@ -32,6 +34,15 @@ two_texts [] a b h p q = absurd (omega arith)
 two_texts (x ∷ []) a b h p q = absurd (omega arith)
 two_texts (x ∷ y ∷ []) a b h p q = cc
 two_texts (x ∷ y ∷ z ∷ ws) a b h p q = absurd (omega arith)
+
+pub four_texts : (ws : List (String Global)) (a b d e : String Global) → length ws ≡ 4 → a ≡ get_or ws 0 a → b ≡ get_or ws 1 b → d ≡ get_or ws 2 d → e ≡ get_or ws 3 e
+    → texts ws ≡ string_bytes a ∷ string_bytes b ∷ string_bytes d ∷ string_bytes e ∷ []
+four_texts [] a b d e h p q r s = absurd (omega arith)
+four_texts (x ∷ []) a b d e h p q r s = absurd (omega arith)
+four_texts (x ∷ y ∷ []) a b d e h p q r s = absurd (omega arith)
+four_texts (x ∷ y ∷ z ∷ []) a b d e h p q r s = absurd (omega arith)
+four_texts (x ∷ y ∷ z ∷ v ∷ []) a b d e h p q r s = cc
+four_texts (x ∷ y ∷ z ∷ v ∷ w ∷ ws) a b d e h p q r s = absurd (omega arith)
 
 -- ---- reads
 
@@ -103,7 +114,29 @@ pub compile_answers : (files : Option Files) (words : List Bytes) (path : Bytes)
     → IsJudged ends → ((file : Bytes) → AnswersFor (Some file) most_file_bytes found → Compiled file ends bytes) → IsAnswer files words ends bytes
 compile_answers files words path found ends bytes c there is j = other ends bytes is (λ u. u.no_compile path c) (told_compiled files words path found ends bytes c there j)
 
+told_replayed : (files : Option Files) (words : List Bytes) (g s : Bytes) (order : List ℕ) (ends : Status) (bytes : Bytes) → AsksReplay words g s order
+    → ((known : Files) → files ≡ Some known → Replays known g s order ends bytes) → Told files (λ known. Answers known words ends bytes)
+told_replayed None words g s order ends bytes asks r = tt
+told_replayed (Some known) words g s order ends bytes asks r = replayed g s order ends bytes asks (r known refl)
+
+pub replay_answers : (files : Option Files) (words : List Bytes) (g s : Bytes) (order : List ℕ) (ends : Status) (bytes : Bytes) → AsksReplay words g s order → IsJudged ends
+    → ((known : Files) → files ≡ Some known → Replays known g s order ends bytes) → IsAnswer files words ends bytes
+replay_answers files words g s order ends bytes asks is r = other ends bytes is (λ u. u.no_replay g s order asks) (told_replayed files words g s order ends bytes asks r)
+
 -- ---- results
+
+pub replayed_ok : (r : Result Answer Stop) (files : Option Files) (words : List Bytes) (g s : Bytes) (order : List ℕ) → AsksReplay words g s order
+    → IfOk r (λ a. IsJudged a.status) → IfOk r (λ a. (known : Files) → files ≡ Some known → Replays known g s order a.status a.bytes.items)
+    → IfOk r (λ a. IsAnswer files words a.status a.bytes.items)
+replayed_ok (Ok a) files words g s order asks is j = replay_answers files words g s order a.status a.bytes.items asks is j
+replayed_ok (Err stop) files words g s order asks is j = tt
+
+-- the replay stops: memory ran out, or a read failed
+pub replay_stopped : (r : Result Answer Stop) (files : Option Files) (words : List Bytes) (g s : Bytes) (order : List ℕ) (rose : Type 0) → AsksReplay words g s order
+    → IfErr r (λ stop. (stop ≡ Memory) ⊎ ((stop ≡ Read) × rose)) → IfErr r (Stopped files words rose)
+replay_stopped (Ok a) files words g s order rose asks h = tt
+replay_stopped (Err stop) files words g s order rose asks (inl memory) = subst (Stopped files words rose) (sym memory) tt
+replay_stopped (Err stop) files words g s order rose asks (inr read) = subst (Stopped files words rose) (sym read.0) (read.1, (λ u. u.no_replay g s order asks))
 
 pub compiled_ok : (r : Result Answer Stop) (files : Option Files) (words : List Bytes) (path : Bytes) (found : Found) → Compiles words path → Told files (IsThere path most_file_bytes found)
     → IfOk r (λ a. IsJudged a.status) → IfOk r (λ a. (file : Bytes) → AnswersFor (Some file) most_file_bytes found → Compiled file a.status a.bytes.items)
@@ -128,7 +161,7 @@ pub absent_answer : (files : Option Files) (words : List Bytes) (rose : Type 0) 
 absent_answer files words rose stop path s b is stopped ends line =
     let h : Stopped files words rose (Absent path) = subst (Stopped files words rose) is stopped in
     subst (λ (e : Status). IsAnswer files words e b) (sym ends) (subst (λ (w : Bytes). IsAnswer files words status.Absent w) (sym line)
-    (other status.Absent (absent_line path.now) (inr (inr (inl refl))) h.0 h.1))
+    (other status.Absent (absent_line path.now) (inr (inr (inr (inl refl)))) h.0 h.1))
 
 -- ---- what is known of an answer
 
@@ -136,6 +169,18 @@ absent_answer files words rose stop path s b is stopped ends line =
 answer_of : (files : Option Files) (known : Files) (words : List Bytes) (ends : Status) (bytes : Bytes) → files ≡ Some known → IsAnswer files words ends bytes → Answers known words ends bytes
 answer_of files known words _ _ is (misused u) = usage u
 answer_of files known words _ _ is (other ends bytes j n told) = subst (λ (f : Option Files). Told f (λ k. Answers k words ends bytes)) is told
+
+-- no status that the files decide is that of a wrong usage
+no_usage : (ends : Status) → IsJudged ends → number_of ends ≡ 1 → ⊥
+no_usage ends (inl is) e = let x : 0 ≡ 1 = subst (λ (s : Status). number_of s ≡ 1) is e in omega (arith, x)
+no_usage ends (inr (inl is)) e = let x : 5 ≡ 1 = subst (λ (s : Status). number_of s ≡ 1) is e in omega (arith, x)
+no_usage ends (inr (inr (inl is))) e = let x : 7 ≡ 1 = subst (λ (s : Status). number_of s ≡ 1) is e in omega (arith, x)
+no_usage ends (inr (inr (inr (inl is)))) e = let x : 8 ≡ 1 = subst (λ (s : Status). number_of s ≡ 1) is e in omega (arith, x)
+no_usage ends (inr (inr (inr (inr is)))) e = let x : 9 ≡ 1 = subst (λ (s : Status). number_of s ≡ 1) is e in omega (arith, x)
+
+pub answer_usage : (files : Option Files) (words : List Bytes) (s : Status) (b : Bytes) → IsAnswer files words s b → number_of s ≡ 1 → IsUsage words × (b ≡ usage_line)
+answer_usage files words _ _ (misused u) e = (u, refl)
+answer_usage files words _ _ (other ends bytes is n told) e = absurd (no_usage ends is e)
 
 pub answer_exact : ((files : Files) (words : List Bytes) (s t : Status) (b c : Bytes) → Answers files words s b → Answers files words t c → s ≡ t)
     → (files : Option Files) (known : Files) (words : List Bytes) (s s2 : Status) (b b2 : Bytes) → files ≡ Some known → IsAnswer files words s b → Answers known words s2 b2 → s ≡ s2
@@ -148,6 +193,10 @@ answer_complete done files known words s b is clean a = done known words s b cle
 pub answer_compilable : ((files : Files) (words : List Bytes) (s : Status) (b : Bytes) → IsCompilable files words → Answers files words s b → s ≡ status.Done)
     → (files : Option Files) (known : Files) (words : List Bytes) (s : Status) (b : Bytes) → files ≡ Some known → IsCompilable known words → IsAnswer files words s b → s ≡ status.Done
 answer_compilable done files known words s b is clean a = done known words s b clean (answer_of files known words s b is a)
+
+pub answer_replayable : ((files : Files) (words : List Bytes) (s : Status) (b : Bytes) → CanReplay files words → Answers files words s b → s ≡ status.Done)
+    → (files : Option Files) (known : Files) (words : List Bytes) (s : Status) (b : Bytes) → files ≡ Some known → CanReplay known words → IsAnswer files words s b → s ≡ status.Done
+answer_replayable done files known words s b is can a = done known words s b can (answer_of files known words s b is a)
 
 pub answer_prefix : (files : Option Files) (words : List Bytes) (s : Status) (b : Bytes) (old new : Option Bytes) → IsAnswer files words s b → AppendsPrefix old new b → Told files (λ known. WritesPrefix known words old new)
 answer_prefix None words s b old new a prefix = tt

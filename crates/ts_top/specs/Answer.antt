@@ -1,12 +1,11 @@
 -- The answer of the program: which status and which bytes the words and the files come to.
 use Rattle.std.specs.Prelude.{◌≡◌, ℕ, ◌<◌, ◌≤◌, ◌⊎◌, List, [], ◌∷◌, length, map, Option, Some, None, String, string_bytes, codes}
 use Rattle.std.specs.declared.alloc.Global.{Global}
-use Rattle.serde_json.specs.Data.{string}
 use Rattle.ts_base.specs.Bytes.{Bytes}
 use Rattle.ts_core.specs.declared.flat.FlatGrammar.{FlatGrammar}
 use Rattle.ts_core.specs.declared.limits.Limited.TheVariants.{File}
 use Rattle.spec_runs.specs.Outcomes.{FreshOutcome, Fresh}
-use Rattle.spec_output.specs.Faults.{absent_line, at_line, broken_line, usage_line}
+use Rattle.spec_output.specs.Faults.{absent_line, broken_line, usage_line}
 use Rattle.spec_output.specs.GrammarFaults.{limit_line}
 use Rattle.spec_output.specs.Outcomes.{parse_line}
 use Rattle.spec_output.specs.declared.status.Status.{Status}
@@ -15,9 +14,10 @@ use Rattle.ts_io.specs.Outside.{Files, file_at, Appends, AppendsPrefix}
 use Rattle.ts_text.specs.Text.{IsText, BreaksAt}
 use Rattle.ts_print.specs.Printed.{shown_outcome}
 use Rattle.ts_front.specs.Compiled.{IsCompiled, IsRefusalLine}
-use Rattle.ts_front.specs.Grammars.{IsFormOf}
-use Rattle.ts_front.specs.Tables.{HasTable}
-use Rattle.ts_top.specs.Limits.{most_file_bytes, most_text_bytes}
+use Rattle.ts_turns.specs.Turns.{Spells}
+use Rattle.ts_session.specs.Grammars.{Builds, size_line}
+use Rattle.ts_session.specs.Replays.{Replays, IsReplayable}
+use Rattle.ts_session.specs.Limits.{most_file_bytes, most_text_bytes}
 
 -- the words, as bytes
 abbrev pub texts : List (String Global) → List Bytes
@@ -33,10 +33,18 @@ Parses words grammar text = words ≡ codes "parse" ∷ grammar ∷ text ∷ []
 abbrev pub Compiles : List Bytes → Bytes → Type 0
 Compiles words grammar = words ≡ codes "compile" ∷ grammar ∷ []
 
+-- the words ask to replay the script at a path by the grammar at another, in an order of clients
+pub record AsksReplay (words : List Bytes) (grammar script : Bytes) (order : List ℕ) : Type 0 where
+  pub word : Bytes
+  pub words_are : words ≡ codes "replay" ∷ grammar ∷ script ∷ word ∷ []
+  pub spells : Spells word order
+
 -- the words have none of the forms
 pub record IsUsage (words : List Bytes) : Type 0 where
   pub no_parse : (grammar text : Bytes) → Parses words grammar text → ⊥
   pub no_compile : (grammar : Bytes) → Compiles words grammar → ⊥
+  pub no_replay : (grammar script : Bytes) (order : List ℕ)
+      → AsksReplay words grammar script order → ⊥
 
 -- ---- what stands at the paths
 
@@ -63,17 +71,7 @@ pub record IsAbsent (files : Files) (words : List Bytes) (path : Bytes) : Type 0
 abbrev pub outcome_line : FlatGrammar → Bytes → FreshOutcome → Bytes
 outcome_line f text o = parse_line (shown_outcome f text o)
 
--- the text at the path is too large
-abbrev pub size_line : Bytes → Bytes
-size_line path = at_line (string path) (codes "text size") status.Text
-
 -- ---- the answer
-
--- the file is not too large, stands for this grammar, and the grammar has a parse table
-pub record Builds (file : Bytes) (f : FlatGrammar) : Type 0 where
-  pub small : length file ≤ most_file_bytes
-  pub is_form : IsFormOf file f
-  pub table : HasTable f
 
 -- What a grammar file and a text come to, and what is printed of it: the status and the bytes. The
 -- grammar is judged first.
@@ -110,6 +108,9 @@ pub data Answers (files : Files) (words : List Bytes) : Status → Bytes → Typ
       → Answers files words status.Absent (absent_line path)
   compiled : (path file : Bytes) (ends : Status) (bytes : Bytes) → Compiles words path
       → file_at files path ≡ Some file → Compiled file ends bytes → Answers files words ends bytes
+  replayed : (grammar script : Bytes) (order : List ℕ) (ends : Status) (bytes : Bytes)
+      → AsksReplay words grammar script order → Replays files grammar script order ends bytes
+      → Answers files words ends bytes
 
 -- Both files are there, the grammar has a parse table, and the text is one: nothing stands in the
 -- way of an outcome.
@@ -131,6 +132,14 @@ pub record IsCompilable (files : Files) (words : List Bytes) : Type 0 where
   pub small : length file ≤ most_file_bytes
   pub bytes : Bytes
   pub is_compiled : IsCompiled file bytes
+
+-- The words ask to replay a script, and nothing stands in the way of a run.
+pub record CanReplay (files : Files) (words : List Bytes) : Type 0 where
+  pub grammar : Bytes
+  pub script : Bytes
+  pub order : List ℕ
+  pub asks : AsksReplay words grammar script order
+  pub replayable : IsReplayable files grammar script
 
 -- ---- what the sink is given
 

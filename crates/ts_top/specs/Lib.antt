@@ -1,4 +1,3 @@
 pub mod Answer
-pub mod Limits
 pub mod Status
 pub mod Stops

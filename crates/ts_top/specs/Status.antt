@@ -2,12 +2,11 @@
 use Rattle.std.specs.Prelude.{◌≡◌, ℕ, ◌⊎◌}
 use Rattle.spec_output.specs.Status.{number_of}
 use Rattle.spec_output.specs.declared.status.Status.{Status}
-use Rattle.spec_output.specs.declared.status.Status.TheVariants.{ReadFault, WriteFault, OutOfMemory, Query, Script}
+use Rattle.spec_output.specs.declared.status.Status.TheVariants.{ReadFault, WriteFault, OutOfMemory, Query}
 
--- no word of this program has a query or a script yet
+-- no word of this program has a query yet
 abbrev pub IsEnd : Status → Type 0
 IsEnd Query = ⊥
-IsEnd Script = ⊥
 IsEnd _ = Unit {0}
 
 -- The number is that of a status that words end with.

@@ -1,5 +1,5 @@
 -- Answers where the files may not be told, and what a stop says.
-use Rattle.std.specs.Prelude.{◌≡◌, ◌<◌, ℕ, ◌⊎◌, List, length, Option, Some, None}
+use Rattle.std.specs.Prelude.{◌≡◌, ◌<◌, ℕ, List, length, Option, Some, None}
 use Rattle.ts_base.specs.Bytes.{Bytes}
 use Rattle.ts_io.specs.Outside.{Files, file_at}
 use Rattle.ts_io.specs.Read.{AnswersFor}
@@ -10,16 +10,11 @@ use Rattle.spec_output.specs.declared.status.Status.TheVariants as status
 use Rattle.ts_text.specs.Text.{BreaksAt}
 use Rattle.ts_text.specs.declared.text.TextFault.{TextFault}
 use Rattle.ts_text.specs.declared.text.TextFault.TheVariants as text
+use Rattle.ts_session.specs.Replays.{IsJudged}
 use Rattle.ts_top.specs.Answer.{Answers, IsUsage, Told}
-use Rattle.ts_top.specs.Limits.{most_file_bytes, most_text_bytes}
+use Rattle.ts_session.specs.Limits.{most_file_bytes, most_text_bytes}
 use Rattle.ts_top.specs.declared.stop.Stop.{Stop}
 use Rattle.ts_top.specs.declared.stop.Stop.TheVariants.{Usage, Absent, Read, Memory}
-
--- a status that the files decide
-abbrev pub IsJudged : Status → Type 0
-IsJudged ends =
-    (ends ≡ status.Done)
-    ⊎ ((ends ≡ status.Grammar) ⊎ ((ends ≡ status.Absent) ⊎ (ends ≡ status.Text)))
 
 -- The words alone show a wrong usage. Each other answer is that of the words and the files.
 pub data IsAnswer (files : Option Files) (words : List Bytes) : Status → Bytes → Type 0 where

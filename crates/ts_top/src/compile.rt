@@ -7,16 +7,16 @@ ghost use Rattle.ts_base.specs.Bytes.{Bytes};
 ghost use Rattle.ts_core.specs.declared.limits.Limited.TheVariants.{File};
 ghost use Rattle.ts_io.specs.Read.{AnswersFor, KeepsLimit};
 ghost use Rattle.ts_top.specs.Answer.{Compiled};
-ghost use Rattle.ts_top.specs.Stops.{IsJudged};
-ghost use Rattle.ts_top.specs.Limits.{most_file_bytes};
+ghost use Rattle.ts_session.specs.Replays.{IsJudged};
+ghost use Rattle.ts_session.specs.Limits.{most_file_bytes};
 ghost use Rattle.ts_top.specs.declared.stop.Stop.TheVariants.{Memory};
 
-use crate::answer::Answer;
 use crate::stop::Stop;
 use spec_output::Status;
 use std::alloc::{AllocError, Global};
 use ts_front::{Uncompiled, language_file};
 use ts_io::Found;
+use ts_session::Answer;
 
 /// The most bytes that are read of a grammar file or a language file: 64 MiB.
 pub(crate) const MOST_FILE_BYTES: u64 = 67_108_864;

@@ -6,12 +6,13 @@ ghost use Rattle.ts_base.specs.Bytes.{Bytes};
 ghost use Rattle.ts_core.specs.declared.flat.FlatGrammar.{FlatGrammar as AnyForm};
 ghost use Rattle.ts_io.specs.Read.{AnswersFor, KeepsLimit};
 ghost use Rattle.ts_text.specs.Text.{IsText};
-ghost use Rattle.ts_top.specs.Answer.{Builds, Judged};
-ghost use Rattle.ts_top.specs.Limits.{most_file_bytes, most_text_bytes};
-ghost use Rattle.ts_top.specs.Stops.{AreRead, IsJudged, IsTextFault};
+ghost use Rattle.ts_session.specs.Grammars.{Builds};
+ghost use Rattle.ts_top.specs.Answer.{Judged};
+ghost use Rattle.ts_session.specs.Limits.{most_file_bytes, most_text_bytes};
+ghost use Rattle.ts_session.specs.Replays.{IsJudged};
+ghost use Rattle.ts_top.specs.Stops.{AreRead, IsTextFault};
 ghost use Rattle.ts_top.specs.declared.stop.Stop.TheVariants.{Memory};
 
-use crate::answer::Answer;
 use crate::compile::too_large;
 use crate::outcome::line_of;
 use crate::stop::Stop;
@@ -19,6 +20,7 @@ use spec_output::Status;
 use std::alloc::{AllocError, Global};
 use ts_front::{Uncompiled, table_in};
 use ts_io::Found;
+use ts_session::Answer;
 use ts_table::Table;
 use ts_text::{Text, TextFault};
 

@@ -4,10 +4,11 @@ ghost use Rattle.ts_base.specs.Bytes.{Bytes};
 ghost use Rattle.ts_io.specs.Outside.{Files};
 ghost use Rattle.spec_output.specs.declared.status.Status.{Status as AnyStatus};
 ghost use Rattle.spec_output.specs.declared.status.Status.TheVariants.{Done};
-ghost use Rattle.ts_top.specs.Answer.{Answers, Compiles, IsClean, IsCompilable};
+ghost use Rattle.ts_top.specs.Answer.{Answers, Compiles, IsClean, IsCompilable, CanReplay};
 
-/// The same words and files come to one status, and to one list of bytes but for the line of a tree,
-/// where two trees may be equally good.
+/// The same words and files come to one status, and to one list of bytes but for the line of a tree
+/// and the print of a run: two trees may be equally good, and memory may be wanting at each step of
+/// a run.
 pub fn answers_once()
     ensures status { (files : Files) (words : List Bytes) (s t : AnyStatus) (b c : Bytes)
         → Answers files words s b → Answers files words t c → s ≡ t }
@@ -19,17 +20,23 @@ pub fn answers_once()
 {
     ts_text::breaks_once();
     ts_front::one_compilation();
-    ts_front::one_answer();
+    ts_turns::spelled_once();
+    ts_session::replays_once();
 }
 
-/// Where nothing stands in the way of an outcome, or of a language file, the program is done.
+/// Where nothing stands in the way of an outcome, of a language file or of a run, the program is
+/// done.
 pub fn clean_is_done()
     ensures parsed { (files : Files) (words : List Bytes) (status : AnyStatus) (bytes : Bytes)
         → IsClean files words → Answers files words status bytes → status ≡ Done }
     ensures compiled { (files : Files) (words : List Bytes) (status : AnyStatus) (bytes : Bytes)
         → IsCompilable files words → Answers files words status bytes → status ≡ Done }
+    ensures replayed { (files : Files) (words : List Bytes) (status : AnyStatus) (bytes : Bytes)
+        → CanReplay files words → Answers files words status bytes → status ≡ Done }
 {
     ts_text::breaks_once();
     ts_front::one_compilation();
-    ts_front::one_answer();
+    ts_turns::spelled_once();
+    ts_session::replays_once();
+    ts_session::replayable_is_done();
 }

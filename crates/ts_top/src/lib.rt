@@ -1,12 +1,12 @@
 //! The one public call of the program, `run`, over its private parts.
 #![tactic(auto)]
 
-mod answer;
 mod compile;
 mod judge;
 mod laws;
 mod outcome;
 mod program;
+mod replay;
 mod stop;
 
 pub use laws::{answers_once, clean_is_done};

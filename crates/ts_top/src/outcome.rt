@@ -3,7 +3,7 @@ ghost use Rattle.std.specs.Prelude.{◌≡◌, ◌≤◌, length, string_bytes, 
 ghost use Rattle.spec_runs.specs.Outcomes.{FreshOutcome, Fresh};
 ghost use Rattle.ts_glr.specs.Outcomes.{value_of_outcome};
 ghost use Rattle.ts_top.specs.Answer.{outcome_line};
-ghost use Rattle.ts_top.specs.Limits.{most_text_bytes};
+ghost use Rattle.ts_session.specs.Limits.{most_text_bytes};
 
 use std::alloc::{AllocError, Global};
 use ts_glr::{Outcome, parse};

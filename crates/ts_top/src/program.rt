@@ -7,20 +7,21 @@ ghost use Rattle.spec_output.specs.declared.status.Status.{Status as AnyStatus};
 ghost use Rattle.spec_output.specs.declared.status.Status.TheVariants as ends;
 ghost use Rattle.ts_io.specs.Outside.{Files, Rose, Appends, AppendsPrefix};
 ghost use Rattle.ts_io.specs.Read.{KeepsLimit};
-ghost use Rattle.ts_top.specs.Answer.{texts, IsUsage, Parses, Compiles, Answers, IsClean, IsCompilable, Told, Writes, WritesPrefix};
+ghost use Rattle.ts_top.specs.Answer.{texts, IsUsage, Parses, Compiles, Answers, IsClean, IsCompilable, CanReplay, Told, Writes, WritesPrefix};
 ghost use Rattle.ts_top.specs.Status.{IsStatus, IsCutShort};
 ghost use Rattle.ts_top.specs.Stops.{IsAnswer, Stopped, ReadStopped, IsThere};
 
-use crate::answer::Answer;
 use crate::compile::{MOST_FILE_BYTES, compiled};
 use crate::judge::judge;
 use crate::laws::{answers_once, clean_is_done};
+use crate::replay::replay;
 use crate::stop::Stop;
 use spec_output::Status;
 use std::alloc::{AllocError, Global};
 use thiserror::Error;
 use ts_io::{Folder, Found, ReadFault, Sink, WriteFault, put};
 use ts_lines::number;
+use ts_session::Answer;
 
 /// The most bytes that a text has: 1 MiB.
 const MOST_TEXT_BYTES: u64 = ts_text::MOST_BYTES as u64;
@@ -45,10 +46,12 @@ impl From<AllocError> for Unanswered {
 }
 
 /// Runs the program on its words: `parse GRAMMAR TEXT` writes the outcome of parsing the text as
-/// one line, and `compile GRAMMAR` the language file of a grammar.
+/// one line, `compile GRAMMAR` the language file of a grammar, and `replay GRAMMAR SCRIPT ORDER` the
+/// versions and replies of a script's clients, whose steps are run in an order on one thread.
 ///
 /// It answers the number of a `Status`. The words are judged before any file is read, and GRAMMAR
-/// is read before TEXT. At `Usage`, `Grammar`, `Absent` and `Text` a line that says so is written.
+/// is read before TEXT or SCRIPT. At `Usage`, `Grammar`, `Script`, `Absent` and `Text` a line that
+/// says so is written.
 /// `ReadFault` and `WriteFault` come only where a read or a write failed in this call.
 /// `OutOfMemory` may come at any time.
 pub fn run<R: AllocGlobal, F: Folder, S: Sink>(
@@ -66,6 +69,8 @@ pub fn run<R: AllocGlobal, F: Folder, S: Sink>(
         × Appends (S.taken sink.old) (S.taken sink.new) usage_line }
     ensures grammar { result ≡ number_of ends.Grammar → Told (F.files folder.old) (λ files.
         Writes files (texts words.now) ends.Grammar (S.taken sink.old) (S.taken sink.new)) }
+    ensures script { result ≡ number_of ends.Script → Told (F.files folder.old) (λ files.
+        Writes files (texts words.now) ends.Script (S.taken sink.old) (S.taken sink.new)) }
     ensures absent { result ≡ number_of ends.Absent → Told (F.files folder.old) (λ files.
         Writes files (texts words.now) ends.Absent (S.taken sink.old) (S.taken sink.new)) }
     ensures text { result ≡ number_of ends.Text → Told (F.files folder.old) (λ files.
@@ -90,6 +95,11 @@ pub fn run<R: AllocGlobal, F: Folder, S: Sink>(
         ⊎ IsCutShort result }
     ensures complete { (files : Files) → F.files folder.old ≡ Some files
         → IsClean files (texts words.now)
+        → (Rose (F.faults folder.old) (F.faults folder.new) → ⊥)
+        → (Rose (S.faults sink.old) (S.faults sink.new) → ⊥)
+        → (result ≡ number_of ends.Done) ⊎ (result ≡ number_of ends.OutOfMemory) }
+    ensures replayable { (files : Files) → F.files folder.old ≡ Some files
+        → CanReplay files (texts words.now)
         → (Rose (F.faults folder.old) (F.faults folder.new) → ⊥)
         → (Rose (S.faults sink.old) (S.faults sink.new) → ⊥)
         → (result ≡ number_of ends.Done) ⊎ (result ≡ number_of ends.OutOfMemory) }
@@ -184,7 +194,28 @@ fn done<'a, F: Folder>(
 {
     match compile_path(words) {
         Some(path) => compile(alloc, words, folder, path),
-        None => parse(alloc, words, folder),
+        None => parse_or_replay(alloc, words, folder),
+    }
+}
+
+/// Parses or replays, where the words ask for it.
+fn parse_or_replay<'a, F: Folder>(
+    alloc: Global,
+    words: &'a [String],
+    folder: &mut F,
+) -> Result<Answer, Stop<'a>>
+    requires { (path : Bytes) → Compiles (texts words.now) path → ⊥ }
+    ensures answers { IfOk result (λ answer.
+        IsAnswer (F.files folder.old) (texts words.now) answer.status answer.bytes.items) }
+    ensures stop { IfErr result (λ stop. Stopped (F.files folder.old) (texts words.now)
+        (Rose (F.faults folder.old) (F.faults folder.new)) stop) }
+    ensures unread { IsUsage (texts words.now) → folder.new ≡ folder.old }
+    ensures files { F.files folder.new ≡ F.files folder.old }
+    ensures later { F.faults folder.old ≤ F.faults folder.new }
+{
+    match paths_in(words) {
+        Some(paths) => parse(alloc, words, folder, paths),
+        None => replay(alloc, words, folder),
     }
 }
 
@@ -209,24 +240,21 @@ fn compile<'a, F: Folder>(
     }
 }
 
-/// Parses, where the words ask for it.
+/// Parses the text at a path by the grammar at another.
 fn parse<'a, F: Folder>(
     alloc: Global,
-    words: &'a [String],
+    words: &[String],
     folder: &mut F,
+    paths: Paths<'a>,
 ) -> Result<Answer, Stop<'a>>
-    requires { (path : Bytes) → Compiles (texts words.now) path → ⊥ }
+    requires { Parses (texts words.now) paths.grammar.now paths.text.now }
     ensures answers { IfOk result (λ answer.
         IsAnswer (F.files folder.old) (texts words.now) answer.status answer.bytes.items) }
     ensures stop { IfErr result (λ stop. Stopped (F.files folder.old) (texts words.now)
         (Rose (F.faults folder.old) (F.faults folder.new)) stop) }
-    ensures unread { IsUsage (texts words.now) → folder.new ≡ folder.old }
     ensures files { F.files folder.new ≡ F.files folder.old }
     ensures later { F.faults folder.old ≤ F.faults folder.new }
 {
-    let Some(paths) = paths_in(words) else {
-        return Err(Stop::Usage);
-    };
     let grammar = read(alloc, folder, paths.grammar, MOST_FILE_BYTES)?;
     let text = read(alloc, folder, paths.text, MOST_TEXT_BYTES)?;
     judge(alloc, &grammar, &text, paths.text)

@@ -1,4 +1,4 @@
-use Rattle.ts_top.specs.Limits.{most_file_bytes}
+use Rattle.ts_session.specs.Limits.{most_file_bytes}
 use Rattle.ts_top.proofs.JudgeLemmas.{answer_of_ok, compiled_over, no_absence}
 use Rattle.ts_top.proofs.compile.compiled.Goals as goal
 

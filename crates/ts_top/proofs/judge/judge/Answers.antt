@@ -1,4 +1,4 @@
-use Rattle.ts_top.specs.Limits.{most_file_bytes}
+use Rattle.ts_session.specs.Limits.{most_file_bytes}
 use Rattle.ts_top.proofs.JudgeLemmas.{by_grammar_ok, judged_over, no_absence}
 use Rattle.ts_top.proofs.judge.judge.Goals as goal
 
