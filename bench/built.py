@@ -1,16 +1,21 @@
-"""Builds a program over the proved crates, in a copy of them, and runs it."""
+"""Builds a program over the proved crates, in a copy of them, runs it, and measures beside Python's json.loads."""
+import json
 import os
 import resource
 import shutil
 import subprocess
 import sys
+import time
 
 TOP = os.path.dirname(os.path.dirname(os.path.abspath(__file__)))
 
 
 def copied(folder, name, below, program):
-    """A copy of the crates with a program beside them."""
-    shutil.copytree(f"{TOP}/crates", f"{folder}/crates", ignore=shutil.ignore_patterns("must-fail", "out"))
+    """A copy of the crates with a program beside them.
+
+    What `rt check` and `rt lib` kept goes with it, so that only the program is new where all below it is proved.
+    """
+    shutil.copytree(f"{TOP}/crates", f"{folder}/crates", ignore=shutil.ignore_patterns("must-fail"))
     with open(f"{TOP}/crates.txt") as lines, open(f"{folder}/crates.txt", "w") as out:
         out.write(lines.read() + f"{name}: {below}\n")
     home = f"{folder}/crates/{name}"
@@ -56,3 +61,26 @@ def run(program, *words, stack=None):
         text = child.stdout.read()
         _, status, used = os.wait4(child.pid, 0)
     return text.strip(), used.ru_maxrss * 1024, status
+
+
+def spent():
+    """The processor time of all children, in microseconds."""
+    used = resource.getrusage(resource.RUSAGE_CHILDREN)
+    return (used.ru_utime + used.ru_stime) * 1e6
+
+
+def round_time(program, rounds, *words):
+    """What the program prints for so many rounds, and the processor time of one in microseconds."""
+    start = spent()
+    run(program, "0", *words)
+    once = spent() - start
+    printed = run(program, str(rounds), *words)[0]
+    return printed, (spent() - start - 2 * once) / rounds
+
+
+def loads(text, rounds):
+    """The processor time of Python's json.loads, in microseconds."""
+    start = time.process_time()
+    for _ in range(rounds):
+        json.loads(text)
+    return (time.process_time() - start) * 1e6 / rounds

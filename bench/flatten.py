@@ -8,15 +8,12 @@ of `bench/grammar.py` with 250, 500, 1,000 and 2,000 rules, on wide ones, and on
 ROUNDS is 10 if none is given. The times of the parts are the best of them by the clock. The whole, and json.loads
 beside it, is processor time, as a mean, so that other work on the machine counts little.
 """
-import json
-import resource
 import sys
 import tempfile
-import time
 
 sys.dont_write_bytecode = True
 import grammar
-from built import built, copied, run, trusting
+from built import built, copied, loads, run, spent, trusting
 
 NAME = "bench_flatten"
 BELOW = (
@@ -139,20 +136,6 @@ MORE_PATTERNS = (("pattern", ".{0,8193}"), ("pattern", "((a{100}){100}){100}"), 
 def told(count):
     """What the program's last number tells."""
     return {LIMIT: "refused: a limit", REFUSED: "refused"}.get(count, f"{count} rules and repetitions")
-
-
-def loads(text, rounds):
-    """The processor time of Python's json.loads, in microseconds."""
-    start = time.process_time()
-    for _ in range(rounds):
-        json.loads(text)
-    return (time.process_time() - start) * 1e6 / rounds
-
-
-def spent():
-    """The processor time of all children, in microseconds."""
-    used = resource.getrusage(resource.RUSAGE_CHILDREN)
-    return (used.ru_utime + used.ru_stime) * 1e6
 
 
 def main():
