@@ -10,12 +10,21 @@ import time
 TOP = os.path.dirname(os.path.dirname(os.path.abspath(__file__)))
 
 
+def linked(source, target):
+    """Gives a file a second name, or a copy where the target is on another disk."""
+    try:
+        os.link(source, target)
+    except OSError:
+        shutil.copy2(source, target)
+
+
 def copied(folder, name, below, program):
     """A copy of the crates with a program beside them.
 
-    What `rt check` and `rt lib` kept goes with it, so that only the program is new where all below it is proved.
+    The libraries that `rt lib` built go with it, so that only the program is new where all below it is proved.
     """
-    shutil.copytree(f"{TOP}/crates", f"{folder}/crates", ignore=shutil.ignore_patterns("must-fail"))
+    left_out = shutil.ignore_patterns("must-fail", "incremental")
+    shutil.copytree(f"{TOP}/crates", f"{folder}/crates", ignore=left_out, copy_function=linked)
     with open(f"{TOP}/crates.txt") as lines, open(f"{folder}/crates.txt", "w") as out:
         out.write(lines.read() + f"{name}: {below}\n")
     home = f"{folder}/crates/{name}"
