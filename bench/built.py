@@ -18,8 +18,8 @@ def linked(source, target):
         shutil.copy2(source, target)
 
 
-def copied(folder, name, below, program):
-    """A copy of the crates with a program beside them.
+def copied(folder, name, below, program, proofs=None):
+    """A copy of the crates with a program beside them, and what its proofs need, by file.
 
     The libraries that `rt lib` built go with it, so that only the program is new where all below it is proved.
     """
@@ -31,6 +31,10 @@ def copied(folder, name, below, program):
     os.makedirs(f"{home}/src")
     with open(f"{home}/src/main.rt", "w") as out:
         out.write(program)
+    for file, text in (proofs or {}).items():
+        os.makedirs(os.path.dirname(f"{home}/proofs/{file}"), exist_ok=True)
+        with open(f"{home}/proofs/{file}", "w", encoding="utf-8") as out:
+            out.write(text)
     subprocess.run(["git", "init", "-q", folder], check=True)
     return home
 
