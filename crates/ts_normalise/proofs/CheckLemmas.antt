@@ -1,20 +1,18 @@
 -- What the rule trees of a grammar alone refuse, cause by cause, and causes one after another.
-use Rattle.std.proofs.Common.{◌≡◌, ◌∙◌, sym, ap, subst, refl, inl, inr, ⊎_elim, List, [], ◌∷◌, ◌↔◌, Some}
+use Rattle.std.proofs.Common.{◌≡◌, ◌∙◌, sym, ap, subst, refl, inl, inr, ⊎_elim, List, [], ◌∷◌, ◌↔◌}
 use Rattle.std.specs.List.{Contains}
 use Rattle.std.proofs.lemmas.List.Elements.{Contains-append_right, All-contains, All-weaker}
 use Rattle.ts_base.specs.Bytes.{Bytes}
 use Rattle.ts_core.specs.declared.rule.Grammar.{Grammar}
 use Rattle.ts_core.specs.declared.rule.Rule.{Rule}
-use Rattle.ts_rules.specs.Causes.{IsUndefined, IsBadInline, IsBadWord, IsBadExtra, names_of, names_used, rule_names, extra_symbols}
+use Rattle.ts_rules.specs.Causes.{IsUndefined, IsBadInline, IsBadExtra, names_of, names_used, rule_names, extra_symbols}
 use Rattle.ts_rules.specs.FirstSights.{Not, First, Clear, AreFirstSights}
-use Rattle.ts_rules.specs.Names.{BeginsWith, IsAbsent}
-use Rattle.ts_rules.specs.Numbers.{NamesSome}
+use Rattle.ts_rules.specs.Names.{IsAbsent}
 use Rattle.ts_rules.specs.Sights.{NamedRule, Sight, walk, symbols_inside}
 use Rattle.ts_tokens.specs.declared.fault.PatternFault.{PatternFault}
 use Rattle.ts_tokens.specs.declared.fault.PatternFault.TheVariants as pattern_fault
 use Rattle.ts_tokens.specs.declared.inlining.InlineFault.{InlineFault}
 use Rattle.ts_tokens.specs.declared.inlining.InlineFault.TheVariants as inline_fault
-use Rattle.ts_tokens.specs.Extras.{IsFirstBad}
 use Rattle.ts_tokens.specs.Inlining.{IsInlineFault}
 use Rattle.ts_tokens.specs.Patterns.{IsPatternFault, placed_patterns}
 use Rattle.ts_normalise.specs.declared.fault.NFault.{NFault}
@@ -34,13 +32,6 @@ first_cause A B e a caused = inl (a caused)
 
 pub later_cause : (A B : Cause) (e : NFault) → Nothing A → HasCause B e → HasCause (Before A B) e
 later_cause A B e none b caused = inr (none, b caused)
-
--- running out of memory has no cause
-pub of_memory : (A : Cause) (e : NFault) → e ≡ fault.Memory → HasCause A e
-of_memory A e is caused = absurd (caused is)
-
-pub of_cause : (A : Cause) (e : NFault) → A e → HasCause A e
-of_cause A e a caused = a
 
 -- ---- the first with a property
 
@@ -110,10 +101,6 @@ module _ (g : Grammar) where
       let e : [] ≡ f.0 ∷ f.1.0 = sym empty ∙ ap symbols_inside is ∙ f.1.1 in
       absurd cc
 
-  pub inside_found : (seen : List Sight) (name copy : Bytes) → seen ≡ walk g → BeginsWith name (symbols_inside seen) → copy ≡ name → FindsSymbolInToken g (fault.SymbolInToken copy)
-  inside_found seen name copy is begins told =
-      (name, subst (λ (s : List Sight). BeginsWith name (symbols_inside s)) is begins, ap fault.SymbolInToken told)
-
   -- ---- inlined rules, and patterns
 
   pub inline_none : Clear (IsBadInline g) (rule_names g) → Nothing (FindsBadInline g)
@@ -129,25 +116,13 @@ module _ (g : Grammar) where
 
   -- ---- the word, and extras
 
-  pub word_none : ((name : Bytes) → g.word ≡ Some name → NamesSome g name) → Nothing (FindsBadWord g)
-  word_none named found f = f.2 (named f.0 f.1)
-
-  pub word_found : (name copy : Bytes) → (g.word ≡ Some name) × IsBadWord g name → copy ≡ name → FindsBadWord g (fault.BadWord copy)
-  word_found name copy bad told = (name, bad.0, bad.1, ap fault.BadWord told)
-
   pub extra_none : Clear (IsBadExtra g) (extra_symbols g) → Nothing (FindsBadExtra g)
   extra_none clear found f = clear_not_first (IsBadExtra g) (extra_symbols g) f.0 clear f.1
-
-  pub extra_found : (name copy : Bytes) → IsFirstBad g (extra_symbols g) name → copy ≡ name → FindsBadExtra g (fault.NonTerminalExtra copy)
-  extra_found name copy bad told = (bad.0, bad.1, ap fault.NonTerminalExtra (told ∙ bad.2))
 
   -- ---- all of them
 
   pub words_none : Nothing (FindsBadWord g) → Nothing (FindsBadExtra g) → Nothing (FindsInWords g)
   words_none a b = nothing_both (FindsBadWord g) (FindsBadExtra g) a b
-
-  pub by_word : (e : NFault) → HasCause (FindsBadWord g) e → HasCause (FindsInWords g) e
-  by_word e h = first_cause (FindsBadWord g) (FindsBadExtra g) e h
 
   pub by_extras : (e : NFault) → Nothing (FindsBadWord g) → HasCause (FindsBadExtra g) e → HasCause (FindsInWords g) e
   by_extras e none h = later_cause (FindsBadWord g) (FindsBadExtra g) e none h
@@ -166,9 +141,6 @@ module _ (g : Grammar) where
 
   pub trees_none : Nothing (FindsUndefined g) → Nothing (FindsSymbolInToken g) → Nothing (FindsInRules g) → Nothing (FindsInTrees g)
   trees_none a b c = nothing_both (FindsUndefined g) FromTokens a (nothing_both (FindsSymbolInToken g) (FindsInRules g) b c)
-
-  pub by_names : (e : NFault) → HasCause (FindsUndefined g) e → HasCause (FindsInTrees g) e
-  by_names e h = first_cause (FindsUndefined g) FromTokens e h
 
   pub by_tokens : (e : NFault) → Nothing (FindsUndefined g) → HasCause (FindsSymbolInToken g) e → HasCause (FindsInTrees g) e
   by_tokens e none h = later_cause (FindsUndefined g) FromTokens e none (first_cause (FindsSymbolInToken g) (FindsInRules g) e h)

@@ -22,9 +22,9 @@ use Rattle.ts_rules.specs.FirstSights.{Not, Clear}
 use Rattle.ts_rules.specs.Normal.{IsNormal}
 use Rattle.ts_rules.specs.Numbers.{Lists, IsInlined, NamesSome, HasSymbol, IsRepeated, has_steps, tree_of, unnumbered, prec_of, first_rule, first_inlined}
 use Rattle.ts_rules.specs.Sights.{NamedRule, Sight, sights, rule_sights, walk, tokens_in, token_at, if_token, is_token, is_token_layer, contents_in, content_at, content_layer, symbol_layer, fields_in, field_layer, aliases_in, alias_layer, alias, precs_in, prec_layer, ranked_names}
-use Rattle.ts_normalise.proofs.AgreeLemmas.{once_in, walk_has, symbol_used}
+use Rattle.ts_normalise.proofs.UsedLemmas.{once_in, walk_has, symbol_used}
 use Rattle.ts_normalise.proofs.InsideLemmas.{rule_seen, content_seen}
-use Rattle.ts_normalise.proofs.LikeLemmas.{same_steps}
+use Rattle.ts_normalise.proofs.BlankLemmas.{same_steps}
 use Rattle.ts_normalise.proofs.ListLemmas.{at_of, head_in, flat_in, picks_all, picked}
 use Rattle.ts_normalise.proofs.FitTreeLemmas.{IsBounded, AreBounded}
 

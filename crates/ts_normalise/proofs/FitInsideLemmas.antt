@@ -4,18 +4,16 @@ use Rattle.std.specs.List.{Contains}
 use Rattle.std.proofs.lemmas.List.Elements.{Contains-append_cases}
 use Rattle.ts_core.specs.declared.rule.Rule.{Rule}
 use Rattle.ts_core.specs.declared.rule.Rule.TheBlock.{the_family, member-Rule}
-use Rattle.ts_core.specs.declared.rule.Rule.TheFolds.{ind-Rule, map-Rule, claims, para-roll-Rule}
+use Rattle.ts_core.specs.declared.rule.Rule.TheFolds.{ind-Rule, map-Rule, claims}
 use Rattle.ts_core.specs.declared.rule.Rule.TheOpen.{Rule-F}
 use Rattle.ts_core.specs.declared.rule.Rule.TheViews.{roll-Rule, out-Rule, roll-out-Rule}
 use Rattle.ts_rules.specs.Sights.{Sight, SeenBelow, seen_all, below, below_step, sights, sights_within, contents_in, content_at, content_layer, is_token, is_token_layer}
 use Rattle.ts_normalise.proofs.ListLemmas.{none_in, member_cases, in_flat}
+use Rattle.ts_normalise.proofs.InsideLemmas.{seen_below, below_roll}
 use denote.Hole.Holds.{Such}
 
 abbrev AllInside : List Sight → Type 0
 AllInside all = (s : Sight) → Contains all s → s.inside ≡ true
-
-abbrev seen_below : Rule → SeenBelow
-seen_below r = (r, below r)
 
 abbrev IsInside : Rule → Type 0
 IsInside t = AllInside (sights_within t true)
@@ -54,9 +52,6 @@ layer_inside (Rule-F.Prec value e) = inside_of e
 layer_inside (Rule-F.PrecLeft value e) = inside_of e
 layer_inside (Rule-F.PrecRight value e) = inside_of e
 layer_inside (Rule-F.PrecDynamic value e) = inside_of e
-
-below_roll : (x : Rule-F Rule) (inside : Bool) → below (roll-Rule x) inside ≡ below_step (map-Rule Rule SeenBelow seen_below x) inside
-below_roll x inside = ap (λ (f : Bool → List Sight). f inside) (para-roll-Rule (Bool → List Sight) below_step x)
 
 rolled_inside : (y : Rule-F Child) → IsInside (roll-Rule (map-Rule Child Rule inner y))
 rolled_inside y s w =

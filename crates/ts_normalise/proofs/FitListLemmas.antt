@@ -30,7 +30,7 @@ use Rattle.ts_rules.specs.Numbers.{Numbers, Lists, IsInlined, IsRule, NamesSome,
 use Rattle.ts_rules.specs.Productions.{symbol}
 use Rattle.ts_rules.specs.Sights.{NamedRule, precs_in, ranked_name, ranked_rule, ranked_names, walk, tokens_in, rule_sights}
 use Rattle.ts_rules.specs.Tokens.{IsTokenDef, IsNamedBy, IsUnnamed, IsKind}
-use Rattle.ts_normalise.proofs.AgreeLemmas.{once_in, conflict_used, ranked_used, supertype_used}
+use Rattle.ts_normalise.proofs.UsedLemmas.{once_in, conflict_used, ranked_used, supertype_used}
 use Rattle.ts_normalise.proofs.ListLemmas.{there, at_of, head_in, flat_in, picked}
 use Rattle.ts_normalise.proofs.TokenLemmas.{one_token_name}
 use Rattle.ts_normalise.proofs.FitBoundLemmas.{range_stable, token_number, named_number, kept_number, own_place, prec_number}

@@ -17,8 +17,7 @@ use Rattle.ts_rules.specs.Normal.{IsNormal, IsOwnRule, IsRepetition}
 use Rattle.ts_rules.specs.Numbers.{HasSymbol, start_of}
 use Rattle.ts_rules.specs.Productions.{symbol}
 use Rattle.ts_rules.specs.Sights.{NamedRule}
-use Rattle.ts_normalise.proofs.ListLemmas.{at_of}
-use Rattle.ts_normalise.proofs.NormalLemmas.{start_rule}
+use Rattle.ts_normalise.proofs.ListLemmas.{at_of, head_in}
 use Rattle.ts_normalise.proofs.FitBoundLemmas.{own_place}
 use Rattle.ts_normalise.proofs.FitLimitLemmas.{token_count, own_count}
 use Rattle.ts_normalise.proofs.FitRefusalLemmas.{IsUnrefused}
@@ -52,6 +51,14 @@ each_there {X = X} R _ _ (both z y xs ys r rest) zero x e = (y, refl, let h : So
 each_there R _ _ (both z y xs ys r rest) (suc k) x e = each_there R xs ys rest k x e
 
 -- ---- a rule's own tree
+
+-- the start rule is in the file
+pub start_rule : (rules : List NamedRule) (name : Bytes) → start_of rules ≡ Some name → (tree : Rule) × Contains rules (name, tree)
+start_rule [] name e = absurd (let f : None ≡ Some name = e in cc)
+start_rule (r ∷ rules) name e =
+    let f : Some r.0 ≡ Some name = e in
+    let is : r.0 ≡ name = cc in
+    (r.1, subst (λ (n : Bytes). Contains (r ∷ rules) (n, r.1)) is (head_in r rules))
 
 module _ (g : Grammar) (file : IsFileGrammar g) where
   -- a name has one tree

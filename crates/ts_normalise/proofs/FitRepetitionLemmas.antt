@@ -1,5 +1,5 @@
 -- The repetitions of a normal form have the form of one.
-use Rattle.std.proofs.Common.{◌≡◌, ◌∙◌, sym, ap, subst, refl, ℕ, ℤ, ⊎_elim, true, List, [], ◌∷◌, ◌++◌, map, slice_get, Some, arith}
+use Rattle.std.proofs.Common.{◌≡◌, ◌∙◌, sym, ap, subst, refl, ℕ, ℤ, ⊎_elim, List, [], ◌∷◌, ◌++◌, map, slice_get, Some, arith}
 use Rattle.std.specs.List.{Contains}
 use Rattle.std.proofs.lemmas.List.{map-append}
 use Rattle.std.proofs.lemmas.List.Elements.{All-cons, All-contains}
@@ -17,32 +17,21 @@ use Rattle.ts_rules.specs.declared.tree.Alternative.{Alternative}
 use Rattle.ts_rules.specs.declared.tree.NumberedStep.{NumberedStep}
 use Rattle.ts_rules.specs.Alternatives.{Alternatives, alternative, step_at}
 use Rattle.ts_rules.specs.FileGrammar.{IsFileGrammar, IsSmallSight}
-use Rattle.ts_rules.specs.FirstSights.{Not, AreFirstSights, Each, end, both}
+use Rattle.ts_rules.specs.FirstSights.{Not, AreFirstSights}
 use Rattle.ts_rules.specs.Normal.{IsNormal, IsOwner}
-use Rattle.ts_rules.specs.Numbers.{Numbers, Lists, IsInlined, IsRepeated, HasSymbol, unnumbered, alts, outermost}
+use Rattle.ts_rules.specs.Numbers.{Numbers, Lists, IsInlined, IsRepeated, unnumbered, alts, outermost}
 use Rattle.ts_rules.specs.Productions.{AllBecome, Becomes, Stays, stays, replaced, none_left, one_more, IsInner, AreRepeated, again, filled, production, symbol, replaced_by}
-use Rattle.ts_rules.specs.Sights.{NamedRule, sights, rule_sights, walk, contents_in, is_token}
-use Rattle.ts_normalise.proofs.AgreeLemmas.{walk_has}
-use Rattle.ts_normalise.proofs.BecomeLemmas.{So, same_productions}
-use Rattle.ts_normalise.proofs.InsideLemmas.{rule_seen, content_seen}
-use Rattle.ts_normalise.proofs.LikeLemmas.{StepLike, AltsLike, same_steps}
+use Rattle.ts_rules.specs.Sights.{NamedRule, sights, rule_sights, walk, contents_in}
+use Rattle.ts_normalise.proofs.UsedLemmas.{walk_has}
+use Rattle.ts_normalise.proofs.BecomeLemmas.{one_productions}
+use Rattle.ts_normalise.proofs.BlankLemmas.{same_steps}
+use Rattle.ts_normalise.proofs.InsideLemmas.{rule_seen}
 use Rattle.ts_normalise.proofs.ListLemmas.{there, at_of, none_in, picked}
-use Rattle.ts_normalise.proofs.NormalLemmas.{first_in, start_rule}
 use Rattle.ts_normalise.proofs.FitFilledLemmas.{HasSome, AreSmall, some_alternative, all_some, some_filled}
-use Rattle.ts_normalise.proofs.FitInsideLemmas.{token_empty}
-use Rattle.ts_normalise.proofs.FitPlaceLemmas.{one_tree, start_kept, rule_cases, own_symbol, repetition_symbol, own_there, some_own}
+use Rattle.ts_normalise.proofs.OwnerLemmas.{owner_has}
+use Rattle.ts_normalise.proofs.FitPlaceLemmas.{rule_cases, own_symbol, repetition_symbol, own_there, some_own}
 use Rattle.ts_normalise.proofs.FitRefusalLemmas.{IsUnrefused}
 use Rattle.ts_normalise.proofs.FitSightLemmas.{sights_mapped, in_mapped}
-
--- ---- alike to itself
-
-steps_alike : (n : Numbers) (ss : List NumberedStep) → Each (StepLike So n n) ss ss
-steps_alike n [] = end
-steps_alike n (s ∷ ss) = both s s ss ss (λ so. refl) (steps_alike n ss)
-
-alts_alike : (n : Numbers) (ps : Alternatives) → AltsLike So n n ps ps
-alts_alike n [] = end
-alts_alike n (p ∷ ps) = both p p ps ps (record { dynamic = λ so. refl; steps = steps_alike n p.steps }) (alts_alike n ps)
 
 -- ---- two halves
 
@@ -86,12 +75,6 @@ productions_behind n r (p ∷ ps) = ap (λ (qs : List Production). again_after (
 -- ---- the repetitions of a normal form
 
 module _ (g : Grammar) (f : FlatGrammar) (normal : IsNormal Reads g f) (file : IsFileGrammar g) (sane : IsUnrefused g) where
-  content_small : (c : Rule) → Contains normal.lists.contents c → AreSmall (sights c)
-  content_small c w s v =
-      let seen = normal.are_lists.contents in
-      let p = picked IsRepeated (contents_in (rule_sights g)) seen.0 c seen.1 (seen.2.only c w) in
-      All-contains IsSmallSight (walk g) s file.small (walk_has g s (content_seen g c p.0 s v))
-
   rule_small : (r : NamedRule) → Contains g.rules r → AreSmall (sights r.1)
   rule_small r w s v = All-contains IsSmallSight (walk g) s file.small (walk_has g s (rule_seen g r w s v))
 
@@ -119,7 +102,7 @@ module _ (g : Grammar) (f : FlatGrammar) (normal : IsNormal Reads g f) (file : I
         let xs : Alternatives = filled (alts n c) in
         let one = have.are_once in
         let stay : Stays (IsInner n x) (step_at number outermost) = stays_there c here in
-        same_productions n n x (λ k rule at. alts_alike n (alts n rule.1)) (again number xs) (again number xs) have.more (map (again_after (symbol number)) have.once) (alts_alike n (again number xs))
+        one_productions n x (again number xs) have.more (map (again_after (symbol number)) have.once)
         have.are_more
         (record {
           all = map (behind (IsInner n x) number stay) one.all;
@@ -140,24 +123,11 @@ module _ (g : Grammar) (f : FlatGrammar) (normal : IsNormal Reads g f) (file : I
 
   -- ---- owners
 
-  -- the rule in which a content stands is no token
-  holder_kept : (rule : NamedRule) (c : Rule) → Contains g.rules rule → Contains (contents_in (sights rule.1)) c → Not (IsInlined g rule.0) → HasSymbol g rule
-  holder_kept rule c w v kept = record {
-    unnamed = λ h. token_empty rule.1 c (subst (λ (t : Rule). is_token t ≡ true) (one_tree g file rule.0 h.0 rule.1 h.1.is w) h.1.token) v;
-    kept = kept;
-  }
-
   pub owner_there : (c : Rule) (name : Bytes) → IsOwner g c name → (o : FlatRule) × HasRule f (symbol (normal.numbers.rule name)) o × (o.owner ≡ symbol (normal.numbers.rule name))
-  owner_there c name is = ⊎_elim
-      (λ h.
-      let w = first_in (λ (r : NamedRule). Contains (contents_in (sights r.1)) c) g.rules is.0 is.1 in
-      let o = own_there g f normal is.0.0 is.0.1 w (holder_kept is.0 c w is.1.holds h.0) in
-      subst (λ (z : Bytes). (o : FlatRule) × HasRule f (symbol (normal.numbers.rule z)) o × (o.owner ≡ symbol (normal.numbers.rule z))) (sym h.1) (o.0, o.1, o.2.owner))
-      (λ h.
-      let t = start_rule g.rules name h.1 in
-      let o = own_there g f normal name t.0 t.1 (start_kept g sane name t.0 t.1 h.1) in
-      (o.0, o.1, o.2.owner))
-      is.2
+  owner_there c name is =
+      let h = owner_has g file sane.inlines c name is in
+      let o = own_there g f normal h.0.0 h.0.1 h.1 h.2 in
+      subst (λ (z : Bytes). (o : FlatRule) × HasRule f (symbol (normal.numbers.rule z)) o × (o.owner ≡ symbol (normal.numbers.rule z))) h.3 (o.0, o.1, o.2.owner)
 
   -- ---- the whole
 

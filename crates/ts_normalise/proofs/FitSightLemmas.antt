@@ -1,33 +1,18 @@
 -- Lists by first sight: they are no longer than what was seen, and a function that keeps apart what is
 -- apart takes them to such lists.
-use Rattle.std.proofs.Common.{◌≡◌, ◌∙◌, sym, ap, subst, ℕ, zero, suc, ◌<◌, ◌≤◌, inl, inr, ⊎_elim, List, map, length, slice_get, Some, None, option_map, arith}
+use Rattle.std.proofs.Common.{◌≡◌, ◌∙◌, sym, ap, subst, ℕ, zero, suc, ◌≤◌, inl, inr, ⊎_elim, List, map, length, slice_get, Some, None, option_map, arith}
 use Rattle.std.specs.List.{Contains}
 use Rattle.std.proofs.lemmas.Bool.{cases_lt}
 use Rattle.std.proofs.lemmas.Option.{slice_get_within, slice_get_cases, slice_get-map}
 use Rattle.ts_rules.specs.FirstSights.{FirstAt, AreFirstSights}
-use Rattle.ts_normalise.proofs.ListLemmas.{there, at_of}
+use Rattle.ts_normalise.proofs.ListLemmas.{there, at_of, some_first}
 
 module _ {X : Type 0} (seen : List X) where
-  -- what was seen has a first place, as far as a contradiction asks
-  some_first : (x : X) → Contains seen x → ((j : ℕ) → FirstAt seen x j → ⊥) → ⊥
-  some_first x w never = below (suc w.0) w.0 (omega arith) (at_of seen x w)
-    where
-      below : (n : ℕ) → (j : ℕ) → j < n → slice_get seen j ≡ Some x → ⊥
-      below zero j lt e = omega arith
-      below (suc n) j lt e = ⊎_elim
-          (λ less. below n j less e)
-          (λ ge. let h : j ≡ n = omega arith in
-          never n (record {
-            at = ap (slice_get seen) (sym h) ∙ e;
-            least = λ i d. ⊎_elim (λ less. absurd (below n i less d)) (λ le. le) (cases_lt i n);
-          }))
-          (cases_lt j n)
-
   -- the first places rise at least as fast as the places
   rises : (found : List X) → AreFirstSights seen found → (k : ℕ) (x : X) → slice_get found k ≡ Some x → ((j : ℕ) → FirstAt seen x j → k ≤ j → ⊥) → ⊥
-  rises found s zero x e never = some_first x (s.only x (there found 0 x e)) (λ j f. never j f (omega arith))
+  rises found s zero x e never = some_first seen x (s.only x (there found 0 x e)) (λ j f. never j f (omega arith))
   rises found s (suc k) y e never = elim (slice_get_cases found k).1 [
-    | inl u ↦ rises found s k u.0 u.2 (λ i g le. some_first y (s.only y (there found (suc k) y e)) (λ j f.
+    | inl u ↦ rises found s k u.0 u.2 (λ i g le. some_first seen y (s.only y (there found (suc k) y e)) (λ j f.
         never j f (let lt = s.rising k (suc k) i j u.0 y (omega arith) u.2 e g f in omega (arith, lt, le))))
     | inr u ↦ let lt = slice_get_within found (suc k) y e in let ge = u.0 in omega (arith, lt, ge)
   ]

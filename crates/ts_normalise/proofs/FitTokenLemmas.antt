@@ -26,7 +26,7 @@ use Rattle.ts_rules.specs.Productions.{symbol}
 use Rattle.ts_rules.specs.Sights.{NamedRule, Sight, SeenBelow, seen_all, below, below_step, sights, sights_within, rule_sights, extra_sights, walk, tokens_in, patterns_in, pattern_layer}
 use Rattle.ts_rules.specs.Tokens.{Patterns, Core, text, core, core_step, core_name, is_text, IsTokenDef, re_of, re_step, cat_of, alt_of, one_char}
 use Rattle.ts_normalise.specs.Texts.{IsFitText, HasFitText, HasFitTexts}
-use Rattle.ts_normalise.proofs.AgreeLemmas.{walk_has}
+use Rattle.ts_normalise.proofs.UsedLemmas.{walk_has}
 use Rattle.ts_normalise.proofs.InsideLemmas.{token_seen}
 use Rattle.ts_normalise.proofs.ListLemmas.{there, at_of, head_in, tail_in, flat_in, picked}
 use Rattle.ts_normalise.proofs.FitLimitLemmas.{few_positions}

@@ -1,5 +1,5 @@
-pub mod AgreeLemmas
 pub mod BecomeLemmas
+pub mod BlankLemmas
 pub mod CheckLemmas
 pub mod FitBoundLemmas
 pub mod FitFilledLemmas
@@ -20,14 +20,11 @@ pub mod FitTokenLemmas
 pub mod FitTreeLemmas
 pub mod FormLemmas
 pub mod InsideLemmas
-pub mod LikeLemmas
 pub mod ListLemmas
 pub mod NamedLemmas
-pub mod NormalLemmas
 pub mod OwnerLemmas
-pub mod PatternLemmas
-pub mod RecordLemmas
 pub mod RefusalLemmas
 pub mod TokenLemmas
 pub mod TreeLemmas
+pub mod UsedLemmas
 pub mod WholeLemmas

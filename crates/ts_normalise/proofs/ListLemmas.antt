@@ -47,20 +47,9 @@ module _ {X Y : Type 0} (f : X → List Y) where
       (λ v. let r = in_flat xs y v in (r.0, tail_in x r.0 xs r.1, r.2))
       (Contains-append_cases (f x) (flat_map f xs) y w)
 
--- numbers that are not apart are equal
-pub stable : (m n : ℕ) → Not (Not (m ≡ n)) → m ≡ n
-stable m n h = ⊎_elim (λ lt. absurd (h (λ e. omega arith))) (λ ge. ⊎_elim (λ lt. absurd (h (λ e. omega arith))) (λ le. omega arith) (cases_lt n m)) (cases_lt m n)
-
 -- ---- what is picked
 
 module _ {X : Type 0} (P : X → Type 0) where
-  pub one_pick : (xs ys zs : List X) → Picks P xs ys → Picks P xs zs → ys ≡ zs
-  one_pick _ _ _ end end = refl
-  one_pick _ _ _ (taken x xs ys p rest) (taken y vs zs q more) = ap (λ (ws : List X). x ∷ ws) (one_pick xs ys zs rest more)
-  one_pick _ _ _ (taken x xs ys p rest) (left y vs zs q more) = absurd (q p)
-  one_pick _ _ _ (left x xs ys p rest) (taken y vs zs q more) = absurd (p q)
-  one_pick _ _ _ (left x xs ys p rest) (left y vs zs q more) = one_pick xs ys zs rest more
-
   -- what is picked is in the list and has the property
   pub picked : (xs ys : List X) (x : X) → Picks P xs ys → Contains ys x → Contains xs x × P x
   picked _ _ x end w = absurd (none_in x w)
@@ -83,6 +72,9 @@ module _ {X : Type 0} (P : X → Type 0) where
       (member_cases y x xs w)
 
   -- ---- what is first
+
+  pub first_in : (all : List X) (x : X) → First P all x → Contains all x
+  first_in all x f = subst (λ (xs : List X). Contains xs x) (sym f.is) (Contains-append_right f.before (x ∷ f.after) x (head_in x f.after))
 
   pub one_first : (all : List X) (x y : X) → First P all x → First P all y → x ≡ y
   one_first all x y f g = by f.before g.before (sym f.is ∙ g.is) f.clear g.clear
@@ -171,7 +163,7 @@ one_order Before not_both xs ys first second there_too here_too = same_list xs y
 
 module _ {X : Type 0} (seen : List X) where
   -- what was seen has a first place, as far as a contradiction asks
-  some_first : (x : X) → Contains seen x → ((j : ℕ) → FirstAt seen x j → ⊥) → ⊥
+  pub some_first : (x : X) → Contains seen x → ((j : ℕ) → FirstAt seen x j → ⊥) → ⊥
   some_first x w never = below (suc w.0) w.0 (omega arith) (at_of seen x w)
     where
       below : (n : ℕ) → (j : ℕ) → j < n → slice_get seen j ≡ Some x → ⊥

@@ -5,7 +5,6 @@ use Rattle.ts_base.specs.Bytes.{Bytes}
 use Rattle.ts_core.specs.declared.flat.FlatGrammar.{FlatGrammar}
 use Rattle.ts_core.specs.declared.flat.FlatRule.{FlatRule}
 use Rattle.ts_core.specs.declared.flat.TokenDef.{TokenDef}
-use Rattle.ts_core.specs.declared.re.Re.{Re}
 use Rattle.ts_core.specs.declared.rule.Grammar.{Grammar}
 use Rattle.ts_core.specs.declared.symbol.Symbol.{Symbol}
 use Rattle.spec_tables.specs.Fit as fit
@@ -22,7 +21,6 @@ use Rattle.ts_normalise.specs.declared.fault.NFault.{NFault}
 use Rattle.ts_normalise.specs.declared.fault.NFault.TheVariants as fault
 use Rattle.ts_normalise.specs.Refusals.{Cause, Nothing, Before, FindsUndefined, FindsSymbolInToken, FindsBadInline, FindsBadWord, FindsBadExtra, FindsBadPattern, FindsManySymbols, FindsManyNames, FindsManyProductions, FindsManySteps, FindsManyPositions, HasEmptyToken, HasEmptyRule, HasCycle, FindsEmptyToken, FindsEmptyRule, FindsCyclic, FindsInTrees, FindsMany, FindsInForm, IsRefused, Flattens}
 use Rattle.ts_normalise.proofs.ListLemmas.{one_first}
-use Rattle.ts_normalise.proofs.NormalLemmas.{one_form}
 
 -- the cause answers one fault at most
 abbrev IsOne : Cause → Type 0
@@ -102,7 +100,11 @@ one_many g =
 abbrev OneFault : Type 0
 OneFault = (e h : PFault) (w : Bytes) (ignore_case : Bool) → e ≢ PFault.Memory → h ≢ PFault.Memory → IsFault w ignore_case e → IsFault w ignore_case h → e ≡ h
 
-module _ (one_reading : (r s : Re) (w : Bytes) (ignore_case : Bool) → Reads w ignore_case r → Reads w ignore_case s → r ≡ s) (g : Grammar) where
+-- a grammar without undefined names has one normal form
+abbrev OneForm : Type 0
+OneForm = (g : Grammar) (f h : FlatGrammar) → Clear (IsUndefined g) (names_used g) → IsNormal Reads g f → IsNormal Reads g h → f ≡ h
+
+module _ (one_form : OneForm) (g : Grammar) where
   one_pattern : OneFault → IsOne (FindsBadPattern g)
   one_pattern one_fault e h a b =
       let v = a.2 in
@@ -116,7 +118,7 @@ module _ (one_reading : (r s : Re) (w : Bytes) (ignore_case : Bool) → Reads w 
 
   module _ (clear : Clear (IsUndefined g) (names_used g)) where
     form_same : (f h : FlatGrammar) → IsNormal Reads g f → IsNormal Reads g h → f ≡ h
-    form_same f h a b = one_form Reads one_reading g f h clear a b
+    form_same f h a b = one_form g f h clear a b
 
     one_empty_token : IsOne (FindsEmptyToken g)
     one_empty_token e h a b = a.2 ∙ ap fault.EmptyToken (name a.0 b.0 a.1 b.1) ∙ sym b.2

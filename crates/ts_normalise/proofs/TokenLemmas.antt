@@ -1,26 +1,17 @@
--- A token has one definition: one name, one kind, and the same regular expression by patterns that read
--- alike.
-use Rattle.std.proofs.Common.{◌≡◌, ◌∙◌, sym, ap, subst, refl, ℕ, zero, suc, ◌<◌, Bool, true, false, ◌⊎◌, inl, inr, ⊎_elim, List, [], ◌∷◌, ◌++◌, slice_get, Option, Some, None, chars, append_assoc, arith}
+-- A token is named by one rule.
+use Rattle.std.proofs.Common.{◌≡◌, ◌∙◌, sym, ap, subst, ℕ, zero, suc, ◌<◌, Bool, true, false, ◌⊎◌, ⊎_elim, List, [], ◌∷◌, ◌++◌, slice_get, Option, Some, None, append_assoc, arith}
 use Rattle.std.specs.List.{Contains}
 use Rattle.std.proofs.lemmas.Bool.{cases_lt}
 use Rattle.std.proofs.lemmas.List.Concat.{flat_map-append}
 use Rattle.std.proofs.lemmas.List.Elements.{Contains-append_left, Contains-append_right}
 use Rattle.std.proofs.lemmas.Option.{slice_get_within}
 use Rattle.ts_base.specs.Bytes.{Bytes}
-use Rattle.ts_core.specs.declared.flat.TokenDef.{TokenDef}
-use Rattle.ts_core.specs.declared.re.Re.{Re}
 use Rattle.ts_core.specs.declared.rule.Grammar.{Grammar}
 use Rattle.ts_core.specs.declared.rule.Rule.{Rule}
-use Rattle.ts_core.specs.declared.symbol.Kind.{Kind}
-use Rattle.spec_lexing.specs.Words.{Word, regular_of}
 use Rattle.ts_rules.specs.FirstSights.{Not, Once}
 use Rattle.ts_rules.specs.Numbers.{NamesToken}
 use Rattle.ts_rules.specs.Sights.{NamedRule, Sight, sights, below, seen_rules, rule_sights, tokens_in, token_at, if_token, is_token}
-use Rattle.ts_rules.specs.Tokens.{Patterns, IsTokenDef, IsNamedBy, IsUnnamed, IsKind, IsKeyword}
 use Rattle.ts_normalise.proofs.ListLemmas.{at_of, none_in, head_in, tail_in, member_cases, flat_in}
-use Rattle.ts_normalise.proofs.InsideLemmas.{rule_seen, token_seen}
-use Rattle.ts_normalise.proofs.PatternLemmas.{ReadAlike, same_re}
-use Rattle.ts_normalise.proofs.RecordLemmas.{same_token}
 
 -- ---- what stands once does not stand in two parts
 
@@ -52,9 +43,6 @@ record Twice (all : List Rule) (t : Rule) : Type 0 where
   is : all ≡ first ++ second
   in_first : Contains first t
   in_second : Contains second t
-
-tokens_of : NamedRule → List NamedRule → List Rule
-tokens_of rule rules = tokens_in (seen_rules (rule ∷ rules))
 
 split_tokens : (rule : NamedRule) (rules : List NamedRule) → tokens_in (seen_rules (rule ∷ rules)) ≡ tokens_in (sights rule.1) ++ tokens_in (seen_rules rules)
 split_tokens rule rules = flat_map-append (λ (v : Sight). token_at v.tree v.inside) (sights rule.1) (seen_rules rules)
@@ -116,47 +104,3 @@ one_token_name g a b t h k = by h.is.0 k.is.0 (at_of g.rules (a, t) h.is) (at_of
         name_in : Bytes → Option NamedRule → Bytes
         name_in other None = other
         name_in other (Some r) = r.0
-
--- ---- kinds and keywords
-
-pub one_kind : (g : Grammar) (name : Bytes) (a b : Kind) → IsKind g name a → IsKind g name b → a ≡ b
-one_kind g name a b (inl h) (inl k) = h.1 ∙ sym k.1
-one_kind g name a b (inl h) (inr k) = absurd (k.0 h.0)
-one_kind g name a b (inr h) (inl k) = absurd (h.0 k.0)
-one_kind g name a b (inr h) (inr k) = h.1 ∙ sym k.1
-
-same_bool : (a b : Bool) → (a ≡ true → b ≡ true) → (b ≡ true → a ≡ true) → a ≡ b
-same_bool true b h k = sym (h refl)
-same_bool false true h k = k refl
-same_bool false false h k = refl
-
-module _ (g : Grammar) where
-  keyword_too : (p q : Patterns) (t : Rule) → ReadAlike p q (rule_sights g) → IsKeyword p g t → IsKeyword q g t
-  keyword_too p q t alike k = record {
-    word = k.word;
-    word_tree = k.word_tree;
-    text = k.text;
-    is_word = k.is_word;
-    names = k.names;
-    is_string = k.is_string;
-    not_it = k.not_it;
-    matched = subst (λ (r : Re). Word (regular_of r) (chars k.text))
-        (same_re p q k.word_tree (λ s w. alike s (rule_seen g (k.word, k.word_tree) k.names.is s w))) k.matched;
-  }
-
-  -- a token has one definition
-  pub one_definition : (p q : Patterns) (t : Rule) (d e : TokenDef) → ReadAlike p q (rule_sights g) → ReadAlike q p (rule_sights g) → Contains (tokens_in (rule_sights g)) t
-      → IsTokenDef p g t d → IsTokenDef q g t e → d ≡ e
-  one_definition p q t d e alike back w a b =
-      let keyword : d.keyword ≡ e.keyword
-      = same_bool d.keyword e.keyword (λ h. b.keyword.1 (keyword_too p q t alike (a.keyword.0 h))) (λ h. a.keyword.1 (keyword_too q p t back (b.keyword.0 h))) in
-      let named : (d.name ≡ e.name) × (d.kind ≡ e.kind) = names a.named b.named in
-      same_token d e named.0 named.1 (a.re ∙ same_re p q t (λ s v. alike s (token_seen g t w s v)) ∙ sym b.re) (a.prec ∙ sym b.prec) (a.literal ∙ sym b.literal) (a.immediate ∙ sym b.immediate) keyword
-    where
-      names : IsNamedBy g t d ⊎ IsUnnamed g t d → IsNamedBy g t e ⊎ IsUnnamed g t e → (d.name ≡ e.name) × (d.kind ≡ e.kind)
-      names (inl h) (inl k) =
-          let same : d.name ≡ e.name = one_token_name g d.name e.name t h.rule k.rule in
-          (same, one_kind g e.name d.kind e.kind (subst (λ (name : Bytes). IsKind g name d.kind) same h.kind) k.kind)
-      names (inl h) (inr k) = absurd (k.no_rule d.name h.rule)
-      names (inr h) (inl k) = absurd (h.no_rule e.name k.rule)
-      names (inr h) (inr k) = (h.name ∙ sym k.name, h.kind ∙ sym k.kind)

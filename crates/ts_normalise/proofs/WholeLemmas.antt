@@ -25,8 +25,7 @@ use Rattle.ts_normalise.specs.declared.fault.NFault.TheVariants as fault
 use Rattle.ts_normalise.specs.Faults.{form_told}
 use Rattle.ts_normalise.specs.Forms.{HasOwners, TellsInForm}
 use Rattle.ts_normalise.specs.Refusals.{Cause, Nothing, Before, HasCause, FindsUndefined, FindsSymbolInToken, FindsBadInline, FindsBadWord, FindsBadExtra, FindsInWords, FindsInRules, FindsInTrees, FindsBadPattern, FindsMany, FindsInForm, IsRefused, IsDue, Flattens}
-use Rattle.ts_normalise.proofs.ListLemmas.{none_in, head_in, tail_in, member_cases, flat_in, in_flat}
-use Rattle.ts_normalise.proofs.NormalLemmas.{first_in}
+use Rattle.ts_normalise.proofs.ListLemmas.{none_in, head_in, tail_in, member_cases, flat_in, in_flat, first_in}
 use Rattle.ts_normalise.proofs.RefusalLemmas.{nothing_first, clear_of, defined}
 use Rattle.ts_normalise.proofs.CheckLemmas.{nothing_both, first_cause, later_cause}
 use Rattle.ts_normalise.proofs.FormLemmas.{form_none, form_found}
@@ -155,10 +154,10 @@ module _ (g : Grammar) where
   -- ---- what a normal form has before it is known to be accepted
 
   pub form_symbols : (f : FlatGrammar) → IsNormal Reads g f → Nothing (FindsMany g) → fit.symbols_of f ≤ fit.most_symbols
-  form_symbols f normal none = few_symbols Reads g f normal (λ many. none (fault.Limit limited.Symbols) (inl (many, refl)))
+  form_symbols f normal none = few_symbols g f normal (λ many. none (fault.Limit limited.Symbols) (inl (many, refl)))
 
   pub form_owners : (f : FlatGrammar) → IsFileGrammar g → IsNormal Reads g f → Nothing (FindsInTrees g) → HasOwners f
-  form_owners f file normal none = have_owners Reads g f normal file (all_inlined none)
+  form_owners f file normal none = have_owners g f normal file (all_inlined none)
 
   -- ---- what is due is what is given
 

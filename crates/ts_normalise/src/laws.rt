@@ -15,14 +15,14 @@ pub fn one_normal_form()
         → IsNormal Reads g f → IsNormal Reads g h → f ≡ h }
     ensures flattened { (g : AnyGrammar) (f h : AnyForm) → Flattens g f → Flattens g h → f ≡ h }
 {
-    ts_pattern::one_pattern();
+    ts_form::normal_forms_agree();
 }
 
 /// A grammar is refused for one cause at most.
 pub fn one_refusal()
     ensures { (g : AnyGrammar) (e h : AnyFault) → IsRefused g e → IsRefused g h → e ≡ h }
 {
-    ts_pattern::one_pattern();
+    ts_form::normal_forms_agree();
     ts_pattern::one_fault();
 }
 
