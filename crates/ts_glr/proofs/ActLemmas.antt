@@ -112,7 +112,7 @@ module _ (laws : Laws) (t : ParseTable) (size : ℕ) (c : Configuration) (f : Fo
   some_more hs h = omega (arith, length-append hs (h ∷ []))
 
   -- the action led to a head
-  acting_to : (old new : List (List Layer)) (done : List Action) (a : Action) (k : StackHead) (first live live' : List StackHead) (start best : Option Tree) → GainsStacks old new → Acting t size old c f done first live start best
+  pub acting_to : (old new : List (List Layer)) (done : List Action) (a : Action) (k : StackHead) (first live live' : List StackHead) (start best : Option Tree) → GainsStacks old new → Acting t size old c f done first live start best
       → IsLiveHead t size new k → LeadsTo t.grammar c f a (config_of new k) → live' ≡ live ++ k ∷ [] → Acting t size new c f (done ++ a ∷ []) first live' start best
   acting_to old new done a k first live live' start best grows b head leads live_is = record {
     more = b.more ++ k ∷ [];
@@ -133,7 +133,7 @@ module _ (laws : Laws) (t : ParseTable) (size : ℕ) (c : Configuration) (f : Fo
   }
 
   -- the action accepted a tree
-  acting_ended : (old new : List (List Layer)) (done : List Action) (a : Action) (u : Tree) (first live live' : List StackHead) (start best after : Option Tree) → GainsStacks old new → Acting t size old c f done first live start best
+  pub acting_ended : (old new : List (List Layer)) (done : List Action) (a : Action) (u : Tree) (first live live' : List StackHead) (start best after : Option Tree) → GainsStacks old new → Acting t size old c f done first live start best
       → a ≡ Accept → IsRootOf c.stack (bare u) → KeepsBest best after u → live' ≡ live ++ [] → Acting t size new c f (done ++ a ∷ []) first live' start after
   acting_ended old new done a u first live live' start best after grows b is root kept live_is = record {
     more = b.more;

@@ -12,10 +12,9 @@ use Rattle.ts_gss.specs.Stacks.{stack_at, trees_on, tree_on, under_top}
 use Rattle.ts_moves.specs.declared.head.StackHead.{StackHead}
 use Rattle.ts_moves.specs.Laws.{Laws}
 use Rattle.ts_moves.specs.Good.{IsGoodTree, AreGoodTrees}
-use Rattle.ts_moves.specs.Heads.{IsLiveHead}
 use Rattle.ts_glr.specs.Lists.{Each}
 use Rattle.ts_glr.specs.Laws.{PackingLaws}
-use Rattle.ts_glr.specs.Joining.{top_start, start_of, GoesBefore, IsTakenOut, HeadServes, IsKeptOf, JoinsOne}
+use Rattle.ts_glr.specs.Joining.{GoesBefore, IsTakenOut, HeadServes, IsKeptOf, JoinsOne}
 use Rattle.ts_glr.proofs.ListLemmas.{each_append, each_map, each_at}
 use Rattle.ts_glr.proofs.OrderLemmas.{bare_better}
 

@@ -11,3 +11,5 @@ pub mod SpentLemmas
 pub mod JoinLemmas
 pub mod SearchLemmas
 pub mod FollowLemmas
+pub mod AgainLemmas
+pub mod AloneLemmas

@@ -26,13 +26,14 @@ use Rattle.ts_table.specs.Ranks.{unit_rank, AreUnitRanks}
 use Rattle.ts_gss.specs.declared.layer.Layer.{Layer}
 use Rattle.ts_moves.specs.declared.head.StackHead.{StackHead}
 use Rattle.ts_moves.specs.Laws.{Laws}
-use Rattle.ts_moves.specs.Heads.{config_of, IsLiveHead, GainsStacks}
+use Rattle.ts_moves.specs.Heads.{config_of, IsLiveHead}
 use Rattle.ts_glr.specs.Lists.{Each}
 use Rattle.ts_glr.specs.Joining.{IsTakenOut, JoinsOne}
+use Rattle.ts_glr.specs.Search.{StacksStay}
 use Rattle.ts_glr.specs.Weights.{weight, weight_of, last_of, config_weight, head_weight, powers, live_weight}
 use Rattle.ts_glr.proofs.LexLemmas.{next_some}
 use Rattle.ts_glr.proofs.TableLemmas.{extra_token}
-use Rattle.ts_glr.proofs.StackLemmas.{fills_step, fills_none, filling_extras, filling_append, filling_turned, config_stays}
+use Rattle.ts_glr.proofs.StackLemmas.{fills_step, fills_none, filling_extras, filling_append, filling_turned, config_kept}
 use Rattle.ts_glr.proofs.WeightLemmas.{lighter_by_shift, lighter_by_pass, lighter_by_many, lighter_by_one, lighter_by_none, powers_append, powers_fall}
 
 -- ---- symbols of nodes that are made
@@ -223,29 +224,29 @@ module _ (laws : Laws) (t : ParseTable) (fit : Fit t.grammar) (ranks : AreUnitRa
   each_lighter h [] live all = tt
   each_lighter h (k ∷ hs) live all = (lighter h k live all.0.1, each_lighter h hs live all.1)
 
-  same_weights : (hs : List StackHead) → GainsStacks old new → Each (λ k. IsLiveHead t (length text) old k) hs → map (head_weight t.grammar (length text) new) hs ≡ map (head_weight t.grammar (length text) old) hs
-  same_weights [] grows all = refl
-  same_weights (k ∷ hs) grows all =
-      ap (λ (n : ℕ). n ∷ map (head_weight t.grammar (length text) new) hs) (ap (λ (c : Configuration). config_weight t.grammar (length text) c) (config_stays t (length text) old new k grows all.0))
-      ∙ ap (λ (l : List ℕ). head_weight t.grammar (length text) old k ∷ l) (same_weights hs grows all.1)
+  same_weights : (hs : List StackHead) → StacksStay old new hs → Each (λ k. IsLiveHead t (length text) old k) hs → map (head_weight t.grammar (length text) new) hs ≡ map (head_weight t.grammar (length text) old) hs
+  same_weights [] stay all = refl
+  same_weights (k ∷ hs) stay all =
+      ap (λ (n : ℕ). n ∷ map (head_weight t.grammar (length text) new) hs) (ap (λ (c : Configuration). config_weight t.grammar (length text) c) (config_kept t (length text) old new k stay.0 all.0))
+      ∙ ap (λ (l : List ℕ). head_weight t.grammar (length text) old k ∷ l) (same_weights hs stay.1 all.1)
 
   same_length : (w : StackHead → ℕ) (hs : List StackHead) → length (map w hs) ≡ length hs
   same_length w [] = refl
   same_length w (h ∷ hs) = ap suc (same_length w hs)
 
   -- the live stacks come to less after the last one was followed
-  live_falls : (h : StackHead) (rest more live live' : List StackHead) → GainsStacks old new → live ≡ rest ++ h ∷ [] → live' ≡ rest ++ more → length more ≤ suc (most_actions t) → IsLiveHead t (length text) old h
+  live_falls : (h : StackHead) (rest more live live' : List StackHead) → StacksStay old new rest → live ≡ rest ++ h ∷ [] → live' ≡ rest ++ more → length more ≤ suc (most_actions t) → IsLiveHead t (length text) old h
       → Each (λ k. IsLiveHead t (length text) old k) rest
       → Each (λ k. IsLiveHead t (length text) new k × StepsOn t.grammar text (config_of old h) (config_of new k)) more
       → live_weight t (length text) new live' < live_weight t (length text) old live
-  live_falls h rest more live live' grows live_is live_is' le is others all =
+  live_falls h rest more live live' stay live_is live_is' le is others all =
       let w : StackHead → ℕ = head_weight t.grammar (length text) old in
       let v : StackHead → ℕ = head_weight t.grammar (length text) new in
       let base : ℕ = most_actions t + 2 in
       let before : powers base (map w live) ≡ powers base (map w rest) + powers base (w h ∷ []) =
       ap (λ (l : List StackHead). powers base (map w l)) live_is ∙ ap (powers base) (map-append w rest (h ∷ [])) ∙ powers_append base (map w rest) (w h ∷ []) in
       let now : powers base (map v live') ≡ powers base (map w rest) + powers base (map v more) =
-      ap (λ (l : List StackHead). powers base (map v l)) live_is' ∙ ap (powers base) (map-append v rest more ∙ ap (λ (l : List ℕ). l ++ map v more) (same_weights rest grows others)) ∙ powers_append base (map w rest) (map v more) in
+      ap (λ (l : List StackHead). powers base (map v l)) live_is' ∙ ap (powers base) (map-append v rest more ∙ ap (λ (l : List ℕ). l ++ map v more) (same_weights rest stay others)) ∙ powers_append base (map w rest) (map v more) in
       let many : length (map v more) < base = let e = same_length v more in omega arith in
       let fall : powers base (map v more) < base ^ w h = powers_fall base (w h) (map v more) many (each_lighter h more is all) in
       omega arith
@@ -287,11 +288,11 @@ module _ (t : ParseTable) (size : ℕ) (stacks : List (List Layer)) where
       (λ w. let same = ap (λ (x : StackHead). (most_actions t + 2) ^ head_weight t.grammar size stacks x) w.0 in omega (arith, all, last, before, after, two, same)) j.kept_is
 
 -- the live stacks come to less after one was taken out and followed
-pub followed_falls : (laws : Laws) (t : ParseTable) (fit : Fit t.grammar) (ranks : AreUnitRanks t.grammar (unit_rank t.grammar) (symbol_count t.grammar)) (text : Bytes) (old new : List (List Layer)) (h : StackHead) (rest more live live' : List StackHead) → GainsStacks old new → IsTakenOut old live rest h
+pub followed_falls : (laws : Laws) (t : ParseTable) (fit : Fit t.grammar) (ranks : AreUnitRanks t.grammar (unit_rank t.grammar) (symbol_count t.grammar)) (text : Bytes) (old new : List (List Layer)) (h : StackHead) (rest more live live' : List StackHead) → StacksStay old new rest → IsTakenOut old live rest h
     → live' ≡ rest ++ more → length more ≤ suc (most_actions t) → IsLiveHead t (length text) old h → Each (λ k. IsLiveHead t (length text) old k) rest
     → Each (λ k. IsLiveHead t (length text) new k × StepsOn t.grammar text (config_of old h) (config_of new k)) more
     → live_weight t (length text) new live' < live_weight t (length text) old live
-followed_falls laws t fit ranks text old new h rest more live live' grows k live_is le is others all =
-    let fall = live_falls laws t fit ranks text old new h rest more (rest ++ h ∷ []) live' grows refl live_is le is others all in
+followed_falls laws t fit ranks text old new h rest more live live' stay k live_is le is others all =
+    let fall = live_falls laws t fit ranks text old new h rest more (rest ++ h ∷ []) live' stay refl live_is le is others all in
     let same = taken_weighs t (length text) old live rest h k in
     omega (arith, fall, same)

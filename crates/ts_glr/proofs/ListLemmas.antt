@@ -12,6 +12,10 @@ module _ {X : Type 0} where
   each_map P Q [] f a = tt
   each_map P Q (x ∷ xs) f a = (f x a.0, each_map P Q xs f a.1)
 
+  pub each_both : (P Q R : X → Type 0) (xs : List X) → ((x : X) → P x → Q x → R x) → Each P xs → Each Q xs → Each R xs
+  each_both P Q R [] f a b = tt
+  each_both P Q R (x ∷ xs) f a b = (f x a.0 b.0, each_both P Q R xs f a.1 b.1)
+
   pub each_left : (P : X → Type 0) (xs ys : List X) → Each P (xs ++ ys) → Each P xs
   each_left P [] ys a = tt
   each_left P (x ∷ xs) ys a = (a.0, each_left P xs ys a.1)

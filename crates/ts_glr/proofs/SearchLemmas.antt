@@ -13,16 +13,16 @@ use Rattle.spec_packing.specs.Serving.{ServesConfiguration, ComesToServe}
 use Rattle.ts_table.specs.declared.view.ParseTable.{ParseTable}
 use Rattle.ts_gss.specs.declared.layer.Layer.{Layer}
 use Rattle.ts_moves.specs.declared.head.StackHead.{StackHead}
-use Rattle.ts_moves.specs.Heads.{config_of, IsLiveHead, GainsStacks}
+use Rattle.ts_moves.specs.Heads.{config_of, IsLiveHead}
 use Rattle.ts_glr.specs.declared.outcome.Outcome.{Outcome}
 use Rattle.ts_glr.specs.Lists.{Each, Any}
 use Rattle.ts_glr.specs.Steps.{HasForm}
 use Rattle.ts_glr.specs.Laws.{PackingLaws}
 use Rattle.ts_glr.specs.Joining.{IsTakenOut, HeadServes, JoinsOne}
-use Rattle.ts_glr.specs.Search.{Covers, Keeps, Spent, Searching}
+use Rattle.ts_glr.specs.Search.{StackStays, StacksStay, Covers, Keeps, Spent, Searching}
 use Rattle.ts_glr.specs.Outcomes.{value_of_outcome, EndsAs, IsTreeOf}
-use Rattle.ts_glr.proofs.ListLemmas.{each_append, each_map, each_left, each_right, any_left, any_right, any_cases, any_map, any_both, each_last, any_last}
-use Rattle.ts_glr.proofs.StackLemmas.{live_stays, config_stays}
+use Rattle.ts_glr.proofs.ListLemmas.{each_append, each_map, each_both, each_left, each_right, any_left, any_right, any_cases, any_map, any_both, each_last, any_last}
+use Rattle.ts_glr.proofs.StackLemmas.{live_kept, config_kept}
 
 run_more : (g : FlatGrammar) (text : Bytes) (a b c : Configuration) → Run g text a b → StepsOn g text b c → Run g text a c
 run_more g text a _ c (run_here _) s = run_on a c c s (run_here c)
@@ -88,19 +88,19 @@ module _ (packing : PackingLaws) (t : ParseTable) (fit : Fit t.grammar) (text : 
   pub rest_live : (stacks : List (List Layer)) (rest : List StackHead) (h : StackHead) (best : Option Tree) (stuck : Option ℕ) → Searching t text stacks (rest ++ h ∷ []) best stuck → Each (λ k. IsLiveHead t (length text) stacks k) rest
   rest_live stacks rest h best stuck s = each_left (λ (k : StackHead). IsLiveHead t (length text) stacks k) rest (h ∷ []) (all_live stacks (rest ++ h ∷ []) best stuck s)
 
-  live_grown : (old new : List (List Layer)) (h : StackHead) → GainsStacks old new → Live old h → Live new h
-  live_grown old new h grows l = (
-    live_stays t (length text) old new h grows l.0,
-    subst (λ (c : Configuration). IsReached t.grammar text c) (sym (config_stays t (length text) old new h grows l.0)) l.1,
+  live_still : (old new : List (List Layer)) (h : StackHead) → StackStays old new h → Live old h → Live new h
+  live_still old new h stays l = (
+    live_kept t (length text) old new h stays l.0,
+    subst (λ (c : Configuration). IsReached t.grammar text c) (sym (config_kept t (length text) old new h stays l.0)) l.1,
   )
 
   -- the head that stands last was followed
-  pub search_more : (old new : List (List Layer)) (most : ℕ) (rest live' : List StackHead) (h : StackHead) (best best' : Option Tree) (stuck stuck' : Option ℕ) → GainsStacks old new
+  pub search_more : (old new : List (List Layer)) (most : ℕ) (rest live' : List StackHead) (h : StackHead) (best best' : Option Tree) (stuck stuck' : Option ℕ) → StacksStay old new rest
       → Searching t text old (rest ++ h ∷ []) best stuck → Spent t text new most (config_of old h) rest live' best best' stuck stuck' → Searching t text new live' best' stuck'
-  search_more old new most rest live' h best best' stuck stuck' grows s sp = record {
+  search_more old new most rest live' h best best' stuck stuck' stay s sp = record {
     heads = subst (Each (Live new)) (sym sp.live_is)
         (each_append (Live new) rest sp.more
-        (each_map (Live old) (Live new) rest (λ k w. live_grown old new k grows w) others)
+        (each_both (StackStays old new) (Live old) (Live new) rest (λ k a w. live_still old new k a w) stay others)
         (each_map (Steps (config_of old h) new) (Live new) sp.more (λ k w. (w.0, run_more t.grammar text starting (config_of old h) (config_of new k) reached w.1)) sp.sound));
     done = λ c r. ⊎_elim (λ cov. inl (covers_more c (config_of old h) best best' stuck stuck' sp.keeps cov))
         (λ w. ⊎_elim (λ (u : Any (LeadsBy old c) rest). inr (in_rest c u)) (λ (v : Any (LeadsBy old c) (h ∷ [])). in_head c r v)
@@ -113,6 +113,9 @@ module _ (packing : PackingLaws) (t : ParseTable) (fit : Fit t.grammar) (text : 
       others : Each (Live old) rest
       others = each_left (Live old) rest (h ∷ []) s.heads
 
+      kept : Each (λ k. StackStays old new k × Live old k) rest
+      kept = each_both (StackStays old new) (Live old) (λ k. StackStays old new k × Live old k) rest (λ k a w. (a, w)) stay others
+
       reached : IsReached t.grammar text (config_of old h)
       reached = (head_there old rest h best stuck s).1
 
@@ -123,9 +126,9 @@ module _ (packing : PackingLaws) (t : ParseTable) (fit : Fit t.grammar) (text : 
       in_rest c u =
           subst (Any (LeadsBy new c)) (sym sp.live_is)
           (any_left (LeadsBy new c) rest sp.more
-          (any_both (Live old) (LeadsBy old c) (LeadsBy new c) rest
-          (λ k w r. subst (λ (d : Configuration). ComesToServe t.grammar text d c) (sym (config_stays t (length text) old new k grows w.0)) r)
-          others u))
+          (any_both (λ k. StackStays old new k × Live old k) (LeadsBy old c) (LeadsBy new c) rest
+          (λ k w r. subst (λ (d : Configuration). ComesToServe t.grammar text d c) (sym (config_kept t (length text) old new k w.0 w.1.0)) r)
+          kept u))
 
       run_from : (d at c : Configuration) → d ≡ config_of old h → IsReached t.grammar text c → Run t.grammar text d at → ComesTooDeep t.grammar text at ⊎ ServesConfiguration at c → Covers t.grammar text best' stuck' c ⊎ Any (LeadsBy new c) live'
       run_from d _ c is r (run_here _) serves =

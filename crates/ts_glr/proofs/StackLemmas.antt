@@ -13,6 +13,7 @@ use Rattle.ts_gss.specs.Stacks.{stack_at, trees_on, state_on}
 use Rattle.ts_moves.specs.declared.head.StackHead.{StackHead}
 use Rattle.ts_moves.specs.Laws.{Laws}
 use Rattle.ts_moves.specs.Heads.{config_of, HaveStates, IsGoodStack, IsLiveHead, read_on, GainsStacks}
+use Rattle.ts_glr.specs.Search.{StackStays, StacksStay}
 
 -- ---- stacks that stay
 
@@ -41,6 +42,24 @@ config_stays t size old new h g l = ap {B = Configuration} (λ (s : List Layer).
 
 pub read_stays : (t : ParseTable) (size : ℕ) (old new : List (List Layer)) (h : StackHead) → GainsStacks old new → IsLiveHead t size old h → read_on new h ≡ read_on old h
 read_stays t size old new h g l = ap (λ (s : List Layer). filling (trees_on s)) (stack_stays old new h.top g l.there)
+
+-- ---- the stacks of some heads
+
+pub stay_grown : (old new : List (List Layer)) (heads : List StackHead) → GainsStacks old new → StacksStay old new heads
+stay_grown old new [] g = tt
+stay_grown old new (h ∷ hs) g = ((λ low. (still_there old new h.top g low, stack_stays old new h.top g low)), stay_grown old new hs g)
+
+pub stay_none : (old new : List (List Layer)) (heads : List StackHead) → heads ≡ [] → StacksStay old new heads
+stay_none old new heads e = subst (StacksStay old new) (sym e) tt
+
+pub live_kept : (t : ParseTable) (size : ℕ) (old new : List (List Layer)) (h : StackHead) → StackStays old new h → IsLiveHead t size old h → IsLiveHead t size new h
+live_kept t size old new h stays l = record {
+  there = (stays l.there).0;
+  stack = subst (λ (s : List Layer). IsGoodStack t size s h.place) (sym (stays l.there).1) l.stack;
+}
+
+pub config_kept : (t : ParseTable) (size : ℕ) (old new : List (List Layer)) (h : StackHead) → StackStays old new h → IsLiveHead t size old h → config_of new h ≡ config_of old h
+config_kept t size old new h stays l = ap {B = Configuration} (λ (s : List Layer). record { stack = map bare (trees_on s); place = h.place }) (stays l.there).1
 
 -- the state on top is that of the symbols
 pub state_there : (t : ParseTable) (layers : List Layer) → HaveStates t layers → IsStateOf t (filling (trees_on layers)) (state_on layers)

@@ -39,7 +39,7 @@ act_token g read token _ (may_accept e v) = omega (arith, e)
 
 -- ---- actions
 
-move_of : (t : ParseTable) (read : List ℕ) (token : ℕ) (a : Action) → ActsBy t read token a → HasMove t.grammar read token
+pub move_of : (t : ParseTable) (read : List ℕ) (token : ℕ) (a : Action) → ActsBy t read token a → HasMove t.grammar read token
 move_of t read token _ (shifts next act state) = (shift, act)
 move_of t read token _ (reduces number act) = (reduce number, act)
 move_of t read token _ (accepts act) = (accept, act)

@@ -12,13 +12,14 @@ use Rattle.spec_runs.specs.Outcomes.{SomeAccepts, SomeStopsAt}
 use Rattle.spec_packing.specs.Serving.{ComesToServe}
 use Rattle.ts_table.specs.declared.view.ParseTable.{ParseTable}
 use Rattle.ts_gss.specs.declared.layer.Layer.{Layer}
+use Rattle.ts_gss.specs.Stacks.{stack_at}
 use Rattle.ts_moves.specs.declared.found.FoundToken.{FoundToken}
 use Rattle.ts_moves.specs.declared.head.StackHead.{StackHead}
 use Rattle.ts_moves.specs.Heads.{config_of, IsLiveHead, IsRootOf}
 use Rattle.ts_glr.specs.declared.acting.Moved.{Moved}
 use Rattle.ts_glr.specs.declared.acting.Moved.TheVariants.{To, Ended, TooDeep}
 use Rattle.ts_glr.specs.Lists.{Each, Any}
-use Rattle.ts_glr.specs.Steps.{Withstands, LeadsTo, IsTooDeep}
+use Rattle.ts_glr.specs.Steps.{IsKnown, Withstands, LeadsTo, IsTooDeep}
 
 -- the heads that an action came to
 abbrev pub heads_of : Moved → List StackHead
@@ -26,11 +27,29 @@ heads_of (To h) = h ∷ []
 heads_of Ended = []
 heads_of TooDeep = []
 
+-- an action came to this head
+abbrev pub IsTo : Moved → StackHead → Type 0
+IsTo m h = m ≡ To h
+
 -- whether an action came to a node that is too deep
 abbrev pub is_deep : Moved → Bool
 is_deep (To h) = false
 is_deep Ended = false
 is_deep TooDeep = true
+
+-- the stack of the head is still there
+abbrev pub StackStays : List (List Layer) → List (List Layer) → StackHead → Type 0
+StackStays old new h =
+    h.top < length old → (h.top < length new) × (stack_at new h.top ≡ stack_at old h.top)
+
+-- the stacks of these heads are still there
+abbrev pub StacksStay : List (List Layer) → List (List Layer) → List StackHead → Type 0
+StacksStay old new heads = Each (StackStays old new) heads
+
+-- each of these heads sees the token, where one is known
+abbrev pub AllKnow : FlatGrammar → Bytes → List (List Layer) → List StackHead → Option FoundToken
+    → Type 0
+AllKnow g text stacks heads ahead = Each (λ h. IsKnown g text (config_of stacks h) ahead) heads
 
 -- The heads were added to which some actions lead; the trees that they accept are accounted for.
 pub record Acting (t : ParseTable) (size : ℕ) (stacks : List (List Layer)) (c : Configuration)

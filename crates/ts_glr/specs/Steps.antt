@@ -36,6 +36,10 @@ pub record SeesToken (g : FlatGrammar) (text : Bytes) (c : Configuration) (f : F
   pub next : NextIs g text c (token f.token f.pad f.size)
   pub ahead : IsSeenAhead (length text) c.place f
 
+-- the token, where one is known, is what the configuration sees
+abbrev pub IsKnown : FlatGrammar → Bytes → Configuration → Option FoundToken → Type 0
+IsKnown g text c ahead = (f : FoundToken) → ahead ≡ Some f → SeesToken g text c f
+
 -- what was lexed is what the configuration sees
 abbrev pub Sees : FlatGrammar → Bytes → Configuration → Lexed → Type 0
 Sees g text c (Token symbol pad size extent) =

@@ -3,6 +3,7 @@
 #![tactic(auto)]
 
 mod acting;
+mod alone;
 mod choosing;
 mod following;
 mod joining;

@@ -12,7 +12,7 @@ use crate::outcome::Outcome;
 use crate::readings::{Readings, readings_of};
 use std::alloc::{AllocError, Global};
 use ts_lexer::{Content, Tokens};
-use ts_moves::setting_of;
+use ts_moves::{FoundToken, setting_of};
 use ts_node::Node;
 use ts_table::{Table, unit_ranks};
 
@@ -54,11 +54,22 @@ pub fn parse<L: Tokens>(
     unit_ranks();
     let setting = setting_of(alloc, table, text.len())?;
     let mut readings = readings_of(alloc)?;
+    let mut ahead: Option<FoundToken> = None;
     while let Some(head) = next_head(&readings.graph, &mut readings.live) {
         if join(&readings.graph, &mut readings.live, head) {
+            ahead = None;
             continue;
         }
-        let deep = advance(alloc, table, &setting, lexer, text, &mut readings, head)?;
+        let deep = advance(
+            alloc,
+            table,
+            &setting,
+            lexer,
+            text,
+            &mut readings,
+            &mut ahead,
+            head,
+        )?;
         if deep {
             return Ok(Outcome::Deep);
         }

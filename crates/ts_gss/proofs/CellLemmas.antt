@@ -1,5 +1,6 @@
 -- The stacks of cells: one more cell is one more stack, and each cell's stack lies on an earlier one.
-use Rattle.std.proofs.Common.{◌≡◌, ◌∙◌, sym, ap, refl, subst, ℕ, zero, suc, ◌+◌, ◌-◌, ◌<◌, ◌≤◌, List, [], ◌∷◌, ◌++◌, length, length-append, slice_get, Some, None, Option, unwrap_or, ⊎_elim, arith}
+use Rattle.std.proofs.Common.{◌≡◌, ◌∙◌, sym, ap, refl, subst, ℕ, zero, suc, ◌+◌, ◌-◌, ◌<◌, ◌≤◌, List, [], ◌∷◌, ◌++◌, length, length-append, take, drop, slice_get, Some, None, Option, unwrap_or, ⊎_elim, arith}
+use Rattle.std.proofs.lemmas.List.{take-append-drop, take-append-le, take_all, length-take-le}
 use Rattle.std.proofs.lemmas.Option.{slice_get_within}
 use Rattle.ts_base.proofs.PlaceLemmas.{in_prefix, at_end, push_cases}
 use Rattle.ts_gss.specs.declared.layer.Layer.{Layer}
@@ -70,6 +71,34 @@ some_cell cs (suc k) h = omega arith
 pub lie_more : (cs : List Cell) (c : Cell) → LieAbove cs → c.below ≤ length cs → LieAbove (cs ++ c ∷ [])
 lie_more cs c lie low k d at = ⊎_elim (λ w. lie k d w.1) (λ w. let e : c ≡ d = w.1 in subst (λ (x : Cell). x.below ≤ k) e (omega (arith, w.0))) (push_cases cs c k d at)
 
+-- ---- the first cells alone
+
+with_both : (ss : List (List Layer)) (cs ds : List Cell) → with_cells ss (cs ++ ds) ≡ with_cells (with_cells ss cs) ds
+with_both ss [] ds = refl
+with_both ss (c ∷ cs) ds = with_both (with_cell ss c) cs ds
+
+first_with : (n : ℕ) (ss : List (List Layer)) (cs : List Cell) → n ≤ length ss → take n (with_cells ss cs) ≡ take n ss
+first_with n ss [] low = refl
+first_with n ss (c ∷ cs) low =
+    first_with n (with_cell ss c) cs (omega (arith, low, length-append ss ((layer_of c ∷ stack_at ss c.below) ∷ [])))
+    ∙ take-append-le n ss ((layer_of c ∷ stack_at ss c.below) ∷ []) low
+
+-- the stacks of the first cells are the first stacks
+first_stacks : (cs : List Cell) (head : ℕ) → head ≤ length cs → stacks_of (take head cs) ≡ take (head + 1) (stacks_of cs)
+first_stacks cs head low =
+    let count : length (stacks_of (take head cs)) ≡ head + 1 = omega (arith, many_stacks (take head cs), length-take-le head cs low) in
+    sym (take_all (head + 1) (stacks_of (take head cs)) (omega (arith, count)))
+    ∙ sym (first_with (head + 1) (stacks_of (take head cs)) (drop head cs) (omega (arith, count)))
+    ∙ ap (λ (xs : List (List Layer)). take (head + 1) xs) (sym (with_both ([] ∷ []) (take head cs) (drop head cs)))
+    ∙ ap (λ (xs : List Cell). take (head + 1) (stacks_of xs)) (take-append-drop head cs)
+
+-- a cell of the first part
+first_part : (cs : List Cell) (head k : ℕ) (c : Cell) → slice_get (take head cs) k ≡ Some c → slice_get cs k ≡ Some c
+first_part cs head k c at =
+    ap (λ (xs : List Cell). slice_get xs k) (sym (take-append-drop head cs))
+    ∙ in_prefix (take head cs) (drop head cs) k (slice_get_within (take head cs) k c at)
+    ∙ at
+
 -- ---- the same of the list of stacks
 
 module _ (cs : List Cell) (ss : List (List Layer)) (view : stacks_of cs ≡ ss) where
@@ -119,3 +148,27 @@ module _ (cs : List Cell) (ss : List (List Layer)) (view : stacks_of cs ≡ ss) 
 
   pub stack_pushed : (new : List Cell) (c : Cell) → new ≡ cs ++ c ∷ [] → stacks_of new ≡ ss ++ (layer_of c ∷ stack_at ss c.below) ∷ []
   stack_pushed new c is = ap stacks_of is ∙ one_more cs c ∙ ap (λ (xs : List (List Layer)). xs ++ (layer_of c ∷ stack_at xs c.below) ∷ []) view
+
+  -- ---- the first cells alone
+
+  pub lie_cut : (new : List Cell) (head : ℕ) → new ≡ take head cs → LieAbove cs → LieAbove new
+  lie_cut new head is lie k c at = lie k c (first_part cs head k c (subst (λ (xs : List Cell). slice_get xs k ≡ Some c) is at))
+
+  pub stacks_cut : (new : List Cell) (head : ℕ) → new ≡ take head cs → head < length ss → stacks_of new ≡ take (head + 1) ss
+  stacks_cut new head is low =
+      ap stacks_of is
+      ∙ first_stacks cs head (omega (arith, low, many))
+      ∙ ap (λ (xs : List (List Layer)). take (head + 1) xs) view
+
+  pub there_cut : (new : List (List Layer)) (head : ℕ) → new ≡ take (head + 1) ss → head < length ss → head < length new
+  there_cut new head is low =
+      let e : length new ≡ length (take (head + 1) ss) = ap (λ (xs : List (List Layer)). length xs) is in
+      omega (arith, low, e, length-take-le (head + 1) ss (omega (arith, low)))
+
+-- the stack on which all others were put stays
+pub stack_cut : (old new : List (List Layer)) (head : ℕ) → new ≡ take (head + 1) old → head < length old → stack_at new head ≡ stack_at old head
+stack_cut old new head is low =
+    let n : head < length (take (head + 1) old) = omega (arith, length-take-le (head + 1) old (omega (arith, low))) in
+    ap (λ (xs : List (List Layer)). stack_at xs head) is
+    ∙ ap (λ (o : Option (List Layer)). unwrap_or o []) (sym (in_prefix (take (head + 1) old) (drop (head + 1) old) head n))
+    ∙ ap (λ (xs : List (List Layer)). stack_at xs head) (take-append-drop (head + 1) old)

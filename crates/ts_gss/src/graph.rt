@@ -1,6 +1,6 @@
 //! Plain stacks in one arena: a node and the number of a stack go in, and the number of the stack
 //! with the node on top comes out.
-ghost use Rattle.std.specs.Prelude.{◌≡◌, ◌<◌, ◌++◌, ◌∷◌, [], ◌-◌, true, false, length, slice_get, Some, IfOk, IfErr};
+ghost use Rattle.std.specs.Prelude.{◌≡◌, ◌<◌, ◌+◌, ◌++◌, ◌∷◌, [], ◌-◌, true, false, length, slice_get, take, Some, IfOk, IfErr};
 ghost use Rattle.ts_gss.specs.Stacks.{stack_at, layer_with, state_on, tree_on, under_top, begins_with_extra, layer_of};
 
 use std::alloc::{AllocError, Global};
@@ -136,5 +136,16 @@ impl Graph {
     {
         self.cells.push(Cell { node, below, state })?;
         Ok(self.cells.len())
+    }
+
+    /// Takes out all stacks that were put there after this one, and gives their memory back. All
+    /// others stay.
+    pub fn cut(&mut self, head: usize)
+        requires { head < length self.old }
+        ensures cut { self.new ≡ take (head + 1) self.old }
+        ensures stack { stack_at self.new head ≡ stack_at self.old head }
+        ensures there { head < length self.new }
+    {
+        self.cells.truncate(head);
     }
 }

@@ -1,5 +1,5 @@
 -- The production of a number: its rule, its place there, and its form.
-use Rattle.std.proofs.Common.{◌≡◌, ℕ, zero, suc, ◌+◌, ◌-◌, ◌/◌, ◌<◌, ◌≤◌, ◌^◌, sym, ap, ◌∙◌, refl, arith, true, List, [], ◌∷◌, ◌++◌, length, map, take, slice_get, Option, Some, length-append, subst}
+use Rattle.std.proofs.Common.{◌≡◌, ℕ, zero, suc, ◌+◌, ◌-◌, ◌/◌, ◌<◌, ◌≤◌, ◌^◌, sym, ap, ◌∙◌, refl, arith, true, List, [], ◌∷◌, ◌++◌, length, map, take, slice_get, Some, length-append, subst}
 use Rattle.ts_base.proofs.PlaceLemmas.{in_prefix, push_cases}
 use Rattle.std.proofs.lemmas.List.{length-map}
 use Rattle.std.proofs.lemmas.List.Sums.{sum_by-cons}

@@ -225,6 +225,17 @@ module _ (laws : Laws) (t : ParseTable) (size number token : ℕ) (old : List (L
         (λ place base can. subst (λ (xs : List Tree). IsGoodStack t size (stack_at new top) (place + (span_of u + all_spans xs))) es_are
         (good size place base (subst (λ (xs : List Tree). CanPut t size place l.left.0 u xs) (sym es_are) can)))
 
+-- ---- the stack below, where later ones were taken out
+
+pub stands_still : (t : ParseTable) (left : ℕ) (old new : List Layer) → new ≡ old → (size : ℕ) × (place : ℕ) × IsGoodStack t size old place × StandsBefore t.grammar (filling (trees_on old)) left
+    → (size : ℕ) × (place : ℕ) × IsGoodStack t size new place × StandsBefore t.grammar (filling (trees_on new)) left
+stands_still t left old new same w = (
+  w.0,
+  w.1,
+  subst (λ (l : List Layer). IsGoodStack t w.0 l w.1) (sym same) w.2,
+  subst (λ (l : List Layer). StandsBefore t.grammar (filling (trees_on l)) left) (sym same) w.3,
+)
+
 -- ---- laying extras
 
 -- the node on the stack below, with its state

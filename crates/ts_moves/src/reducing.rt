@@ -95,3 +95,52 @@ pub fn reduce_head(
         }
     }
 }
+
+/// Reduces a live stack by the production of a number, in place: all stacks of the graph that were
+/// put there after the one below the node are taken out. None where the node would be deeper than a
+/// node may be; it is not made then. So many bytes were looked at ahead of the stack's place, from
+/// there on.
+///
+/// # Errors
+///
+/// `AllocError` where memory runs out.
+pub fn reduce_alone(
+    alloc: Global,
+    table: &Table,
+    setting: &Setting,
+    graph: &mut Graph,
+    head: StackHead,
+    number: u32,
+    ahead: u32,
+) -> Result<Option<StackHead>, AllocError>
+    requires setting { IsSetting table.now setting.now.size setting.now }
+    requires live { IsLiveHead table.now setting.now.size graph.old head }
+    requires stays { (token : ℕ)
+        × Act table.now.grammar (read_on graph.old head) token (reducing_by number) }
+    requires some { 0 < ahead }
+    requires ahead { head.place + ahead ≤ suc setting.now.size }
+    ensures { IfOk result (λ o. IsReducedTo table.now setting.now.size number graph.old
+        graph.new head o) }
+{
+    laws_hold();
+    table.stands();
+    setting.productions.values_are_small();
+    let line = *setting.lines.get(number as usize);
+    let Gathered {
+        extras,
+        children,
+        extent,
+        below,
+    } = gather(alloc, graph, head, line.steps, ahead)?;
+    match node_of(alloc, setting, number, line.lengthens, children, extent)? {
+        None => Ok(None),
+        Some(node) => {
+            graph.cut(below);
+            let top = put(table, graph, below, line.left, node, extras.as_slice())?;
+            Ok(Some(StackHead {
+                top,
+                place: head.place,
+            }))
+        }
+    }
+}

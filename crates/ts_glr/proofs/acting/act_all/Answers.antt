@@ -43,7 +43,7 @@ pub loop-action-preserved : goal.loop-action-preserved
 loop-action-preserved c =
     let item : Action = slice_index_or c.args.actions.now c.loop-action.action-index (Shift 0) in
     record {
-      grows = grows_more c.args.readings.now.graph c.loop-action.readings.graph c.act.new.readings.graph c.loop-action.invariant.grows c.in_ok-moved.ensures.grows;
+      grows = grows_more c.args.readings.now.graph c.loop-action.readings.graph c.act.new.readings.graph c.loop-action.invariant.grows (c.in_ok-moved.ensures.grows refl);
       form = c.in_ok-moved.ensures.form;
       stuck = c.in_ok-moved.ensures.stuck ∙ c.loop-action.invariant.stuck;
       acting = subst (λ (done : List Action). Acting c.args.table.now c.args.setting.now.size c.act.new.readings.graph (config_of c.args.readings.now.graph c.args.head) c.args.found done c.args.readings.now.live.items c.add.new.live.items c.args.readings.now.best c.act.new.readings.best)
@@ -51,5 +51,5 @@ loop-action-preserved c =
           (acting_more c.laws_hold.ensures c.args.table.now c.args.setting.now.size (config_of c.args.readings.now.graph c.args.head) c.args.found c.loop-action.readings.graph c.act.new.readings.graph c.args.head (take c.loop-action.action-index c.args.actions.now) item c.in_ok-moved.moved
           c.args.readings.now.live.items c.loop-action.readings.live.items c.add.new.live.items c.args.readings.now.best c.loop-action.readings.best c.act.new.readings.best
           (config_stays c.args.table.now c.args.setting.now.size c.args.readings.now.graph c.loop-action.readings.graph c.args.head c.loop-action.invariant.grows c.requires.live)
-          c.in_ok-moved.ensures.grows c.loop-action.invariant.acting c.in_ok-moved.ensures.acted (sym c.in_ok-add.ensures.deep ∙ c.if-branch.false) (c.in_ok-add.ensures.live ∙ ap (λ (l : List StackHead). l ++ heads_of c.in_ok-moved.moved) c.in_ok-moved.ensures.live));
+          (c.in_ok-moved.ensures.grows refl) c.loop-action.invariant.acting c.in_ok-moved.ensures.acted (sym c.in_ok-add.ensures.deep ∙ c.if-branch.false) (c.in_ok-add.ensures.live ∙ ap (λ (l : List StackHead). l ++ heads_of c.in_ok-moved.moved) c.in_ok-moved.ensures.live));
     }

@@ -1,6 +1,6 @@
 use Rattle.std.proofs.Common.{length}
 use Rattle.ts_glr.specs.Steps.{HasForm}
-use Rattle.ts_glr.specs.Search.{Searching}
+use Rattle.ts_glr.specs.Search.{AllKnow, Searching}
 use Rattle.ts_glr.specs.Weights.{live_weight}
 use Rattle.ts_glr.proofs.parsing.parse.Given as goal
 
@@ -9,6 +9,7 @@ invariant-loop-head g l = record {
   made : g.L.Tokens.made_for l.lexer l.table;
   form : HasForm l.table.grammar l.readings.best;
   search : Searching l.table (g.L.Text.Content.bytes l.text) l.readings.graph l.readings.live.items l.readings.best l.readings.stuck;
+  known : AllKnow l.table.grammar (g.L.Text.Content.bytes l.text) l.readings.graph l.readings.live.items l.ahead;
 }
 
 abbrev pub decreases-loop-head : goal.decreases-loop-head
