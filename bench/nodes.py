@@ -36,7 +36,7 @@ ELEMENT = 8
 # The count of owners of what is shared.
 OWNERS = 8
 # The most elements and children together in a leaf of a run.
-LEAF = 96
+LEAF = 192
 
 PROGRAM = r"""//! Memory and times of nodes: what is to be done and how many records go in as arguments.
 #![tactic(auto)]

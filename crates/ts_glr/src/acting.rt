@@ -25,8 +25,8 @@ pub(crate) enum Moved {
     TooDeep,
 }
 
-/// Reduces a live stack. Where it is the only one that is live, it is changed in place, and else all
-/// stacks stay.
+/// Reduces a live stack. Where it is the only one that is live, it is changed in place, and else
+/// all stacks stay.
 fn reduce_by(
     alloc: Global,
     table: &Table,

@@ -1,5 +1,5 @@
-//! Following the only live stack: the token that it sees goes in, and the head of the new stack comes
-//! out, with the token that it sees, where that is known without lexing again.
+//! Following the only live stack: the token that it sees goes in, and the head of the new stack
+//! comes out, with the token that it sees, where that is known without lexing again.
 ghost use Rattle.std.specs.Prelude.{◌≡◌, ℕ, ◌<◌, ◌∷◌, [], true, false, length, Option, Some, None, IfOk, OnOk};
 ghost use Rattle.ts_base.specs.Bytes.{Bytes};
 ghost use Rattle.ts_core.specs.declared.action.Action.{Action as AnyAction};

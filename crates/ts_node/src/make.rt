@@ -267,8 +267,7 @@ fn lengthened(
             unreachable!()
         }
         Kind::Repetition(repetition) => {
-            let last = Run::single(alloc, alternative, more)?;
-            Run::join(alloc, repetition.get().run(), &last)
+            Run::with_element(alloc, repetition.get().run(), alternative, more)
         }
     }
 }

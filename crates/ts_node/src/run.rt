@@ -12,7 +12,11 @@ use std::alloc::{AllocError, Global};
 use ts_base::{List, Shared};
 
 /// The most elements and children together in a leaf, but for a leaf of one long element.
-const MOST_IN_LEAF: u64 = 96;
+const MOST_IN_LEAF: u64 = 192;
+
+/// The most elements and children together in the last leaf of a run that is lengthened by one
+/// element after another, so that few are copied for each.
+const MOST_IN_LAST: u64 = 32;
 
 impl Run {
     /// What is counted of it.
@@ -263,6 +267,80 @@ impl Run {
         Run::leaf(alloc, elements, children)
     }
 
+    /// The run with one more element of these children. The last leaf grows until it is full; it then
+    /// becomes part of the balanced tree before it, and a new one begins.
+    pub(crate) fn with_element(
+        alloc: Global,
+        run: &Shared<Run>,
+        alternative: u32,
+        more: List<Node>,
+    ) -> Result<Shared<Run>, AllocError>
+        requires fits { length run.now.elements + 1 < 2 ^ 32 }
+        requires wide { length run.now.children + length more < 2 ^ 32 }
+        ensures { IfOk result (λ new. new ≡ joined_stretch run.now
+            (stretch (element alternative (length more) ∷ []) more)) }
+    {
+        let last = Run::single(alloc, alternative, more)?;
+        match &run.get().shape {
+            Shape::Branch(before, end) if is_leaf(end.get()) => {
+                Run::with_last(alloc, before, end, &last)
+            }
+            Shape::Leaf(_, _) | Shape::Branch(_, _) => Run::end_joined(alloc, run, &last),
+        }
+    }
+
+    /// A run over `before` and the last leaf of a run, `end`, and behind it one more leaf.
+    fn with_last(
+        alloc: Global,
+        before: &Shared<Run>,
+        end: &Shared<Run>,
+        last: &Shared<Run>,
+    ) -> Result<Shared<Run>, AllocError>
+        requires fits { length before.now.elements
+            + (length end.now.elements + length last.now.elements) < 2 ^ 32 }
+        requires wide { length before.now.children
+            + (length end.now.children + length last.now.children) < 2 ^ 32 }
+        ensures { IfOk result (λ run. run
+            ≡ joined_stretch (joined_stretch before.now end.now) last.now) }
+    {
+        if has_room(end.get(), last.get()) {
+            let longer = Run::end_joined(alloc, end, last)?;
+            Run::branch(alloc, before.try_clone()?, longer)
+        } else {
+            let whole = Run::join(alloc, before, end)?;
+            Run::branch(alloc, whole, last.try_clone()?)
+        }
+    }
+
+    /// Both, one after the other: in one leaf, where both are leaves and the last leaf of a run has
+    /// room for them.
+    fn end_joined(
+        alloc: Global,
+        left: &Shared<Run>,
+        right: &Shared<Run>,
+    ) -> Result<Shared<Run>, AllocError>
+        requires fits { length left.now.elements + length right.now.elements < 2 ^ 32 }
+        requires wide { length left.now.children + length right.now.children < 2 ^ 32 }
+        ensures { IfOk result (λ run. run ≡ joined_stretch left.now right.now) }
+    {
+        let (first, second) = (left.get(), right.get());
+        match (&first.shape, &second.shape) {
+            (Shape::Leaf(low, low_children), Shape::Leaf(high, high_children))
+                if has_room(first, second) => {
+                Run::merge(
+                    alloc,
+                    low.as_slice(),
+                    low_children.as_slice(),
+                    high.as_slice(),
+                    high_children.as_slice(),
+                )
+            }
+            (Shape::Leaf(_, _) | Shape::Branch(_, _), _) => {
+                Run::branch(alloc, left.try_clone()?, right.try_clone()?)
+            }
+        }
+    }
+
     /// The run with another child at `k`. It shares all parts but those on the way to that child.
     pub(crate) fn with_child(
         alloc: Global,
@@ -339,6 +417,15 @@ fn both(left: &Run, right: &Run) -> Counts
 /// Whether both are small enough to be one leaf.
 fn fit_one_leaf(left: &Run, right: &Run) -> bool {
     size(left) + size(right) <= MOST_IN_LEAF
+}
+
+/// Whether the last leaf of a run has room for one more.
+fn has_room(end: &Run, more: &Run) -> bool {
+    size(end) + size(more) <= MOST_IN_LAST
+}
+
+fn is_leaf(run: &Run) -> bool {
+    run.height == 0
 }
 
 /// How many elements and children there are.
