@@ -1,5 +1,5 @@
 -- After a reduction the same token is seen again.
-use Rattle.std.proofs.Common.{◌≡◌, ◌∙◌, sym, ap, refl, subst, ℕ, zero, suc, ◌+◌, ◌-◌, ◌<◌, ◌⊎◌, inl, inr, ⊎_elim, Bool, true, false, List, [], ◌∷◌, ◌++◌, append-nil, length, reverse, get_or, Option, Some, None, unwrap_or, option_map, arith}
+use Rattle.std.proofs.Common.{◌≡◌, ◌∙◌, sym, ap, refl, subst, ℕ, zero, suc, ◌-◌, ◌<◌, ◌⊎◌, inl, inr, ⊎_elim, Bool, true, false, List, [], ◌∷◌, ◌++◌, append-nil, length, reverse, get_or, Option, Some, None, unwrap_or, option_map, arith}
 use lib.IntN.{ℤ, ◌+ℤ◌}
 use Rattle.std.proofs.lemmas.List.{reverse-append, length-map, length-reverse}
 use Rattle.std.specs.List.{Contains}
@@ -12,7 +12,7 @@ use Rattle.spec_tables.specs.Items.{Item}
 use Rattle.spec_trees.specs.declared.tree.Tree.{Tree}
 use Rattle.spec_trees.specs.declared.tree.Element.{Element}
 use Rattle.spec_trees.specs.declared.tree.Tree.TheOpen.{Tree-F}
-use Rattle.spec_trees.specs.declared.tree.Tree.TheViews.{out-Tree, out-roll-Tree}
+use Rattle.spec_trees.specs.declared.tree.Tree.TheViews.{out-roll-Tree}
 use Rattle.spec_trees.specs.Trees.{symbol_of, is_extra_node, first_pad, all_spans, total_of, all_totals, elements_of, children_of, bare}
 use Rattle.spec_trees.specs.Made.{filling, step_symbols, node_over, element, Form, of_rule, of_first, of_next, form_of, made_by, left_of, value_of, reduced}
 use Rattle.spec_runs.specs.Configurations.{stack_symbols, AreExtras, AreValidTokens, HasMove, IsReduction}

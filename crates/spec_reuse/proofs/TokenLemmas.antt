@@ -1,13 +1,13 @@
 -- A token that can come after a reduction is one on which the reduction is at hand.
-use Rattle.std.proofs.Common.{◌≡◌, ◌∙◌, sym, ap, refl, subst, ℕ, zero, suc, ◌+◌, ◌<◌, ◌≤◌, List, [], ◌∷◌, ◌++◌, length, map, take, drop, reverse, slice_get, Option, Some, None, unwrap_or, option_map, get_or, arith}
+use Rattle.std.proofs.Common.{◌≡◌, ◌∙◌, sym, ap, refl, subst, ℕ, zero, suc, ◌+◌, ◌≤◌, List, [], ◌∷◌, ◌++◌, length, take, drop, reverse, slice_get, Option, Some, None, unwrap_or, option_map, get_or, arith}
 use Rattle.std.proofs.lemmas.List.{take_more, take_all, reverse-append, length-map}
 use Rattle.std.proofs.lemmas.Option.{slice_get-map, slice_get_within, get_or_from_slice_get, slice_get-get_or, slice_get_past}
 use Rattle.ts_core.specs.declared.flat.FlatGrammar.{FlatGrammar}
 use Rattle.ts_core.specs.declared.flat.Production.{Production}
 use Rattle.ts_core.specs.declared.flat.Step.{Step}
-use Rattle.spec_grammar.specs.Symbols.{start_symbol, production_at}
-use Rattle.spec_tables.specs.Items.{Item, Line, line_steps, plain_step, start_item, end_token, IsBefore, IsComplete, IsProductionOf, CanBeginWith, itself, by_first, MayStandBehind, AsksFor, advanced, Valid, begun, asked, advanced_past}
-use Rattle.spec_tables.specs.Actions.{Move, shift, reduce, accept, Act, Reduces, may_shift, may_reduce, may_accept}
+use Rattle.spec_grammar.specs.Symbols.{production_at}
+use Rattle.spec_tables.specs.Items.{Item, Line, line_steps, plain_step, start_item, IsBefore, IsProductionOf, CanBeginWith, itself, by_first, MayStandBehind, AsksFor, advanced, Valid, begun, asked, advanced_past}
+use Rattle.spec_tables.specs.Actions.{shift, reduce, accept, Reduces, may_shift, may_reduce, may_accept}
 use Rattle.spec_trees.specs.Made.{step_symbols}
 use Rattle.spec_runs.specs.Configurations.{HasMove}
 use Rattle.spec_runs.specs.Moves.{IsUnused}
