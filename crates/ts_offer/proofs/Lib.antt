@@ -1,0 +1,3 @@
+pub mod PlaceLemmas
+pub mod WayLemmas
+pub mod TopLemmas

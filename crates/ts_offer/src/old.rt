@@ -1,0 +1,115 @@
+//! Offers from an old tree: a marked tree goes in, and its topmost fit nodes come out.
+ghost use Rattle.std.specs.Prelude.{◌≡◌, ◌↔◌, ◌≤◌, IfOk, IsTrue, option_copied};
+ghost use Rattle.spec_reuse.specs.Places.{IsWhole};
+ghost use Rattle.spec_reuse.specs.Offered.{IsFit};
+ghost use Rattle.ts_offer.specs.Answers.{Answers, offering};
+ghost use Rattle.ts_offer.specs.Ways.{LeadsTo};
+
+use crate::offers::Offers;
+use crate::topmost::{is_fit, topmost};
+use crate::way::{Ahead, Way};
+use std::alloc::{AllocError, Global};
+use std::marker::Model;
+use ts_node::Node;
+
+/// Offers from a tree that edits have marked, which contracts see as that `Offering`.
+///
+/// It keeps its way down the tree, so that all calls together pass each node once at most. A call
+/// takes no memory.
+#[derive(Drop)]
+pub struct Old<'t> {
+    way: Way<'t>,
+    least: u32,
+}
+
+impl<'t> Model for Old<'t> {
+    ghost use Rattle.std.specs.Coded.{codes};
+    ghost use Rattle.ts_offer.specs.declared.offering.Offering.{Offering};
+    ghost use Rattle.ts_offer.specs.contracts.offering.Offering as contract;
+    ghost use Rattle.ts_offer.specs.Answers.{offering};
+    ghost use Rattle.ts_offer.specs.Ways.{IsWay};
+
+    ghost Value = { Offering };
+
+    ghost coded = { Prim.hlevel (codes, contract.the_row.coded) };
+
+    ghost view = { λ a. offering a.way.root.now a.least };
+
+    ghost invariant = { λ a. IsWay a.way a.least };
+}
+
+impl<'t> Old<'t> {
+    /// Offers from the start of a tree on.
+    ///
+    /// # Errors
+    ///
+    /// `AllocError` where memory runs out.
+    pub fn new(alloc: Global, marked: &'t Node) -> Result<Old<'t>, AllocError>
+        requires { IsWhole marked.now }
+        ensures { IfOk result (λ old. old ≡ offering marked.now 0) }
+    {
+        let way = Way::new(alloc, marked)?;
+        Ok(Old { way, least: 0 })
+    }
+
+    /// The topmost fit node at a place for a state.
+    #[tactic(auto, using(crate::proofs::WayLemmas::later_way))]
+    fn answer(&mut self, place: u32, state: u16) -> Option<&'t Node>
+        requires { self.old.least ≤ place }
+        ensures answer { Answers self.old.tree place state (option_copied result) }
+        ensures new { self.new ≡ offering self.old.tree place }
+    {
+        self.least = place;
+        let ahead = self.way.go_to(place);
+        topmost_at(self.way.root, ahead, place, state)
+    }
+}
+
+/// Whether the root itself is a fit node at a place.
+fn takes_root(root: &Node, place: u32, state: u16) -> bool
+    ensures { IsTrue result ↔ (place ≡ 0) × IsFit state root.now }
+{
+    place == 0 && is_fit(root, state)
+}
+
+/// The topmost fit node of a tree at a place, where the next node ahead is known.
+fn topmost_at<'t>(
+    root: &'t Node,
+    ahead: Option<Ahead<'t>>,
+    place: u32,
+    state: u16,
+) -> Option<&'t Node>
+    requires whole { IsWhole root.now }
+    requires next { LeadsTo root.now place ahead }
+    ensures { Answers root.now place state (option_copied result) }
+{
+    if takes_root(root, place, state) {
+        return Some(root);
+    }
+    match ahead {
+        Some(ahead) => {
+            if ahead.place == place {
+                topmost(ahead.node, state)
+            } else {
+                None
+            }
+        }
+        None => None,
+    }
+}
+
+impl<'t> Offers<'t> for Old<'t> {
+    ghost use Rattle.std.specs.Prelude.{Some};
+    ghost use Rattle.spec_reuse.specs.Offered.{IsTopmost};
+
+    ghost least = { λ old. old.least };
+
+    ghost tree = { λ old. Some old.tree };
+
+    ghost gives = { λ old place state node. IsTopmost old.tree place state node };
+
+    #[tactic(auto, using(crate::proofs::TopLemmas::given, crate::proofs::TopLemmas::told))]
+    fn at(&mut self, place: u32, state: u16) -> Option<&'t Node> {
+        self.answer(place, state)
+    }
+}

@@ -1,0 +1,135 @@
+//! The way down a tree: a place goes in, and the next node that reaches past it comes out, where
+//! places do not fall.
+ghost use Rattle.std.specs.Prelude.{◌≡◌, ◌+◌, ◌<◌, ◌≤◌, length, vec_capacity, IfOk};
+ghost use Rattle.spec_trees.specs.Trees.{all_spans};
+ghost use Rattle.spec_trees.specs.Made.{most_span};
+ghost use Rattle.spec_reuse.specs.Places.{IsWhole};
+ghost use Rattle.ts_offer.specs.Ways.{IsWay, LeadsTo, IsLeft, TurnsTo, rest_of};
+
+use crate::topmost::{lead, span};
+use std::alloc::{AllocError, Global};
+use ts_node::Node;
+
+/// A node whose children from one number on are still ahead.
+#[derive(Clone, Copy)]
+pub(crate) struct Turn<'t> {
+    pub node: &'t Node,
+    pub next: u32,
+    /// Where the child of that number begins.
+    pub place: u32,
+}
+
+/// A node that is still ahead, and where it begins.
+#[derive(Clone, Copy)]
+pub(crate) struct Ahead<'t> {
+    pub node: &'t Node,
+    pub place: u32,
+}
+
+/// What the next child of a turn is, seen from a place.
+enum Step<'t> {
+    /// There is no child left.
+    Over,
+    /// It ends behind the place, and does not begin before it.
+    Next(Ahead<'t>),
+    /// It ends at the place or before it: the turn after it.
+    Past(Turn<'t>),
+    /// It begins before the place and ends behind it: the turn after it, and the one at its first
+    /// child.
+    Into(Turn<'t>, Turn<'t>),
+}
+
+/// The nodes of a tree that are still ahead: those in the children left of each turn, the innermost
+/// last. It has room for one turn a level.
+#[derive(Drop)]
+pub(crate) struct Way<'t> {
+    pub root: &'t Node,
+    pub turns: Vec<Turn<'t>>,
+}
+
+impl<'t> Way<'t> {
+    /// The way from the start of a tree. Its root itself is not ahead.
+    pub(crate) fn new(alloc: Global, root: &'t Node) -> Result<Way<'t>, AllocError>
+        requires { IsWhole root.now }
+        ensures way { IfOk result (λ way. IsWay way 0) }
+        ensures root { IfOk result (λ way. way.root.now ≡ root.now) }
+    {
+        let mut turns = Vec::with_capacity(alloc, root.depth() as usize + 1)?;
+        let first = Turn {
+            node: root,
+            next: 0,
+            place: lead(root),
+        };
+        turns.push(first)?;
+        Ok(Way { root, turns })
+    }
+
+    /// Puts a turn on top. There is room for it.
+    fn put(&mut self, turn: Turn<'t>)
+        requires { length self.old.turns.items < vec_capacity self.old.turns }
+        ensures { IsLeft self.old turn.entry self.new }
+    {
+        match self.turns.push(turn) {
+            Ok(()) => {}
+            Err(_) => unreachable!(),
+        }
+    }
+
+    /// Passes all nodes that end at a place or before it, and goes into those that begin before it
+    /// and end behind it. The answer is the next node ahead.
+    pub(crate) fn go_to(&mut self, place: u32) -> Option<Ahead<'t>>
+        requires { IsWay self.old place }
+        ensures way { IsWay self.new place }
+        ensures root { self.new.root.now ≡ self.old.root.now }
+        ensures next { LeadsTo self.old.root.now place result }
+    {
+        while let Some(turn) = self.turns.pop() {
+            match toward(turn, place) {
+                Step::Over => {}
+                Step::Next(ahead) => {
+                    self.put(turn);
+                    return Some(ahead);
+                }
+                Step::Past(after) => self.put(after),
+                Step::Into(after, inner) => {
+                    self.put(after);
+                    self.put(inner);
+                }
+            }
+        }
+        None
+    }
+}
+
+/// What the next child of a turn is, seen from a place.
+fn toward<'t>(turn: Turn<'t>, place: u32) -> Step<'t>
+    requires whole { IsWhole turn.node.now }
+    requires within { turn.place + all_spans (rest_of turn) ≤ most_span }
+    ensures { TurnsTo turn.entry place result }
+{
+    if turn.next >= turn.node.children() {
+        return Step::Over;
+    }
+    let child = turn.node.child(turn.next);
+    let end = turn.place + span(child);
+    if end > place && turn.place >= place {
+        return Step::Next(Ahead {
+            node: child,
+            place: turn.place,
+        });
+    }
+    let after = Turn {
+        node: turn.node,
+        next: turn.next + 1,
+        place: end,
+    };
+    if end <= place {
+        return Step::Past(after);
+    }
+    let inner = Turn {
+        node: child,
+        next: 0,
+        place: turn.place,
+    };
+    Step::Into(after, inner)
+}
