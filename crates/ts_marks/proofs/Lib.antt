@@ -1,0 +1,6 @@
+pub mod MovedLemmas
+pub mod MarkedLemmas
+pub mod PassedLemmas
+pub mod RemadeLemmas
+pub mod KeptLemmas
+pub mod AgreeLemmas

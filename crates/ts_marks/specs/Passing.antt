@@ -1,0 +1,75 @@
+-- How far the parts of an edit have been gone through. For proofs alone.
+use Rattle.std.specs.Prelude.{◌≡◌, ℕ, ◌+◌, ◌-◌, ◌≤◌, ◌⊎◌, ◌++◌, List, [], ◌∷◌, length, drop, slice_get, Some}
+use Rattle.ts_text.specs.declared.edit.Edit.{Edit}
+use Rattle.ts_text.specs.declared.edit.Part.{Part}
+use Rattle.spec_trees.specs.declared.tree.Tree.{Tree}
+use Rattle.spec_trees.specs.Made.{replaced, most_span}
+use Rattle.spec_reuse.specs.Changes.{is_met, moved, moved_from}
+use Rattle.spec_reuse.specs.Marked.{all_marked, marked_below}
+use Rattle.ts_marks.specs.declared.passed.Passed.{Passed}
+
+-- parts that begin from a place on, each after the one before it ends
+abbrev pub AreOrdered : ℕ → List Part → Type 0
+AreOrdered from [] = Unit {0}
+AreOrdered from (p ∷ ps) = (from ≤ p.start) × ((p.start ≤ p.end) × AreOrdered p.end ps)
+
+-- the parts of an edit that are left
+abbrev pub left_of : Passed → List Part
+left_of p = drop p.next p.edit.now.parts
+
+-- The parts that were passed end where the next may begin. From there on places move, and parts are
+-- met, as by the parts that are left.
+pub record IsPassed (p : Passed) : Type 0 where
+  pub whole : AreOrdered 0 p.edit.now.parts
+  pub left : AreOrdered p.from (left_of p)
+  pub moves : (place : ℕ) → p.from ≤ place
+      → moved_from 0 p.edit.now.parts place ≡ p.to + moved_from p.from (left_of p) place
+  pub meets : (place extent : ℕ) → p.from ≤ place
+      → is_met p.edit.now.parts place extent ≡ is_met (left_of p) place extent
+
+-- a part is left that begins at a place or before it
+abbrev pub BeginsBy : List Part → ℕ → Type 0
+BeginsBy [] place = ⊥
+BeginsBy (p ∷ ps) place = p.start ≤ place
+
+-- a part is left, and the first one ends at a place or before it
+abbrev pub EndsBy : List Part → ℕ → Type 0
+EndsBy [] place = ⊥
+EndsBy (p ∷ ps) place = p.end ≤ place
+
+-- a part is left, and what it puts in has room
+pub record HasNext (p : Passed) : Type 0 where
+  pub part : Part
+  pub there : slice_get p.edit.now.parts p.next ≡ Some part
+  pub after : p.from ≤ part.start
+  pub short : p.to + ((part.start - p.from) + length part.new) ≤ most_span
+
+-- one part more is passed
+pub record IsNextOf (p q : Passed) : Type 0 where
+  pub part : Part
+  pub there : slice_get p.edit.now.parts p.next ≡ Some part
+  pub edit : q.edit.now ≡ p.edit.now
+  pub next : q.next ≡ p.next + 1
+  pub from : q.from ≡ part.end
+  pub to : q.to ≡ p.to + ((part.start - p.from) + length part.new)
+
+-- How far a place has been followed: it is still to move as by the parts that are left.
+pub record IsTowards (p : Passed) (place : ℕ) : Type 0 where
+  pub left : AreOrdered p.from (left_of p)
+  pub is : moved p.edit.now place ≡ p.to + moved_from p.from (left_of p) place
+
+-- a child stays as it is, or is added to the changes as it becomes
+abbrev pub Adds : Edit → Tree → ℕ → ℕ → List (ℕ × Tree) → List (ℕ × Tree) → Type 0
+Adds edit child k place old new =
+    ((marked_below edit child place ≡ child) × (new ≡ old))
+    ⊎ (new ≡ old ++ (k, marked_below edit child place) ∷ [])
+
+-- The first k children are done: with the changes so far the children are those done and the others
+-- as they were, and those done are as they become.
+pub record AreDone
+    (edit : Edit) (ts : List Tree) (base : ℕ) (changes : List (ℕ × Tree)) (k place : ℕ)
+    : Type 0 where
+  pub done : List Tree
+  pub many : length done ≡ k
+  pub changed : replaced changes ts ≡ done ++ drop k ts
+  pub all : all_marked edit ts base ≡ done ++ all_marked edit (drop k ts) place

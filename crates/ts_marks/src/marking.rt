@@ -1,0 +1,135 @@
+//! Marking a tree: a tree and an edit go in, and the tree as the edit leaves it comes out.
+ghost use Rattle.std.specs.Prelude.{◌≡◌, ◌+◌, ◌<◌, ◌≤◌, true, false, All, IfOk, OnOk, length};
+ghost use Rattle.spec_trees.specs.Trees.{children_of, is_settled, node_extent, span_of, all_spans};
+ghost use Rattle.spec_trees.specs.Made.{most_span, replaced};
+ghost use Rattle.spec_reuse.specs.Places.{IsWhole};
+ghost use Rattle.spec_reuse.specs.Changes.{is_met, moved, IsEditOver};
+ghost use Rattle.spec_reuse.specs.Marked.{marked, marked_below, all_marked};
+ghost use Rattle.ts_marks.specs.Passing.{IsPassed, EndsBy, Adds, left_of};
+
+use crate::passed::Passed;
+use crate::spans::{lead, span};
+use std::alloc::{AllocError, Global};
+use ts_node::{Node, remade_is_node, remake};
+use ts_text::Edit;
+
+/// The tree of a text after an edit: the root and all nodes that a part of the edit met are not
+/// settled, sizes follow the edit, and all nodes that it did not reach are shared.
+///
+/// A settled node that no part meets costs one look, whatever is in it. So it takes time by the
+/// nodes that are made anew and their children. Of a repetition that is made anew each child is
+/// looked at.
+///
+/// # Errors
+///
+/// `AllocError` where memory runs out.
+pub fn mark(alloc: Global, tree: &Node, edit: &Edit) -> Result<Node, AllocError>
+    requires edit { IsEditOver (span_of tree.now) edit.now }
+    requires whole { IsWhole tree.now }
+    ensures { IfOk result (λ new. new ≡ marked edit.now tree.now) }
+{
+    remade_is_node();
+    let whole = span(tree);
+    let start = Passed::start(edit);
+    let own = start.moved(tree.pad());
+    let end = start.moved(whole);
+    let changed = changed_children(alloc, tree, lead(tree), start)?;
+    remake(alloc, tree, own, end - own, changed.as_slice())
+}
+
+/// The children of a node that the edit reached, by their numbers, as they become.
+#[cycle(walk)]
+fn changed_children<'e>(
+    alloc: Global,
+    node: &Node,
+    place: u32,
+    passed: Passed<'e>,
+) -> Result<Vec<(u32, Node)>, AllocError>
+    requires whole { IsWhole node.now }
+    requires passed { IsPassed passed }
+    requires from { passed.from ≤ place }
+    requires short { place + all_spans (children_of node.now) ≤ most_span }
+    requires moved { moved passed.edit.now (place + all_spans (children_of node.now)) ≤ most_span }
+    ensures changes { IfOk result (λ changed. replaced changed.items (children_of node.now)
+        ≡ all_marked passed.entry.edit.now (children_of node.now) place) }
+    ensures within { IfOk result (λ changed.
+        All (λ change. change.0 < length (children_of node.now)) changed.items) }
+{
+    let mut changed = Vec::new(alloc);
+    let mut passed = passed;
+    let mut at = place;
+    for k in 0..node.children() {
+        let child = node.child(k);
+        passed = passed.up_to(at);
+        add_changed(alloc, child, k, at, passed, &mut changed)?;
+        at += span(child);
+    }
+    Ok(changed)
+}
+
+/// Adds a child to those that the edit reached, where it did.
+#[cycle(walk)]
+fn add_changed<'e>(
+    alloc: Global,
+    child: &Node,
+    number: u32,
+    place: u32,
+    passed: Passed<'e>,
+    changed: &mut Vec<(u32, Node)>,
+) -> Result<(), AllocError>
+    requires whole { IsWhole child.now }
+    requires passed { IsPassed passed }
+    requires from { passed.from ≤ place }
+    requires behind { EndsBy (left_of passed) place → ⊥ }
+    requires short { place + span_of child.now ≤ most_span }
+    requires moved { moved passed.edit.now (place + span_of child.now) ≤ most_span }
+    ensures { OnOk result (Adds passed.entry.edit.now child.now number place
+        changed.old.items changed.new.items) }
+{
+    if !is_reached(child, place, passed) {
+        return Ok(());
+    }
+    let new = remade(alloc, child, place, passed)?;
+    changed.push((number, new))?;
+    Ok(())
+}
+
+/// Whether a node is made anew: it is not settled, or a part meets what was examined for it.
+fn is_reached<'e>(node: &Node, place: u32, passed: Passed<'e>) -> bool
+    requires passed { IsPassed passed }
+    requires from { passed.from ≤ place }
+    requires behind { EndsBy (left_of passed) place → ⊥ }
+    ensures anew { result ≡ true → is_settled node.now ≡ true
+        → is_met passed.entry.edit.now.parts place (node_extent node.now) ≡ true }
+    ensures settled { result ≡ false → is_settled node.now ≡ true }
+    ensures unmet { result ≡ false
+        → is_met passed.entry.edit.now.parts place (node_extent node.now) ≡ false }
+{
+    !node.settled() || passed.meets(place, node.extent())
+}
+
+/// A node below the root that the edit reached, as it becomes.
+#[cycle(walk)]
+fn remade<'e>(
+    alloc: Global,
+    node: &Node,
+    place: u32,
+    passed: Passed<'e>,
+) -> Result<Node, AllocError>
+    requires whole { IsWhole node.now }
+    requires passed { IsPassed passed }
+    requires from { passed.from ≤ place }
+    requires short { place + span_of node.now ≤ most_span }
+    requires moved { moved passed.edit.now (place + span_of node.now) ≤ most_span }
+    requires reached { is_settled node.now ≡ true
+        → is_met passed.edit.now.parts place (node_extent node.now) ≡ true }
+    ensures { IfOk result (λ new. new ≡ marked_below passed.entry.edit.now node.now place) }
+{
+    remade_is_node();
+    let whole = span(node);
+    let start = passed.moved(place);
+    let own = passed.moved(place + node.pad());
+    let end = passed.moved(place + whole);
+    let changed = changed_children(alloc, node, place, passed)?;
+    remake(alloc, node, own - start, end - own, changed.as_slice())
+}
