@@ -8,3 +8,4 @@ pub mod DepthLemmas
 pub mod LawLemmas
 pub mod StateLemmas
 pub mod ReaderLemmas
+pub mod LengthLemmas

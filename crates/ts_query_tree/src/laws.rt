@@ -1,9 +1,9 @@
 //! Laws of what is read, which other crates call: they take nothing and give their clauses.
-ghost use Rattle.std.specs.Prelude.{◌≡◌, ◌≢◌, List, ℕ};
+ghost use Rattle.std.specs.Prelude.{◌≡◌, ◌≢◌, ◌≤◌, List, ℕ, length};
 ghost use Rattle.ts_base.specs.Bytes.{Bytes};
 ghost use Rattle.ts_query_tree.specs.declared.tree.Part.{Part as AnyPart};
 ghost use Rattle.ts_query_tree.specs.declared.fault.TreeFault.{TreeFault as AnyFault};
-ghost use Rattle.ts_query_tree.specs.Trees.{Parts, values_of};
+ghost use Rattle.ts_query_tree.specs.Trees.{Parts, spelling, values_of};
 ghost use Rattle.ts_query_tree.specs.Reads.{IsQueryText, Reads, IsFault};
 
 use crate::fault::TreeFault;
@@ -25,4 +25,9 @@ pub fn refused_is_not_read()
 pub fn one_fault()
     ensures { (e f : AnyFault) (w : Bytes) → e ≢ TreeFault.Memory → f ≢ TreeFault.Memory
         → IsFault w e → IsFault w f → e ≡ f }
+{}
+
+/// A text has no more signs than bytes.
+pub fn signs_fit()
+    ensures { (q : Parts) (w : Bytes) → IsQueryText w q → length (spelling q) ≤ length w }
 {}

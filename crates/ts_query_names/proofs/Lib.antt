@@ -1,0 +1,6 @@
+mod FitLemmas
+mod FormLemmas
+mod KindLemmas
+mod MentionLemmas
+mod NameLemmas
+mod ScopeLemmas

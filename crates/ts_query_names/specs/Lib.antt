@@ -1,0 +1,9 @@
+pub mod Asking
+pub mod Checks
+pub mod Given
+pub mod Kinds
+pub mod Lent
+pub mod LentForms
+pub mod LentNames
+pub mod Mentions
+pub mod Numbers
