@@ -97,3 +97,15 @@ pub struct ReadQuery {
     pub captures: List<Str>,
     pub kinds: List<QueryKind>,
 }
+
+impl ReadQuery {
+    ghost use Rattle.std.specs.Prelude.{◌≡◌, ◌<◌, length, slice_get, Some};
+
+    /// The name of a capture, without its `@`.
+    pub fn capture(&self, name: u16) -> &str
+        requires { name < length self.now.captures }
+        ensures { slice_get self.now.captures name ≡ Some result.now }
+    {
+        self.captures.get(name as usize).text()
+    }
+}
