@@ -3,4 +3,5 @@ pub mod Histories
 pub mod Legal
 pub mod Orders
 pub mod Printed
+pub mod Queries
 pub mod Replies

@@ -2,6 +2,8 @@
 //! the reply to each step. There is no code here but laws of these definitions.
 #![tactic(auto)]
 
+mod finder;
 mod laws;
 
-pub use laws::{Finder, held_never_falls};
+pub use finder::Finder;
+pub use laws::held_never_falls;

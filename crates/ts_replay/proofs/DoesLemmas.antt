@@ -21,6 +21,7 @@ use Rattle.ts_docs.specs.Steps.{newest}
 use Rattle.ts_script.specs.declared.plan.Plan.{Plan}
 use Rattle.ts_script.specs.declared.plan.ScriptStep.{ScriptStep}
 use Rattle.ts_script.specs.declared.plan.ScriptStep.TheVariants as step
+use Rattle.ts_replies.specs.declared.reply.ShownResult.{ShownResult}
 use Rattle.ts_replies.specs.declared.reply.Reply.{Reply}
 use Rattle.ts_replies.specs.declared.reply.Reply.TheVariants as reply
 use Rattle.spec_history.specs.Replies.{document_of, version_of, most_looks}
@@ -30,7 +31,7 @@ use Rattle.spec_history.specs.Orders.{TakesTurns, tells, rests}
 use Rattle.spec_history.specs.Books.{journal_entry_of, journal_of}
 use Rattle.ts_replay.specs.Replays.{HasVersions}
 use Rattle.ts_replay.specs.Steps.{Place, place, with_entry, DoesStep, publishes, is_behind, out_of_range, too_large, looks, waits, gives_up, shows, has_no_memory}
-use Rattle.ts_replay.specs.Runs.{FindsNothing, GrowsBy, stays, grows, edits_on}
+use Rattle.ts_replay.specs.Runs.{GrowsBy, stays, grows, edits_on}
 use Rattle.ts_replay.proofs.JournalLemmas.{all_below, same_text, last_text, still_right}
 
 -- ---- entries
@@ -318,10 +319,10 @@ module _ (client number : ℕ) where
         had_all turn None is all = omega (arith, all)
         had_all turn (Some t) is all = let lt : t < p.turn = told t is in omega (arith, all, lt)
 
-        pub does_right : (s : ScriptStep) (r : Reply) (q : Place) → DoesStep client number p s r q
-            → IsRight FindsNothing plan table.grammar opening (journal_of q.book) p.held.number last s r
-        does_right _ _ _ (publishes document edit d room can is drafts has) =
-            subst (λ (l : List JournalEntry). IsRight FindsNothing plan table.grammar opening l p.held.number last (step.Edit document edit) (reply.Published p.turn (suc (length p.book.entries))))
+        pub does_right : {Finds : Bytes → List ℕ → List ShownResult → Type 0} (s : ScriptStep) (r : Reply) (q : Place) → DoesStep client number p s r q
+            → IsRight Finds plan table.grammar opening (journal_of q.book) p.held.number last s r
+        does_right {Finds = Finds} _ _ _ (publishes document edit d room can is drafts has) =
+            subst (λ (l : List JournalEntry). IsRight Finds plan table.grammar opening l p.held.number last (step.Edit document edit) (reply.Published p.turn (suc (length p.book.entries))))
             (grown_is p d room drafts.client_is drafts.step_is)
             (still_right plan table.grammar opening (journal_of p.book) (record { turn = p.turn; client = client; step = number }) p.held.number last
             (let e : length (journal_of p.book) ≡ length p.book.entries = count_is p in omega (arith, e, there))

@@ -3,64 +3,28 @@ use Rattle.std.proofs.Common.{◌≡◌, ◌∙◌, sym, ap, subst, ℕ, ◌<◌
 use Rattle.std.proofs.lemmas.List.{length-map}
 use Rattle.std.proofs.lemmas.Option.{slice_get_within, slice_get-map}
 use Rattle.ts_base.specs.Bytes.{Bytes}
-use Rattle.ts_core.specs.declared.flat.FlatGrammar.{FlatGrammar}
 use Rattle.ts_table.specs.declared.view.ParseTable.{ParseTable}
 use Rattle.ts_docs.specs.declared.parsed.Pages.{Pages}
 use Rattle.ts_script.specs.declared.plan.Plan.{Plan}
 use Rattle.ts_script.specs.declared.plan.ScriptStep.{ScriptStep}
 use Rattle.ts_replies.specs.declared.reply.Reply.{Reply}
 use Rattle.ts_replies.specs.declared.reply.ShownResult.{ShownResult}
-use Rattle.spec_history.specs.Histories.{JournalEntry, History}
-use Rattle.spec_history.specs.Legal.{IsRight, published, newer, range, size, look, await, late, tree, results, absent, memory, LegalSoFar, IsComplete, Legal}
+use Rattle.spec_history.specs.Legal.{IsComplete, Legal}
 use Rattle.spec_history.specs.Orders.{InOrder}
 use Rattle.ts_replay.specs.declared.document.Document.{Document}
 use Rattle.ts_replay.specs.declared.document.Client.{Client}
 use Rattle.spec_history.specs.Books.{journal_of}
 use Rattle.ts_replay.specs.Replays.{HasVersions, AreBooks}
-use Rattle.ts_replay.specs.Runs.{FindsNothing, HasNoStepLeft}
+use Rattle.ts_replay.specs.Runs.{HasNoStepLeft}
 use Rattle.ts_replay.specs.Running.{books_of, replies_of, history_now, over_in, IsRunAt, AreDone}
 use Rattle.ts_replay.proofs.OrderLemmas.{ends_in_order}
 use Rattle.ts_replay.proofs.LoopLemmas.{is_done}
 use Rattle.ts_replay.proofs.RunningLemmas.{same_thing, there_is}
 
--- ---- what queries find
-
-module _ (Finds : Bytes → List ℕ → List ShownResult → Type 0) where
-  right_too : {plan : Plan} {g : FlatGrammar} {opening : Bytes} {entries : List JournalEntry} {before : ℕ} {last : Option ℕ}
-      (s : ScriptStep) (r : Reply) → IsRight FindsNothing plan g opening entries before last s r → IsRight Finds plan g opening entries before last s r
-  right_too _ _ (published document edit turn version can count is) = published document edit turn version can count is
-  right_too _ _ (newer document edit turn version can shows more) = newer document edit turn version can shows more
-  right_too _ _ (range document edit version out is) = range document edit version out is
-  right_too _ _ (size document edit bytes version over is) = size document edit bytes version over is
-  right_too _ _ (look document turn version shows) = look document turn version shows
-  right_too _ _ (await document wanted turn version shows there) = await document wanted turn version shows there
-  right_too _ _ (late document wanted turn version shows less all) = late document wanted turn version shows less all
-  right_too _ _ (tree document version outcome shown is) = tree document version outcome shown is
-  right_too _ _ (results document version queries found has finds is) = absurd finds
-  right_too _ _ (absent document version queries outcome no_tree shown is) = absent document version queries outcome no_tree shown is
-  right_too _ _ (memory s version is) = memory s version is
-
-  lawful_too : (h : History) → LegalSoFar FindsNothing h → LegalSoFar Finds h
-  lawful_too h l = record {
-    right = λ client number s r a. let was = l.right client number s r a in record {
-      opening = was.opening;
-      opening_is = was.opening_is;
-      entries = was.entries;
-      entries_are = was.entries_are;
-      right = right_too s r was.right;
-    };
-    few = l.few;
-    apart = l.apart;
-    rise = l.rise;
-    entered = l.entered;
-    rising = l.rising;
-    accounted = l.accounted;
-  }
-
 -- ---- the end
 
-module _ (plan : Plan) (table : ParseTable) (openings : List Bytes) (order : List ℕ) (documents : List Document) (clients : List Client)
-    (at : IsRunAt plan openings order [] table documents clients) (done : AreDone clients (length clients)) where
+module _ {Finds : Bytes → List ℕ → List ShownResult → Type 0} (plan : Plan) (table : ParseTable) (openings : List Bytes) (order : List ℕ) (documents : List Document) (clients : List Client)
+    (at : IsRunAt Finds plan openings order [] table documents clients) (done : AreDone clients (length clients)) where
   steps_of_at : (k : ℕ) (steps : List ScriptStep) (own : List Reply) → slice_get plan.clients k ≡ Some steps → slice_get (replies_of clients) k ≡ Some own
       → (c : Client) × (slice_get clients k ≡ Some c) × (c.steps.now ≡ steps) × (c.replies.items ≡ own)
   steps_of_at k steps own a b =
@@ -90,8 +54,8 @@ module _ (plan : Plan) (table : ParseTable) (openings : List Bytes) (order : Lis
         omega (arith, less, more, s, r);
   }
 
-  pub ends_legal : (Finds : Bytes → List ℕ → List ShownResult → Type 0) → Legal Finds (history_now plan table openings documents clients)
-  ends_legal Finds = record { whole = complete; lawful = lawful_too Finds (history_now plan table openings documents clients) at.running.so_far.lawful }
+  pub ends_legal : Legal Finds (history_now plan table openings documents clients)
+  ends_legal = record { whole = complete; lawful = at.running.so_far.lawful }
 
   pub ends_ordered : InOrder order (history_now plan table openings documents clients)
   ends_ordered = ends_in_order order plan.clients (replies_of clients) (over_in documents) each_done at.in_order

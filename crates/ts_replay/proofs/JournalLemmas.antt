@@ -7,12 +7,12 @@ use Rattle.ts_base.specs.Bytes.{Bytes}
 use Rattle.ts_core.specs.declared.flat.FlatGrammar.{FlatGrammar}
 use Rattle.ts_script.specs.declared.plan.Plan.{Plan}
 use Rattle.ts_script.specs.declared.plan.ScriptStep.{ScriptStep}
+use Rattle.ts_replies.specs.declared.reply.ShownResult.{ShownResult}
 use Rattle.ts_replies.specs.declared.reply.Reply.{Reply}
 use Rattle.spec_history.specs.Replies.{turn_told}
 use Rattle.spec_history.specs.Histories.{JournalEntry, version_text, text_after, text_after_all, entries_below}
 use Rattle.spec_history.specs.Legal.{IsRight, CanEdit, ShowsAt, IsShown, HasTree, published, newer, range, size, look, await, late, tree, results, absent, memory}
 use Rattle.ts_text.specs.Edit.{InRange, IsOver}
-use Rattle.ts_replay.specs.Runs.{FindsNothing}
 
 -- ---- how many entries there are
 
@@ -88,9 +88,9 @@ module _ (plan : Plan) (g : FlatGrammar) (opening : Bytes) (entries : List Journ
   still_shows turn number le shows = record { count = same_count turn number le shows.count; not_older = shows.not_older }
 
   -- a right reply stays right when an entry of a later turn is added
-  pub still_right : (s : ScriptStep) (r : Reply) → ((turn : ℕ) → turn_told r ≡ Some turn → turn ≤ e.turn)
-      → IsRight FindsNothing plan g opening entries before last s r
-      → IsRight FindsNothing plan g opening (entries ++ e ∷ []) before last s r
+  pub still_right : {Finds : Bytes → List ℕ → List ShownResult → Type 0} (s : ScriptStep) (r : Reply) → ((turn : ℕ) → turn_told r ≡ Some turn → turn ≤ e.turn)
+      → IsRight Finds plan g opening entries before last s r
+      → IsRight Finds plan g opening (entries ++ e ∷ []) before last s r
   still_right _ _ le (published document edit turn version can count is) =
       published document edit turn version (subst (λ (t : Bytes). CanEdit t edit) same_held can) (same_count turn before (le turn refl) count) is
   still_right _ _ le (newer document edit turn version can shows more) =
@@ -106,7 +106,8 @@ module _ (plan : Plan) (g : FlatGrammar) (opening : Bytes) (entries : List Journ
       late document wanted turn version (still_shows turn version (le turn refl) shows) less all
   still_right _ _ le (tree document version outcome shown is) =
       tree document version outcome (subst (λ (t : Bytes). IsShown g t outcome) same_held shown) is
-  still_right _ _ le (results document version queries found has finds is) = absurd finds
+  still_right {Finds = Finds} _ _ le (results document version queries found has finds is) =
+      results document version queries found (subst (λ (t : Bytes). HasTree g t) same_held has) (subst (λ (t : Bytes). Finds t queries found) same_held finds) is
   still_right _ _ le (absent document version queries outcome no_tree shown is) =
       absent document version queries outcome (subst (λ (t : Bytes). HasTree g t → ⊥) same_held no_tree) (subst (λ (t : Bytes). IsShown g t outcome) same_held shown) is
   still_right _ _ le (memory s version is) = memory s version is

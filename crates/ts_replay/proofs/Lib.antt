@@ -1,3 +1,4 @@
+mod AskLemmas
 mod DoesLemmas
 mod EndLemmas
 mod JournalLemmas

@@ -7,6 +7,7 @@ use Rattle.ts_base.specs.Bytes.{Bytes}
 use Rattle.ts_table.specs.declared.view.ParseTable.{ParseTable}
 use Rattle.ts_script.specs.declared.plan.Plan.{Plan}
 use Rattle.ts_script.specs.declared.plan.ScriptStep.{ScriptStep}
+use Rattle.ts_replies.specs.declared.reply.ShownResult.{ShownResult}
 use Rattle.ts_replies.specs.declared.reply.Reply.{Reply}
 use Rattle.ts_replay.specs.declared.document.Document.{Document}
 use Rattle.ts_replay.specs.declared.document.Client.{Client}
@@ -38,14 +39,14 @@ none_next clients k none c is = ⊎_elim
     (λ le. le)
     (cases_lt (length c.replies.items) (length c.steps.now))
 
-module _ (plan : Plan) (openings : List Bytes) (order : List ℕ) (table : ParseTable) (documents : List Document) (clients : List Client) where
-  pub next_passed : (rest : List ℕ) (c : ℕ) → (HasNext clients c → ⊥) → IsRunAt plan openings order (c ∷ rest) table documents clients → IsRunAt plan openings order rest table documents clients
+module _ {Finds : Bytes → List ℕ → List ShownResult → Type 0} (plan : Plan) (openings : List Bytes) (order : List ℕ) (table : ParseTable) (documents : List Document) (clients : List Client) where
+  pub next_passed : (rest : List ℕ) (c : ℕ) → (HasNext clients c → ⊥) → IsRunAt Finds plan openings order (c ∷ rest) table documents clients → IsRunAt Finds plan openings order rest table documents clients
   next_passed rest c none at = record {
     running = at.running;
     in_order = passed_over order plan.clients (replies_of clients) (over_in documents) rest c (is_done plan.clients clients at.running.steps_are c (none_next clients c none)) at.in_order;
   }
 
-  pub first_next : (c : ℕ) → AreDone clients c → IsRunAt plan openings order [] table documents clients → IsRunAt plan openings order (c ∷ []) table documents clients
+  pub first_next : (c : ℕ) → AreDone clients c → IsRunAt Finds plan openings order [] table documents clients → IsRunAt Finds plan openings order (c ∷ []) table documents clients
   first_next c done at = record {
     running = at.running;
     in_order = first_is_next order plan.clients (replies_of clients) (over_in documents) c (λ k lt. is_done plan.clients clients at.running.steps_are k (λ x is. done k x lt is)) at.in_order;
@@ -53,8 +54,8 @@ module _ (plan : Plan) (openings : List Bytes) (order : List ℕ) (table : Parse
 
   -- the next step of the next client was done
   pub one_taken : (rest : List ℕ) (c : ℕ) (client : Client) → slice_get clients c ≡ Some client → (after : List Document) (client_after : Client)
-      → IsStepTaken c documents client after client_after
-      → IsRunAt plan openings order (c ∷ rest) table documents clients → IsRunAt plan openings order rest table after (set clients c client_after)
+      → IsStepTaken Finds c documents client after client_after
+      → IsRunAt Finds plan openings order (c ∷ rest) table documents clients → IsRunAt Finds plan openings order rest table after (set clients c client_after)
   one_taken rest c client is after client_after t at = record {
     running = runs_on plan table openings documents clients at.running c client is after client_after t;
     in_order = runs_in_order plan table openings documents clients at.running c client is after client_after t order rest at.in_order;
@@ -75,8 +76,8 @@ left_of : (clients : List Client) (c : ℕ) (client : Client) → slice_get clie
 left_of clients c client is = ap (λ (o : Option Client). unwrap_or (option_map (λ (x : Client). length x.steps.now - length x.replies.items) o) 0) is
 
 -- after a step the client has fewer left
-pub fewer_left : (documents after : List Document) (clients : List Client) (c : ℕ) (client client_after : Client) → slice_get clients c ≡ Some client
-    → IsStepTaken c documents client after client_after → steps_left (set clients c client_after) c < steps_left clients c
+pub fewer_left : {Finds : Bytes → List ℕ → List ShownResult → Type 0} (documents after : List Document) (clients : List Client) (c : ℕ) (client client_after : Client) → slice_get clients c ≡ Some client
+    → IsStepTaken Finds c documents client after client_after → steps_left (set clients c client_after) c < steps_left clients c
 fewer_left documents after clients c client client_after is t =
     let a : steps_left clients c ≡ length client.steps.now - length client.replies.items = left_of clients c client is in
     let b : steps_left (set clients c client_after) c ≡ length client_after.steps.now - length client_after.replies.items
@@ -90,16 +91,17 @@ pub others_same : (clients : List Client) (c : ℕ) (client_after : Client) → 
 others_same clients c client_after k other = set_there clients c k client_after other
 
 -- the client that has a next step may take it
-pub may_take_next : (table : ParseTable) (documents : List Document) (clients : List Client) (c : ℕ) (client : Client) → slice_get clients c ≡ Some client
-    → CanRun table documents clients → HasNext clients c → MayTakeStep table documents client
-may_take_next table documents clients c client is can next =
+pub may_take_next : {Finds : Bytes → List ℕ → List ShownResult → Type 0} (count : ℕ) (table : ParseTable) (documents : List Document) (clients : List Client) (c : ℕ) (client : Client) → slice_get clients c ≡ Some client
+    → CanRun Finds count table documents clients → HasNext clients c → MayTakeStep count table documents client
+may_take_next count table documents clients c client is can next =
     let same : next.who ≡ client = same_thing next.who client (sym next.is ∙ is) in
-    may_take can.0 table can.1 documents clients can.2 c client is (subst (λ (x : Client). length x.replies.items < length x.steps.now) same next.more)
+    subst (λ (n : ℕ). MayTakeStep n table documents client) (sym can.2)
+    (may_take can.0 table can.1 documents clients can.3 c client is (subst (λ (x : Client). length x.replies.items < length x.steps.now) same next.more))
 
-pub can_still : (table : ParseTable) (documents after : List Document) (clients : List Client) (c : ℕ) (client client_after : Client) → slice_get clients c ≡ Some client
-    → CanRun table documents clients → IsStepTaken c documents client after client_after → CanRun table after (set clients c client_after)
-can_still table documents after clients c client client_after is can t =
-    (can.0, can.1, runs_on can.0 table can.1 documents clients can.2 c client is after client_after t)
+pub can_still : {Finds : Bytes → List ℕ → List ShownResult → Type 0} (count : ℕ) (table : ParseTable) (documents after : List Document) (clients : List Client) (c : ℕ) (client client_after : Client) → slice_get clients c ≡ Some client
+    → CanRun Finds count table documents clients → IsStepTaken Finds c documents client after client_after → CanRun Finds count table after (set clients c client_after)
+can_still count table documents after clients c client client_after is can t =
+    (can.0, can.1, can.2, runs_on can.0 table can.1 documents clients can.3 c client is after client_after t)
 
 -- the test whether a client has a step left
 pub next_told : (clients : List Client) (k : ℕ) (a b : Client) (n : ℕ) → slice_get clients k ≡ Some a → slice_get clients k ≡ Some b

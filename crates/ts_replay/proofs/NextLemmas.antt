@@ -8,6 +8,7 @@ use Rattle.ts_base.proofs.PlaceLemmas.{push_cases, in_prefix, at_end}
 use Rattle.ts_base.specs.Bytes.{Bytes}
 use Rattle.ts_shelf.specs.Entries.{most_turns}
 use Rattle.ts_script.specs.declared.plan.ScriptStep.{ScriptStep}
+use Rattle.ts_replies.specs.declared.reply.ShownResult.{ShownResult}
 use Rattle.ts_replies.specs.declared.reply.Reply.{Reply}
 use Rattle.ts_replies.specs.declared.reply.Reply.TheVariants as reply
 use Rattle.spec_history.specs.Replies.{document_of, version_of, turn_told, turns_of}
@@ -17,7 +18,7 @@ use Rattle.std.specs.Option.{option_and_then}
 use Rattle.ts_core.specs.declared.flat.FlatGrammar.{FlatGrammar}
 use Rattle.ts_script.specs.declared.plan.Plan.{Plan}
 use Rattle.spec_history.specs.Orders.{TakesTurns, tells, rests, gave_up}
-use Rattle.ts_replay.specs.Runs.{FindsNothing, SoFar, with_own_reply, next_history, PublishesNothing, GrowsBy, stays, grows, IsNextReply}
+use Rattle.ts_replay.specs.Runs.{SoFar, with_own_reply, next_history, PublishesNothing, GrowsBy, stays, grows, IsNextReply}
 use Rattle.ts_replay.proofs.ReplyLemmas.{stands, own_after, others_after, new_stands, old_stands, reply_cases, earlier_same, length_paired, paired_push, take_push, held_push, share, accounted_next}
 use Rattle.ts_replay.proofs.JournalLemmas.{still_right}
 
@@ -113,11 +114,11 @@ share_elsewhere d t s r other = by (eqb_tells (document_of s) d)
 -- ---- entries
 
 -- where a reply publishes, the entry has a turn that was not over
-right_grows : (client number : ℕ) (entries after : List JournalEntry) (r : Reply) → GrowsBy client number entries r after
+right_grows : {Finds : Bytes → List ℕ → List ShownResult → Type 0} (client number : ℕ) (entries after : List JournalEntry) (r : Reply) → GrowsBy client number entries r after
     → (low : ℕ) → ((turn : ℕ) → turn_told r ≡ Some turn → low ≤ turn)
     → (plan : Plan) (g : FlatGrammar) (opening : Bytes) (before : ℕ) (last : Option ℕ) → before ≤ length entries
     → (t : ScriptStep) (x : Reply) → ((turn : ℕ) → turn_told x ≡ Some turn → turn < low)
-    → IsRight FindsNothing plan g opening entries before last t x → IsRight FindsNothing plan g opening after before last t x
+    → IsRight Finds plan g opening entries before last t x → IsRight Finds plan g opening after before last t x
 right_grows client number entries _ _ (stays r none) low new plan g opening before last there t x below right = right
 right_grows client number entries _ _ (grows turn) low new plan g opening before last there t x below right =
     still_right plan g opening entries (record { turn = turn; client = client; step = number }) before last there t x
@@ -219,8 +220,8 @@ record IsNewTurn (c : ℕ) (own : List Reply) (s : ScriptStep) (r : Reply) (d k 
   pub on : document_of s ≡ d
   pub told : turn_told r ≡ Some turn
 
-module _ (h : History) (over now : ℕ → ℕ) (c : ℕ) (own : List Reply) (s : ScriptStep) (r : Reply)
-    (journals : List (List JournalEntry)) (next : IsNextReply h over now c own s r journals) where
+module _ {Finds : Bytes → List ℕ → List ShownResult → Type 0} (h : History) (over now : ℕ → ℕ) (c : ℕ) (own : List Reply) (s : ScriptStep) (r : Reply)
+    (journals : List (List JournalEntry)) (next : IsNextReply Finds h over now c own s r journals) where
   asked : asked_at h.plan c (length own) ≡ Some s
   asked = ap (λ (o : Option (List ScriptStep)). option_and_then (λ (steps : List ScriptStep). slice_get steps (length own)) o) next.steps_are ∙ next.step_is
 
@@ -329,30 +330,30 @@ module _ (h : History) (over now : ℕ → ℕ) (c : ℕ) (own : List Reply) (s 
   last_same k m d le = ap (last_turn d None) (sym (earlier_same h.replies c k m own r (unwrap_or (slice_get h.plan.clients k) []) next.own_are le))
 
   moved : (k m : ℕ) (opening : Bytes) (entries : List JournalEntry) (t : ScriptStep) (x : Reply) → m ≤ length (unwrap_or (slice_get h.replies k) [])
-      → IsRight FindsNothing h.plan h.grammar opening entries (held_before h k m (document_of t)) (last_told h k m (document_of t)) t x
-      → IsRight FindsNothing h.plan h.grammar opening entries (held_before (next_history h c own r journals) k m (document_of t)) (last_told (next_history h c own r journals) k m (document_of t)) t x
+      → IsRight Finds h.plan h.grammar opening entries (held_before h k m (document_of t)) (last_told h k m (document_of t)) t x
+      → IsRight Finds h.plan h.grammar opening entries (held_before (next_history h c own r journals) k m (document_of t)) (last_told (next_history h c own r journals) k m (document_of t)) t x
   moved k m opening entries t x le right =
-      subst (λ (o : Option ℕ). IsRight FindsNothing h.plan h.grammar opening entries (held_before (next_history h c own r journals) k m (document_of t)) o t x) (last_same k m (document_of t) le)
-      (subst (λ (b : ℕ). IsRight FindsNothing h.plan h.grammar opening entries b (last_told h k m (document_of t)) t x) (held_same k m (document_of t) le) right)
+      subst (λ (o : Option ℕ). IsRight Finds h.plan h.grammar opening entries (held_before (next_history h c own r journals) k m (document_of t)) o t x) (last_same k m (document_of t) le)
+      (subst (λ (b : ℕ). IsRight Finds h.plan h.grammar opening entries b (last_told h k m (document_of t)) t x) (held_same k m (document_of t) le) right)
 
-  module _ (so_far : SoFar h over) where
+  module _ (so_far : SoFar Finds h over) where
     told_before : (d k m turn : ℕ) → TellsTurn h d k m turn → turn < over d
     told_before d k m turn a = so_far.below d k m turn a
 
     -- ---- the reply is right
 
-    right_old : (k m : ℕ) (t : ScriptStep) (x : Reply) → IsAnswered h k m t x → IsRightAt FindsNothing (next_history h c own r journals) k m t x
+    right_old : (k m : ℕ) (t : ScriptStep) (x : Reply) → IsAnswered h k m t x → IsRightAt Finds (next_history h c own r journals) k m t x
     right_old k m t x a = ⊎_elim here there (cases_eq (document_of t) (document_of s))
       where
-        old : IsRightAt FindsNothing h k m t x
+        old : IsRightAt Finds h k m t x
         old = so_far.lawful.right k m t x a
 
-        here : document_of t ≡ document_of s → IsRightAt FindsNothing (next_history h c own r journals) k m t x
+        here : document_of t ≡ document_of s → IsRightAt Finds (next_history h c own r journals) k m t x
         here e =
             let was = so_far.lawful.right k m t x a in
             let same : was.entries ≡ next.entries = (let y : Some was.entries ≡ Some next.entries = sym was.entries_are ∙ ap (slice_get h.journals) e ∙ next.entries_are in cc) in
             let there : held_before h k m (document_of t) ≤ length next.entries = so_far.there (document_of t) k m next.entries (ap (slice_get h.journals) e ∙ next.entries_are) in
-            let right = subst (λ (l : List JournalEntry). IsRight FindsNothing h.plan h.grammar was.opening l (held_before h k m (document_of t)) (last_told h k m (document_of t)) t x) same was.right in
+            let right = subst (λ (l : List JournalEntry). IsRight Finds h.plan h.grammar was.opening l (held_before h k m (document_of t)) (last_told h k m (document_of t)) t x) same was.right in
             record {
               opening = was.opening;
               opening_is = was.opening_is;
@@ -364,7 +365,7 @@ module _ (h : History) (over now : ℕ → ℕ) (c : ℕ) (own : List Reply) (s 
                   (λ turn is. subst (λ (d : ℕ). turn < over d) e (told_before (document_of t) k m turn (record { step = t; answer = x; answered = a; on = refl; told = is }))) right);
             }
 
-        there : (document_of t ≡ document_of s → ⊥) → IsRightAt FindsNothing (next_history h c own r journals) k m t x
+        there : (document_of t ≡ document_of s → ⊥) → IsRightAt Finds (next_history h c own r journals) k m t x
         there other =
             let was = so_far.lawful.right k m t x a in
             record {
@@ -375,7 +376,7 @@ module _ (h : History) (over now : ℕ → ℕ) (c : ℕ) (own : List Reply) (s 
               right = moved k m was.opening was.entries t x (few_before k m t x a) was.right;
             }
 
-    right_new : IsRightAt FindsNothing (next_history h c own r journals) c (length own) s r
+    right_new : IsRightAt Finds (next_history h c own r journals) c (length own) s r
     right_new = record {
       opening = next.opening;
       opening_is = next.opening_is;
@@ -384,14 +385,14 @@ module _ (h : History) (over now : ℕ → ℕ) (c : ℕ) (own : List Reply) (s 
       right = moved c (length own) next.opening next.after s r own_before next.right;
     }
 
-    right_now : (k m : ℕ) (t : ScriptStep) (x : Reply) → IsAnswered (next_history h c own r journals) k m t x → IsRightAt FindsNothing (next_history h c own r journals) k m t x
+    right_now : (k m : ℕ) (t : ScriptStep) (x : Reply) → IsAnswered (next_history h c own r journals) k m t x → IsRightAt Finds (next_history h c own r journals) k m t x
     right_now k m t x a = ⊎_elim (right_old k m t x) new (answered_cases k m t x a)
       where
-        new : IsNew c own s r k m t x → IsRightAt FindsNothing (next_history h c own r journals) k m t x
-        new w = subst (λ (i : ℕ). IsRightAt FindsNothing (next_history h c own r journals) i m t x) (sym w.client)
-            (subst (λ (i : ℕ). IsRightAt FindsNothing (next_history h c own r journals) c i t x) (sym w.number)
-            (subst (λ (y : ScriptStep). IsRightAt FindsNothing (next_history h c own r journals) c (length own) y x) (sym w.step)
-            (subst (λ (y : Reply). IsRightAt FindsNothing (next_history h c own r journals) c (length own) s y) (sym w.answer) right_new)))
+        new : IsNew c own s r k m t x → IsRightAt Finds (next_history h c own r journals) k m t x
+        new w = subst (λ (i : ℕ). IsRightAt Finds (next_history h c own r journals) i m t x) (sym w.client)
+            (subst (λ (i : ℕ). IsRightAt Finds (next_history h c own r journals) c i t x) (sym w.number)
+            (subst (λ (y : ScriptStep). IsRightAt Finds (next_history h c own r journals) c (length own) y x) (sym w.step)
+            (subst (λ (y : Reply). IsRightAt Finds (next_history h c own r journals) c (length own) s y) (sym w.answer) right_new)))
 
     -- ---- turns
 
@@ -561,7 +562,7 @@ module _ (h : History) (over now : ℕ → ℕ) (c : ℕ) (own : List Reply) (s 
             subst (λ (l : List JournalEntry). version_of r ≤ length l) same next.held_there)))
 
     -- a run so far, with its next reply
-    pub next_so_far : SoFar (next_history h c own r journals) now
+    pub next_so_far : SoFar Finds (next_history h c own r journals) now
     next_so_far = record {
       lawful = record {
         right = right_now;

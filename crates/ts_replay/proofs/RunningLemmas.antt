@@ -1,9 +1,9 @@
 -- Documents and clients after one more step.
-use Rattle.std.proofs.Common.{◌≡◌, ◌∙◌, sym, ap, refl, subst, ℕ, zero, suc, ◌+◌, ◌<◌, ◌≤◌, ◌^◌, ◌==◌, nat_eq, if◌then◌else◌, true, false, Bool, ◌⊎◌, inl, inr, ⊎_elim, List, [], ◌∷◌, ◌++◌, All, length, map, take, set, slice_get, get_or, Option, Some, option_map, unwrap_or, arith}
+use Rattle.std.proofs.Common.{◌≡◌, ◌∙◌, sym, ap, refl, subst, ℕ, zero, suc, ◌+◌, ◌<◌, ◌≤◌, ◌^◌, ◌==◌, nat_eq, if◌then◌else◌, true, false, Bool, ◌⊎◌, inl, inr, ⊎_elim, List, [], ◌∷◌, ◌++◌, length, map, take, set, slice_get, get_or, Option, Some, option_map, unwrap_or, arith}
 use Rattle.std.specs.Option.{option_and_then}
 use Rattle.std.proofs.lemmas.Bool.{cases_eq, eq-eqb, eqb-true}
 use Rattle.std.proofs.lemmas.List.{length-map, length-set, map-set, take_all}
-use Rattle.std.proofs.lemmas.Option.{slice_get_within, slice_get-map, slice_get-get_or, get_or_from_slice_get}
+use Rattle.std.proofs.lemmas.Option.{slice_get_within, slice_get-map, slice_get-get_or}
 use Rattle.ts_base.proofs.PlaceLemmas.{set_here, set_there}
 use Rattle.ts_base.specs.Bytes.{Bytes}
 use Rattle.ts_shelf.specs.Entries.{most_turns}
@@ -13,6 +13,7 @@ use Rattle.ts_docs.specs.Versions.{IsTextOf}
 use Rattle.ts_script.specs.declared.plan.Plan.{Plan}
 use Rattle.ts_script.specs.declared.plan.ScriptStep.{ScriptStep}
 use Rattle.ts_script.specs.declared.plan.ScriptStep.TheVariants as step
+use Rattle.ts_replies.specs.declared.reply.ShownResult.{ShownResult}
 use Rattle.ts_replies.specs.declared.reply.Reply.{Reply}
 use Rattle.ts_replies.specs.declared.reply.Reply.TheVariants as reply
 use Rattle.spec_history.specs.Replies.{document_of, version_of, most_looks}
@@ -22,12 +23,12 @@ use Rattle.spec_history.specs.Orders.{TakesTurns}
 use Rattle.ts_replay.specs.declared.document.Document.{Document}
 use Rattle.ts_replay.specs.declared.document.Client.{Client}
 use Rattle.spec_history.specs.Books.{journal_entry_of, journal_of}
-use Rattle.ts_replay.specs.Replays.{AsksNone, history_of}
+use Rattle.ts_replay.specs.Replays.{history_of}
 use Rattle.ts_replay.specs.Steps.{place, NeedsRoom}
-use Rattle.ts_replay.specs.Runs.{FindsNothing, SoFar, with_own_reply, next_history, IsNextReply, weight_left, edits_on, RunsInOrder}
+use Rattle.ts_replay.specs.Runs.{SoFar, with_own_reply, next_history, IsNextReply, weight_left, edits_on, RunsInOrder}
 use Rattle.ts_replay.specs.Running.{books_of, replies_of, client_steps, over_in, history_now, IsOpen, HoldsVersion, IsRunning, MayTakeStep, IsStepTaken}
 use Rattle.ts_replay.proofs.ReplyLemmas.{own_after, others_after, left_next, length_one_more, length_paired, paired_push, held_push}
-use Rattle.ts_replay.proofs.DoesLemmas.{does_grow, does_take, turn_within, sum_stays, room_within, does_rise, held_within, text_stays, held_now, latest_now, versions_now, does_right}
+use Rattle.ts_replay.proofs.AskLemmas.{does_grow, does_take, turn_within, sum_stays, room_within, does_rise, held_within, text_stays, held_now, latest_now, versions_now, does_right}
 use Rattle.ts_replay.proofs.NextLemmas.{next_so_far}
 use Rattle.ts_replay.proofs.OrderLemmas.{next_in_order}
 use Rattle.ts_replay.proofs.ToldLemmas.{last_is_told}
@@ -55,9 +56,6 @@ same_thing x y h = cc
 given : {X Y : Type 0} (xs : List X) (ys : List Y) (k : ℕ) (x : X) (d : Y) → length ys ≡ length xs → slice_get xs k ≡ Some x → slice_get ys k ≡ Some (get_or ys k d)
 given xs ys k x d same is = slice_get-get_or ys k d (let lt : k < length xs = slice_get_within xs k x is in omega (arith, lt, same))
 
-all_at : {X : Type 0} (P : X → Type 0) (xs : List X) (k : ℕ) (x : X) → All P xs → slice_get xs k ≡ Some x → P x
-all_at P xs k x all at = subst P (get_or_from_slice_get xs k x x at) (all k x (slice_get_within xs k x at))
-
 not_same : (a b : ℕ) → (a == b) ≡ false → a ≡ b → ⊥
 not_same a b other e = absurd (let f : true ≡ false = sym (eq-eqb a b e) ∙ other in cc)
 
@@ -73,8 +71,8 @@ set_stays (y ∷ xs) (suc k) x is = ap (λ l. y ∷ l) (set_stays xs k x is)
 
 -- ---- the next step of a client
 
-module _ (plan : Plan) (table : ParseTable) (openings : List Bytes) (documents : List Document) (clients : List Client)
-    (running : IsRunning plan table openings documents clients) (c : ℕ) (client : Client) (client_is : slice_get clients c ≡ Some client) where
+module _ {Finds : Bytes → List ℕ → List ShownResult → Type 0} (plan : Plan) (table : ParseTable) (openings : List Bytes) (documents : List Document) (clients : List Client)
+    (running : IsRunning Finds plan table openings documents clients) (c : ℕ) (client : Client) (client_is : slice_get clients c ≡ Some client) where
   plan_steps : slice_get plan.clients c ≡ Some client.steps.now
   plan_steps = ap (λ (l : List (List ScriptStep)). slice_get l c) (sym running.steps_are) ∙ steps_at clients c client client_is
 
@@ -100,7 +98,7 @@ module _ (plan : Plan) (table : ParseTable) (openings : List Bytes) (documents :
   has_room k d (step.Await own version) on is at = tt
 
   takes : (s : ScriptStep) → slice_get client.steps.now (length client.replies.items) ≡ Some s
-      → (d : Document) → slice_get documents (document_of s) ≡ Some d → MayTakeStep table documents client
+      → (d : Document) → slice_get documents (document_of s) ≡ Some d → MayTakeStep (length plan.queries) table documents client
   takes s at d is =
       let opening_is = opening_at (document_of s) d is in
       let holds = running.holds c (document_of s) client d (get_or openings (document_of s) []) client_is is opening_is in
@@ -129,16 +127,16 @@ module _ (plan : Plan) (table : ParseTable) (openings : List Bytes) (documents :
           spare = omega (arith, all, spare);
         };
         needs_room = has_room (document_of s) d s refl is at;
-        asks_none = all_at AsksNone client.steps.now (length client.replies.items) s (all_at (λ (steps : List ScriptStep). All AsksNone steps) plan.clients c client.steps.now running.may.asks_none plan_steps) at;
+        asks = running.may.asks c (length client.replies.items) s (asked_is (length client.replies.items) s at);
         few = omega (arith, short);
       }
 
-  pub may_take : length client.replies.items < length client.steps.now → MayTakeStep table documents client
+  pub may_take : length client.replies.items < length client.steps.now → MayTakeStep (length plan.queries) table documents client
   may_take more =
       let at = slice_get-get_or client.steps.now (length client.replies.items) (step.Look 0) more in
       by (get_or client.steps.now (length client.replies.items) (step.Look 0)) at
     where
-      by : (s : ScriptStep) → slice_get client.steps.now (length client.replies.items) ≡ Some s → MayTakeStep table documents client
+      by : (s : ScriptStep) → slice_get client.steps.now (length client.replies.items) ≡ Some s → MayTakeStep (length plan.queries) table documents client
       by s at =
           let lt = running.may.on c (length client.replies.items) s (asked_is (length client.replies.items) s at) in
           let count = running.all_open in
@@ -147,7 +145,7 @@ module _ (plan : Plan) (table : ParseTable) (openings : List Bytes) (documents :
 
   -- ---- after it
 
-  module _ (after : List Document) (client_after : Client) (t : IsStepTaken c documents client after client_after) where
+  module _ (after : List Document) (client_after : Client) (t : IsStepTaken Finds c documents client after client_after) where
     after_here : slice_get after (document_of t.step) ≡ Some t.after
     after_here = ap (λ (l : List Document). slice_get l (document_of t.step)) t.documents_are
         ∙ set_here documents (document_of t.step) t.after (slice_get_within documents (document_of t.step) t.document t.document_is)
@@ -212,7 +210,7 @@ module _ (plan : Plan) (table : ParseTable) (openings : List Bytes) (documents :
         subst (λ (n : ℕ). u < n) (over_at documents (document_of t.step) t.document t.document_is) (running.so_far.below (document_of t.step) c w.0 u w.1)
 
     -- the reply is right, by the number that the version has
-    right_own : IsRight FindsNothing plan table.grammar (get_or openings (document_of t.step) []) (journal_of t.after.book) t.version.number
+    right_own : IsRight Finds plan table.grammar (get_or openings (document_of t.step) []) (journal_of t.after.book) t.version.number
         (last_told (history_now plan table openings documents clients) c (length client.replies.items) (document_of t.step)) t.step t.reply
     right_own = does_right c (length client.replies.items) plan table (get_or openings (document_of t.step) []) (place t.document.turn t.document.book t.version) held_own is_open.latest is_open.rises held_there
         (last_told (history_now plan table openings documents clients) c (length client.replies.items) (document_of t.step)) last_over
@@ -246,7 +244,7 @@ module _ (plan : Plan) (table : ParseTable) (openings : List Bytes) (documents :
     over_there : (k : ℕ) → (k ≡ document_of t.step → ⊥) → over_in after k ≡ over_in documents k
     over_there k other = ap (λ (o : Option Document). unwrap_or (option_map (λ (x : Document). x.turn) o) 0) (after_there k other)
 
-    is_next : IsNextReply (history_now plan table openings documents clients) (over_in documents) (over_in after) c client.replies.items t.step t.reply (map journal_of (books_of after))
+    is_next : IsNextReply Finds (history_now plan table openings documents clients) (over_in documents) (over_in after) c client.replies.items t.step t.reply (map journal_of (books_of after))
     is_next = record {
       steps = client.steps.now;
       steps_are = plan_steps;
@@ -263,7 +261,7 @@ module _ (plan : Plan) (table : ParseTable) (openings : List Bytes) (documents :
           ∙ sym (slice_get-map journal_of (books_of documents) k);
       opening = get_or openings (document_of t.step) [];
       opening_is = opening_is;
-      right = subst (λ (n : ℕ). IsRight FindsNothing plan table.grammar (get_or openings (document_of t.step) []) (journal_of t.after.book) n
+      right = subst (λ (n : ℕ). IsRight Finds plan table.grammar (get_or openings (document_of t.step) []) (journal_of t.after.book) n
           (last_told (history_now plan table openings documents clients) c (length client.replies.items) (document_of t.step)) t.step t.reply) held_text.number_is right_own;
       held_there =
           let within : version_of t.reply ≤ length t.after.book.entries = held_within c (length client.replies.items) (place t.document.turn t.document.book t.version) t.step t.reply (place t.after.turn t.after.book t.held) t.does held_there in
@@ -274,8 +272,8 @@ module _ (plan : Plan) (table : ParseTable) (openings : List Bytes) (documents :
       few = subst (λ (n : ℕ). n ≤ most_turns) (sym (over_at after (document_of t.step) t.after after_here)) few_turns;
     }
 
-    so_far_then : SoFar (history_now plan table openings after (set clients c client_after)) (over_in after)
-    so_far_then = subst (λ (h : History). SoFar h (over_in after)) history_then
+    so_far_then : SoFar Finds (history_now plan table openings after (set clients c client_after)) (over_in after)
+    so_far_then = subst (λ (h : History). SoFar Finds h (over_in after)) history_then
         (next_so_far (history_now plan table openings documents clients) (over_in documents) (over_in after) c client.replies.items t.step t.reply (map journal_of (books_of after)) is_next running.so_far)
 
     -- ---- what is open
@@ -426,7 +424,7 @@ module _ (plan : Plan) (table : ParseTable) (openings : List Bytes) (documents :
         (cases_eq i c)
 
     -- the run goes on
-    pub runs_on : IsRunning plan table openings after (set clients c client_after)
+    pub runs_on : IsRunning Finds plan table openings after (set clients c client_after)
     runs_on = record {
       may = running.may;
       so_far = so_far_then;

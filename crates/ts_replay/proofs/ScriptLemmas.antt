@@ -1,5 +1,5 @@
 -- What holds of all that a script says.
-use Rattle.std.proofs.Common.{◌≡◌, ◌∙◌, sym, ap, refl, subst, ℕ, zero, suc, ◌+◌, ◌<◌, ◌≤◌, ◌⊎◌, inl, inr, ⊎_elim, max, nat_eq, Bool, true, false, if◌then◌else◌, List, [], ◌∷◌, ◌++◌, length, slice_get, Option, Some, None, arith}
+use Rattle.std.proofs.Common.{◌≡◌, ◌∙◌, sym, ap, refl, subst, ℕ, zero, suc, ◌+◌, ◌<◌, ◌≤◌, ◌⊎◌, inl, inr, ⊎_elim, max, nat_eq, Bool, true, false, if◌then◌else◌, List, [], ◌∷◌, ◌++◌, All, length, slice_get, get_or, Option, Some, None, arith}
 use Rattle.std.specs.Option.{option_and_then}
 use Rattle.std.proofs.lemmas.List.{length-append}
 use Rattle.std.proofs.lemmas.List.Concat.{flat_map-append}
@@ -7,15 +7,16 @@ use Rattle.std.proofs.lemmas.Option.{slice_get_within}
 use Rattle.ts_base.specs.Bytes.{Bytes}
 use Rattle.ts_script.specs.declared.plan.Plan.{Plan}
 use Rattle.ts_script.specs.declared.plan.ScriptStep.{ScriptStep}
+use Rattle.ts_script.specs.declared.plan.ScriptStep.TheVariants as step
 use Rattle.ts_script.specs.declared.plan.Source.{Source}
 use Rattle.ts_script.specs.declared.said.Action.{Action}
 use Rattle.ts_script.specs.declared.said.Action.TheVariants as action
 use Rattle.ts_script.specs.declared.said.Said.{Said}
 use Rattle.ts_script.specs.declared.said.Said.TheVariants.{Text, Path, Load, Step}
-use Rattle.ts_script.specs.Rules.{InOrder, WithinLimits, most_clients, most_documents, most_steps, sources, source_in, steps, steps_of, step_in, step_of, step_of_client, clients_in, client_count}
+use Rattle.ts_script.specs.Rules.{InOrder, WithinLimits, most_clients, most_documents, most_steps, AsksBelow, queries, query_in, sources, source_in, steps, steps_of, step_in, step_of, step_of_client, clients_in, client_count}
 use Rattle.ts_script.specs.Script.{Follows, blank, says, Reads, at_end, next, IsScript}
 use Rattle.spec_history.specs.Replies.{document_of}
-use Rattle.ts_replay.specs.Replays.{AsksNoQueries, MayReplay}
+use Rattle.ts_replay.specs.Replays.{AsksAmong, MayReplay}
 
 -- what holds of the lines so far
 record AreSaid (said : List Said) : Type 0 where
@@ -24,6 +25,7 @@ record AreSaid (said : List Said) : Type 0 where
   pub few : length (steps said) ≤ most_steps
   pub short : (c : ℕ) → length (steps_of c said) ≤ length (steps said)
   pub on : (c k : ℕ) (s : ScriptStep) → slice_get (steps_of c said) k ≡ Some s → document_of s < length (sources said)
+  pub asks : (c k : ℕ) (s : ScriptStep) → slice_get (steps_of c said) k ≡ Some s → AsksAmong (length (queries said)) s
 
 document_is : (document : ℕ) (act : Action) → document_of (step_of document act) ≡ document
 document_is document (action.Change p) = refl
@@ -32,6 +34,25 @@ document_is document action.Look = refl
 document_is document (action.Query qs) = refl
 document_is document action.Tree = refl
 document_is document (action.Await version) = refl
+
+-- the queries that a line asks are among those above it
+asks_above : (n document : ℕ) (act : Action) → AsksBelow n act → AsksAmong n (step_of document act)
+asks_above n document (action.Change p) below = tt
+asks_above n document (action.Changes ps) below = tt
+asks_above n document action.Look below = tt
+asks_above n document (action.Query qs) below = below
+asks_above n document action.Tree below = tt
+asks_above n document (action.Await version) below = tt
+
+all_lower : (n m : ℕ) → n ≤ m → (qs : List ℕ) → All (λ (q : ℕ). q < n) qs → All (λ (q : ℕ). q < m) qs
+all_lower n m le qs all k d lt = let low : get_or qs k d < n = all k d lt in omega (arith, low, le)
+
+among_more : (n m : ℕ) → n ≤ m → (s : ScriptStep) → AsksAmong n s → AsksAmong m s
+among_more n m le (step.Edit document edit) among = tt
+among_more n m le (step.Look document) among = tt
+among_more n m le (step.Query document qs) among = all_lower n m le qs among
+among_more n m le (step.Tree document) among = tt
+among_more n m le (step.Await document version) among = tt
 
 swapped : (a b c : ℕ) → max a (max b c) ≡ max b (max a c)
 swapped a b c = grind arith
@@ -63,6 +84,19 @@ own_on c before (Step client document act) order k x h = by (nat_eq c client) k 
     by true zero e =
         let same : step_of document act ≡ x = (let f : Some (step_of document act) ≡ Some x = e in cc) in
         subst (λ (d : ℕ). d < length (sources before)) (sym (document_is document act) ∙ ap document_of same) order.0
+    by true (suc k) e = absurd (let f : None ≡ Some x = e in cc)
+    by false k e = absurd (let f : None ≡ Some x = e in cc)
+
+own_asks : (c : ℕ) (before : List Said) (s : Said) → InOrder before s → (k : ℕ) (x : ScriptStep) → slice_get (step_of_client c s) k ≡ Some x → AsksAmong (length (queries before)) x
+own_asks c before (Text t) order k x h = absurd (let f : None ≡ Some x = h in cc)
+own_asks c before (Path t) order k x h = absurd (let f : None ≡ Some x = h in cc)
+own_asks c before (Load t) order k x h = absurd (let f : None ≡ Some x = h in cc)
+own_asks c before (Step client document act) order k x h = by (nat_eq c client) k h
+  where
+    by : (b : Bool) (k : ℕ) → slice_get (if b then step_of document act ∷ [] else []) k ≡ Some x → AsksAmong (length (queries before)) x
+    by true zero e =
+        let same : step_of document act ≡ x = (let f : Some (step_of document act) ≡ Some x = e in cc) in
+        subst (AsksAmong (length (queries before))) same (asks_above (length (queries before)) document act order.1)
     by true (suc k) e = absurd (let f : None ≡ Some x = e in cc)
     by false k e = absurd (let f : None ≡ Some x = e in cc)
 
@@ -114,6 +148,16 @@ one_more before s order within are = record {
       (λ v. absurd (let f : None ≡ Some x = v.1 in cc))
       (at_either (step_of_client c s) [] w.0 x w.1))
       (at_either (steps_of c before) (step_of_client c s ++ []) k x (ap (λ (l : List ScriptStep). slice_get l k) (sym (flat_map-append (step_of_client c) before (s ∷ []))) ∙ h));
+  asks = λ c k x h. among_more (length (queries before)) (length (queries (before ++ s ∷ [])))
+      (let e : length (queries (before ++ s ∷ [])) ≡ length (queries before) + length (query_in s ++ []) = ap length (flat_map-append query_in before (s ∷ [])) ∙ length-append (queries before) (query_in s ++ []) in omega (arith, e))
+      x
+      (⊎_elim
+      (λ w. are.asks c w.0 x w.1)
+      (λ w. ⊎_elim
+      (λ v. own_asks c before s order v.0 x v.1)
+      (λ v. absurd (let f : None ≡ Some x = v.1 in cc))
+      (at_either (step_of_client c s) [] w.0 x w.1))
+      (at_either (steps_of c before) (step_of_client c s ++ []) k x (ap (λ (l : List ScriptStep). slice_get l k) (sym (flat_map-append (step_of_client c) before (s ∷ []))) ∙ h)));
 }
   where
     count : length (steps (before ++ s ∷ [])) ≡ length (steps before) + length (step_in s)
@@ -137,10 +181,11 @@ none_said = record {
   few = omega arith;
   short = λ c. omega arith;
   on = λ c k s h. absurd (let f : None ≡ Some s = h in cc);
+  asks = λ c k s h. absurd (let f : None ≡ Some s = h in cc);
 }
 
-pub script_may : (bytes : Bytes) (plan : Plan) → IsScript bytes plan → AsksNoQueries plan → MayReplay plan
-script_may bytes plan is none = record {
+pub script_may : (bytes : Bytes) (plan : Plan) → IsScript bytes plan → MayReplay plan
+script_may bytes plan is = record {
   documents = (let e : length plan.documents ≡ length (sources is.said) = ap length is.asks.documents in let few = are.documents in omega (arith, e, few));
   clients = (let e = is.asks.clients in let few = are.clients in omega (arith, e, few));
   few = λ c steps steps_are.
@@ -149,7 +194,7 @@ script_may bytes plan is none = record {
       let few = are.few in
       omega (arith, e, short, few);
   on = λ c k s asked. on_document c k s (slice_get plan.clients c) refl asked;
-  asks_none = none;
+  asks = λ c k s asked. asks_loaded c k s (slice_get plan.clients c) refl asked;
 }
   where
     are : AreSaid is.said
@@ -167,3 +212,10 @@ script_may bytes plan is none = record {
     on_document c k s (Some steps) steps_are asked =
         let lt : document_of s < length (sources is.said) = are.on c k s (ap (λ (l : List ScriptStep). slice_get l k) (sym (same c steps steps_are)) ∙ asked) in
         subst (λ (l : List Source). document_of s < length l) (sym is.asks.documents) lt
+
+    asks_loaded : (c k : ℕ) (s : ScriptStep) (o : Option (List ScriptStep)) → slice_get plan.clients c ≡ o
+        → option_and_then (λ (steps : List ScriptStep). slice_get steps k) o ≡ Some s → AsksAmong (length plan.queries) s
+    asks_loaded c k s None steps_are asked = absurd (let f : None ≡ Some s = asked in cc)
+    asks_loaded c k s (Some steps) steps_are asked =
+        subst (λ (l : List Bytes). AsksAmong (length l) s) (sym is.asks.loaded)
+        (are.asks c k s (ap (λ (l : List ScriptStep). slice_get l k) (sym (same c steps steps_are)) ∙ asked))

@@ -18,6 +18,7 @@ use Rattle.ts_script.specs.declared.plan.Plan.{Plan}
 use Rattle.ts_script.specs.declared.plan.ScriptStep.{ScriptStep}
 use Rattle.ts_script.specs.declared.plan.ScriptStep.TheVariants as step
 use Rattle.ts_script.specs.Rules.{most_steps}
+use Rattle.ts_replies.specs.declared.reply.ShownResult.{ShownResult}
 use Rattle.ts_replies.specs.declared.reply.Reply.{Reply}
 use Rattle.ts_replies.specs.declared.reply.Reply.TheVariants as reply
 use Rattle.spec_history.specs.Replies.{most_looks}
@@ -67,7 +68,7 @@ none_held h none client number d =
     ∙ ap (held_after d 0) (take-nil number)
 
 -- a run without replies and entries
-empty_so_far : (h : History) (over : ℕ → ℕ) → NoReplies h.replies → ((k : ℕ) (entries : List JournalEntry) → slice_get h.journals k ≡ Some entries → entries ≡ []) → SoFar h over
+empty_so_far : {Finds : Bytes → List ℕ → List ShownResult → Type 0} (h : History) (over : ℕ → ℕ) → NoReplies h.replies → ((k : ℕ) (entries : List JournalEntry) → slice_get h.journals k ≡ Some entries → entries ≡ []) → SoFar Finds h over
 empty_so_far h over none nothing = record {
   lawful = record {
     right = λ client number s r a. absurd (none_at h.replies none client number r a.reply_is);
@@ -159,7 +160,7 @@ no_turns [] none k = refl
 no_turns (d ∷ documents) none zero = none 0 d refl
 no_turns (d ∷ documents) none (suc k) = no_turns documents (λ i. none (suc i)) k
 
-module _ (plan : Plan) (table : ParseTable) (openings : List Bytes) (documents : List Document) (clients : List Client)
+module _ (Finds : Bytes → List ℕ → List ShownResult → Type 0) (plan : Plan) (table : ParseTable) (openings : List Bytes) (documents : List Document) (clients : List Client)
     (may : MayReplay plan) (count : length openings ≡ length plan.documents)
     (opened : AreOpened plan table openings documents) (begun : AreClientsBegun plan.clients documents clients) where
   fresh : (k : ℕ) (d : Document) → slice_get documents k ≡ Some d → (opening : Bytes) × IsFresh plan table opening k d
@@ -186,7 +187,7 @@ module _ (plan : Plan) (table : ParseTable) (openings : List Bytes) (documents :
       same_pages : (b : Pages) → b.entries ≡ [] → b ≡ record { opening = b.opening; entries = []; room = b.room }
       same_pages b none = ap (λ (l : List (Entry Drafted)). record { opening = b.opening; entries = l; room = b.room }) none
 
-  runs_first : IsRunning plan table openings documents clients
+  runs_first : IsRunning Finds plan table openings documents clients
   runs_first = record {
     may = may;
     so_far = empty_so_far (history_now plan table openings documents clients) (over_in documents) no_reply (no_journals documents (λ k d is. (fresh k d is).1.none));
@@ -220,7 +221,7 @@ module _ (plan : Plan) (table : ParseTable) (openings : List Bytes) (documents :
   }
 
   -- before all steps the whole order is left
-  pub starts : (order : List ℕ) → IsRunAt plan openings order order table documents clients
+  pub starts : (order : List ℕ) → IsRunAt Finds plan openings order order table documents clients
   starts order = record {
     running = runs_first;
     in_order = starts_in_order order plan.clients (replies_of clients) (over_in documents) no_reply (no_turns documents (λ k d is. (fresh k d is).1.turn));

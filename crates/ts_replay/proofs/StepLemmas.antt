@@ -1,6 +1,12 @@
 -- What the code of a step does, as rules.
-use Rattle.std.proofs.Common.{◌≡◌, ◌∙◌, sym, ap, refl, subst, ℕ, suc, ◌+◌, ◌-◌, ◌<◌, ◌≤◌, List, [], ◌∷◌, ◌++◌, length, arith}
+use Rattle.std.proofs.Common.{◌≡◌, ◌∙◌, sym, ap, refl, subst, ℕ, suc, ◌+◌, ◌-◌, ◌<◌, ◌≤◌, ◌⊎◌, inl, inr, List, [], ◌∷◌, ◌++◌, length, arith}
+use Rattle.ts_base.specs.Bytes.{Bytes}
 use Rattle.ts_core.specs.declared.flat.FlatGrammar.{FlatGrammar}
+use Rattle.spec_trees.specs.Trees.{bare}
+use Rattle.ts_glr.specs.Outcomes.{value_of_outcome}
+use Rattle.ts_glr.specs.declared.outcome.Outcome.{Outcome}
+use Rattle.ts_glr.specs.declared.outcome.Outcome.TheVariants.{Stuck, Deep}
+use Rattle.spec_runs.specs.Outcomes.{stuck_outcome, deep_outcome, Fresh}
 use Rattle.ts_shelf.specs.declared.journal.Entry.{Entry}
 use Rattle.ts_shelf.specs.declared.shelf.Offered.TheVariants as offered
 use Rattle.ts_text.specs.Edit.{InRange, IsOver}
@@ -16,11 +22,12 @@ use Rattle.ts_docs.specs.Versions.{Drafts}
 use Rattle.ts_docs.specs.Books.{pages}
 use Rattle.ts_script.specs.declared.plan.ScriptStep.{ScriptStep}
 use Rattle.ts_script.specs.declared.plan.ScriptStep.TheVariants as step
+use Rattle.ts_replies.specs.declared.reply.ShownResult.{ShownResult}
 use Rattle.ts_replies.specs.declared.reply.Reply.{Reply}
 use Rattle.ts_replies.specs.declared.reply.Reply.TheVariants as reply
 use Rattle.spec_history.specs.Replies.{most_looks}
-use Rattle.spec_history.specs.Legal.{CanEdit, IsShown}
-use Rattle.ts_replay.specs.Steps.{Place, place, after_looks, with_entry, DoesStep, publishes, is_behind, out_of_range, too_large, looks, waits, gives_up, shows, has_no_memory}
+use Rattle.spec_history.specs.Legal.{CanEdit, IsShown, HasTree}
+use Rattle.ts_replay.specs.Steps.{Place, place, after_looks, with_entry, DoesStep, publishes, is_behind, out_of_range, too_large, looks, waits, gives_up, shows, has_no_memory, Does, asks_nothing, finds, has_no_tree, TellsNoTree, tells_outcome, tells_nothing}
 
 same_place : (t u : ℕ) (b c : Pages) (h i : ParsedText) → t ≡ u → b ≡ c → h ≡ i → place t b h ≡ place u c i
 same_place t u b c h i x y z = cc
@@ -122,3 +129,37 @@ module _ (client number : ℕ) where
 
   pub no_memory_there : (p : Place) (s : ScriptStep) (version : ℕ) (held : ParsedText) → p.held ≡ held → version ≡ held.number → DoesStep client number p s (reply.Memory version) p
   no_memory_there p s version held same v = subst (λ (n : ℕ). DoesStep client number p s (reply.Memory n) p) (ap (λ (x : ParsedText). x.number) same ∙ sym v) (has_no_memory s)
+
+-- ---- queries
+
+-- where the outcome is another there is no tree
+none_where_stuck : (g : FlatGrammar) (text : Bytes) (stop : ℕ) → Fresh g text (stuck_outcome stop) → HasTree g text → ⊥
+none_where_stuck g text stop last has = last.none (bare has.0) has.1.accepted
+
+none_where_deep : (g : FlatGrammar) (text : Bytes) → Fresh g text deep_outcome → HasTree g text → ⊥
+none_where_deep g text deep has = has.1.shallow deep
+
+pub no_tree : (g : FlatGrammar) (text : Bytes) (o : Outcome) → Fresh g text (value_of_outcome o) → ((stop : ℕ) × (o ≡ Stuck stop)) ⊎ (o ≡ Deep) → HasTree g text → ⊥
+no_tree g text o fresh (inl w) = none_where_stuck g text w.0 (subst (λ (x : Outcome). Fresh g text (value_of_outcome x)) w.1 fresh)
+no_tree g text o fresh (inr w) = none_where_deep g text (subst (λ (x : Outcome). Fresh g text (value_of_outcome x)) w fresh)
+
+module _ {Finds : Bytes → List ℕ → List ShownResult → Type 0} (client number : ℕ) where
+  same_version : (p : Place) (s : ScriptStep) (answer : ℕ → Reply) (version : ℕ) (held : ParsedText) → p.held ≡ held → version ≡ held.number
+      → Does Finds client number p s (answer p.held.number) p → Does Finds client number p s (answer version) p
+  same_version p s answer version held same v does = subst (λ (n : ℕ). Does Finds client number p s (answer n) p) (ap (λ (x : ParsedText). x.number) same ∙ sym v) does
+
+  pub found_there : (p : Place) (at version : ℕ) (queries : List ℕ) (held : ParsedText) (results : List ShownResult) → p.held ≡ held → version ≡ held.number
+      → HasTree held.table.grammar held.text → Finds held.text queries results
+      → Does Finds client number p (step.Query at queries) (reply.Results results version) p
+  found_there p at version queries held results same v has is = same_version p (step.Query at queries) (reply.Results results) version held same v
+      (finds at queries results (subst (λ (x : ParsedText). HasTree x.table.grammar x.text) (sym same) has) (subst (λ (x : ParsedText). Finds x.text queries results) (sym same) is))
+
+  pub nothing_found : (p : Place) (s : ScriptStep) (version : ℕ) (held : ParsedText) → p.held ≡ held → version ≡ held.number
+      → Does Finds client number p s (reply.Memory version) p
+  nothing_found p s version held same v = same_version p s reply.Memory version held same v (asks_nothing s (reply.Memory p.held.number) p (has_no_memory s))
+
+  pub asked_in_vain : (p : Place) (at : ℕ) (queries : List ℕ) (held : ParsedText) (r : Reply) → p.held ≡ held
+      → TellsNoTree held r → Does Finds client number p (step.Query at queries) r p
+  asked_in_vain p at queries held _ same (tells_outcome outcome none shown) = same_version p (step.Query at queries) (reply.Absent outcome) held.number held same refl
+      (has_no_tree at queries outcome (subst (λ (x : ParsedText). HasTree x.table.grammar x.text → ⊥) (sym same) none) (subst (λ (x : ParsedText). IsShown x.table.grammar x.text outcome) (sym same) shown))
+  asked_in_vain p at queries held _ same tells_nothing = nothing_found p (step.Query at queries) held.number held same refl

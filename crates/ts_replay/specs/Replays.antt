@@ -30,7 +30,15 @@ AsksNone (step.Await document version) = Unit {0}
 abbrev pub AsksNoQueries : Plan → Type 0
 AsksNoQueries plan = All (λ (steps : List ScriptStep). All AsksNone steps) plan.clients
 
--- a script has few documents, clients and steps, which are on its documents and ask no queries
+-- the queries that the step asks are among so many
+abbrev pub AsksAmong : ℕ → ScriptStep → Type 0
+AsksAmong count (step.Edit document edit) = Unit {0}
+AsksAmong count (step.Look document) = Unit {0}
+AsksAmong count (step.Query document queries) = All (λ (number : ℕ). number < count) queries
+AsksAmong count (step.Tree document) = Unit {0}
+AsksAmong count (step.Await document version) = Unit {0}
+
+-- a script has few documents, clients and steps, which are on its documents and ask its queries
 pub record MayReplay (plan : Plan) : Type 0 where
   pub documents : length plan.documents ≤ most_documents
   pub clients : length plan.clients ≤ most_clients
@@ -38,7 +46,8 @@ pub record MayReplay (plan : Plan) : Type 0 where
       → length steps ≤ most_steps
   pub on : (client number : ℕ) (s : ScriptStep) → asked_at plan client number ≡ Some s
       → document_of s < length plan.documents
-  pub asks_none : AsksNoQueries plan
+  pub asks : (client number : ℕ) (s : ScriptStep) → asked_at plan client number ≡ Some s
+      → AsksAmong (length plan.queries) s
 
 -- ---- histories
 

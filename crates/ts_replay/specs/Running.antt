@@ -9,14 +9,15 @@ use Rattle.ts_docs.specs.Steps.{newest}
 use Rattle.ts_docs.specs.Versions.{IsTextOf}
 use Rattle.ts_script.specs.declared.plan.Plan.{Plan}
 use Rattle.ts_script.specs.declared.plan.ScriptStep.{ScriptStep}
+use Rattle.ts_replies.specs.declared.reply.ShownResult.{ShownResult}
 use Rattle.ts_replies.specs.declared.reply.Reply.{Reply}
 use Rattle.spec_history.specs.Replies.{document_of, most_looks}
 use Rattle.spec_history.specs.Histories.{History, version_text, held_before}
 use Rattle.ts_replay.specs.declared.document.Document.{Document}
 use Rattle.ts_replay.specs.declared.document.Client.{Client}
 use Rattle.spec_history.specs.Books.{journal_of}
-use Rattle.ts_replay.specs.Replays.{AsksNone, MayReplay, HasVersions, history_of}
-use Rattle.ts_replay.specs.Steps.{place, MayStep, NeedsRoom, DoesStep}
+use Rattle.ts_replay.specs.Replays.{AsksAmong, MayReplay, HasVersions, history_of}
+use Rattle.ts_replay.specs.Steps.{place, MayStep, NeedsRoom, Does}
 use Rattle.ts_replay.specs.Runs.{SoFar, weight_left, edits_on, RunsInOrder}
 
 abbrev pub books_of : List Document → List Pages
@@ -52,10 +53,11 @@ pub record HoldsVersion (plan : Plan) (table : ParseTable) (opening : Bytes) (d 
   pub text : IsTextOf table number (version_text plan opening (journal_of d.book) number) version
 
 -- what is known between two steps
-pub record IsRunning (plan : Plan) (table : ParseTable) (openings : List Bytes)
-    (documents : List Document) (clients : List Client) : Type 0 where
+pub record IsRunning (Finds : Bytes → List ℕ → List ShownResult → Type 0) (plan : Plan)
+    (table : ParseTable) (openings : List Bytes) (documents : List Document)
+    (clients : List Client) : Type 0 where
   pub may : MayReplay plan
-  pub so_far : SoFar (history_now plan table openings documents clients) (over_in documents)
+  pub so_far : SoFar Finds (history_now plan table openings documents clients) (over_in documents)
   pub steps_are : client_steps clients ≡ plan.clients
   pub all_open : length documents ≡ length plan.documents
   pub all_given : length openings ≡ length documents
@@ -78,15 +80,17 @@ pub record IsRunning (plan : Plan) (table : ParseTable) (openings : List Bytes)
   pub few : (k : ℕ) (d : Document) → slice_get documents k ≡ Some d
       → d.book.room + length d.book.entries + 1 < 2 ^ 32
 
--- steps that may be run, of some plan
-abbrev pub CanRun : ParseTable → List Document → List Client → Type 0
-CanRun table documents clients =
-    (plan : Plan) × (openings : List Bytes) × IsRunning plan table openings documents clients
+-- steps that may be run, of some plan with so many queries
+abbrev pub CanRun : (Bytes → List ℕ → List ShownResult → Type 0) → ℕ → ParseTable → List Document
+    → List Client → Type 0
+CanRun Finds count table documents clients = (plan : Plan) × (openings : List Bytes)
+    × (count ≡ length plan.queries) × IsRunning Finds plan table openings documents clients
 
 -- the steps so far ran in the order, of which these numbers are left
-pub record IsRunAt (plan : Plan) (openings : List Bytes) (order rest : List ℕ) (table : ParseTable)
+pub record IsRunAt (Finds : Bytes → List ℕ → List ShownResult → Type 0) (plan : Plan)
+    (openings : List Bytes) (order rest : List ℕ) (table : ParseTable)
     (documents : List Document) (clients : List Client) : Type 0 where
-  pub running : IsRunning plan table openings documents clients
+  pub running : IsRunning Finds plan table openings documents clients
   pub in_order : RunsInOrder order rest plan.clients (replies_of clients) (over_in documents)
 
 -- the client of this number has a step left
@@ -138,7 +142,8 @@ pub record AreClientsBegun (steps : List (List ScriptStep)) (documents : List Do
       → c.held.items ≡ first_versions documents
 
 -- the client's next step may be done
-pub record MayTakeStep (table : ParseTable) (documents : List Document) (c : Client) : Type 0 where
+pub record MayTakeStep (count : ℕ) (table : ParseTable) (documents : List Document) (c : Client)
+    : Type 0 where
   pub step : ScriptStep
   pub step_is : slice_get c.steps.now (length c.replies.items) ≡ Some step
   pub document : Document
@@ -148,12 +153,13 @@ pub record MayTakeStep (table : ParseTable) (documents : List Document) (c : Cli
   pub table_is : version.table ≡ table
   pub may_step : MayStep (place document.turn document.book version)
   pub needs_room : NeedsRoom step document.book.room
-  pub asks_none : AsksNone step
+  pub asks : AsksAmong count step
   pub few : length c.steps.now < 2 ^ 32
 
 -- the next step of the client of this number was done
-pub record IsStepTaken (number : ℕ) (documents : List Document) (c : Client)
-    (documents_after : List Document) (c_after : Client) : Type 0 where
+pub record IsStepTaken (Finds : Bytes → List ℕ → List ShownResult → Type 0) (number : ℕ)
+    (documents : List Document) (c : Client) (documents_after : List Document) (c_after : Client)
+    : Type 0 where
   pub step : ScriptStep
   pub step_is : slice_get c.steps.now (length c.replies.items) ≡ Some step
   pub document : Document
@@ -163,7 +169,7 @@ pub record IsStepTaken (number : ℕ) (documents : List Document) (c : Client)
   pub after : Document
   pub held : ParsedText
   pub reply : Reply
-  pub does : DoesStep number (length c.replies.items)
+  pub does : Does Finds number (length c.replies.items)
       (place document.turn document.book version) step reply (place after.turn after.book held)
   pub documents_are : documents_after ≡ slice_set documents (document_of step) after
   pub held_are : c_after.held.items ≡ slice_set c.held.items (document_of step) held

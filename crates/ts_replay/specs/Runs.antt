@@ -12,15 +12,12 @@ use Rattle.spec_history.specs.Histories.{JournalEntry, History, held_before, las
 use Rattle.spec_history.specs.Legal.{IsRight, TellsTurn, LegalSoFar}
 use Rattle.spec_history.specs.Orders.{TakesTurns, TakeTurns, in_order}
 
--- no query finds anything
-abbrev pub FindsNothing : Bytes → List ℕ → List ShownResult → Type 0
-FindsNothing text queries results = ⊥
-
 -- ---- histories
 
 -- a run so far, where so many turns of each document are over
-pub record SoFar (h : History) (over : ℕ → ℕ) : Type 0 where
-  pub lawful : LegalSoFar FindsNothing h
+pub record SoFar (Finds : Bytes → List ℕ → List ShownResult → Type 0)
+    (h : History) (over : ℕ → ℕ) : Type 0 where
+  pub lawful : LegalSoFar Finds h
   -- the turns that were told are over
   pub below : (document client number turn : ℕ) → TellsTurn h document client number turn
       → turn < over document
@@ -68,8 +65,9 @@ pub data GrowsBy (client number : ℕ) (entries : List JournalEntry)
       (entries ++ record { turn = turn; client = client; step = number } ∷ [])
 
 -- the client, which had these replies, has one more, to its next step
-pub record IsNextReply (h : History) (over now_over : ℕ → ℕ) (client : ℕ) (own : List Reply)
-    (s : ScriptStep) (r : Reply) (journals : List (List JournalEntry)) : Type 0 where
+pub record IsNextReply (Finds : Bytes → List ℕ → List ShownResult → Type 0)
+    (h : History) (over now_over : ℕ → ℕ) (client : ℕ) (own : List Reply) (s : ScriptStep)
+    (r : Reply) (journals : List (List JournalEntry)) : Type 0 where
   pub steps : List ScriptStep
   pub steps_are : slice_get h.plan.clients client ≡ Some steps
   pub own_are : slice_get h.replies client ≡ Some own
@@ -85,7 +83,7 @@ pub record IsNextReply (h : History) (over now_over : ℕ → ℕ) (client : ℕ
   -- the reply is right
   pub opening : Bytes
   pub opening_is : slice_get h.openings (document_of s) ≡ Some opening
-  pub right : IsRight FindsNothing h.plan h.grammar opening after
+  pub right : IsRight Finds h.plan h.grammar opening after
       (held_before h client (length own) (document_of s))
       (last_told h client (length own) (document_of s)) s r
   pub held_there : version_of r ≤ length after

@@ -1,5 +1,6 @@
 -- One step of a client, on its document. It serves proofs alone.
-use Rattle.std.specs.Prelude.{◌≡◌, ℕ, suc, ◌+◌, ◌<◌, ◌≤◌, ◌^◌, [], ◌∷◌, ◌++◌, length}
+use Rattle.std.specs.Prelude.{◌≡◌, ℕ, suc, ◌+◌, ◌<◌, ◌≤◌, ◌^◌, List, [], ◌∷◌, ◌++◌, length}
+use Rattle.ts_base.specs.Bytes.{Bytes}
 use Rattle.ts_shelf.specs.Entries.{most_turns, RisesWithin}
 use Rattle.spec_output.specs.declared.outcome.ShownOutcome.{ShownOutcome}
 use Rattle.ts_text.specs.Edit.{InRange, IsOver}
@@ -12,10 +13,11 @@ use Rattle.ts_docs.specs.Versions.{Drafts}
 use Rattle.ts_docs.specs.Steps.{newest}
 use Rattle.ts_script.specs.declared.plan.ScriptStep.{ScriptStep}
 use Rattle.ts_script.specs.declared.plan.ScriptStep.TheVariants as step
+use Rattle.ts_replies.specs.declared.reply.ShownResult.{ShownResult}
 use Rattle.ts_replies.specs.declared.reply.Reply.{Reply}
 use Rattle.ts_replies.specs.declared.reply.Reply.TheVariants as reply
 use Rattle.spec_history.specs.Replies.{most_looks}
-use Rattle.spec_history.specs.Legal.{CanEdit, IsShown}
+use Rattle.spec_history.specs.Legal.{CanEdit, IsShown, HasTree}
 
 -- a document between two steps, and the version of it that a client holds: how many turns are over,
 -- the journal, and the held version
@@ -36,7 +38,8 @@ with_entry b turn d room =
 abbrev pub after_looks : ℕ → Place → Place
 after_looks looks p = place (p.turn + looks) p.book (newest p.book)
 
--- What the client's step of this number does at a place: the reply to it, and the place after it.
+-- What the client's step of this number does at a place where it asks no queries, or finds no memory:
+-- the reply to it, and the place after it.
 pub data DoesStep (client number : ℕ) (before : Place) : ScriptStep → Reply → Place → Type 0 where
   publishes : (document : ℕ) (edit : TextEdit) (d : Drafted) (room : ℕ)
       → CanEdit before.held.text edit → before.held.number ≡ length before.book.entries
@@ -71,6 +74,29 @@ pub data DoesStep (client number : ℕ) (before : Place) : ScriptStep → Reply 
       (reply.Tree outcome before.held.number) before
   has_no_memory : (s : ScriptStep)
       → DoesStep client number before s (reply.Memory before.held.number) before
+
+-- the same for each step
+pub data Does (Finds : Bytes → List ℕ → List ShownResult → Type 0) (client number : ℕ)
+    (before : Place) : ScriptStep → Reply → Place → Type 0 where
+  asks_nothing : (s : ScriptStep) (r : Reply) (after : Place) → DoesStep client number before s r after
+      → Does Finds client number before s r after
+  finds : (document : ℕ) (queries : List ℕ) (results : List ShownResult)
+      → HasTree before.held.table.grammar before.held.text
+      → Finds before.held.text queries results
+      → Does Finds client number before (step.Query document queries)
+      (reply.Results results before.held.number) before
+  has_no_tree : (document : ℕ) (queries : List ℕ) (outcome : ShownOutcome)
+      → (HasTree before.held.table.grammar before.held.text → ⊥)
+      → IsShown before.held.table.grammar before.held.text outcome
+      → Does Finds client number before (step.Query document queries)
+      (reply.Absent outcome before.held.number) before
+
+-- the reply tells that the version has no tree, and its outcome, or that there is no memory
+pub data TellsNoTree (held : ParsedText) : Reply → Type 0 where
+  tells_outcome : (outcome : ShownOutcome) → (HasTree held.table.grammar held.text → ⊥)
+      → IsShown held.table.grammar held.text outcome
+      → TellsNoTree held (reply.Absent outcome held.number)
+  tells_nothing : TellsNoTree held (reply.Memory held.number)
 
 -- what is known of a place before each step
 pub record MayStep (p : Place) : Type 0 where

@@ -2,10 +2,9 @@
 ghost use Rattle.ts_base.specs.Bytes.{Bytes};
 ghost use Rattle.ts_script.specs.declared.plan.Plan.{Plan as AnyPlan};
 ghost use Rattle.ts_script.specs.Script.{IsScript};
-ghost use Rattle.ts_replay.specs.Replays.{AsksNoQueries, MayReplay};
+ghost use Rattle.ts_replay.specs.Replays.{MayReplay};
 
-/// A script that asks no queries may be replayed.
+/// Scripts may be replayed.
 pub fn scripts_may_be_replayed()
-    ensures { (bytes : Bytes) (plan : AnyPlan) → IsScript bytes plan → AsksNoQueries plan
-        → MayReplay plan }
+    ensures { (bytes : Bytes) (plan : AnyPlan) → IsScript bytes plan → MayReplay plan }
 {}

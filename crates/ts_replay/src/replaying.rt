@@ -32,12 +32,13 @@ pub struct Replayed {
 
 /// Runs the steps of a script's clients over its documents, which are opened with these texts. Each
 /// number of the order takes the next step of its client, and is passed over where there is none;
-/// then come the steps that are left, those of the first client first.
+/// then come the steps that are left, those of the first client first. The finder answers the
+/// queries of the script, which have the finder's numbers.
 ///
 /// All memory that a journal and a list of replies needs is taken first. A step that finds no memory
 /// for itself is answered so, and the others are run. It takes time by the steps, the texts of the
-/// versions and what is told of them; an await that waits for what does not come takes no more than
-/// a look.
+/// versions, what is told of them and what the finder takes; an await that waits for what does not
+/// come takes no more than a look.
 ///
 /// # Errors
 ///
@@ -45,6 +46,7 @@ pub struct Replayed {
 pub fn replay<F: Finder>(
     alloc: Global,
     table: &Table,
+    finder: &F,
     lexer: &mut Lexer,
     plan: &Plan,
     openings: Vec<Text>,
@@ -52,9 +54,11 @@ pub fn replay<F: Finder>(
 ) -> Result<Replayed, AllocError>
     requires lexer { IsLexerOf lexer.old table.now }
     requires plan { MayReplay plan.now }
+    requires form { F.form finder.now ≡ table.now.grammar }
+    requires queries { F.count finder.now ≡ length plan.now.queries }
     requires openings { length openings.items ≡ length plan.now.documents }
     ensures lexer { IsLexerOf lexer.new table.now }
-    ensures legal { IfOk result (λ r. Legal F.finds
+    ensures legal { IfOk result (λ r. Legal (F.finds finder.now)
         (history_of plan.now table.now.grammar openings.items r.books r.replies)) }
     ensures in_order { IfOk result (λ r. InOrder order.now
         (history_of plan.now table.now.grammar openings.items r.books r.replies)) }
@@ -62,7 +66,15 @@ pub fn replay<F: Finder>(
 {
     let mut documents = opened(alloc, table, lexer, plan, openings)?;
     let mut clients = begun(alloc, documents.as_slice(), plan.clients.as_slice())?;
-    run(alloc, table, lexer, &mut documents, &mut clients, order);
+    run(
+        alloc,
+        table,
+        finder,
+        lexer,
+        &mut documents,
+        &mut clients,
+        order,
+    );
     Ok(Replayed {
         books: books(alloc, documents)?,
         replies: replies(alloc, clients)?,

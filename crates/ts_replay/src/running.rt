@@ -9,6 +9,7 @@ ghost use Rattle.ts_replay.specs.Running.{CanRun, IsRunAt, HasNext, steps_left, 
 
 use crate::document::{Client, Document};
 use crate::stepping::{Asker, answer};
+use spec_history::Finder;
 use std::alloc::Global;
 use ts_lexer::Lexer;
 use ts_script::ScriptStep;
@@ -16,113 +17,149 @@ use ts_table::Table;
 
 /// Runs the steps in the order: each number takes the next step of its client, and is passed over
 /// where there is none; then come the steps that are left, the first client's first.
-pub(crate) fn run(
+pub(crate) fn run<F: Finder>(
     alloc: Global,
     table: &Table,
+    finder: &F,
     lexer: &mut Lexer,
     documents: &mut Vec<Document>,
     clients: &mut Vec<Client>,
     order: &[u32],
 )
     requires lexer { IsLexerOf lexer.old table.now }
-    requires can { CanRun table.now documents.old.items clients.old.items }
+    requires form { F.form finder.now ≡ table.now.grammar }
+    requires can { CanRun (F.finds finder.now) (F.count finder.now) table.now
+        documents.old.items clients.old.items }
     ensures lexer { IsLexerOf lexer.new table.now }
     ensures done { AreDone clients.new.items (length clients.new.items) }
     ensures runs { (plan : AnyPlan) (openings : AnyList Bytes)
-        → IsRunAt plan openings order.now order.now table.now documents.old.items clients.old.items
-        → IsRunAt plan openings order.now [] table.now documents.new.items clients.new.items }
+        → IsRunAt (F.finds finder.now) plan openings order.now order.now table.now
+        documents.old.items clients.old.items
+        → IsRunAt (F.finds finder.now) plan openings order.now [] table.now
+        documents.new.items clients.new.items }
 {
-    take_all(alloc, table, lexer, documents, clients, order);
-    take_rest(alloc, table, lexer, documents, clients);
+    take_all(alloc, table, finder, lexer, documents, clients, order);
+    take_rest(alloc, table, finder, lexer, documents, clients);
 }
 
 /// Runs the next step of each client in the order, where it has one.
-fn take_all(
+fn take_all<F: Finder>(
     alloc: Global,
     table: &Table,
+    finder: &F,
     lexer: &mut Lexer,
     documents: &mut Vec<Document>,
     clients: &mut Vec<Client>,
     order: &[u32],
 )
     requires lexer { IsLexerOf lexer.old table.now }
-    requires can { CanRun table.now documents.old.items clients.old.items }
+    requires form { F.form finder.now ≡ table.now.grammar }
+    requires can { CanRun (F.finds finder.now) (F.count finder.now) table.now
+        documents.old.items clients.old.items }
     ensures lexer { IsLexerOf lexer.new table.now }
-    ensures can { CanRun table.now documents.new.items clients.new.items }
+    ensures can { CanRun (F.finds finder.now) (F.count finder.now) table.now
+        documents.new.items clients.new.items }
     ensures runs { (plan : AnyPlan) (openings : AnyList Bytes)
-        → IsRunAt plan openings order.now order.now table.now documents.old.items clients.old.items
-        → IsRunAt plan openings order.now [] table.now documents.new.items clients.new.items }
+        → IsRunAt (F.finds finder.now) plan openings order.now order.now table.now
+        documents.old.items clients.old.items
+        → IsRunAt (F.finds finder.now) plan openings order.now [] table.now
+        documents.new.items clients.new.items }
 {
     for client in order {
-        take_next(alloc, table, lexer, documents, clients, *client as usize);
+        take_next(
+            alloc,
+            table,
+            finder,
+            lexer,
+            documents,
+            clients,
+            *client as usize,
+        );
     }
 }
 
 /// Runs all steps that are left, the first client's first.
-fn take_rest(
+fn take_rest<F: Finder>(
     alloc: Global,
     table: &Table,
+    finder: &F,
     lexer: &mut Lexer,
     documents: &mut Vec<Document>,
     clients: &mut Vec<Client>,
 )
     requires lexer { IsLexerOf lexer.old table.now }
-    requires can { CanRun table.now documents.old.items clients.old.items }
+    requires form { F.form finder.now ≡ table.now.grammar }
+    requires can { CanRun (F.finds finder.now) (F.count finder.now) table.now
+        documents.old.items clients.old.items }
     ensures lexer { IsLexerOf lexer.new table.now }
     ensures done { AreDone clients.new.items (length clients.new.items) }
     ensures runs { (plan : AnyPlan) (openings : AnyList Bytes) (order : AnyList ℕ)
-        → IsRunAt plan openings order [] table.now documents.old.items clients.old.items
-        → IsRunAt plan openings order [] table.now documents.new.items clients.new.items }
+        → IsRunAt (F.finds finder.now) plan openings order [] table.now
+        documents.old.items clients.old.items
+        → IsRunAt (F.finds finder.now) plan openings order [] table.now
+        documents.new.items clients.new.items }
 {
     for client in 0..clients.len() {
-        take_own(alloc, table, lexer, documents, clients, client);
+        take_own(alloc, table, finder, lexer, documents, clients, client);
     }
 }
 
 /// Runs the next step of a client, if there is one.
-fn take_next(
+fn take_next<F: Finder>(
     alloc: Global,
     table: &Table,
+    finder: &F,
     lexer: &mut Lexer,
     documents: &mut Vec<Document>,
     clients: &mut Vec<Client>,
     client: usize,
 )
     requires lexer { IsLexerOf lexer.old table.now }
-    requires can { CanRun table.now documents.old.items clients.old.items }
+    requires form { F.form finder.now ≡ table.now.grammar }
+    requires can { CanRun (F.finds finder.now) (F.count finder.now) table.now
+        documents.old.items clients.old.items }
     ensures lexer { IsLexerOf lexer.new table.now }
-    ensures can { CanRun table.now documents.new.items clients.new.items }
+    ensures can { CanRun (F.finds finder.now) (F.count finder.now) table.now
+        documents.new.items clients.new.items }
     ensures runs { (plan : AnyPlan) (openings : AnyList Bytes) (order rest : AnyList ℕ)
-        → IsRunAt plan openings order (client ∷ rest) table.now documents.old.items clients.old.items
-        → IsRunAt plan openings order rest table.now documents.new.items clients.new.items }
+        → IsRunAt (F.finds finder.now) plan openings order (client ∷ rest) table.now
+        documents.old.items clients.old.items
+        → IsRunAt (F.finds finder.now) plan openings order rest table.now
+        documents.new.items clients.new.items }
 {
     if has_next(clients, client) {
-        take_step(alloc, table, lexer, documents, clients, client);
+        take_step(alloc, table, finder, lexer, documents, clients, client);
     }
 }
 
 /// Runs all steps of a client that are left.
-fn take_own(
+fn take_own<F: Finder>(
     alloc: Global,
     table: &Table,
+    finder: &F,
     lexer: &mut Lexer,
     documents: &mut Vec<Document>,
     clients: &mut Vec<Client>,
     client: usize,
 )
     requires lexer { IsLexerOf lexer.old table.now }
-    requires can { CanRun table.now documents.old.items clients.old.items }
+    requires form { F.form finder.now ≡ table.now.grammar }
+    requires can { CanRun (F.finds finder.now) (F.count finder.now) table.now
+        documents.old.items clients.old.items }
     requires before { AreDone clients.old.items client }
     ensures lexer { IsLexerOf lexer.new table.now }
-    ensures can { CanRun table.now documents.new.items clients.new.items }
+    ensures can { CanRun (F.finds finder.now) (F.count finder.now) table.now
+        documents.new.items clients.new.items }
     ensures count { length clients.new.items ≡ length clients.old.items }
     ensures done { AreDone clients.new.items (client + 1) }
     ensures runs { (plan : AnyPlan) (openings : AnyList Bytes) (order : AnyList ℕ)
-        → IsRunAt plan openings order [] table.now documents.old.items clients.old.items
-        → IsRunAt plan openings order [] table.now documents.new.items clients.new.items }
+        → IsRunAt (F.finds finder.now) plan openings order [] table.now
+        documents.old.items clients.old.items
+        → IsRunAt (F.finds finder.now) plan openings order [] table.now
+        documents.new.items clients.new.items }
 {
     while has_next(clients, client) {
-        take_step(alloc, table, lexer, documents, clients, client);
+        take_step(alloc, table, finder, lexer, documents, clients, client);
     }
 }
 
@@ -134,43 +171,60 @@ fn has_next(clients: &Vec<Client>, client: usize) -> bool
 }
 
 /// Runs the next step of a client.
-fn take_step(
+fn take_step<F: Finder>(
     alloc: Global,
     table: &Table,
+    finder: &F,
     lexer: &mut Lexer,
     documents: &mut Vec<Document>,
     clients: &mut Vec<Client>,
     client: usize,
 )
     requires lexer { IsLexerOf lexer.old table.now }
-    requires can { CanRun table.now documents.old.items clients.old.items }
+    requires form { F.form finder.now ≡ table.now.grammar }
+    requires can { CanRun (F.finds finder.now) (F.count finder.now) table.now
+        documents.old.items clients.old.items }
     requires next { HasNext clients.old.items client }
     ensures lexer { IsLexerOf lexer.new table.now }
-    ensures can { CanRun table.now documents.new.items clients.new.items }
+    ensures can { CanRun (F.finds finder.now) (F.count finder.now) table.now
+        documents.new.items clients.new.items }
     ensures count { length clients.new.items ≡ length clients.old.items }
     ensures others { SameOthers client clients.old.items clients.new.items }
     ensures fewer { steps_left clients.new.items client < steps_left clients.old.items client }
     ensures runs { (plan : AnyPlan) (openings : AnyList Bytes) (order rest : AnyList ℕ)
-        → IsRunAt plan openings order (client ∷ rest) table.now documents.old.items clients.old.items
-        → IsRunAt plan openings order rest table.now documents.new.items clients.new.items }
+        → IsRunAt (F.finds finder.now) plan openings order (client ∷ rest) table.now
+        documents.old.items clients.old.items
+        → IsRunAt (F.finds finder.now) plan openings order rest table.now
+        documents.new.items clients.new.items }
 {
     let number = client as u32;
-    step_of(alloc, table, lexer, documents, &mut clients[client], number);
+    step_of(
+        alloc,
+        table,
+        finder,
+        lexer,
+        documents,
+        &mut clients[client],
+        number,
+    );
 }
 
 /// Runs the next step of the client of this number.
-fn step_of(
+fn step_of<F: Finder>(
     alloc: Global,
     table: &Table,
+    finder: &F,
     lexer: &mut Lexer,
     documents: &mut Vec<Document>,
     client: &mut Client,
     number: u32,
 )
     requires lexer { IsLexerOf lexer.old table.now }
-    requires may { MayTakeStep table.now documents.old.items client.old }
+    requires form { F.form finder.now ≡ table.now.grammar }
+    requires may { MayTakeStep (F.count finder.now) table.now documents.old.items client.old }
     ensures lexer { IsLexerOf lexer.new table.now }
-    ensures taken { IsStepTaken number documents.old.items client.old documents.new.items client.new }
+    ensures taken { IsStepTaken (F.finds finder.now) number
+        documents.old.items client.old documents.new.items client.new }
 {
     let steps = client.steps;
     let step = &steps[client.replies.len()];
@@ -182,6 +236,7 @@ fn step_of(
     let reply = answer(
         alloc,
         table,
+        finder,
         lexer,
         &mut documents[place],
         &mut client.held[place],

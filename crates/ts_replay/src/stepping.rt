@@ -1,22 +1,26 @@
 //! One step of a client on its document: the document, the version that the client holds and the
 //! step go in; the reply comes out, and the document and the held version are changed.
-ghost use Rattle.std.specs.Prelude.{◌≡◌, ℕ, ◌<◌, length, IfOk};
+ghost use Rattle.std.specs.Prelude.{◌≡◌, ℕ, ◌<◌, All, length, IfOk};
 ghost use Rattle.ts_shelf.specs.Entries.{RisesWithin};
 ghost use Rattle.ts_text.specs.declared.edit.Edit.{Edit as AnyEdit};
 ghost use Rattle.ts_docs.specs.Steps.{newest};
 ghost use Rattle.ts_docs.specs.Versions.{Drafts, IsOfTable};
 ghost use Rattle.ts_lexer.specs.Lexers.{IsLexerOf};
 ghost use Rattle.ts_script.specs.declared.plan.ScriptStep.TheVariants as script_step;
-ghost use Rattle.spec_history.specs.Legal.{CanEdit};
-ghost use Rattle.ts_replay.specs.Replays.{AsksNone};
-ghost use Rattle.ts_replay.specs.Steps.{Place, place, MayStep, NeedsRoom, DoesStep};
+ghost use Rattle.spec_runs.specs.Outcomes.{tree_outcome, Fresh};
+ghost use Rattle.spec_history.specs.Legal.{CanEdit, HasTree};
+ghost use Rattle.ts_replay.specs.Replays.{AsksAmong};
+ghost use Rattle.ts_replay.specs.Steps.{Place, place, MayStep, NeedsRoom, DoesStep, Does, TellsNoTree};
 
 use crate::document::Document;
 use crate::outcome::shown;
+use spec_history::Finder;
 use std::alloc::{AllocError, Global};
 use ts_base::Shared;
 use ts_docs::{Draft, Event, Refused, Told, Version, prepare, step};
+use ts_glr::Outcome;
 use ts_lexer::Lexer;
+use ts_node::Node;
 use ts_replies::Reply;
 use ts_script::ScriptStep;
 use ts_shelf::{Offered, Seen};
@@ -34,9 +38,10 @@ pub(crate) struct Asker {
 }
 
 /// Does a step. Want of memory is its reply, and then nothing is changed.
-pub(crate) fn answer(
+pub(crate) fn answer<F: Finder>(
     alloc: Global,
     table: &Table,
+    finder: &F,
     lexer: &mut Lexer,
     document: &mut Document,
     held: &mut Shared<Version>,
@@ -47,9 +52,10 @@ pub(crate) fn answer(
     requires table { held.old.table ≡ table.now }
     requires place { MayStep (place document.old.turn document.old.book held.old) }
     requires room { NeedsRoom step.now document.old.book.room }
-    requires asks_none { AsksNone step.now }
+    requires form { F.form finder.now ≡ table.now.grammar }
+    requires asks { AsksAmong (F.count finder.now) step.now }
     ensures lexer { IsLexerOf lexer.new table.now }
-    ensures does { DoesStep asker.client asker.number
+    ensures does { Does (F.finds finder.now) asker.client asker.number
         (place document.old.turn document.old.book held.old) step.now result
         (place document.new.turn document.new.book held.new) }
 {
@@ -60,8 +66,8 @@ pub(crate) fn answer(
         ScriptStep::Look { document: _ } => look(document, held),
         ScriptStep::Query {
             document: _,
-            queries: _,
-        } => unreachable!(),
+            queries,
+        } => query(alloc, table, finder, held.get(), queries.as_slice()),
         ScriptStep::Tree { document: _ } => tree(alloc, table, held.get()),
         ScriptStep::Await {
             document: _,
@@ -234,6 +240,63 @@ fn tree(alloc: Global, table: &Table, held: &Version) -> Reply
     let version = held.number();
     match shown(alloc, table.grammar(), held) {
         Ok(outcome) => Reply::Tree { outcome, version },
+        Err(_) => Reply::Memory { version },
+    }
+}
+
+/// What queries find in the held version.
+fn query<F: Finder>(
+    alloc: Global,
+    table: &Table,
+    finder: &F,
+    held: &Version,
+    queries: &[u32],
+) -> Reply
+    requires table { held.now.table ≡ table.now }
+    requires form { F.form finder.now ≡ table.now.grammar }
+    requires there { All (λ (number : ℕ). number < F.count finder.now) queries.now }
+    ensures does { (client number at : ℕ) (before : Place) → before.held ≡ held.now
+        → Does (F.finds finder.now) client number before (script_step.Query at queries.now) result
+        before }
+{
+    held.stands();
+    match held.outcome() {
+        Outcome::Accepted(root) => found(alloc, finder, held, root, queries),
+        Outcome::Stuck(_) | Outcome::Deep => absent(alloc, table, held),
+    }
+}
+
+/// What queries find in the tree of the held version.
+fn found<F: Finder>(
+    alloc: Global,
+    finder: &F,
+    held: &Version,
+    root: &Node,
+    queries: &[u32],
+) -> Reply
+    requires form { F.form finder.now ≡ held.now.table.grammar }
+    requires fresh { Fresh held.now.table.grammar held.now.text (tree_outcome root.now) }
+    requires there { All (λ (number : ℕ). number < F.count finder.now) queries.now }
+    ensures does { (client number at : ℕ) (before : Place) → before.held ≡ held.now
+        → Does (F.finds finder.now) client number before (script_step.Query at queries.now) result
+        before }
+{
+    let version = held.number();
+    match finder.find(alloc, held.text(), root, queries) {
+        Ok(results) => Reply::Results { results, version },
+        Err(_) => Reply::Memory { version },
+    }
+}
+
+/// That the held version has no tree in which queries could be asked, with what it comes to.
+fn absent(alloc: Global, table: &Table, held: &Version) -> Reply
+    requires table { held.now.table ≡ table.now }
+    requires none { HasTree held.now.table.grammar held.now.text → ⊥ }
+    ensures { TellsNoTree held.now result }
+{
+    let version = held.number();
+    match shown(alloc, table.grammar(), held) {
+        Ok(outcome) => Reply::Absent { outcome, version },
         Err(_) => Reply::Memory { version },
     }
 }

@@ -1,14 +1,15 @@
 //! Small scripts in several orders, by their replies.
-use crate::{asks_no_queries, replay, scripts_may_be_replayed};
+use crate::{replay, scripts_may_be_replayed};
 use spec_history::Finder;
 use std::alloc::{AllocError, Global};
 use std::str;
 use std::test::Fail;
-use ts_core::List;
+use ts_core::{FlatGrammar, List};
 use ts_items::collection;
 use ts_langfile::read;
 use ts_lexer::Lexer;
-use ts_replies::{Reply, print_reply};
+use ts_node::Node;
+use ts_replies::{Reply, ShownResult, print_reply};
 use ts_script::script;
 use ts_table::{Table, resolve};
 use ts_text::Text;
@@ -17,11 +18,13 @@ use ts_text::Text;
 const GRAMMAR: &[u8] =
     b"TSLF\x00\x01\x00\x00\x00\x01g\x00\x00\x00\x01\x00\x00\x00\x01a\x01\x01\x00\x00\x00\x01\x00\x00\x00a\x00\x00\x00a\x00\x00\x00\x00\x01\x00\x00\x00\x00\x00\x01\x00\x00\x00\x01s\x00\x00\x02\x00\x00\x00\x01\x00\x00\x00\x00\x00\x00\x00\x01\x00\x01\x00\x00\x00\x00\x00\x00\x00\x00\x00\x00\x00\x00\x00\x00\x00\x00\x00\x00\x00\x00\x00\x00\x00\x00\x00\x00\x00\x00\x00";
 
-/// Two clients that edit the empty text, and one that waits for what does not come.
+/// Two clients that edit the empty text, one that asks, and one that waits for what does not come.
 const SCRIPT: &[u8] = br#"{"op":"open","text":""}
+{"op":"load","source":"_"}
 {"client":0,"op":"edit","document":0,"start":0,"end":0,"new":"a"}
 {"client":1,"op":"edit","document":0,"start":0,"end":0,"new":"aa"}
 {"client":1,"op":"tree","document":0}
+{"client":1,"op":"query","document":0,"queries":[0,0]}
 {"client":2,"op":"await","document":0,"version":2}
 "#;
 
@@ -29,6 +32,7 @@ const SCRIPT: &[u8] = br#"{"op":"open","text":""}
 const LATE: &str = r#"{"client":0,"reply":"published","step":0,"turn":10000000,"version":1}
 {"client":1,"reply":"newer","step":0,"turn":10000001,"version":1}
 {"client":1,"nodes":[[0,"s",true,[],0,1,0,0],[1,"a",false,[],0,1,0,0]],"outcome":"tree","reply":"tree","step":1,"version":1}
+{"client":1,"reply":"results","results":["many","many"],"step":2,"version":1}
 {"client":2,"reply":"late","step":0,"turn":9999999,"version":0}
 "#;
 
@@ -36,14 +40,36 @@ const LATE: &str = r#"{"client":0,"reply":"published","step":0,"turn":10000000,"
 const OTHER: &str = r#"{"client":0,"reply":"newer","step":0,"turn":1,"version":1}
 {"client":1,"reply":"published","step":0,"turn":0,"version":1}
 {"client":1,"outcome":"stuck","place":1,"reply":"tree","step":1,"version":1}
+{"client":1,"outcome":"stuck","place":1,"reply":"none","step":2,"version":1}
 {"client":2,"reply":"late","step":0,"turn":10000001,"version":1}
 "#;
 
-/// No query finds anything.
-struct NoQueries;
+/// One query, which finds too much in each text; its contract leaves open what it finds.
+#[derive(Clone, Copy, Debug)]
+struct FindsMany<'a> {
+    grammar: &'a FlatGrammar,
+}
 
-impl Finder for NoQueries {
-    ghost finds = { λ text queries results. ⊥ };
+impl Finder for FindsMany<'_> {
+    ghost form = { λ one. one.grammar.now };
+
+    ghost count = { λ _. 1 };
+
+    ghost finds = { λ _ _ _ _. Unit {0} };
+
+    fn find(
+        &self,
+        alloc: Global,
+        _text: &Text,
+        _root: &Node,
+        numbers: &[u32],
+    ) -> Result<List<ShownResult>, AllocError> {
+        let mut results = List::new(alloc);
+        for _ in numbers {
+            results.push(ShownResult::Many)?;
+        }
+        Ok(results)
+    }
 }
 
 /// The parse table of the grammar.
@@ -73,10 +99,13 @@ fn replies(alloc: Global, table: &Table, order: &[u32]) -> Result<List<List<Repl
     let mut texts = Vec::new(alloc);
     texts.push(text)?;
     scripts_may_be_replayed();
-    if !asks_no_queries(&plan) || plan.documents.len() != texts.len() {
+    if plan.queries.len() != 1 || plan.documents.len() != texts.len() {
         return Err(AllocError.into());
     }
-    let left = replay::<NoQueries>(alloc, table, &mut lexer, &plan, texts, order)?;
+    let finder = FindsMany {
+        grammar: table.grammar(),
+    };
+    let left = replay(alloc, table, &finder, &mut lexer, &plan, texts, order)?;
     Ok(left.replies)
 }
 

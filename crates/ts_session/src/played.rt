@@ -8,20 +8,41 @@ ghost use Rattle.ts_session.specs.Replays.{IsBuilt, IsReplay};
 
 use spec_history::Finder;
 use std::alloc::{AllocError, Global};
+use ts_base::List;
+use ts_core::FlatGrammar;
 use ts_lexer::Lexer;
+use ts_node::Node;
 use ts_replay::{Replayed, replay, scripts_may_be_replayed};
+use ts_replies::ShownResult;
 use ts_script::Plan;
 use ts_table::Table;
 use ts_text::Text;
 use ts_transcript::transcript;
 
 /// Stands for queries of which there are none, so that none finds anything.
-struct NoQueries;
+#[derive(Clone, Copy, Debug)]
+struct NoQueries<'a> {
+    grammar: &'a FlatGrammar,
+}
 
-impl Finder for NoQueries {
+impl Finder for NoQueries<'_> {
     ghost use Rattle.ts_session.specs.Replays.{FindsNone};
 
-    ghost finds = { FindsNone };
+    ghost form = { λ none. none.grammar.now };
+
+    ghost count = { λ _. 0 };
+
+    ghost finds = { λ _. FindsNone };
+
+    fn find(
+        &self,
+        _alloc: Global,
+        _text: &Text,
+        _root: &Node,
+        _numbers: &[u32],
+    ) -> Result<List<ShownResult>, AllocError> {
+        Err(AllocError)
+    }
 }
 
 /// Runs a script without queries, and prints the run.
@@ -40,9 +61,10 @@ pub(crate) fn played(
 {
     scripts_may_be_replayed();
     let mut lexer = lexer_of(alloc, table)?;
-    let Replayed { books, replies } = replay::<NoQueries>(
-        alloc, table, &mut lexer, plan, texts, order,
-    )?;
+    let none = NoQueries {
+        grammar: table.grammar(),
+    };
+    let Replayed { books, replies } = replay(alloc, table, &none, &mut lexer, plan, texts, order)?;
     transcript(alloc, table.grammar(), books.as_slice(), replies.as_slice())
 }
 

@@ -20,7 +20,8 @@ run-requires-clause-can g c =
     (subst (λ (l : List (List ScriptStep)). AreClientsBegun l c.as_slice.result.now c.in_ok-clients.clients.items) c.as_slice-2.ensures c.in_ok-clients.ensures) in (
       c.args.plan.now,
       c.args.openings.items,
-      (starts c.args.plan.now c.args.table.now c.args.openings.items c.in_ok-documents.documents.items c.in_ok-clients.clients.items
+      c.requires.queries,
+      (starts (g.F.Finder.finds c.args.finder.now) c.args.plan.now c.args.table.now c.args.openings.items c.in_ok-documents.documents.items c.in_ok-clients.clients.items
           c.requires.plan c.requires.openings c.in_ok-documents.ensures.opened begun c.args.order.now).running,
     )
 
@@ -29,18 +30,18 @@ returns-clause-legal g c =
     let begun = subst (λ (l : List Document). AreClientsBegun c.args.plan.now.clients l c.in_ok-clients.clients.items) c.as_slice.ensures.value
     (subst (λ (l : List (List ScriptStep)). AreClientsBegun l c.as_slice.result.now c.in_ok-clients.clients.items) c.as_slice-2.ensures c.in_ok-clients.ensures) in
     let at = c.run.ensures.runs c.args.plan.now c.args.openings.items
-    (starts c.args.plan.now c.args.table.now c.args.openings.items c.in_ok-documents.documents.items c.in_ok-clients.clients.items
+    (starts (g.F.Finder.finds c.args.finder.now) c.args.plan.now c.args.table.now c.args.openings.items c.in_ok-documents.documents.items c.in_ok-clients.clients.items
     c.requires.plan c.requires.openings c.in_ok-documents.ensures.opened begun c.args.order.now) in
-    subst (λ (b : List Pages). Legal g.F.Finder.finds (history_of c.args.plan.now c.args.table.now.grammar c.args.openings.items b c.in_ok-replies.field-0)) (sym c.in_ok-books.ensures)
-    (subst (λ (r : List (List Reply)). Legal g.F.Finder.finds (history_of c.args.plan.now c.args.table.now.grammar c.args.openings.items (map (λ (d : Document). d.book) c.run.new.documents.items) r)) (sym c.in_ok-replies.ensures)
-    (ends_legal c.args.plan.now c.args.table.now c.args.openings.items c.args.order.now c.run.new.documents.items c.run.new.clients.items at c.run.ensures.done g.F.Finder.finds))
+    subst (λ (b : List Pages). Legal (g.F.Finder.finds c.args.finder.now) (history_of c.args.plan.now c.args.table.now.grammar c.args.openings.items b c.in_ok-replies.field-0)) (sym c.in_ok-books.ensures)
+    (subst (λ (r : List (List Reply)). Legal (g.F.Finder.finds c.args.finder.now) (history_of c.args.plan.now c.args.table.now.grammar c.args.openings.items (map (λ (d : Document). d.book) c.run.new.documents.items) r)) (sym c.in_ok-replies.ensures)
+    (ends_legal c.args.plan.now c.args.table.now c.args.openings.items c.args.order.now c.run.new.documents.items c.run.new.clients.items at c.run.ensures.done))
 
 pub returns-clause-in_order : goal.returns-clause-in_order
 returns-clause-in_order g c =
     let begun = subst (λ (l : List Document). AreClientsBegun c.args.plan.now.clients l c.in_ok-clients.clients.items) c.as_slice.ensures.value
     (subst (λ (l : List (List ScriptStep)). AreClientsBegun l c.as_slice.result.now c.in_ok-clients.clients.items) c.as_slice-2.ensures c.in_ok-clients.ensures) in
     let at = c.run.ensures.runs c.args.plan.now c.args.openings.items
-    (starts c.args.plan.now c.args.table.now c.args.openings.items c.in_ok-documents.documents.items c.in_ok-clients.clients.items
+    (starts (g.F.Finder.finds c.args.finder.now) c.args.plan.now c.args.table.now c.args.openings.items c.in_ok-documents.documents.items c.in_ok-clients.clients.items
     c.requires.plan c.requires.openings c.in_ok-documents.ensures.opened begun c.args.order.now) in
     subst (λ (b : List Pages). InOrder c.args.order.now (history_of c.args.plan.now c.args.table.now.grammar c.args.openings.items b c.in_ok-replies.field-0)) (sym c.in_ok-books.ensures)
     (subst (λ (r : List (List Reply)). InOrder c.args.order.now (history_of c.args.plan.now c.args.table.now.grammar c.args.openings.items (map (λ (d : Document). d.book) c.run.new.documents.items) r)) (sym c.in_ok-replies.ensures)
@@ -51,7 +52,7 @@ returns-clause-versions g c =
     let begun = subst (λ (l : List Document). AreClientsBegun c.args.plan.now.clients l c.in_ok-clients.clients.items) c.as_slice.ensures.value
     (subst (λ (l : List (List ScriptStep)). AreClientsBegun l c.as_slice.result.now c.in_ok-clients.clients.items) c.as_slice-2.ensures c.in_ok-clients.ensures) in
     let at = c.run.ensures.runs c.args.plan.now c.args.openings.items
-    (starts c.args.plan.now c.args.table.now c.args.openings.items c.in_ok-documents.documents.items c.in_ok-clients.clients.items
+    (starts (g.F.Finder.finds c.args.finder.now) c.args.plan.now c.args.table.now c.args.openings.items c.in_ok-documents.documents.items c.in_ok-clients.clients.items
     c.requires.plan c.requires.openings c.in_ok-documents.ensures.opened begun c.args.order.now) in
     subst (λ (b : List Pages). AreBooks c.args.plan.now c.args.table.now c.args.openings.items b) (sym c.in_ok-books.ensures)
     (ends_with_versions c.args.plan.now c.args.table.now c.args.openings.items c.args.order.now c.run.new.documents.items c.run.new.clients.items at c.run.ensures.done)

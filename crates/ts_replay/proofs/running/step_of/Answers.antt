@@ -2,7 +2,7 @@ use Rattle.std.proofs.Common.{◌≡◌, ◌∙◌, sym, ap, subst, refl, ℕ, �
 use Rattle.std.proofs.lemmas.Option.{slice_get_read, slice_get_within}
 use Rattle.std.specs.Vec.{vec_len}
 use Rattle.spec_history.specs.Replies.{document_of}
-use Rattle.ts_replay.specs.Steps.{place, DoesStep}
+use Rattle.ts_replay.specs.Steps.{place, Does}
 use Rattle.ts_replay.proofs.RunningLemmas.{same_thing}
 use Rattle.ts_replay.proofs.running.step_of.Goals as goal
 
@@ -11,7 +11,7 @@ ok_of (Ok x) h = refl
 ok_of (Err e) h = absurd (let f : true ≡ false = h in cc)
 
 pub returns-clause-taken : goal.returns-clause-taken
-returns-clause-taken c =
+returns-clause-taken g c =
     let may = c.requires.may in
     let count : vec_len c.args.client.now.replies ≡ length c.args.client.now.replies.items = c.args.client.now.replies.ok.0 in
     let len : c.len.result ≡ length c.args.client.now.replies.items = c.len.ensures ∙ count in
@@ -38,7 +38,7 @@ returns-clause-taken c =
       after = c.answer-reply.new.document;
       held = c.answer-reply.new.held;
       reply = c.answer-reply.result;
-      does = subst (λ (n : ℕ). DoesStep c.args.number n (place c.index_mut.result.now.turn c.index_mut.result.now.book c.index_mut-2.result.now) c.index-steps-len.result c.answer-reply.result
+      does = subst (λ (n : ℕ). Does (g.F.Finder.finds c.args.finder.now) c.args.number n (place c.index_mut.result.now.turn c.index_mut.result.now.book c.index_mut-2.result.now) c.index-steps-len.result c.answer-reply.result
           (place c.answer-reply.new.document.turn c.answer-reply.new.document.book c.answer-reply.new.held)) (c.len-2.ensures ∙ count) c.answer-reply.ensures.does;
       documents_are = ap (λ (n : ℕ). set c.args.documents.now.items n c.answer-reply.new.document) c.document_of-place.ensures;
       held_are = ap (λ (n : ℕ). set c.args.client.now.held.items n c.answer-reply.new.held) c.document_of-place.ensures;

@@ -6,10 +6,10 @@ use Rattle.ts_replay.specs.Running.{CanRun, IsRunAt}
 use Rattle.ts_replay.proofs.running.take_all.Given as goal
 
 abbrev pub invariant-loop-client : goal.invariant-loop-client
-invariant-loop-client l = record {
+invariant-loop-client g l = record {
   lexer : IsLexerOf l.lexer l.table;
-  can : CanRun l.table l.documents.items l.clients.items;
+  can : CanRun (g.F.Finder.finds l.finder) (g.F.Finder.count l.finder) l.table l.documents.items l.clients.items;
   runs : (plan : Plan) (openings : List Bytes)
-      → IsRunAt plan openings l.order l.order l.table l.fn.documents.items l.fn.clients.items
-      → IsRunAt plan openings l.order (drop l.client-index l.order) l.table l.documents.items l.clients.items;
+      → IsRunAt (g.F.Finder.finds l.finder) plan openings l.order l.order l.table l.fn.documents.items l.fn.clients.items
+      → IsRunAt (g.F.Finder.finds l.finder) plan openings l.order (drop l.client-index l.order) l.table l.documents.items l.clients.items;
 }

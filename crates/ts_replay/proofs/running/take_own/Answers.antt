@@ -3,10 +3,10 @@ use Rattle.ts_replay.proofs.LoopLemmas.{first_next, done_still, one_more_done}
 use Rattle.ts_replay.proofs.running.take_own.Goals as goal
 
 pub take_step-requires-clause-next : goal.take_step-requires-clause-next
-take_step-requires-clause-next c = c.has_next.ensures.0 c.loop-alloc-test.true
+take_step-requires-clause-next g c = c.has_next.ensures.0 c.loop-alloc-test.true
 
 pub loop-alloc-preserved : goal.loop-alloc-preserved
-loop-alloc-preserved c = record {
+loop-alloc-preserved g c = record {
   lexer = c.take_step.ensures.lexer;
   can = c.take_step.ensures.can;
   count = c.take_step.ensures.count ∙ c.loop-alloc.invariant.count;
@@ -18,7 +18,7 @@ loop-alloc-preserved c = record {
 }
 
 pub returns-clause-done : goal.returns-clause-done
-returns-clause-done c =
+returns-clause-done g c =
     one_more_done c.loop-alloc.clients.items c.args.client
     (done_still c.args.clients.now.items c.loop-alloc.clients.items c.args.client c.requires.before c.loop-alloc.invariant.others)
     (λ next. let f : true ≡ false = sym (c.has_next.ensures.1 next) ∙ c.loop-alloc-test.false in absurd cc)

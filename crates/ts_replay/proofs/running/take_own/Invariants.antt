@@ -6,15 +6,15 @@ use Rattle.ts_replay.specs.Running.{CanRun, IsRunAt, SameOthers, steps_left}
 use Rattle.ts_replay.proofs.running.take_own.Given as goal
 
 abbrev pub invariant-loop-alloc : goal.invariant-loop-alloc
-invariant-loop-alloc l = record {
+invariant-loop-alloc g l = record {
   lexer : IsLexerOf l.lexer l.table;
-  can : CanRun l.table l.documents.items l.clients.items;
+  can : CanRun (g.F.Finder.finds l.finder) (g.F.Finder.count l.finder) l.table l.documents.items l.clients.items;
   count : length l.clients.items ≡ length l.fn.clients.items;
   others : SameOthers l.client l.fn.clients.items l.clients.items;
   runs : (plan : Plan) (openings : List Bytes) (order : List ℕ)
-      → IsRunAt plan openings order [] l.table l.fn.documents.items l.fn.clients.items
-      → IsRunAt plan openings order [] l.table l.documents.items l.clients.items;
+      → IsRunAt (g.F.Finder.finds l.finder) plan openings order [] l.table l.fn.documents.items l.fn.clients.items
+      → IsRunAt (g.F.Finder.finds l.finder) plan openings order [] l.table l.documents.items l.clients.items;
 }
 
 abbrev pub decreases-loop-alloc : goal.decreases-loop-alloc
-decreases-loop-alloc l = steps_left l.clients.items l.client
+decreases-loop-alloc g l = steps_left l.clients.items l.client

@@ -2,7 +2,7 @@ use Rattle.std.proofs.Common.{◌∙◌}
 use Rattle.ts_replay.proofs.running.take_rest.Goals as goal
 
 pub loop-client-preserved : goal.loop-client-preserved
-loop-client-preserved c = record {
+loop-client-preserved g c = record {
   lexer = c.take_own.ensures.lexer;
   can = c.take_own.ensures.can;
   count = c.take_own.ensures.count ∙ c.loop-client.invariant.count;

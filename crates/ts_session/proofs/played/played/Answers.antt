@@ -13,25 +13,25 @@ use Rattle.ts_session.proofs.PlayedLemmas.{is_history, few_books, few_clients, f
 use Rattle.ts_session.proofs.played.played.Goals as goal
 
 pub replay-requires-clause-plan : goal.replay-requires-clause-plan
-replay-requires-clause-plan c = c.scripts_may_be_replayed.ensures c.requires.script.0 c.args.plan.now c.requires.script.1 c.requires.built.1
+replay-requires-clause-plan c = c.scripts_may_be_replayed.ensures c.requires.script.0 c.args.plan.now c.requires.script.1
 
 pub transcript-requires-clause-documents : goal.transcript-requires-clause-documents
 transcript-requires-clause-documents c =
-    let may = c.scripts_may_be_replayed.ensures c.requires.script.0 c.args.plan.now c.requires.script.1 c.requires.built.1 in
+    let may = c.scripts_may_be_replayed.ensures c.requires.script.0 c.args.plan.now c.requires.script.1 in
     let legal = c.in_ok-books.ensures.legal in
     let few = few_books c.args.plan.now c.args.table.now c.args.texts.items c.in_ok-books.field-0.books c.in_ok-books.field-0.replies may legal.whole in
     subst (λ (books : List Pages). length books ≤ 4294967296) (sym c.as_slice.ensures) few
 
 pub transcript-requires-clause-clients : goal.transcript-requires-clause-clients
 transcript-requires-clause-clients c =
-    let may = c.scripts_may_be_replayed.ensures c.requires.script.0 c.args.plan.now c.requires.script.1 c.requires.built.1 in
+    let may = c.scripts_may_be_replayed.ensures c.requires.script.0 c.args.plan.now c.requires.script.1 in
     let legal = c.in_ok-books.ensures.legal in
     let few = few_clients c.args.plan.now c.args.table.now c.args.texts.items c.in_ok-books.field-0.books c.in_ok-books.field-0.replies may legal.whole in
     subst (λ (replies : List (List Reply)). length replies ≤ 4294967296) (sym c.as_slice-2.ensures) few
 
 pub transcript-requires-clause-steps : goal.transcript-requires-clause-steps
 transcript-requires-clause-steps c =
-    let may = c.scripts_may_be_replayed.ensures c.requires.script.0 c.args.plan.now c.requires.script.1 c.requires.built.1 in
+    let may = c.scripts_may_be_replayed.ensures c.requires.script.0 c.args.plan.now c.requires.script.1 in
     let legal = c.in_ok-books.ensures.legal in
     let few = few_replies c.args.plan.now c.args.table.now c.args.texts.items c.in_ok-books.field-0.books c.in_ok-books.field-0.replies may legal.whole in
     subst (λ (replies : List (List Reply)). All (λ (own : List Reply). length own ≤ 4294967296) replies) (sym c.as_slice-2.ensures) few
@@ -43,7 +43,7 @@ returns c =
     let left = is_history c.args.plan.now c.args.table.now c.args.texts.items c.in_ok-books.field-0.books c.in_ok-books.field-0.replies legal.whole c.in_ok-books.ensures.versions in
     let with_books : IsHistoryOf h c.as_slice.result.now c.in_ok-books.field-0.replies = subst (λ (books : List Pages). IsHistoryOf h books c.in_ok-books.field-0.replies) (sym c.as_slice.ensures) left in
     let whole : IsHistoryOf h c.as_slice.result.now c.as_slice-2.result.now = subst (λ (replies : List (List Reply)). IsHistoryOf h c.as_slice.result.now replies) (sym c.as_slice-2.ensures) with_books in
-    ok_then c.transcript.result (λ (bytes : Vec ℕ). (k : History) → k.grammar ≡ c.grammar.result.now → IsHistoryOf k c.as_slice.result.now c.as_slice-2.result.now → IsPrinted k bytes.items)
+    ok_then c.transcript.result (λ (bytes : Vec ℕ). (k : History) → k.grammar ≡ c.grammar-2.result.now → IsHistoryOf k c.as_slice.result.now c.as_slice-2.result.now → IsPrinted k bytes.items)
     (λ (bytes : Vec ℕ). IsReplay c.args.table.now.grammar c.args.plan.now c.args.texts.items c.args.order.now bytes.items)
     (λ bytes printed. record {
       history = h;
@@ -52,5 +52,5 @@ returns c =
       openings_are = refl;
       legal = legal;
       in_order = c.in_ok-books.ensures.in_order;
-      printed = printed h (sym c.grammar.ensures) whole;
+      printed = printed h (sym c.grammar-2.ensures) whole;
     }) c.transcript.ensures.printed
