@@ -1,0 +1,12 @@
+//! The answers of queries: queries that were read, a grammar, a text, its tree and a host go in; what
+//! each query comes to comes out, as lines tell it.
+#![tactic(auto)]
+
+mod answering;
+mod queries;
+mod showing;
+#[cfg(test)]
+mod tests;
+
+pub use answering::{answer, answers};
+pub use queries::Queries;
