@@ -1,0 +1,4 @@
+pub mod DeskLemmas
+pub mod LookLemmas
+pub mod SeenFirst
+pub mod ServeLemmas
