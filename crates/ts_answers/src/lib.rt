@@ -5,8 +5,6 @@
 mod answering;
 mod queries;
 mod showing;
-#[cfg(test)]
-mod tests;
 
 pub use answering::{answer, answers};
 pub use queries::Queries;
