@@ -1,10 +1,10 @@
 -- Embeddings depend only on what the items take.
-use Rattle.std.proofs.Common.{◌≡◌, ℕ, zero, suc, ◌+◌, List, [], ◌∷◌, Option, Some, None, Bool, true, false, ◌↔◌}
+use Rattle.std.proofs.Common.{ℕ, zero, suc, ◌+◌, List, [], ◌∷◌, Option, Some, None, Bool, true, false}
 use Rattle.spec_matches.specs.declared.placing.Slot.{Slot}
 use Rattle.spec_matches.specs.declared.placing.Run.{Run}
 use Rattle.spec_matches.specs.declared.found.Capture.{Capture}
 use Rattle.spec_matches.specs.declared.placing.Placing.{Placing}
-use Rattle.spec_matches.specs.Embedding.{offset, Fits, Placed, Embeds, Full, Along, Gives, IsWay}
+use Rattle.spec_matches.specs.Embedding.{offset, Fits, Embeds, Along, Gives, IsWay}
 
 module _ (t u : ℕ → ℕ → ℕ → List Capture → Type 0) (to : (k o p : ℕ) (c : List Capture) → t k o p c → u k o p c) where
   fits_to : (n k : ℕ) (i : Slot) (r : Run) → Fits t n i k r → Fits u n i k r

@@ -1,5 +1,5 @@
 -- The children of a node, one after another.
-use Rattle.std.proofs.Common.{◌≡◌, ◌∙◌, sym, ap, refl, subst, ℕ, zero, suc, ◌+◌, ◌<◌, ◌≤◌, ◌⊎◌, inl, inr, ⊎_elim, List, [], ◌∷◌, ◌++◌, length, Option, Some, None, slice_get, option_map, unwrap_or, arith, ◌↔◌}
+use Rattle.std.proofs.Common.{◌≡◌, sym, ap, refl, subst, ℕ, zero, suc, ◌+◌, ◌<◌, ◌≤◌, ◌⊎◌, inl, inr, ⊎_elim, List, [], ◌∷◌, ◌++◌, length, Option, Some, None, slice_get, option_map, unwrap_or, arith, ◌↔◌}
 use Rattle.std.specs.List.{Contains}
 use Rattle.std.proofs.lemmas.Bool.{cases_lt}
 use Rattle.std.proofs.lemmas.Option.{slice_get_within}
@@ -9,7 +9,6 @@ use Rattle.spec_trees.specs.Family.{IsParent, depth_at}
 use Rattle.spec_matches.specs.Siblings.{IsRising, AreChildren}
 use Rattle.ts_search.specs.Rows.{EndsAt}
 use Rattle.ts_search.proofs.PlaceLemmas.{cases_lt_or_eq, none_in_nil}
-use Rattle.ts_search.proofs.AddLemmas.{one_in}
 
 -- ---- rising lists
 

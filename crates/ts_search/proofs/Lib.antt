@@ -3,9 +3,11 @@ pub mod AlongLemmas
 pub mod CarryLemmas
 pub mod ChildLemmas
 pub mod GatherLemmas
+pub mod GrowLemmas
 pub mod HeadLemmas
 pub mod HitLemmas
 pub mod MemoLemmas
+pub mod OnceLemmas
 pub mod OrderLemmas
 pub mod PairLemmas
 pub mod PassLemmas

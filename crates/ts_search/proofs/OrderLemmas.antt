@@ -1,5 +1,5 @@
 -- Lists that are sorted, and then each element once.
-use Rattle.std.proofs.Common.{◌≡◌, ◌∙◌, sym, subst, List, IsPermutation, ◌↔◌, Bool, true, rules}
+use Rattle.std.proofs.Common.{◌≡◌, sym, subst, List, IsPermutation, ◌↔◌, Bool, true, rules}
 use Rattle.std.specs.List.{Contains, dedup}
 use Rattle.std.specs.Cmp.{IsEquivalence, IsTotalOrder}
 use Rattle.std.specs.Ordering.{eq_by_cmp}

@@ -1,8 +1,7 @@
 -- The ways in which an item takes a node.
-use Rattle.std.proofs.Common.{◌≡◌, ◌∙◌, sym, ap, refl, subst, ℕ, zero, suc, ◌+◌, ◌<◌, ◌≤◌, List, [], ◌∷◌, ◌++◌, map, length, get_or, Option, Some, None, Bool, slice_get, true, false, ◌↔◌, IsTrue, arith}
+use Rattle.std.proofs.Common.{◌≡◌, ◌∙◌, sym, refl, subst, ℕ, ◌<◌, ◌≤◌, List, [], ◌++◌, map, length, Some, None, Bool, slice_get, true, ◌↔◌, IsTrue, arith}
 use Rattle.std.specs.List.{Contains}
-use Rattle.std.proofs.lemmas.List.{get_or-map, length-map}
-use Rattle.std.proofs.lemmas.Option.{slice_get_within, slice_get-get_or}
+use Rattle.std.proofs.lemmas.Option.{slice_get_within}
 use Rattle.spec_trees.specs.declared.visible.VisibleNode.{VisibleNode}
 use Rattle.ts_query_syntax.specs.declared.read_query.Test.{Test}
 use Rattle.ts_query_syntax.specs.declared.read_query.Test.TheVariants.{Any, Named, Kind, Choice, Round}
@@ -18,7 +17,7 @@ use Rattle.ts_search.specs.Adding.{Adds, OfSome}
 use Rattle.ts_search.specs.Steps.{Before}
 use Rattle.ts_search.specs.Ways.{AreWays, HasOne, InsideOf, ItemTakes, PassesOf, PlainOf, TakenOf, parts_of}
 use Rattle.ts_search.proofs.AddLemmas.{adds_all, adds_same}
-use Rattle.ts_search.proofs.PlaceLemmas.{there, at_of, same_at, none_in_nil}
+use Rattle.ts_search.proofs.PlaceLemmas.{at_of, in_map, none_in_nil, of_map, same_at, there}
 use Rattle.ts_search.proofs.ShapeLemmas.{taken_at, round_takes, plain_takes}
 use Rattle.ts_search.proofs.ChildLemmas.{same_children}
 
@@ -26,15 +25,6 @@ use Rattle.ts_search.proofs.ChildLemmas.{same_children}
 
 pub in_none : (cs : List (List Capture)) (c : List Capture) → cs ≡ [] → Contains cs c → ⊥
 in_none cs c e h = none_in_nil c (subst (λ (l : List (List Capture)). Contains l c) e h)
-
-module _ {X Y : Type 0} (g : X → Y) where
-  in_map : (xs : List X) (x : X) → Contains xs x → Contains (map g xs) (g x)
-  in_map xs x (k, below, is) = (k, (let e = length-map xs g in omega (arith, e)), get_or-map g xs k x (g x) below ∙ ap g is)
-
-  of_map : (xs : List X) (d : X) (y : Y) → Contains (map g xs) y → (x : X) × Contains xs x × (g x ≡ y)
-  of_map xs d y (k, below, is) =
-      let lt : k < length xs = (let e = length-map xs g in omega (arith, e)) in
-      (get_or xs k d, there xs k (get_or xs k d) (slice_get-get_or xs k d lt), sym (get_or-map g xs k d y lt) ∙ is)
 
 -- ---- fields of several nodes
 
@@ -183,3 +173,8 @@ pub before_of : (backs b2 old new : List (List Capture)) (front f2 : List Captur
 before_of backs b2 old new front f2 eb ef eo adds =
     subst (λ (l : List (List Capture)). Adds (Before backs front) l new) eo
     (subst (λ (l : List Capture). Adds (Before backs l) old new) ef (subst (λ (l : List (List Capture)). Adds (Before l f2) old new) eb adds))
+
+-- the same lists of captures, each once
+pub inside_once : (scene : Scene) (i : Item) (n : ℕ) (cs kept : List (List Capture)) → ((c : List Capture) → Contains kept c ↔ Contains cs c) → ((c : List Capture) → Contains cs c ↔ InsideOf scene i n c)
+    → (c : List Capture) → Contains kept c ↔ InsideOf scene i n c
+inside_once scene i n cs kept each are c = ((λ h. (are c).0 ((each c).0 h)), (λ h. (each c).1 ((are c).1 h)))

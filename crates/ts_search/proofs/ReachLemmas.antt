@@ -1,7 +1,6 @@
 -- How far the runs of an item go.
-use Rattle.std.proofs.Common.{◌≡◌, ◌∙◌, sym, ap, refl, subst, ℕ, ◌+◌, ◌-◌, ◌<◌, ◌≤◌, ◌⊎◌, inl, inr, ⊎_elim, List, length, true, arith, ◌↔◌}
+use Rattle.std.proofs.Common.{◌≡◌, refl, ℕ, ◌+◌, ◌-◌, ◌<◌, ◌≤◌, ◌⊎◌, inl, inr, ⊎_elim, length, true, arith}
 use Rattle.std.proofs.lemmas.Bool.{cases_lt}
-use Rattle.spec_matches.specs.declared.found.Capture.{Capture}
 use Rattle.ts_search.specs.declared.stand.Stand.{Stand}
 use Rattle.ts_search.specs.declared.stand.Siblings.{Siblings}
 use Rattle.spec_matches.specs.Embedding.{Covers, Fits, Rounds}

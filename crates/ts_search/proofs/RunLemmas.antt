@@ -1,13 +1,12 @@
 -- What an item takes, and its runs.
-use Rattle.std.proofs.Common.{◌≡◌, ◌∙◌, sym, ap, refl, subst, ℕ, zero, suc, ◌+◌, ◌<◌, ◌≤◌, ◌⊎◌, inl, inr, ⊎_elim, List, [], ◌∷◌, ◌++◌, length, slice_get, Some, arith, ◌↔◌, IsTrue, Bool, true, false}
+use Rattle.std.proofs.Common.{◌≡◌, sym, refl, subst, ℕ, ◌+◌, ◌≤◌, ⊎_elim, List, [], ◌∷◌, length, slice_get, Some, arith, ◌↔◌, IsTrue, Bool, true, false}
 use Rattle.std.specs.List.{Contains}
-use Rattle.std.proofs.lemmas.Option.{slice_get_within, slice_get-get_or, get_or_from_slice_get}
+use Rattle.std.proofs.lemmas.Option.{slice_get_within}
 use Rattle.spec_matches.specs.declared.found.Capture.{Capture}
-use Rattle.spec_matches.specs.declared.placing.Run.{Run}
 use Rattle.spec_matches.specs.Embedding.{Covers, offset}
 use Rattle.ts_search.specs.Table.{Takes}
 use Rattle.spec_matches.specs.declared.placing.Slot.{Slot}
-use Rattle.ts_search.proofs.PlaceLemmas.{cases_lt_or_eq, there, at_of, same_at, none_in_nil}
+use Rattle.ts_search.proofs.PlaceLemmas.{cases_lt_or_eq, there, same_at, none_in_nil}
 
 pub no_truth : IsTrue false → ⊥
 no_truth h = cc

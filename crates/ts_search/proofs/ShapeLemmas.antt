@@ -1,6 +1,5 @@
 -- What items take, one layer at a time.
-use Rattle.std.proofs.Common.{◌≡◌, ◌∙◌, sym, ap, refl, subst, ℕ, zero, suc, ◌<◌, ◌≤◌, ◌-◌, List, [], ◌∷◌, ◌++◌, length, map, Option, Some, None, slice_get, ◌↔◌, arith}
-use Rattle.std.specs.List.{Contains}
+use Rattle.std.proofs.Common.{◌≡◌, ◌∙◌, sym, ap, refl, subst, ℕ, zero, suc, ◌<◌, List, [], ◌∷◌, ◌++◌, length, map, Some, slice_get, ◌↔◌, arith}
 use Rattle.std.proofs.lemmas.List.{length-map}
 use Rattle.std.proofs.lemmas.Option.{slice_get_within}
 use Rattle.ts_query_syntax.specs.declared.read_query.Test.{Test}
@@ -11,9 +10,8 @@ use Rattle.ts_query_syntax.specs.declared.read_query.Item.TheFolds.{fold_out-Ite
 use Rattle.spec_matches.specs.declared.found.Capture.{Capture}
 use Rattle.spec_matches.specs.declared.placing.Slot.{Slot}
 use Rattle.spec_matches.specs.declared.scene.Scene.{Scene}
-use Rattle.spec_matches.specs.Taking.{Head, Shape, end, more, item, is_many, is_optional, more_of, shape_step, shape_of, shapes_of, slots_of, InRound, Plainly, Taken}
+use Rattle.spec_matches.specs.Taking.{Head, Shape, item, is_many, is_optional, more_of, shape_step, shape_of, shapes_of, slots_of, InRound, Taken}
 use Rattle.ts_search.specs.Ways.{head_of, slot_of, parts_of, size_by, size_of, TakenOf, ItemTakes, PlainOf}
-use Rattle.ts_search.proofs.PlaceLemmas.{there, same_at}
 
 -- an item but for its parts, where these are so many
 abbrev head_with : Item → ℕ → Head

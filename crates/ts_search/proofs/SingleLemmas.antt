@@ -1,11 +1,10 @@
 -- A pattern of one plain item matches where the item takes a node.
-use Rattle.std.proofs.Common.{◌≡◌, ◌∙◌, sym, ap, refl, subst, ℕ, zero, suc, ◌+◌, ◌-◌, ◌%◌, ◌<◌, ◌≤◌, ◌⊎◌, inl, inr, ⊎_elim, List, [], ◌∷◌, ◌++◌, map, length, Option, Some, None, Bool, slice_get, true, false, ◌↔◌, arith}
+use Rattle.std.proofs.Common.{◌≡◌, ◌∙◌, sym, ap, refl, subst, ℕ, ◌+◌, ◌-◌, ◌%◌, ◌<◌, inl, inr, List, [], ◌∷◌, ◌++◌, length, Option, Some, None, Bool, slice_get, true, false, ◌↔◌, arith}
 use Rattle.std.specs.List.{Contains}
 use Rattle.std.specs.List.Sorted.{IsStrictlySortedBy}
 use Rattle.std.specs.BTreeSet.{BTreeSet}
 use Rattle.std.proofs.Math.Nat.{mod-lt}
 use Rattle.std.proofs.lemmas.List.{append-nil, length-map}
-use Rattle.std.proofs.lemmas.Option.{slice_get_within}
 use Rattle.ts_query_syntax.specs.declared.read_query.Item.{Item}
 use Rattle.ts_query_syntax.specs.declared.read_query.Pattern.{Pattern}
 use Rattle.spec_matches.specs.declared.found.Capture.{Capture}
@@ -15,12 +14,12 @@ use Rattle.spec_matches.specs.declared.placing.Run.{Run}
 use Rattle.spec_matches.specs.declared.placing.Placing.{Placing}
 use Rattle.spec_matches.specs.declared.scene.Scene.{Scene}
 use Rattle.spec_matches.specs.Siblings.{named_at, nameds}
-use Rattle.spec_matches.specs.Embedding.{offset, Rounds, Covers, Fits, Placed, Embeds, Widened, Full, Along, Gives, IsWay, IsQuantified, first_of, near_of}
-use Rattle.spec_matches.specs.Taking.{On, Embedded, shapes_of, slots_of}
+use Rattle.spec_matches.specs.Embedding.{offset, Rounds, Covers, Placed, Embeds, Widened, Full, Along, Gives, IsWay, IsQuantified, first_of, near_of}
+use Rattle.spec_matches.specs.Taking.{On, Embedded}
 use Rattle.spec_matches.specs.Matches.{capture_cmp}
 use Rattle.ts_search.specs.Adding.{OfSome}
-use Rattle.ts_search.specs.Ways.{AreWays, ItemTakes, TakenOf, slot_of}
-use Rattle.ts_search.specs.Gathering.{Gathers, Hits, HitsIn}
+use Rattle.ts_search.specs.Ways.{AreWays, TakenOf, slot_of}
+use Rattle.ts_search.specs.Gathering.{Gathers, HitsIn}
 use Rattle.ts_search.specs.Single.{IsSingle, HitAt, HitsAt}
 use Rattle.ts_search.proofs.PlaceLemmas.{there, at_of, same_at}
 use Rattle.ts_search.proofs.ShapeLemmas.{slots_are}

@@ -1,5 +1,5 @@
 -- A full embedding of a list of items is one of the items after the first, and what the first takes.
-use Rattle.std.proofs.Common.{◌≡◌, ◌∙◌, sym, ap, refl, subst, ℕ, ◌+◌, ◌-◌, ◌<◌, ◌≤◌, ◌⊎◌, inl, inr, ⊎_elim, List, [], ◌∷◌, ◌++◌, length, Option, Some, None, Bool, true, false, arith, ◌↔◌}
+use Rattle.std.proofs.Common.{◌≡◌, ◌∙◌, sym, ap, refl, subst, ℕ, ◌+◌, ◌-◌, ◌≤◌, ◌⊎◌, inl, inr, List, [], ◌∷◌, ◌++◌, Option, Some, None, Bool, true, false, ◌↔◌}
 use Rattle.std.specs.List.{Contains}
 use Rattle.spec_matches.specs.declared.found.Capture.{Capture}
 use Rattle.spec_matches.specs.declared.placing.Slot.{Slot}
@@ -8,9 +8,13 @@ use Rattle.ts_search.specs.declared.stand.Stand.{Stand}
 use Rattle.ts_search.specs.declared.stand.Siblings.{Siblings}
 use Rattle.spec_matches.specs.declared.placing.Placing.{Placing}
 use Rattle.ts_search.specs.Adding.{OfSome}
-use Rattle.spec_matches.specs.Embedding.{Unnamed, Placed, Embeds, Full, Gives, Along, Widened, IsWay, first_of, near_of}
+use Rattle.spec_matches.specs.Embedding.{Placed, Embeds, Full, Gives, Along, Widened, IsWay, first_of, near_of}
 use Rattle.ts_search.specs.Table.{Takes}
-use Rattle.ts_search.specs.Steps.{Allows, WidensBy, Widens, NoneBefore, FrontBefore, RunBefore, HeadWay}
+use Rattle.ts_search.specs.declared.stand.Wanted.{Wanted}
+use Rattle.ts_search.specs.declared.stand.Wanted.TheVariants.{All, Here, Captures}
+use Rattle.ts_search.specs.Memory.{Begun, Told}
+use Rattle.ts_search.specs.Steps.{Allows, Grows, HeadNone, HeadTaken, HeadWay, NoneBefore, Suits, Widens}
+use Rattle.ts_search.proofs.GrowLemmas.{begins_at, grows_iff, no_growth}
 
 not_true : false ≡ true → ⊥
 not_true e = cc
@@ -87,22 +91,25 @@ module _ (s : Siblings) (is : List Slot) (at : Stand) where
       let f : E (Some r ∷ ws) = subst (λ (o : Option Run). E (o ∷ ws)) is_same e in
       w.full.widest ws more f.1
 
-  pub none_way : (tails : List Placing) → ((t : Placing) → Contains tails t ↔ WayAfter at.lo false t) → at.slot.optional ≡ true → (f : Placing) → OfSome (NoneBefore s is at) tails f ↔ HeadWay s is at None f
-  none_way tails are optional f = (to, from)
+  pub none_way : (here : Bool) (tails : List Placing) → ((t : Placing) → Contains tails t ↔ Begun here at.lo (WayAfter at.lo false) t) → at.slot.optional ≡ true
+      → (f : Placing) → OfSome (NoneBefore s is at) tails f ↔ HeadNone s is at here f
+  none_way here tails are optional f = (to, from)
     where
-      to : OfSome (NoneBefore s is at) tails f → HeadWay s is at None f
+      to : OfSome (NoneBefore s is at) tails f → HeadNone s is at here f
       to (t, there, n) =
-          let w = (are t).0 there in
-          record {
+          let begun = (are t).0 there in
+          let w = begun.0 in
+          let head : HeadWay s is at None f = record {
             rest = w.runs;
             full = record { embeds = (optional, w.full.embeds); widest = widest_none t w n.fixed };
             gives = subst (λ (g : Placing). Gives T is (at.number + 1) w.runs g.captures) (sym n.is_it) w.gives;
             first = ap (λ (g : Placing). g.first) n.is_it ∙ w.first;
             near = ap (λ (g : Placing). g.near) n.is_it;
-          }
+          } in
+          (head, (λ h. ap (λ (g : Placing). g.first) n.is_it ∙ begun.1 h))
 
-      from : HeadWay s is at None f → OfSome (NoneBefore s is at) tails f
-      from h =
+      from : HeadNone s is at here f → OfSome (NoneBefore s is at) tails f
+      from (h, begins) =
           let t : Placing = record { first = first_of h.rest; near = near_of h.rest; captures = f.captures } in
           let w : WayAfter at.lo false t = record {
             runs = h.rest;
@@ -112,49 +119,70 @@ module _ (s : Siblings) (is : List Slot) (at : Stand) where
             near = refl;
           } in (
             t,
-            (are t).1 w,
+            (are t).1 (w, (λ y. sym h.first ∙ begins y)),
             record {
               fixed = λ v. h.full.widest (Some v.run ∷ h.rest) (inl (v.quantified, v.run, refl, v.by.wider, refl)) (v.by.placed, (allowed_of at.lo false t w v.run.past).1 v.by.allowed);
               is_it = λ k. record { first = h.first k; near = h.near k; captures = f.captures };
             },
           )
 
-  pub run_way : (r : Run) (fronts : List (List Capture)) (tails : List Placing) → ((c : List Capture) → Contains fronts c ↔ Along T at.number at.slot r.first (r.past - r.first) r.first c)
-      → ((t : Placing) → Contains tails t ↔ WayAfter r.past true t) → Placed T s.named at.slot at.number at.lo at.beside r → (f : Placing) → OfSome (RunBefore s is at r fronts) tails f ↔ HeadWay s is at (Some r) f
-  run_way r fronts tails fits are placed f = (to, from)
-    where
-      to : OfSome (RunBefore s is at r fronts) tails f → HeadWay s is at (Some r) f
-      to (t, there, n) =
-          let w = (are t).0 there in
-          let is_it = n.some.2 in
-          record {
-            rest = w.runs;
-            full = record { embeds = (placed, w.full.embeds); widest = widest_run r t w n.fixed };
-            gives = (n.some.0, t.captures, ap (λ (g : Placing). g.captures) is_it, (fits n.some.0).0 n.some.1, w.gives);
-            first = ap (λ (g : Placing). g.first) is_it;
-            near = ap (λ (g : Placing). g.near) is_it;
-          }
+  told_to : (r : Run) (wanted : Wanted) → Suits s at r.past wanted → (t : Placing) → Told wanted r.past (WayAfter r.past true) t → (Grows s is at r t → ⊥)
+      → (g : Placing) × WayAfter r.past true g × (g.captures ≡ t.captures) × (Grows s is at r g → ⊥)
+  told_to r All suits t w stays = (t, w, refl, stays)
+  told_to r Here suits t w stays = (t, w.0, refl, stays)
+  told_to r Captures suits t (g, w, bare) stays = (g, w, ap (λ (f : Placing). f.captures) (sym bare), no_growth s is at suits r g)
 
-      from : HeadWay s is at (Some r) f → OfSome (RunBefore s is at r fronts) tails f
-      from h =
-          let u : List Capture = h.gives.0 in
-          let v : List Capture = h.gives.1 in
-          let same : f.captures ≡ u ++ v = h.gives.2 in
-          let t : Placing = record { first = first_of h.rest; near = near_of h.rest; captures = v } in
-          let w : WayAfter r.past true t = record {
-            runs = h.rest;
-            full = record { embeds = h.full.embeds.1; widest = λ ws more e. h.full.widest (Some r ∷ ws) (inr (refl, more)) (h.full.embeds.0, e) };
-            gives = h.gives.4;
-            first = refl;
-            near = refl;
-          } in (
-            t,
-            (are t).1 w,
-            record {
-              fixed = λ v. h.full.widest (Some v.run ∷ h.rest) (inl (v.quantified, v.run, refl, v.by.wider, refl)) (v.by.placed, (allowed_of r.past true t w v.run.past).1 v.by.allowed);
-              some = (u, (fits u).1 h.gives.3, λ k. record { first = h.first k; near = h.near k; captures = same k });
-            },
-          )
+  told_from : (r : Run) (wanted : Wanted) → Suits s at r.past wanted → (g : Placing) → WayAfter r.past true g → (Grows s is at r g → ⊥)
+      → (t : Placing) × Told wanted r.past (WayAfter r.past true) t × (t.captures ≡ g.captures) × (Grows s is at r t → ⊥)
+  told_from r All suits g w stays = (g, w, refl, stays)
+  told_from r Here suits g w stays =
+      let near_it : g.first ≡ Some r.past =
+      begins_at s.named s.closed is r.past g.first g.near ((allowed_of r.past true g w r.past).0 w.full.embeds) (λ a. stays (inr (inl (record { on = suits; allowed = a })))) in
+      (g, (w, near_it), refl, stays)
+  told_from r Captures suits g w stays =
+      let t : Placing = record { first = None; near = false; captures = g.captures } in
+      (t, (g, w, refl), refl, no_growth s is at suits r t)
+
+  -- the captures of a run, and then those of a tail before which it stays
+  abbrev pub Ahead : Run → List Placing → List Capture → Type 0
+  Ahead r tails c = (t : Placing) × Contains tails t × (Grows s is at r t → ⊥) × (u : List Capture) × Along T at.number at.slot r.first (r.past - r.first) r.first u × (c ≡ u ++ t.captures)
+
+  module _ (r : Run) (wanted : Wanted) (suits : Suits s at r.past wanted) (tails : List Placing)
+      (are : (t : Placing) → Contains tails t ↔ Told wanted r.past (WayAfter r.past true) t) (placed : Placed T s.named at.slot at.number at.lo at.beside r) where
+    ahead_of : (g : Placing) (w : WayAfter r.past true g) → (Grows s is at r g → ⊥) → (u c : List Capture) → Along T at.number at.slot r.first (r.past - r.first) r.first u → c ≡ u ++ g.captures → HeadTaken s is at r c
+    ahead_of g w free u c along e = record {
+      rest = w.runs;
+      full = record {
+        embeds = (placed, w.full.embeds);
+        widest = widest_run r g w (λ v. free ((grows_iff s is at r g placed ((allowed_of r.past true g w r.past).0 w.full.embeds)).1 v));
+      };
+      gives = (u, g.captures, e, along, w.gives);
+      first = refl;
+      near = refl;
+    }
+
+    pub ahead_to : (c : List Capture) → Ahead r tails c → HeadTaken s is at r c
+    ahead_to c (t, there, stays, u, along, e) =
+        let g = told_to r wanted suits t ((are t).0 there) stays in
+        ahead_of g.0 g.1 g.3 u c along (e ∙ ap (λ (v : List Capture). u ++ v) (sym g.2))
+
+    pub ahead_from : (c : List Capture) → HeadTaken s is at r c → Ahead r tails c
+    ahead_from c h =
+        let u : List Capture = h.gives.0 in
+        let v : List Capture = h.gives.1 in
+        let same : c ≡ u ++ v = h.gives.2 in
+        let g : Placing = record { first = first_of h.rest; near = near_of h.rest; captures = v } in
+        let w : WayAfter r.past true g = record {
+          runs = h.rest;
+          full = record { embeds = h.full.embeds.1; widest = λ ws more e. h.full.widest (Some r ∷ ws) (inr (refl, more)) (h.full.embeds.0, e) };
+          gives = h.gives.4;
+          first = refl;
+          near = refl;
+        } in
+        let fixed : Widens s is at (Some r) g → ⊥ =
+        λ x. h.full.widest (Some x.run ∷ h.rest) (inl (x.quantified, x.run, refl, x.by.wider, refl)) (x.by.placed, (allowed_of r.past true g w x.run.past).1 x.by.allowed) in
+        let t = told_from r wanted suits g w (λ x. fixed ((grows_iff s is at r g placed ((allowed_of r.past true g w r.past).0 w.full.embeds)).0 x)) in
+        (t.0, (are t.0).1 t.1, t.3, u, h.gives.3, same ∙ ap (λ (l : List Capture). u ++ l) (sym t.2))
 
   -- the first item takes nothing or a run
   pub way_heads : (f : Placing) → IsWay T s.named s.closed (at.slot ∷ is) at.number at.lo at.beside f ↔ (HeadWay s is at None f ⊎ ((r : Run) × HeadWay s is at (Some r) f))

@@ -1,9 +1,11 @@
 -- What is kept of a search.
-use Rattle.std.specs.Prelude.{◌≡◌, ◌↔◌, ℕ, List, drop, Option, Some, Bool}
+use Rattle.std.specs.Prelude.{◌≡◌, ◌↔◌, ℕ, List, drop, Option, Some, None, Bool, true, false}
 use Rattle.std.specs.List.{Contains}
 use Rattle.spec_matches.specs.declared.placing.Slot.{Slot}
 use Rattle.ts_search.specs.declared.stand.Key.{Key}
 use Rattle.ts_search.specs.declared.stand.Siblings.{Siblings}
+use Rattle.ts_search.specs.declared.stand.Wanted.{Wanted}
+use Rattle.ts_search.specs.declared.stand.Wanted.TheVariants.{All, Here, Captures}
 use Rattle.spec_matches.specs.declared.placing.Placing.{Placing}
 use Rattle.ts_search.specs.contracts.stand.KeyPartialEq.TheImpl as derived
 use Rattle.spec_matches.specs.Embedding.{IsWay}
@@ -12,6 +14,25 @@ use Rattle.ts_search.specs.Table.{Takes}
 abbrev pub key_eq : Key → Key → Bool
 key_eq = (derived.eq-value).it
 
--- each list that is kept is that of all ways from its key on
+-- the ways to embed items from a number on in some siblings from a place on
+abbrev pub WaysOf : Siblings → List Slot → ℕ → ℕ → Bool → Placing → Type 0
+WaysOf s slots number lo beside = IsWay (Takes s.table) s.named s.closed slots number lo beside
+
+-- a way without its places
+abbrev pub IsBare : Placing → Placing → Type 0
+IsBare g f = f ≡ record { first = None; near = false; captures = g.captures }
+
+-- some ways, or those of them that begin at a place
+abbrev pub Begun : Bool → ℕ → (Placing → Type 0) → Placing → Type 0
+Begun here lo W f = W f × (here ≡ true → f.first ≡ Some lo)
+
+-- some ways, as they are asked for
+abbrev pub Told : Wanted → ℕ → (Placing → Type 0) → Placing → Type 0
+Told All lo W f = W f
+Told Here lo W f = W f × (f.first ≡ Some lo)
+Told Captures lo W f = (g : Placing) × W g × IsBare g f
+
+-- each list that is kept is that of the ways that its key asks for
 abbrev pub IsMemo : Siblings → List Slot → (Key → Option (List Placing)) → Type 0
-IsMemo s all look = (key : Key) (v : List Placing) → look key ≡ Some v → (f : Placing) → Contains v f ↔ IsWay (Takes s.table) s.named s.closed (drop key.number all) key.number key.lo key.beside f
+IsMemo s all look = (key : Key) (v : List Placing) → look key ≡ Some v
+    → (f : Placing) → Contains v f ↔ Told key.wanted key.lo (WaysOf s (drop key.number all) key.number key.lo key.beside) f

@@ -1,5 +1,5 @@
 -- The matches of a pattern of one plain item, node by node.
-use Rattle.std.specs.Prelude.{◌≡◌, ◌↔◌, ℕ, List, [], ◌∷◌, false}
+use Rattle.std.specs.Prelude.{◌≡◌, ◌↔◌, ℕ, List, false}
 use Rattle.std.specs.List.{Contains}
 use Rattle.std.specs.List.Sorted.{IsStrictlySortedBy}
 use Rattle.ts_query_syntax.specs.declared.read_query.Item.{Item}
@@ -7,7 +7,6 @@ use Rattle.spec_matches.specs.declared.found.Capture.{Capture}
 use Rattle.spec_matches.specs.declared.found.Match.{Match}
 use Rattle.spec_matches.specs.declared.scene.Scene.{Scene}
 use Rattle.spec_matches.specs.Matches.{capture_cmp}
-use Rattle.ts_search.specs.Adding.{OfSome}
 use Rattle.ts_search.specs.Ways.{ItemTakes, slot_of}
 
 -- an item takes one sibling, with no anchor before it

@@ -6,6 +6,7 @@ mod gathering;
 mod keep;
 mod listing;
 mod memo;
+mod once;
 mod places;
 mod products;
 mod row;

@@ -1,11 +1,13 @@
-ghost use Rattle.std.specs.Prelude.{◌≡◌, ℕ, ◌+◌, ◌<◌, ◌≤◌, ◌↔◌, List as Values, IsTrue, length, ◌⊎◌, true, slice_get, Some};
+ghost use Rattle.std.specs.Prelude.{◌≡◌, ℕ, ◌<◌, ◌≤◌, ◌↔◌, List as Values, Option as Maybe, IsTrue, length, true, slice_get, Some};
 ghost use Rattle.std.specs.List.{Contains};
 ghost use Rattle.spec_matches.specs.Embedding.{offset, Rounds, Unnamed, Covers, Fits, Placed, Wider, IsQuantified};
 ghost use Rattle.ts_search.specs.Table.{Takes};
-ghost use Rattle.ts_search.specs.Steps.{Allows, Widens, WidensBy, SomeIn, GoesOn, Reaches};
+ghost use Rattle.ts_search.specs.Steps.{Allows, Widens, WidensBy, SomeFrom, GoesOn, Reaches, NoneTaken, IsPlainMany, BeginsLate, GoesPast, GrowsOn, GroupWidens, Grows, Suits, TakesAt};
+ghost use Rattle.ts_search.specs.declared.stand.Stand.{Stand as At};
+ghost use Rattle.spec_matches.specs.declared.placing.Run.{Run as Stretch};
 ghost use Rattle.spec_matches.specs.declared.found.Capture.{Capture as Mark};
 
-use crate::stand::{Siblings, Stand};
+use crate::stand::{Siblings, Stand, Wanted};
 use spec_matches::{Capture, Placing, Run, Slot};
 use ts_base::List;
 
@@ -204,9 +206,10 @@ fn widens_from(
     tail: &Placing,
     first: usize,
 ) -> bool
-    ensures { IsTrue result ↔ SomeIn (λ p. WidensBy siblings.now rest.now at taken tail.now (record { first = first; past = p + 1 })) first (length siblings.now.named) }
+    ensures { IsTrue result ↔ SomeFrom siblings.now rest.now at taken tail.now first }
 {
-    for last in first..siblings.named.len() {
+    let end = reach(siblings, at, first);
+    for last in first..end {
         if widens_by(
             siblings,
             rest,
@@ -224,25 +227,158 @@ fn widens_from(
     false
 }
 
-/// Whether the item could take more than it took.
+/// A place before which all runs begin that the items after allow.
+fn tail_start(siblings: &Siblings, rest: &[Slot], tail: &Placing) -> usize
+    ensures { (at : At) (taken : Maybe Stretch) (run : Stretch)
+        → WidensBy siblings.now rest.now at taken tail.now run → run.first < result }
+{
+    if rest.is_empty() {
+        return siblings.named.len();
+    }
+    match tail.first {
+        None => siblings.named.len(),
+        Some(first) => first,
+    }
+}
+
+/// A place before which all runs begin that the item could take in place of what it took.
+fn last_start(siblings: &Siblings, rest: &[Slot], taken: Option<Run>, tail: &Placing) -> usize
+    ensures { (at : At) (run : Stretch)
+        → WidensBy siblings.now rest.now at taken tail.now run → run.first < result }
+{
+    let end = tail_start(siblings, rest, tail);
+    match taken {
+        None => end,
+        Some(run) => { if run.first < end { run.first + 1 } else { end } }
+    }
+}
+
+/// Whether the item could take more than it took, where none of its runs begins before `from`.
 pub(crate) fn widens(
     siblings: &Siblings,
     rest: &[Slot],
     at: Stand,
+    from: usize,
     taken: Option<Run>,
     tail: &Placing,
 ) -> bool
+    requires { NoneTaken siblings.now at from }
     ensures { IsTrue result ↔ Widens siblings.now rest.now at taken tail.now }
 {
     if !at.slot.optional && !at.slot.many {
         return false;
     }
-    for first in at.lo..siblings.named.len() {
+    for first in from..last_start(siblings, rest, taken, tail) {
         if widens_from(siblings, rest, at, taken, tail, first) {
             return true;
         }
     }
     false
+}
+
+/// Whether a run of the item may begin at a place.
+pub(crate) fn begins(siblings: &Siblings, at: Stand, first: usize) -> bool
+    ensures { IsTrue result ↔ TakesAt siblings.now at first }
+{
+    is_taken(siblings.table.as_slice(), at.number, 0, first)
+}
+
+/// The first place from `at.lo` on where a run of the item may begin.
+pub(crate) fn first_taken(siblings: &Siblings, at: Stand) -> usize
+    ensures { NoneTaken siblings.now at result }
+{
+    let count = siblings.named.len();
+    for place in at.lo..count {
+        if is_taken(siblings.table.as_slice(), at.number, 0, place) {
+            return place;
+        }
+    }
+    count
+}
+
+/// Whether an item takes any number of siblings, one by one.
+fn is_plain_many(slot: Slot) -> bool
+    ensures { IsTrue result ↔ IsPlainMany slot }
+{
+    slot.many && slot.more == 0
+}
+
+/// Whether an item that takes any number of siblings takes the one before `first` as well.
+pub(crate) fn begins_late(siblings: &Siblings, at: Stand, first: usize) -> bool
+    ensures { IsTrue result ↔ BeginsLate siblings.now at first }
+{
+    if !is_plain_many(at.slot) {
+        return false;
+    }
+    if first <= at.lo {
+        return false;
+    }
+    is_taken(siblings.table.as_slice(), at.number, 0, first - 1)
+}
+
+/// Whether an item that takes any number of siblings takes the one at `past` as well.
+fn goes_past(siblings: &Siblings, at: Stand, past: usize) -> bool
+    ensures { IsTrue result ↔ GoesPast siblings.now at past }
+{
+    if !is_plain_many(at.slot) {
+        return false;
+    }
+    if past >= siblings.named.len() {
+        return false;
+    }
+    is_taken(siblings.table.as_slice(), at.number, 0, past)
+}
+
+/// Whether the item could take the sibling at `past` as well, before a tail.
+fn grows_on(siblings: &Siblings, rest: &[Slot], at: Stand, past: usize, tail: &Placing) -> bool
+    ensures { IsTrue result ↔ GrowsOn siblings.now rest.now at past tail.now }
+{
+    if past >= siblings.named.len() {
+        return false;
+    }
+    if !goes_past(siblings, at, past) {
+        return false;
+    }
+    allows(siblings, rest, past + 1, tail.first, tail.near)
+}
+
+/// Whether a group that is taken any number of times could take more than a run.
+fn group_widens(siblings: &Siblings, rest: &[Slot], at: Stand, run: Run, tail: &Placing) -> bool
+    ensures { IsTrue result ↔ GroupWidens siblings.now rest.now at run tail.now }
+{
+    if !at.slot.many {
+        return false;
+    }
+    if at.slot.more == 0 {
+        return false;
+    }
+    widens(siblings, rest, at, at.lo, Some(run), tail)
+}
+
+/// Whether the item could take more than a run.
+pub(crate) fn grows(siblings: &Siblings, rest: &[Slot], at: Stand, run: Run, tail: &Placing) -> bool
+    ensures { IsTrue result ↔ Grows siblings.now rest.now at run tail.now }
+{
+    if begins_late(siblings, at, run.first) {
+        return true;
+    }
+    if grows_on(siblings, rest, at, run.past, tail) {
+        return true;
+    }
+    group_widens(siblings, rest, at, run, tail)
+}
+
+/// Which ways of the items after are asked for behind a run that ends at `past`.
+pub(crate) fn wanted_after(siblings: &Siblings, at: Stand, past: usize) -> Wanted
+    ensures { Suits siblings.now at past result }
+{
+    if !at.slot.many {
+        return Wanted::Captures;
+    }
+    if goes_past(siblings, at, past) {
+        return Wanted::Here;
+    }
+    Wanted::All
 }
 
 /// Whether the item's run that begins at `first` can go on at `end`.

@@ -1,9 +1,9 @@
-ghost use Rattle.std.specs.Prelude.{◌≡◌, ◌++◌, ◌∷◌, ◌-◌, ◌≤◌, [], IfOk, OnOk, MatchOption, ◌↔◌, List as Values};
+ghost use Rattle.std.specs.Prelude.{◌≡◌, ◌++◌, ◌∷◌, ◌+◌, ◌-◌, ◌<◌, ◌≤◌, [], IfOk, IsTrue, OnOk, MatchOption, ◌↔◌, List as Values};
 ghost use Rattle.std.specs.List.{Contains};
-ghost use Rattle.ts_search.specs.Adding.{Adds};
+ghost use Rattle.ts_search.specs.Adding.{Adds, OfSome};
 ghost use Rattle.spec_matches.specs.Embedding.{Along};
 ghost use Rattle.ts_search.specs.Table.{Takes};
-ghost use Rattle.ts_search.specs.Steps.{Joined, Before, Joins};
+ghost use Rattle.ts_search.specs.Steps.{AreBare, Joined, JoinedTo, Before, Joins};
 ghost use Rattle.spec_matches.specs.declared.found.Capture.{Capture as Mark};
 
 use crate::places::place_in_round;
@@ -49,6 +49,21 @@ pub(crate) fn add_front(
 {
     for back in backs {
         add(alloc, out, front, back.as_slice())?;
+    }
+    Ok(())
+}
+
+/// Adds each of some lists before another.
+pub(crate) fn add_behind(
+    alloc: Global,
+    out: &mut Vec<List<Capture>>,
+    fronts: &[List<Capture>],
+    back: &[Capture],
+) -> Result<(), AllocError>
+    ensures { OnOk result (Adds (OfSome (JoinedTo back.now) fronts.now) out.old.items out.new.items) }
+{
+    for front in fronts {
+        add(alloc, out, front.as_slice(), back)?;
     }
     Ok(())
 }
@@ -110,6 +125,94 @@ fn longer(
     Ok(all)
 }
 
+/// The captures of one sibling of a run in each way.
+fn alone(
+    alloc: Global,
+    table: &[List<List<List<List<Capture>>>>],
+    k: usize,
+    slot: Slot,
+    first: usize,
+    place: usize,
+) -> Result<Vec<List<Capture>>, AllocError>
+    requires { first ≤ place }
+    ensures { IfOk result (λ cs. (c : Values Mark) → Contains cs.items c ↔ Along (Takes table.now) k slot first 1 place c) }
+{
+    let empty = only_empty(alloc)?;
+    let o = place_in_round(slot, first, place);
+    let cs = longer(alloc, table, k, o, place, empty.as_slice())?;
+    Ok(cs)
+}
+
+/// A place between two others.
+fn middle_of(from: usize, to: usize) -> usize
+    requires { from + 2 ≤ to }
+    ensures low { from < result }
+    ensures high { result < to }
+{
+    from + (to - from) / 2
+}
+
+/// The captures of the siblings of a run from one place up to another, one after another, in each
+/// way. Each half is made first, so that few lists are copied often.
+#[cycle(between)]
+fn between(
+    alloc: Global,
+    table: &[List<List<List<List<Capture>>>>],
+    k: usize,
+    slot: Slot,
+    first: usize,
+    from: usize,
+    to: usize,
+) -> Result<Vec<List<Capture>>, AllocError>
+    requires begun { first ≤ from }
+    requires order { from ≤ to }
+    ensures { IfOk result (λ cs. (c : Values Mark) → Contains cs.items c ↔ Along (Takes table.now) k slot first (to - from) from c) }
+{
+    let count = to - from;
+    if count == 0 {
+        let none = only_empty(alloc)?;
+        return Ok(none);
+    }
+    if count == 1 {
+        let one = alone(alloc, table, k, slot, first, from)?;
+        return Ok(one);
+    }
+    let middle = middle_of(from, to);
+    let fronts = between(alloc, table, k, slot, first, from, middle)?;
+    let backs = between(alloc, table, k, slot, first, middle, to)?;
+    let all = product(alloc, fronts.as_slice(), backs.as_slice())?;
+    Ok(all)
+}
+
+/// Whether a list has the empty list alone.
+fn has_only_empty(ways: &[List<Capture>]) -> bool
+    ensures { IsTrue result → ways.now ≡ [] ∷ [] }
+{
+    ways.len() == 1 && ways[0].is_empty()
+}
+
+/// Whether the item at `k` takes a sibling in one way, with no captures.
+fn is_bare(table: &[List<List<List<List<Capture>>>>], k: usize, at: usize, place: usize) -> bool
+    ensures { IsTrue result → (c : Values Mark) → Takes table.now k at place c ↔ (c ≡ []) }
+{
+    match ways(table, k, at, place) {
+        None => false,
+        Some(ways) => has_only_empty(ways.as_slice()),
+    }
+}
+
+/// Whether the item at `k` takes each sibling of a run in one way, with no captures.
+fn are_bare(table: &[List<List<List<List<Capture>>>>], k: usize, slot: Slot, run: Run) -> bool
+    ensures { IsTrue result → AreBare table.now k slot run.first run.past }
+{
+    for place in run.first..run.past {
+        if !is_bare(table, k, place_in_round(slot, run.first, place), place) {
+            return false;
+        }
+    }
+    true
+}
+
 /// The captures of the siblings of a run, one after another, in each way.
 pub(crate) fn along(
     alloc: Global,
@@ -121,18 +224,10 @@ pub(crate) fn along(
     requires { run.first ≤ run.past }
     ensures { IfOk result (λ cs. (c : Values Mark) → Contains cs.items c ↔ Along (Takes table.now) k slot run.first (run.past - run.first) run.first c) }
 {
-    let mut lists = only_empty(alloc)?;
-    let mut place = run.past;
-    while place > run.first {
-        place -= 1;
-        lists = longer(
-            alloc,
-            table,
-            k,
-            place_in_round(slot, run.first, place),
-            place,
-            lists.as_slice(),
-        )?;
+    if are_bare(table, k, slot, run) {
+        let none = only_empty(alloc)?;
+        return Ok(none);
     }
-    Ok(lists)
+    let all = between(alloc, table, k, slot, run.first, run.first, run.past)?;
+    Ok(all)
 }

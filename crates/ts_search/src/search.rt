@@ -1,17 +1,22 @@
-ghost use Rattle.std.specs.Prelude.{◌≡◌, ℕ, ◌+◌, ◌-◌, ◌<◌, ◌^◌, ◌↔◌, ◌≤◌, ◌∷◌, [], drop, length, IsTrue, IfOk, OnOk, true, false, Some, None, List as Values};
+ghost use Rattle.std.specs.Prelude.{◌≡◌, ℕ, ◌+◌, ◌-◌, ◌<◌, ◌^◌, ◌↔◌, ◌≤◌, ◌∷◌, [], cond, drop, length, IsTrue, IfOk, OnOk, true, false, None, List as Values};
 ghost use Rattle.std.specs.List.{Contains};
 ghost use Rattle.ts_search.specs.Adding.{Adds, OfSome};
 ghost use Rattle.spec_matches.specs.Embedding.{Rounds, Placed, Unnamed, IsWay};
 ghost use Rattle.ts_search.specs.Table.{Takes};
 ghost use Rattle.std.specs.HashMap.{get};
-ghost use Rattle.ts_search.specs.Memory.{IsMemo, key_eq};
-ghost use Rattle.ts_search.specs.Steps.{NoneBefore, FrontBefore, RunBefore, HeadWay, HeadFrom};
+ghost use Rattle.ts_search.specs.Memory.{IsMemo, key_eq, Begun, Told, WaysOf};
+ghost use Rattle.ts_search.specs.declared.stand.Wanted.TheVariants as asked;
+ghost use Rattle.ts_search.specs.Steps.{AnyStays, HeadFrom, HeadNone, HeadTaken, NoneBefore, NoneTaken, RunBefore, TakenFrom};
 ghost use Rattle.spec_matches.specs.declared.placing.Placing.{Placing as Way};
 
 use crate::memo::{recall, remember};
-use crate::places::{are_rounds, is_anchored, is_unnamed, reach, widens};
-use crate::products::{along, joined};
-use crate::stand::{Key, Siblings, Stand};
+use crate::once::{add_placed, bare, once_each};
+use crate::places::{
+    are_rounds, begins, begins_late, first_taken, grows, is_anchored, is_unnamed, reach,
+    wanted_after, widens,
+};
+use crate::products::{add_behind, along, joined};
+use crate::stand::{Key, Siblings, Stand, Wanted};
 use spec_matches::{Capture, Placing, Run, Slot};
 use std::alloc::{AllocError, Global};
 use std::collections::HashMap;
@@ -24,11 +29,13 @@ fn add_none(
     siblings: &Siblings,
     rest: &[Slot],
     at: Stand,
+    from: usize,
     tail: &Placing,
 ) -> Result<(), AllocError>
+    requires { NoneTaken siblings.now at from }
     ensures { OnOk result (Adds (NoneBefore siblings.now rest.now at tail.now) out.old.items out.new.items) }
 {
-    if widens(siblings, rest, at, None, tail) {
+    if widens(siblings, rest, at, from, None, tail) {
         return Ok(());
     }
     let captures = joined(alloc, &[], tail.captures.as_slice())?;
@@ -51,51 +58,18 @@ fn add_nones(
 ) -> Result<(), AllocError>
     ensures { OnOk result (Adds (OfSome (NoneBefore siblings.now rest.now at) tails.now) out.old.items out.new.items) }
 {
+    let from = first_taken(siblings, at);
     for tail in tails {
-        add_none(alloc, out, siblings, rest, at, tail)?;
+        add_none(alloc, out, siblings, rest, at, from, tail)?;
     }
     Ok(())
 }
 
-/// Adds a tail behind a run with these captures.
-fn add_front(
-    alloc: Global,
-    out: &mut Vec<Placing>,
-    run: Run,
-    tail: &Placing,
-    front: &[Capture],
-) -> Result<(), AllocError>
-    ensures { OnOk result (Adds (FrontBefore run tail.now front.now) out.old.items out.new.items) }
-{
-    let captures = joined(alloc, front, tail.captures.as_slice())?;
-    out.push(Placing {
-        first: Some(run.first),
-        near: true,
-        captures,
-    })?;
-    Ok(())
-}
-
-/// Adds a tail behind a run with each of these captures.
-fn add_fronts(
-    alloc: Global,
-    out: &mut Vec<Placing>,
-    run: Run,
-    tail: &Placing,
-    fronts: &[List<Capture>],
-) -> Result<(), AllocError>
-    ensures { OnOk result (Adds (OfSome (FrontBefore run tail.now) fronts.now) out.old.items out.new.items) }
-{
-    for front in fronts {
-        add_front(alloc, out, run, tail, front.as_slice())?;
-    }
-    Ok(())
-}
-
-/// Adds a tail behind a run with each of these captures, where the item could take no more there.
+/// Adds the captures of a run in each way, and then those of a tail, where the item could take no
+/// more there.
 fn add_run(
     alloc: Global,
-    out: &mut Vec<Placing>,
+    out: &mut Vec<List<Capture>>,
     siblings: &Siblings,
     rest: &[Slot],
     at: Stand,
@@ -105,16 +79,17 @@ fn add_run(
 ) -> Result<(), AllocError>
     ensures { OnOk result (Adds (RunBefore siblings.now rest.now at run fronts.now tail.now) out.old.items out.new.items) }
 {
-    if widens(siblings, rest, at, Some(run), tail) {
+    if grows(siblings, rest, at, run, tail) {
         return Ok(());
     }
-    add_fronts(alloc, out, run, tail, fronts)
+    add_behind(alloc, out, fronts, tail.captures.as_slice())?;
+    Ok(())
 }
 
-/// Adds the tails behind a run with each of these captures.
+/// Adds the captures of a run in each way, and then those of each of the tails.
 fn add_runs(
     alloc: Global,
-    out: &mut Vec<Placing>,
+    out: &mut Vec<List<Capture>>,
     siblings: &Siblings,
     rest: &[Slot],
     at: Stand,
@@ -130,12 +105,24 @@ fn add_runs(
     Ok(())
 }
 
-/// Adds the ways in which the item takes a run.
+/// Whether the item could take no more than a run before one of some tails.
+fn any_stays(siblings: &Siblings, rest: &[Slot], at: Stand, run: Run, tails: &[Placing]) -> bool
+    ensures { IsTrue result ↔ AnyStays siblings.now rest.now at run tails.now }
+{
+    for tail in tails {
+        if !grows(siblings, rest, at, run, tail) {
+            return true;
+        }
+    }
+    false
+}
+
+/// Adds the captures of the ways in which the item takes a run.
 #[cycle(ways)]
 fn add_at(
     alloc: Global,
     memo: &mut HashMap<Key, List<Placing>>,
-    out: &mut Vec<Placing>,
+    out: &mut Vec<List<Capture>>,
     siblings: &Siblings,
     all: &[Slot],
     rest: &[Slot],
@@ -146,9 +133,10 @@ fn add_at(
     requires few { at.number + 1 + length rest.now < 2 ^ 64 }
     requires rest { rest.now ≡ drop (at.number + 1) all.now }
     requires memo { IsMemo siblings.now all.now (get key_eq memo.now) }
-    ensures adds { OnOk result (Adds (HeadWay siblings.now rest.now at (Some run)) out.old.items out.new.items) }
+    ensures adds { OnOk result (Adds (HeadTaken siblings.now rest.now at run) out.old.items out.new.items) }
     ensures memo { OnOk result (IsMemo siblings.now all.now (get key_eq memo.new)) }
 {
+    let wanted = wanted_after(siblings, at, run.past);
     let tails = ways(
         alloc,
         memo,
@@ -158,7 +146,11 @@ fn add_at(
         at.number + 1,
         run.past,
         true,
+        wanted,
     )?;
+    if !any_stays(siblings, rest, at, run, tails.as_slice()) {
+        return Ok(());
+    }
     let fronts = along(alloc, siblings.table.as_slice(), at.number, at.slot, run)?;
     add_runs(
         alloc,
@@ -173,12 +165,12 @@ fn add_at(
     Ok(())
 }
 
-/// Adds the ways in which the item takes a run, if that has whole rounds.
+/// Adds the captures of the ways in which the item takes a run, if that has whole rounds.
 #[cycle(ways)]
 fn add_last(
     alloc: Global,
     memo: &mut HashMap<Key, List<Placing>>,
-    out: &mut Vec<Placing>,
+    out: &mut Vec<List<Capture>>,
     siblings: &Siblings,
     all: &[Slot],
     rest: &[Slot],
@@ -190,7 +182,7 @@ fn add_last(
     requires few { at.number + 1 + length rest.now < 2 ^ 64 }
     requires rest { rest.now ≡ drop (at.number + 1) all.now }
     requires memo { IsMemo siblings.now all.now (get key_eq memo.now) }
-    ensures adds { OnOk result (Adds (HeadWay siblings.now rest.now at (Some run)) out.old.items out.new.items) }
+    ensures adds { OnOk result (Adds (HeadTaken siblings.now rest.now at run) out.old.items out.new.items) }
     ensures memo { OnOk result (IsMemo siblings.now all.now (get key_eq memo.new)) }
 {
     if !are_rounds(at.slot, run.past - run.first) {
@@ -200,38 +192,44 @@ fn add_last(
     Ok(())
 }
 
-/// Adds the ways in which the item takes nothing.
+/// The captures of the ways in which the item takes a run from `first` up to a place before `end`
+/// or up to `end`.
 #[cycle(ways)]
-fn add_nothing(
+fn runs_from(
     alloc: Global,
     memo: &mut HashMap<Key, List<Placing>>,
-    out: &mut Vec<Placing>,
     siblings: &Siblings,
     all: &[Slot],
     rest: &[Slot],
     at: Stand,
-) -> Result<(), AllocError>
+    first: usize,
+) -> Result<Vec<List<Capture>>, AllocError>
+    requires after { at.lo ≤ first }
+    requires anchored { at.slot.tied ≡ true → at.beside ≡ true → Unnamed siblings.now.named at.lo first }
     requires few { at.number + 1 + length rest.now < 2 ^ 64 }
     requires rest { rest.now ≡ drop (at.number + 1) all.now }
     requires memo { IsMemo siblings.now all.now (get key_eq memo.now) }
-    ensures adds { OnOk result (Adds (HeadWay siblings.now rest.now at None) out.old.items out.new.items) }
+    ensures all { IfOk result (λ captures. Adds (TakenFrom siblings.now rest.now at first) [] captures.items) }
     ensures memo { OnOk result (IsMemo siblings.now all.now (get key_eq memo.new)) }
 {
-    if !at.slot.optional {
-        return Ok(());
+    let end = reach(siblings, at, first);
+    let mut out = Vec::new(alloc);
+    for last in first..end {
+        add_last(
+            alloc,
+            memo,
+            &mut out,
+            siblings,
+            all,
+            rest,
+            at,
+            Run {
+                first,
+                past: last + 1,
+            },
+        )?;
     }
-    let tails = ways(
-        alloc,
-        memo,
-        siblings,
-        all,
-        rest,
-        at.number + 1,
-        at.lo,
-        false,
-    )?;
-    add_nones(alloc, out, siblings, rest, at, tails.as_slice())?;
-    Ok(())
+    Ok(out)
 }
 
 /// Adds the ways in which the item takes a run that begins at `first`.
@@ -253,26 +251,62 @@ fn add_first(
     ensures adds { OnOk result (Adds (HeadFrom siblings.now rest.now at first) out.old.items out.new.items) }
     ensures memo { OnOk result (IsMemo siblings.now all.now (get key_eq memo.new)) }
 {
+    if !begins(siblings, at, first) {
+        return Ok(());
+    }
+    if begins_late(siblings, at, first) {
+        return Ok(());
+    }
     if !is_anchored(siblings.named.as_slice(), at.slot, at.lo, at.beside, first) {
         return Ok(());
     }
-    let end = reach(siblings, at, first);
-    for last in first..end {
-        add_last(
-            alloc,
-            memo,
-            out,
-            siblings,
-            all,
-            rest,
-            at,
-            Run {
-                first,
-                past: last + 1,
-            },
-        )?;
-    }
+    let captures = runs_from(alloc, memo, siblings, all, rest, at, first)?;
+    let kept = once_each(captures);
+    add_placed(alloc, out, Some(first), true, kept.as_slice())?;
     Ok(())
+}
+
+/// Adds the ways in which the item takes nothing, or those of them that begin right here.
+#[cycle(ways)]
+fn add_nothing(
+    alloc: Global,
+    memo: &mut HashMap<Key, List<Placing>>,
+    out: &mut Vec<Placing>,
+    siblings: &Siblings,
+    all: &[Slot],
+    rest: &[Slot],
+    at: Stand,
+    here: bool,
+) -> Result<(), AllocError>
+    requires few { at.number + 1 + length rest.now < 2 ^ 64 }
+    requires rest { rest.now ≡ drop (at.number + 1) all.now }
+    requires memo { IsMemo siblings.now all.now (get key_eq memo.now) }
+    ensures adds { OnOk result (Adds (HeadNone siblings.now rest.now at here) out.old.items out.new.items) }
+    ensures memo { OnOk result (IsMemo siblings.now all.now (get key_eq memo.new)) }
+{
+    if !at.slot.optional {
+        return Ok(());
+    }
+    let tails = ways(
+        alloc,
+        memo,
+        siblings,
+        all,
+        rest,
+        at.number + 1,
+        at.lo,
+        false,
+        begun(here),
+    )?;
+    add_nones(alloc, out, siblings, rest, at, tails.as_slice())?;
+    Ok(())
+}
+
+/// All ways, or those that begin right here.
+fn begun(here: bool) -> Wanted
+    ensures { result ≡ cond here asked.Here asked.All }
+{
+    if here { Wanted::Here } else { Wanted::All }
 }
 
 /// Whether the items may end here.
@@ -315,7 +349,42 @@ fn ending(
     Ok(out)
 }
 
-/// Makes the ways to embed the items from a number on in the siblings from `lo` on.
+/// The ways of no items, or none where they are to begin right here.
+fn ending_begun(
+    alloc: Global,
+    siblings: &Siblings,
+    number: usize,
+    lo: usize,
+    beside: bool,
+    here: bool,
+) -> Result<Vec<Placing>, AllocError>
+    ensures { IfOk result (λ v. (f : Way) → Contains v.items f
+        ↔ Begun here lo (WaysOf siblings.now [] number lo beside) f) }
+{
+    if here {
+        return Ok(Vec::new(alloc));
+    }
+    let out = ending(alloc, siblings, number, lo, beside)?;
+    Ok(out)
+}
+
+/// The end of the places where the first run may begin: all from `lo` on, or `lo` alone.
+fn starts_end(siblings: &Siblings, lo: usize, here: bool) -> usize
+    ensures all { (p : ℕ) → lo ≤ p → p < length siblings.now.named → (here ≡ true → p ≡ lo) → p < result }
+    ensures only { (p : ℕ) → lo ≤ p → p < result → here ≡ true → p ≡ lo }
+{
+    if !here {
+        return siblings.named.len();
+    }
+    if lo < siblings.named.len() {
+        lo + 1
+    } else {
+        lo
+    }
+}
+
+/// Makes the ways to embed the items from a number on in the siblings from `lo` on, or those of
+/// them that begin at `lo`.
 #[cycle(ways)]
 fn made(
     alloc: Global,
@@ -326,15 +395,17 @@ fn made(
     number: usize,
     lo: usize,
     beside: bool,
+    here: bool,
 ) -> Result<Vec<Placing>, AllocError>
     requires few { number + length slots.now < 2 ^ 64 }
     requires slots { slots.now ≡ drop number all.now }
     requires memo { IsMemo siblings.now all.now (get key_eq memo.now) }
-    ensures ways { IfOk result (λ v. (f : Way) → Contains v.items f ↔ IsWay (Takes siblings.now.table) siblings.now.named siblings.now.closed slots.now number lo beside f) }
+    ensures ways { IfOk result (λ v. (f : Way) → Contains v.items f
+        ↔ Begun here lo (WaysOf siblings.now slots.now number lo beside) f) }
     ensures memo { OnOk result (IsMemo siblings.now all.now (get key_eq memo.new)) }
 {
     let Some((slot, rest)) = slots.split_first() else {
-        let none = ending(alloc, siblings, number, lo, beside)?;
+        let none = ending_begun(alloc, siblings, number, lo, beside, here)?;
         return Ok(none);
     };
     let at = Stand {
@@ -344,14 +415,53 @@ fn made(
         beside,
     };
     let mut out = Vec::new(alloc);
-    add_nothing(alloc, memo, &mut out, siblings, all, rest, at)?;
-    for first in lo..siblings.named.len() {
+    add_nothing(alloc, memo, &mut out, siblings, all, rest, at, here)?;
+    for first in lo..starts_end(siblings, lo, here) {
         add_first(alloc, memo, &mut out, siblings, all, rest, at, first)?;
     }
     Ok(out)
 }
 
-/// The ways to embed the items from a number on in the siblings from `lo` on, each made once.
+/// Makes the ways to embed the items from a number on in the siblings from `lo` on, as they are
+/// asked for.
+#[cycle(ways)]
+fn told(
+    alloc: Global,
+    memo: &mut HashMap<Key, List<Placing>>,
+    siblings: &Siblings,
+    all: &[Slot],
+    slots: &[Slot],
+    number: usize,
+    lo: usize,
+    beside: bool,
+    wanted: Wanted,
+) -> Result<Vec<Placing>, AllocError>
+    requires few { number + length slots.now < 2 ^ 64 }
+    requires slots { slots.now ≡ drop number all.now }
+    requires memo { IsMemo siblings.now all.now (get key_eq memo.now) }
+    ensures ways { IfOk result (λ v. (f : Way) → Contains v.items f
+        ↔ Told wanted lo (WaysOf siblings.now slots.now number lo beside) f) }
+    ensures memo { OnOk result (IsMemo siblings.now all.now (get key_eq memo.new)) }
+{
+    match wanted {
+        Wanted::All => {
+            let found = made(alloc, memo, siblings, all, slots, number, lo, beside, false)?;
+            Ok(found)
+        }
+        Wanted::Here => {
+            let found = made(alloc, memo, siblings, all, slots, number, lo, beside, true)?;
+            Ok(found)
+        }
+        Wanted::Captures => {
+            let found = made(alloc, memo, siblings, all, slots, number, lo, beside, false)?;
+            let ways = bare(alloc, found)?;
+            Ok(ways)
+        }
+    }
+}
+
+/// The ways to embed the items from a number on in the siblings from `lo` on, as they are asked
+/// for, each made once.
 #[cycle(ways)]
 fn ways(
     alloc: Global,
@@ -362,18 +472,27 @@ fn ways(
     number: usize,
     lo: usize,
     beside: bool,
+    wanted: Wanted,
 ) -> Result<Vec<Placing>, AllocError>
     requires few { number + length slots.now < 2 ^ 64 }
     requires slots { slots.now ≡ drop number all.now }
     requires memo { IsMemo siblings.now all.now (get key_eq memo.now) }
-    ensures ways { IfOk result (λ v. (f : Way) → Contains v.items f ↔ IsWay (Takes siblings.now.table) siblings.now.named siblings.now.closed slots.now number lo beside f) }
+    ensures ways { IfOk result (λ v. (f : Way) → Contains v.items f
+        ↔ Told wanted lo (WaysOf siblings.now slots.now number lo beside) f) }
     ensures memo { OnOk result (IsMemo siblings.now all.now (get key_eq memo.new)) }
 {
-    let key = Key { number, lo, beside };
+    let key = Key {
+        number,
+        lo,
+        beside,
+        wanted,
+    };
     if let Some(found) = recall(alloc, memo, key)? {
         return Ok(found);
     }
-    let found = made(alloc, memo, siblings, all, slots, number, lo, beside)?;
+    let found = told(
+        alloc, memo, siblings, all, slots, number, lo, beside, wanted,
+    )?;
     remember(alloc, memo, key, found.as_slice())?;
     Ok(found)
 }
@@ -393,6 +512,16 @@ pub(crate) fn embeddings(
     ensures { IfOk result (λ v. (f : Way) → Contains v.items f ↔ IsWay (Takes siblings.now.table) siblings.now.named siblings.now.closed slots.now 0 0 true f) }
 {
     let mut memo = HashMap::new(alloc);
-    let found = ways(alloc, &mut memo, siblings, slots, slots, 0, 0, true)?;
+    let found = ways(
+        alloc,
+        &mut memo,
+        siblings,
+        slots,
+        slots,
+        0,
+        0,
+        true,
+        Wanted::All,
+    )?;
     Ok(found)
 }

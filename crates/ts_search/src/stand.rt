@@ -23,11 +23,24 @@ pub(crate) struct Siblings {
     pub closed: bool,
 }
 
-/// Where a search goes on: an item's number, the place up to which siblings are taken, and whether
-/// the item just before took the last of them, or the list begins here.
+/// Which ways are asked for.
+#[derive(Debug, Clone, Copy, PartialEq, Eq, Hash)]
+pub(crate) enum Wanted {
+    /// All.
+    All,
+    /// Those that take the sibling at the place where the search goes on.
+    Here,
+    /// The captures of all, each once, with no places.
+    Captures,
+}
+
+/// Where a search goes on: an item's number, the place up to which siblings are taken, whether
+/// the item just before took the last of them, or the list begins here, and which ways are asked
+/// for.
 #[derive(Debug, Clone, Copy, PartialEq, Eq, Hash)]
 pub(crate) struct Key {
     pub number: usize,
     pub lo: usize,
     pub beside: bool,
+    pub wanted: Wanted,
 }

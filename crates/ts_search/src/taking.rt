@@ -13,6 +13,7 @@ ghost use Rattle.ts_search.specs.Adding.{Adds, OfSome};
 ghost use Rattle.ts_search.specs.Rows.{seen_row};
 ghost use Rattle.ts_search.specs.Ways.{AreRowsOf, AreWays, HasOne, InsideOf, IsRow, IsTable, PassesOf, PlainOf, TakenOf, size_of, slot_of};
 
+use crate::once::{captures_of, once_each};
 use crate::products::add_front;
 use crate::row::Row;
 use crate::search::embeddings;
@@ -158,22 +159,6 @@ fn add_all(out: &mut Vec<List<Capture>>, more: Vec<List<Capture>>) -> Result<(),
     Ok(())
 }
 
-/// The captures of embeddings.
-fn captures_of(alloc: Global, found: Vec<Placing>) -> Result<Vec<List<Capture>>, AllocError>
-    ensures { IfOk result (λ all. all.items ≡ map (λ f. f.captures) found.items) }
-{
-    let mut out = Vec::with_capacity(alloc, found.len())?;
-    for one in found {
-        let Placing {
-            first: _,
-            near: _,
-            captures,
-        } = one;
-        out.push(captures)?;
-    }
-    Ok(out)
-}
-
 /// Whether an item is a group.
 fn is_round(test: Test) -> bool
     ensures { IsTrue result ↔ (test ≡ tests.Round) }
@@ -316,7 +301,7 @@ fn inside(
         children.as_slice(),
     )?;
     let ways = captures_of(alloc, found)?;
-    Ok(ways)
+    Ok(once_each(ways))
 }
 
 /// The captures of each way in which one of some branches takes a node.

@@ -1,6 +1,5 @@
-use Rattle.std.proofs.Common.{◌≡◌, refl, arith, sym, subst, List}
+use Rattle.std.proofs.Common.{refl, arith}
 use Rattle.std.proofs.lemmas.Option.{slice_get_read}
-use Rattle.spec_matches.specs.declared.found.Match.{Match}
 use Rattle.ts_search.proofs.HitLemmas.{below_none, below_more, gathered_all}
 use Rattle.ts_search.proofs.GatherLemmas.{none_in_empty}
 use Rattle.ts_search.proofs.listing.gathered.Goals as goal

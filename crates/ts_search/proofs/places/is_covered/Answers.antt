@@ -1,4 +1,3 @@
-use Rattle.std.proofs.Common.{refl, arith}
 use Rattle.ts_search.specs.Table.{Takes}
 use Rattle.ts_search.proofs.RunLemmas.{covers_more, no_truth}
 use Rattle.ts_search.proofs.places.is_covered.Goals as goal

@@ -1,4 +1,4 @@
-use Rattle.ts_search.proofs.WidenLemmas.{From, none_more, none_widens}
+use Rattle.ts_search.proofs.WidenLemmas.{From, none_before, none_more, none_widens}
 use Rattle.ts_search.proofs.RunLemmas.{no_truth}
 use Rattle.ts_search.proofs.places.widens.Goals as goal
 
@@ -9,5 +9,8 @@ loop-first-preserved c = none_more (From c.args.siblings.now c.args.rest.now c.a
 pub returns : goal.returns
 returns c = (
   (λ h. absurd (no_truth h)),
-  (λ w. absurd (none_widens c.args.siblings.now c.args.rest.now c.args.at c.args.taken c.args.tail.now c.loop-first.first (rw c.len-first-end.ensures at c.loop-first-test.false) c.loop-first.invariant w)),
+  (λ w. absurd (none_widens c.args.siblings.now c.args.rest.now c.args.at c.args.taken c.args.tail.now c.loop-first.first c.last_start-first-end.result c.loop-first-test.false c.last_start-first-end.ensures c.loop-first.invariant w)),
 )
+
+pub loop-first-init : goal.loop-first-init
+loop-first-init c = none_before c.args.siblings.now c.args.rest.now c.args.at c.args.taken c.args.tail.now c.args.from c.requires

@@ -1,4 +1,4 @@
-use Rattle.std.proofs.Common.{◌≡◌, arith, List, [], subst, refl, ap, ◌∙◌, ℕ, get_or}
+use Rattle.std.proofs.Common.{arith, List, [], refl, ap, ◌∙◌, ℕ}
 use Rattle.std.proofs.lemmas.Option.{slice_get_read}
 use Rattle.spec_matches.specs.declared.found.Capture.{Capture}
 use Rattle.ts_query_syntax.specs.declared.read_query.Item.{Item}
@@ -6,9 +6,8 @@ use Rattle.spec_matches.specs.Taking.{captured}
 use Rattle.ts_search.specs.Rows.{seen_row}
 use Rattle.ts_search.specs.Ways.{AreRowsOf, AreWays, IsRow, ItemTakes, size_of}
 use Rattle.ts_search.proofs.AddLemmas.{some_more, some_all, one_in, in_one}
-use Rattle.ts_search.proofs.TakeLemmas.{no_truth}
 use Rattle.ts_search.proofs.PairLemmas.{pairs_more, pairs_more_at, pairs_all, numbered_none, numbered_more, numbered_all, fully_are}
-use Rattle.ts_search.proofs.PassLemmas.{inside_are, not_inside, passes_any, passes_named, not_named, passes_kind, not_kind, passes_choice, passes_round, no_node, no_field, no_inner, plain_are, ways_round, ways_past, ways_plain, part_past, part_are, choices_are, adds_ways, before_of}
+use Rattle.ts_search.proofs.PassLemmas.{inside_are, inside_once, not_inside, passes_any, passes_named, passes_kind, passes_choice, no_node, no_field, no_inner, plain_are, ways_round, ways_past, ways_plain, part_past, part_are, choices_are, adds_ways, before_of}
 use Rattle.ts_search.proofs.taking.+taking.Goals as goal
 
 pub item_ways-returns-then-is_round : goal.item_ways-returns-then-is_round
@@ -59,9 +58,10 @@ inside-returns-then-not-none_has t c =
 
 pub inside-returns : goal.inside-returns
 inside-returns t c =
-    inside_are c.args.sight.now c.args.item.now c.args.n c.in_ok-children.children.items c.in_ok-found.found.items c.in_ok-ways.ways.items c.in_ok-children.ensures
+    inside_once c.args.sight.now c.args.item.now c.args.n c.in_ok-ways.ways.items c.once_each.result.items c.once_each.ensures
+    (inside_are c.args.sight.now c.args.item.now c.args.n c.in_ok-children.children.items c.in_ok-found.found.items c.in_ok-ways.ways.items c.in_ok-children.ensures
     ((rw c.as_slice.ensures at (rw c.as_slice-2.ensures.value at c.none_has.ensures)).0 c.if-not-none_has.false)
-    (rw c.as_slice-3.ensures at (rw c.as_slice-4.ensures.value at c.in_ok-found.ensures)) c.in_ok-ways.ensures
+    (rw c.as_slice-3.ensures at (rw c.as_slice-4.ensures.value at c.in_ok-found.ensures)) c.in_ok-ways.ensures)
 
 pub choices-loop-branch-preserved : goal.choices-loop-branch-preserved
 choices-loop-branch-preserved t c =

@@ -2,7 +2,7 @@ use Rattle.std.proofs.Common.{take, [], List}
 use Rattle.spec_matches.specs.declared.found.Capture.{Capture}
 use Rattle.ts_query_syntax.specs.declared.read_query.Item.{Item}
 use Rattle.ts_search.specs.Adding.{Adds, OfSome}
-use Rattle.ts_search.specs.Ways.{AreRowsOf, IsRow, IsTable, ItemTakes, Numbered}
+use Rattle.ts_search.specs.Ways.{IsRow, IsTable, ItemTakes, Numbered}
 use Rattle.ts_search.proofs.taking.+taking.Given as goal
 
 abbrev pub invariant-choices-loop-branch : goal.invariant-choices-loop-branch

@@ -1,5 +1,4 @@
 use Rattle.std.proofs.Common.{refl, get_or}
-use Rattle.std.specs.List.{Contains}
 use Rattle.std.proofs.lemmas.List.Elements.{Contains-get_or}
 use Rattle.ts_search.specs.Ways.{HasOne}
 use Rattle.ts_search.proofs.PassLemmas.{none_of, of_none}
