@@ -6,6 +6,7 @@ mod laws;
 mod printing;
 #[cfg(test)]
 mod tests;
+mod tree;
 
 pub use laws::fresh_trees_lie_in_the_text;
 pub use printing::{outcome_line, outcome_shown};

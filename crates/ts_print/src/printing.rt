@@ -5,6 +5,7 @@ ghost use Rattle.spec_output.specs.Outcomes.{parse_line};
 ghost use Rattle.ts_glr.specs.Outcomes.{value_of_outcome};
 ghost use Rattle.ts_print.specs.Printed.{TreeLiesIn, shown_outcome, IsOutcomeLine};
 
+use crate::tree::tree_line;
 use spec_output::ShownOutcome;
 use std::alloc::{AllocError, Global};
 use ts_core::FlatGrammar;
@@ -36,7 +37,7 @@ pub fn outcome_line(
     line(alloc, grammar, text, outcome)
 }
 
-/// The same, without the clause on what is fresh.
+/// The same, without the clause on what is fresh. Of a tree no list of printed nodes is made.
 fn line(
     alloc: Global,
     grammar: &FlatGrammar,
@@ -47,8 +48,11 @@ fn line(
     ensures { IfOk result (λ s. string_bytes s
         ≡ parse_line (shown_outcome grammar.now text.now (value_of_outcome outcome.now))) }
 {
-    let shown = outcome_shown(alloc, grammar, text, outcome)?;
-    parsed(alloc, &shown)
+    match outcome {
+        Outcome::Accepted(root) => tree_line(alloc, grammar, text, root),
+        Outcome::Stuck(place) => parsed(alloc, &ShownOutcome::Stuck(*place)),
+        Outcome::Deep => parsed(alloc, &ShownOutcome::Deep),
+    }
 }
 
 /// What a text comes to, as a line tells it, in time by the sizes of the text and its tree.

@@ -1,0 +1,33 @@
+-- Values as a writer of JSON has put them down, and visible nodes that are lent.
+use Rattle.std.specs.Prelude.{◌≡◌, List, ◌++◌}
+use Rattle.json.specs.Token.{Token}
+use Rattle.json.specs.Tree.{json_tokens}
+use Rattle.json.specs.Written.{Written}
+use Rattle.serde_json.specs.Data.{Data}
+use Rattle.serde_json.specs.Written.{outline}
+use Rattle.spec_trees.specs.declared.visible.VisibleNode.{VisibleNode}
+use Rattle.ts_print.specs.declared.tree.Row.{Row}
+
+-- the tokens of a value
+abbrev pub tokens_of : Data → List Token
+tokens_of value = json_tokens (outline value)
+
+-- these tokens come to those before, and what stood before all tokens stays
+pub record Adds (more : List Token) (old new : Written) : Type 0 where
+  pub tokens : new.tokens ≡ old.tokens ++ more
+  pub before : new.before ≡ old.before
+
+-- a value comes to what is written before
+abbrev pub AddsValue : Data → Written → Written → Type 0
+AddsValue value = Adds (tokens_of value)
+
+-- the visible node that is lent
+abbrev pub lent_node : Row → VisibleNode
+lent_node row = record {
+  depth = row.depth;
+  name = row.name.now;
+  named = row.named;
+  fields = row.fields.now;
+  start = row.start;
+  end = row.end;
+}
