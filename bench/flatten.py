@@ -1,177 +1,183 @@
 #!/usr/bin/env python3
-"""Times of reading a grammar file and making its normal form, beside Python's json.loads, and of reading patterns.
+"""Times of reading a grammar file, of its normal form and of its tables, beside Python's json.loads, and of patterns.
 
     python3 bench/flatten.py [ROUNDS]
 
-Builds a small program over the proved crates in a copy of them (its own calls are not proved) and runs it on the files
-of `bench/grammar.py` with 250, 500, 1,000 and 2,000 rules, on wide ones, and on patterns with large sets or counts.
-ROUNDS is 10 if none is given. The times of the parts are the best of them by the clock. The whole, and json.loads
-beside it, is processor time, as a mean, so that other work on the machine counts little.
+Builds a small proved program over `ts_front` in a copy of the crates and runs it on the files of `bench/grammar.py`
+with 250, 500, 1,000 and 2,000 rules, on wide ones, and on patterns with large sets or counts. Each part is measured
+with those before it, and told less them: the JSON value, the grammar, its normal form. The tables, which take time by
+states and symbols together, are measured with 62, 125 and 250 rules. ROUNDS is 10 if none is given. What is short is
+made more often. Times are processor time of the rounds, less that of a run without any.
 """
 import sys
 import tempfile
 
 sys.dont_write_bytecode = True
 import grammar
-from built import built, copied, loads, run, spent, trusting
+from built import built, copied, loads, round_time
 
 NAME = "bench_flatten"
 BELOW = (
-    "ts_base ts_core ts_ojson ts_grammar_json spec_lexing spec_grammar spec_tables ts_pattern ts_rules ts_fit "
-    "ts_numbering ts_entries ts_productions ts_automata ts_tokens ts_flat ts_form ts_normalise ts_io indexmap regex_class"
+    "ts_io ts_base ts_core ts_text spec_lexing spec_grammar spec_tables ts_ojson ts_grammar_json ts_pattern ts_rules "
+    "ts_fit ts_numbering ts_entries ts_productions ts_automata ts_tokens ts_flat ts_form ts_normalise ts_langfile "
+    "ts_bits ts_items ts_table spec_output ts_front serde_json indexmap thiserror"
 )
 
-PROGRAM = r"""//! Times of reading grammar files, patterns and of making normal forms. Its words are what is to be
-//! done, the number of rounds, and a file: a grammar file, or a file that is a pattern.
+PROGRAM = r"""//! Makes a part of what a grammar file comes to, some times. Its words are the part, the number of
+//! rounds and the file, which is a pattern alone for the parts that read one; it prints what the last
+//! round made, as a number.
 #![tactic(auto)]
+ghost use Rattle.std.specs.Prelude.{◌<◌, ◌^◌, length};
 
 use std::alloc::Global;
-use std::time::Instant;
+use std::rt::{Env, Files};
 use std::{env, io, str};
-use ts_core::{FlatGrammar, Grammar};
+use ts_front::{read_grammar, table_in};
 use ts_io::{Folder, Found, OsFolder};
-use ts_normalise::NFault;
-use ts_ojson::OJson;
 
-unsafe extern "C" {
-    // Nothing of this program is to be proved, so this promises what nothing can keep.
-    safe fn trust()
-        ensures { ⊥ };
+/// The most bytes that a file has: 4 MiB.
+const MOST_BYTES: usize = 4_194_304;
+
+/// What is made of a file.
+#[derive(Clone, Copy)]
+enum Part {
+    Json,
+    Grammar,
+    Form,
+    Table,
+    Pattern { ignore_case: bool },
 }
 
-fn micros(rt: &HostRuntime, start: &Instant) -> io::Result<u64> {
-    trust();
-    Ok(start.elapsed(rt)?.as_micros() as u64)
-}
-
-fn told(form: &Result<FlatGrammar, NFault>) -> usize {
-    trust();
-    match form {
-        Ok(form) => form.rules.as_slice().len(),
-        Err(NFault::Limit(_)) => 1_000_001,
-        Err(_) => 1_000_000,
+/// The part that a word names.
+fn part_of(word: &str) -> Part {
+    match word {
+        "json" => Part::Json,
+        "grammar" => Part::Grammar,
+        "form" => Part::Form,
+        "table" => Part::Table,
+        _ => Part::Pattern {
+            ignore_case: word == "ignoring",
+        },
     }
 }
 
-fn flattened(rt: &HostRuntime, rounds: u32, bytes: &[u8]) -> io::Result<()> {
-    trust();
-    let alloc = rt.alloc();
-    let mut best = [u64::MAX, u64::MAX, u64::MAX, u64::MAX];
-    let mut rules = 0;
-    for _ in 0..rounds {
-        trust();
-        let start = Instant::now(rt)?;
-        let Ok(value) = ts_ojson::read(alloc, bytes) else {
-            return Ok(());
-        };
-        let read = micros(rt, &start)?;
-        let Ok(grammar) = ts_grammar_json::grammar(alloc, &value) else {
-            return Ok(());
-        };
-        let made = micros(rt, &start)?;
-        let form = ts_normalise::flatten(alloc, &grammar);
-        let whole = micros(rt, &start)?;
-        rules = told(&form);
-        best[0] = best[0].min(read);
-        best[1] = best[1].min(made - read);
-        best[2] = best[2].min(whole - made);
-        best[3] = best[3].min(whole);
-    }
-    println!(rt; "{} {} {} {} {rules}", best[0], best[1], best[2], best[3])?;
-    Ok(())
-}
-
-fn patterns(rt: &HostRuntime, rounds: u32, bytes: &[u8], ignore_case: bool) -> io::Result<()> {
-    trust();
-    let alloc = rt.alloc();
-    let Ok(source) = str::from_utf8(bytes) else {
-        return Ok(());
+/// How many rules the grammar of a file has, and 0 where it has none.
+fn rules_in(alloc: Global, bytes: &[u8]) -> usize
+    requires { length bytes.now < 2 ^ 32 }
+{
+    let Ok(value) = ts_ojson::read(alloc, bytes) else {
+        return 0;
     };
-    let mut best = u64::MAX;
-    let mut right = 0;
-    for _ in 0..rounds {
-        trust();
-        let start = Instant::now(rt)?;
-        let result = ts_pattern::pattern(alloc, source, ignore_case);
-        best = best.min(micros(rt, &start)?);
-        right = u32::from(result.is_ok());
+    match ts_grammar_json::grammar(alloc, &value) {
+        Ok(grammar) => grammar.rules.len(),
+        Err(_) => 0,
     }
-    println!(rt; "{best} {right}")?;
-    Ok(())
+}
+
+/// 1 where the file is a pattern that is read, else 0.
+fn patterns_in(alloc: Global, bytes: &[u8], ignore_case: bool) -> usize
+    requires { length bytes.now < 2 ^ 32 }
+{
+    match str::from_utf8(bytes) {
+        Ok(source) => usize::from(ts_pattern::pattern(alloc, source, ignore_case).is_ok()),
+        Err(_) => 0,
+    }
+}
+
+/// What the part comes to: 1 for a value, or how many rules there are; 0 where it is refused.
+fn made(alloc: Global, bytes: &[u8], part: Part) -> usize
+    requires { length bytes.now < 2 ^ 32 }
+{
+    match part {
+        Part::Json => usize::from(ts_ojson::read(alloc, bytes).is_ok()),
+        Part::Grammar => rules_in(alloc, bytes),
+        Part::Form => match read_grammar(alloc, bytes) {
+            Ok(form) => form.rules.len(),
+            Err(_) => 0,
+        },
+        Part::Table => match table_in(alloc, bytes) {
+            Ok(table) => table.grammar().rules.len(),
+            Err(_) => 0,
+        },
+        Part::Pattern { ignore_case } => patterns_in(alloc, bytes, ignore_case),
+    }
+}
+
+/// Makes the part so many times.
+fn rounds(alloc: Global, bytes: &[u8], part: Part, count: u32) -> usize {
+    let mut last = 0;
+    for _ in 0..count {
+        if bytes.len() <= MOST_BYTES {
+            last = made(alloc, bytes, part);
+        }
+    }
+    last
+}
+
+/// The bytes of a file, and none where it cannot be read.
+fn bytes_of<R: AllocGlobal + Files>(rt: &R, path: &str) -> Vec<u8> {
+    let mut folder = OsFolder::new(rt);
+    match folder.read(rt.alloc(), path, MOST_BYTES as u64) {
+        Ok(Found::Bytes(bytes)) => bytes,
+        _ => Vec::new(rt.alloc()),
+    }
 }
 
 fn main(rt: HostRuntime) -> io::Result<()> {
-    trust();
-    let alloc = rt.alloc();
     let mut words = env::args(&rt)?.skip(1);
-    let Some(todo) = words.next() else {
+    let (Some(count), Some(part), Some(path)) = (words.next(), words.next(), words.next()) else {
         return Ok(());
     };
-    let Some(count) = words.next() else {
-        return Ok(());
-    };
-    let Some(path) = words.next() else {
-        return Ok(());
-    };
-    let rounds = count.as_str().parse::<u32>().unwrap_or(1);
-    let mut folder = OsFolder::new(&rt);
-    let Ok(Found::Bytes(bytes)) = folder.read(alloc, path.as_str(), 4_194_304) else {
-        return Ok(());
-    };
-    match todo.as_str() {
-        "flatten" => flattened(&rt, rounds, bytes.as_slice()),
-        "ignoring" => patterns(&rt, rounds, bytes.as_slice(), true),
-        _ => patterns(&rt, rounds, bytes.as_slice(), false),
-    }
+    let count = count.as_str().parse::<u32>().unwrap_or(0);
+    let bytes = bytes_of(&rt, path.as_str());
+    let last = rounds(rt.alloc(), bytes.as_slice(), part_of(part.as_str()), count);
+    println!(rt; "{last}")?;
+    Ok(())
 }
 """
-
-# The numbers that the program prints in place of that of rules.
-REFUSED, LIMIT = 1_000_000, 1_000_001
 
 PATTERNS = (("ignoring", "[a-z]"), ("pattern", r"\p{L}"), ("pattern", r"\P{L}"), ("pattern", ".{0,8192}"))
 MORE_PATTERNS = (("pattern", ".{0,8193}"), ("pattern", "((a{100}){100}){100}"), ("ignoring", r"[\p{L}\d_]{1,64}"))
 
 
-def told(count):
-    """What the program's last number tells."""
-    return {LIMIT: "refused: a limit", REFUSED: "refused"}.get(count, f"{count} rules and repetitions")
-
-
 def main():
     rounds = int(sys.argv[1]) if len(sys.argv) > 1 else 10
     with tempfile.TemporaryDirectory() as folder:
-        program = built(trusting(copied(folder, NAME, BELOW, PROGRAM)))
+        program = built(copied(folder, NAME, BELOW, PROGRAM))
 
-        def done(todo, text):
-            """The numbers that the program prints, and the processor time of a round."""
+        def done(part, text, rounds=rounds):
+            """What the program prints, and the processor time of a round in microseconds."""
             path = f"{folder}/input"
             with open(path, "w", encoding="utf-8") as file:
                 file.write(text)
-            start = spent()
-            run(program, todo, "0", path)
-            once = spent() - start
-            words = run(program, todo, str(rounds), path)[0].split()
-            return [int(word) for word in words], (spent() - start - 2 * once) / rounds
+            printed, micros = round_time(program, rounds, part, path)
+            return int(printed), micros
 
-        def measured(name, text):
-            (json_read, read, flat, _, count), whole = done("flatten", text)
+        def measured(name, text, rounds=rounds):
+            json_read = done("json", text, rounds)[1]
+            read = done("grammar", text, rounds)[1]
+            count, form = done("form", text, rounds)
             python = loads(text, rounds)
             print(
-                f"{name}, {len(text):,} bytes: JSON {json_read} us, grammar {read} us, normal form {flat} us, "
-                f"in all {whole:.0f} us; json.loads {python:.0f} us, {whole / python:.2f} times; {told(count)}"
+                f"{name}, {len(text):,} bytes: JSON {json_read:.0f} us, grammar {read - json_read:.0f} us, "
+                f"normal form {form - read:.0f} us, in all {form:.0f} us; json.loads {python:.0f} us, "
+                f"{form / python:.2f} times; {count or 'refused: no'} rules and repetitions"
             )
 
         for rules in (250, 500, 1000, 2000):
             measured(f"{rules} rules", grammar.text(rules))
+        for rules in (62, 125, 250):
+            text = grammar.text(rules)
+            form = done("form", text)[1]
+            print(f"{rules} rules: tables {(done('table', text)[1] - form) / 1000:.0f} ms")
         for tokens in (2000, 4000, 8000, 16000):
             measured(f"a choice of {tokens} tokens", grammar.wide(tokens))
         for branches in (31, 63, 127, 255):
-            measured(f"{branches * branches} alternatives", grammar.joined(2, branches))
-        measured("a sequence of forty choices of two", grammar.joined(40, 2))
-        for todo, source in PATTERNS + MORE_PATTERNS:
-            (best, right), mean = done(todo, source)
-            print(f"{todo} {source}: {mean:.0f} us, at best {best} us, {'read' if right else 'refused'}")
+            measured(f"{branches * branches} alternatives", grammar.joined(2, branches), 10 * rounds)
+        measured("a sequence of forty choices of two", grammar.joined(40, 2), 100 * rounds)
+        for part, source in PATTERNS + MORE_PATTERNS:
+            right, micros = done(part, source, 200 * rounds)
+            print(f"{part} {source}: {micros:.0f} us, {'read' if right else 'refused'}")
 
 
 if __name__ == "__main__":

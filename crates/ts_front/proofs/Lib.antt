@@ -5,3 +5,17 @@ pub mod LawLemmas
 pub mod TableLemmas
 pub mod LineLemmas
 pub mod CompileLemmas
+pub mod MemberLemmas
+pub mod AlternativeLemmas
+pub mod StepLemmas
+pub mod CountLemmas
+pub mod RuleTreeLemmas
+pub mod InsideLemmas
+pub mod FormLemmas
+pub mod ReRightLemmas
+pub mod RightLemmas
+pub mod JsonTextLemmas
+pub mod RuleReadLemmas
+pub mod GrammarReadLemmas
+pub mod WithinLemmas
+pub mod LanguageLemmas

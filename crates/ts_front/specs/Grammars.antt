@@ -1,6 +1,6 @@
 -- Which grammar in normal form a file stands for, and why it stands for none. A file that begins as
 -- a language file is one; any other is a grammar file.
-use Rattle.std.specs.Prelude.{◌≡◌, ◌≢◌, ℕ, ◌<◌, ◌≤◌, true, false, List, length, nat_eq}
+use Rattle.std.specs.Prelude.{◌≡◌, ◌≢◌, ℕ, ◌<◌, ◌≤◌, true, false, length, drop, nat_eq}
 use Rattle.std.specs.List.{starts_with}
 use Rattle.ts_base.specs.Bytes.{Bytes}
 use Rattle.ts_core.specs.declared.flat.FlatGrammar.{FlatGrammar}
@@ -15,7 +15,7 @@ use Rattle.ts_grammar_json.specs.File as form
 use Rattle.ts_grammar_json.specs.declared.fault.GFault.{GFault}
 use Rattle.ts_normalise.specs.Refusals.{Flattens, IsRefused}
 use Rattle.ts_normalise.specs.declared.fault.NFault.{NFault}
-use Rattle.ts_langfile.specs.Spelling.{magic}
+use Rattle.ts_langfile.specs.Spelling.{magic, new_version, number16}
 use Rattle.ts_langfile.specs.Right as language
 use Rattle.ts_langfile.specs.Faults as file
 use Rattle.ts_langfile.specs.declared.fault.LangFault.{LangFault}
@@ -28,6 +28,11 @@ most_grammar_bytes = 4194304
 -- the file begins as a language file
 abbrev pub IsLanguageFile : Bytes → Type 0
 IsLanguageFile w = starts_with nat_eq w magic ≡ true
+
+-- the file begins as a language file of the version that is written
+pub record IsNewLanguageFile (w : Bytes) : Type 0 where
+  pub begins : IsLanguageFile w
+  pub version : starts_with nat_eq (drop 4 w) (number16 new_version) ≡ true
 
 -- the file is a grammar file, and not too large
 pub record IsSmallFile (w : Bytes) : Type 0 where

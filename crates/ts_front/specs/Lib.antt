@@ -2,6 +2,8 @@ pub mod Compiled
 pub mod FaultLines
 pub mod Gives
 pub mod Grammars
+pub mod Nesting
 pub mod Parts
 pub mod TableGives
 pub mod Tables
+pub mod Typed

@@ -4,10 +4,13 @@ ghost use Rattle.std.specs.Prelude.{◌≡◌, ◌<◌, ◌^◌, Option, length,
 ghost use Rattle.spec_tables.specs.Fit.{Fit};
 ghost use Rattle.ts_base.specs.Bytes.{Bytes};
 ghost use Rattle.ts_front.specs.Compiled.{IsCompiled, IsUncompiled, LineOf};
+ghost use Rattle.ts_core.specs.declared.flat.FlatGrammar.{FlatGrammar as AnyForm};
 ghost use Rattle.ts_front.specs.Grammars.{IsFormOf};
+ghost use Rattle.ts_front.specs.Nesting.{AreShallow};
 ghost use Rattle.ts_front.specs.Tables.{HasTable};
 
 use crate::grammar::read_grammar;
+use crate::laws::compiled_again;
 use crate::tables::table_of;
 use std::alloc::{AllocError, Global};
 use thiserror::Error;
@@ -78,7 +81,8 @@ pub fn table_in(alloc: Global, bytes: &[u8]) -> Result<Table, Uncompiled>
     }
 }
 
-/// Compiles GRAMMAR: its tables are made and dropped, and its language file is written.
+/// Compiles GRAMMAR: its tables are made and dropped, and its language file is written, which is
+/// compiled to itself, unless an expression nests deeper than those of a language file.
 ///
 /// # Errors
 ///
@@ -86,8 +90,11 @@ pub fn table_in(alloc: Global, bytes: &[u8]) -> Result<Table, Uncompiled>
 pub fn language_file(alloc: Global, bytes: &[u8]) -> Result<Vec<u8>, Uncompiled>
     requires { length bytes.now < 2 ^ 32 }
     ensures compiled { IfOk result (λ v. IsCompiled bytes.now v.items) }
+    ensures again { IfOk result (λ v. (f : AnyForm) → IsFormOf bytes.now f → AreShallow f
+        → IsCompiled v.items v.items) }
     ensures refused { IfErr result (IsUncompiled bytes.now) }
 {
+    compiled_again();
     let table = table_in(alloc, bytes)?;
     let file = ts_langfile::write(alloc, table.grammar())?;
     Ok(file)

@@ -1,6 +1,8 @@
 //! Laws of the definitions: what a grammar file of fewer than 2^32 bytes gives is what the normal
-//! form asks for, and a file stands for one grammar, or is refused for one cause.
-ghost use Rattle.std.specs.Prelude.{◌≡◌, ◌<◌, ◌^◌, length};
+//! form asks for; a file stands for one grammar, or is refused for one cause; and what is compiled is
+//! compiled to itself.
+ghost use Rattle.std.specs.Prelude.{◌≡◌, ◌↔◌, ◌<◌, ◌^◌, length};
+ghost use Rattle.spec_tables.specs.Fit.{Fit};
 ghost use Rattle.ts_base.specs.Bytes.{Bytes};
 ghost use Rattle.ts_core.specs.declared.rule.Grammar.{Grammar as AnyGrammar};
 ghost use Rattle.ts_ojson.specs.Json.{json_of};
@@ -9,8 +11,10 @@ ghost use Rattle.ts_ojson.specs.declared.value.OJson.{OJson as AnyJson};
 ghost use Rattle.ts_grammar_json.specs.File.{IsGrammar};
 ghost use Rattle.ts_rules.specs.FileGrammar.{IsFileGrammar};
 ghost use Rattle.ts_core.specs.declared.flat.FlatGrammar.{FlatGrammar as AnyForm};
+ghost use Rattle.ts_langfile.specs.Spelling.{spelling};
 ghost use Rattle.ts_front.specs.Compiled.{IsCompiled, IsRefusalLine};
-ghost use Rattle.ts_front.specs.Grammars.{IsFormOf, IsRefusedFile};
+ghost use Rattle.ts_front.specs.Grammars.{IsFormOf, IsLanguageFile, IsNewLanguageFile, IsRefusedFile};
+ghost use Rattle.ts_front.specs.Nesting.{AreShallow};
 ghost use Rattle.ts_front.specs.Parts.{PartLaws};
 ghost use Rattle.ts_front.specs.Tables.{HasNoTable, HasTable};
 ghost use Rattle.ts_front.specs.declared.fault.GrammarFault.{GrammarFault as AnyFault};
@@ -67,4 +71,39 @@ pub fn one_compilation()
 {
     one_answer();
     one_table_fault();
+}
+
+/// The grammar for which a file stands is fit for use.
+pub fn forms_are_fit()
+    ensures { (w : Bytes) (f : AnyForm) → IsFormOf w f → Fit f }
+{
+    read_grammars_are_file_grammars();
+    ts_grammar_json::grammars_have_parts_within();
+    ts_normalise::normal_forms_are_fit();
+}
+
+/// What is written of the grammar for which a file stands is a language file of that grammar exactly
+/// where no expression of it nests deeper than those of a language file. None of a language file does.
+pub fn written_forms_are_read()
+    ensures again { (w : Bytes) (f : AnyForm) → IsFormOf w f
+        → AreShallow f ↔ IsFormOf (spelling f) f }
+    ensures language_file { (w : Bytes) (f : AnyForm) → IsLanguageFile w → IsFormOf w f
+        → AreShallow f }
+{
+    read_grammars_are_file_grammars();
+    ts_grammar_json::grammars_have_parts_within();
+    ts_normalise::normal_forms_are_fit();
+    ts_langfile::written_is_read();
+}
+
+/// What a file is compiled to is compiled to the same bytes, unless an expression nests deeper than
+/// those of a language file. A language file of the version that is written is such bytes itself.
+pub fn compiled_again()
+    ensures grammar_file { (w b : Bytes) (f : AnyForm) → IsFormOf w f → AreShallow f
+        → IsCompiled w b → IsCompiled b b }
+    ensures language_file { (w b : Bytes) → IsLanguageFile w → IsCompiled w b → IsCompiled b b }
+    ensures new_version { (w b : Bytes) → IsNewLanguageFile w → IsCompiled w b → b ≡ w }
+{
+    one_answer();
+    written_forms_are_read();
 }

@@ -16,6 +16,9 @@ mod tables;
 pub use compile::{Uncompiled, language_file, table_in};
 pub use fault::GrammarFault;
 pub use grammar::{MOST_GRAMMAR_BYTES, read_grammar};
-pub use laws::{one_answer, one_compilation, one_table_fault, read_grammars_are_file_grammars};
+pub use laws::{
+    compiled_again, forms_are_fit, one_answer, one_compilation, one_table_fault,
+    read_grammars_are_file_grammars, written_forms_are_read,
+};
 pub use table_fault::NoTable;
 pub use tables::table_of;

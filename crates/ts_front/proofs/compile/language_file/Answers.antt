@@ -15,3 +15,11 @@ returns-clause-compiled c = record {
   table = c.in_ok-table.ensures.has;
   bytes_are = c.in_ok-file.ensures ∙ ap spelling c.grammar.ensures;
 }
+
+pub returns-clause-again : goal.returns-clause-again
+returns-clause-again c f is shallow = c.compiled_again.ensures.grammar_file c.args.bytes.now c.in_ok-file.file.items f is shallow (record {
+  form = c.in_ok-table.table.grammar;
+  is_form = c.in_ok-table.ensures.form;
+  table = c.in_ok-table.ensures.has;
+  bytes_are = c.in_ok-file.ensures ∙ ap spelling c.grammar.ensures;
+})
