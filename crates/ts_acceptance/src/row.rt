@@ -30,6 +30,9 @@ pub(crate) struct Row {
     /// The numbers of the writes that fail, from 0.
     #[serde(default)]
     pub failing_writes: Vec<u64>,
+    /// The numbers of the regular expressions whose build fails, from 0.
+    #[serde(default)]
+    pub failing_builds: Vec<u64>,
     /// The most bytes that a write takes.
     pub most: Option<usize>,
     /// The status that is wanted.

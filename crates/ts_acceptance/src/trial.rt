@@ -4,6 +4,8 @@ use crate::row::Row;
 use serde_json::Value;
 use std::alloc::Global;
 use ts_io::{MemFolder, MemSink};
+use ts_query_syntax::Builder;
+use ts_top::AsciiHost;
 
 /// How a run ends: its status and what it wrote.
 #[derive(PartialEq, Eq, Drop)]
@@ -21,7 +23,7 @@ pub(crate) struct Trial {
 }
 
 impl Trial {
-    /// Makes the run of a row, over files and a sink in memory.
+    /// Makes the run of a row, over files and a sink in memory, with the host of the program.
     pub(crate) fn of<R: AllocGlobal>(rt: &R, row: Value) -> Result<Trial, RowFault> {
         let alloc = rt.alloc();
         let row: Row = serde_json::from_value(alloc, row).map_err(RowFault::Json)?;
@@ -53,7 +55,10 @@ fn answer_of<R: AllocGlobal>(rt: &R, row: &Row) -> Result<Answer, RowFault> {
     let mut folder = folder_of(alloc, row)?;
     let failing = Vec::from_slice(alloc, row.failing_writes.as_slice())?;
     let mut sink = MemSink::new(alloc, most, failing)?;
-    let status = ts_top::run(rt, row.words.as_slice(), &mut folder, &mut sink);
+    let hosts = AsciiHost::new(alloc)?;
+    let mut patterns = patterns_of(alloc, row)?;
+    let words = row.words.as_slice();
+    let status = ts_top::run(rt, words, &mut folder, &mut sink, &hosts, &mut patterns);
     let bytes = Vec::from_slice(alloc, sink.bytes())?;
     Ok(Answer { status, bytes })
 }
@@ -66,4 +71,10 @@ fn folder_of(alloc: Global, row: &Row) -> Result<MemFolder, RowFault> {
     }
     let failing = Vec::from_slice(alloc, row.failing_reads.as_slice())?;
     Ok(MemFolder::new(files, failing))
+}
+
+/// What builds the row's regular expressions, of which the builds fail that the row lists.
+fn patterns_of(alloc: Global, row: &Row) -> Result<Builder, RowFault> {
+    let failing = Vec::from_slice(alloc, row.failing_builds.as_slice())?;
+    Ok(Builder::new(alloc, failing))
 }

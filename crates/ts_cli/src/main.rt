@@ -20,11 +20,14 @@ use std::io::ErrorKind;
 use std::process::ExitCode;
 use std::rt::Env;
 use trouble::tell;
-use ts_io::{OsFolder, OutSink};
+use ts_io::{Folder, OsFolder, OutSink, Sink};
 use ts_lines::number;
+use ts_query_syntax::Builder;
+use ts_top::AsciiHost;
 
 const HELP: &str = "\
-hemshale builds parsers from grammar files, parses texts with them, and replays edits of texts.
+hemshale builds parsers from grammar files, parses texts with them, and replays edits and queries
+of texts.
 
   hemshale parse GRAMMAR TEXT           parse the file TEXT by the grammar GRAMMAR, and print the tree
   hemshale compile GRAMMAR              write the language file of the grammar GRAMMAR
@@ -33,7 +36,7 @@ hemshale builds parsers from grammar files, parses texts with them, and replays 
   hemshale --help                       print this
   hemshale --version                    print the version
 
-Status: 0 done, 1 usage, 2 read fault, 3 write fault, 4 out of memory, 5 grammar,
+Status: 0 done, 1 usage, 2 read fault, 3 write fault, 4 out of memory, 5 grammar, 6 query,
         7 script, 8 no such file, 9 text. At 2, 3 and 4 a line on standard error says more.
 ";
 
@@ -46,12 +49,26 @@ fn main(rt: HostRuntime) -> ExitCode {
         Ok(words) => match request_of(words.as_slice()) {
             Request::Help => number(say(&mut sink, HELP)),
             Request::Version => number(say(&mut sink, VERSION)),
-            Request::Command => ts_top::run(&rt, words.as_slice(), &mut folder, &mut sink),
+            Request::Command => command(&rt, words.as_slice(), &mut folder, &mut sink),
         },
         Err(AllocError) => number(Status::OutOfMemory),
     };
     tell(&rt, status, folder.failed());
     ExitCode::from(status)
+}
+
+/// Runs the words with a host that has the predicate `ascii?`, and answers the number of a status.
+fn command<R: AllocGlobal, F: Folder, S: Sink>(
+    rt: &R,
+    words: &[String],
+    folder: &mut F,
+    sink: &mut S,
+) -> u8 {
+    let mut patterns = Builder::new(rt.alloc(), Vec::new(rt.alloc()));
+    match AsciiHost::new(rt.alloc()) {
+        Ok(hosts) => ts_top::run(rt, words, folder, sink, &hosts, &mut patterns),
+        Err(AllocError) => number(Status::OutOfMemory),
+    }
 }
 
 /// The words after the program's name. Where one of them is no text there are none, and so no

@@ -9,8 +9,6 @@ mod outcome;
 mod replaying;
 mod running;
 mod stepping;
-#[cfg(test)]
-mod tests;
 
 pub use asking::asks_no_queries;
 pub use laws::scripts_may_be_replayed;

@@ -4,10 +4,8 @@ use Rattle.std.specs.Result.{IfOk, IsErrOf}
 use Rattle.std.specs.Bool.{IsTrue}
 use Rattle.std.specs.declared.alloc.Global.{Global}
 use Rattle.ts_base.specs.Bytes.{Bytes}
-use Rattle.ts_core.specs.declared.flat.FlatGrammar.{FlatGrammar}
 use Rattle.spec_output.specs.Faults.{text_fault_line, broken_line}
 use Rattle.spec_output.specs.declared.status.Status.{Status}
-use Rattle.spec_output.specs.declared.status.Status.TheVariants.{Script}
 use Rattle.ts_io.specs.Outside.{Files, file_at}
 use Rattle.ts_io.specs.Read.{AnswersFor}
 use Rattle.ts_io.specs.declared.folder.Found.{Found}
@@ -16,9 +14,8 @@ use Rattle.ts_text.specs.Text.{BreaksAt}
 use Rattle.ts_text.specs.declared.text.TextFault.{TextFault}
 use Rattle.ts_text.specs.declared.text.TextFault.TheVariants.{Utf8, Size, Memory}
 use Rattle.ts_replies.specs.Faults.{script_fault_line}
-use Rattle.ts_script.specs.Script.{IsFault}
 use Rattle.ts_script.specs.declared.fault.SFault.{SFault}
-use Rattle.ts_script.specs.declared.fault.SFault.TheVariants.{Memory as no_memory}
+use Rattle.ts_script.specs.declared.fault.SFault.TheVariants.{Memory as no_memory_left}
 use Rattle.ts_script.specs.declared.plan.Source.TheVariants as source
 use Rattle.ts_session.specs.Documents.{IsTextRefusal, too_large, broken}
 use Rattle.ts_session.specs.Firsts.{IsTextFault, HasNoText, IsOpening}
@@ -26,18 +23,17 @@ use Rattle.ts_session.specs.declared.openings.Opening.{Opening}
 use Rattle.std.specs.declared.alloc.AllocError.{AllocError}
 use Rattle.ts_session.specs.Grammars.{size_line}
 use Rattle.ts_session.specs.Limits.{most_text_bytes}
-use Rattle.ts_session.specs.Replays.{ScriptJudged, refused_script}
 use Rattle.ts_session.proofs.DocumentLemmas.{same_some, none_there}
 
--- ---- scripts
+-- ---- faults
 
-pub script_refused : (files : Files) (f : FlatGrammar) (s : Bytes) (order : List ℕ) (fault : SFault) (found : Option (String Global)) (line : String Global) (ends : Status) (bytes : Bytes) → (fault ≢ no_memory → IsFault s fault)
-    → option_map string_bytes found ≡ script_fault_line fault → found ≡ Some line → ends ≡ Script → bytes ≡ string_bytes line → ScriptJudged files f s order ends bytes
-script_refused files f s order fault found line ends bytes is told some status same =
-    let is_line : script_fault_line fault ≡ Some (string_bytes line) = sym told ∙ ap (option_map string_bytes) some in
-    let fails : IsFault s fault = is (λ e. none_there (string_bytes line) (script_fault_line no_memory) refl (ap script_fault_line (sym e) ∙ is_line)) in
-    let judged : ScriptJudged files f s order Script (string_bytes line) = refused_script fault (string_bytes line) fails is_line in
-    subst (λ (e : Status). ScriptJudged files f s order e bytes) (sym status) (subst (ScriptJudged files f s order Script) (sym same) judged)
+-- a line that is told is that of the fault, which is not that memory ran out
+pub no_memory : (fault : SFault) (line : Bytes) → script_fault_line fault ≡ Some line → fault ≢ no_memory_left
+no_memory fault line told e = none_there line (script_fault_line no_memory_left) refl (ap script_fault_line (sym e) ∙ told)
+
+-- the bytes of a line that was found are those that are told
+pub line_told : (found : Option (String Global)) (line : String Global) (told : Option Bytes) (bytes : Bytes) → option_map string_bytes found ≡ told → found ≡ Some line → bytes ≡ string_bytes line → told ≡ Some bytes
+line_told found line told bytes is some same = sym is ∙ ap (option_map string_bytes) some ∙ ap Some (sym same)
 
 -- ---- texts
 
@@ -85,8 +81,3 @@ ok_then (Err e) P Q f h = tt
 
 pub over : (found : Found) (limit : ℕ) (file : Bytes) → found ≡ Over → AnswersFor (Some file) limit found → limit < length file
 over found limit file is answers = subst (λ (f : Found). AnswersFor (Some file) limit f) is answers
-
--- a test comes out one way
-pub no_both : (b : Bool) → b ≡ false → IsTrue b → ⊥
-no_both true e t = let never : ⊥ = cc in never
-no_both false e t = let never : ⊥ = cc in never

@@ -1,5 +1,10 @@
 pub mod Limits
 pub mod Grammars
 pub mod Documents
+pub mod Queries
+pub mod Refusals
+pub mod Sessions
 pub mod Replays
+pub mod Opened
 pub mod Firsts
+pub mod Parts

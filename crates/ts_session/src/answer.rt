@@ -1,15 +1,19 @@
-//! What a replay comes to: a status and bytes, or why there is no answer.
-ghost use Rattle.std.specs.Prelude.{◌≡◌, string_bytes, IfOk};
+//! The answer where files are refused: a status and a line. Or why there is no answer.
+ghost use Rattle.std.specs.Prelude.{◌≡◌, Some, string_bytes, IfOk};
 ghost use Rattle.spec_output.specs.Faults.{absent_line};
 ghost use Rattle.spec_output.specs.GrammarFaults.{limit_line};
 ghost use Rattle.spec_output.specs.declared.status.Status.TheVariants as ends;
 ghost use Rattle.ts_core.specs.declared.limits.Limited.TheVariants.{File};
-ghost use Rattle.ts_session.specs.Replays.{unbuilt_script_line};
+ghost use Rattle.ts_replies.specs.Faults.{script_fault_line};
+ghost use Rattle.ts_session.specs.Queries.{load_line};
 
+use crate::queries::load_line;
 use spec_output::Status;
 use std::alloc::{AllocError, AllocFailed, Global};
 use thiserror::Error;
 use ts_io::ReadFault;
+use ts_loading::LoadFault;
+use ts_script::SFault;
 
 /// What is printed, and the status that goes with it.
 #[derive(Debug, Drop)]
@@ -90,11 +94,24 @@ pub(crate) fn too_large(alloc: Global) -> Result<Answer, AllocError>
     Ok(Answer::of_line(Status::Grammar, line))
 }
 
-/// The answer of a script that loads queries.
-pub(crate) fn unbuilt(alloc: Global) -> Result<Answer, AllocError>
+/// The answer of bytes that are no script.
+pub(crate) fn no_script(alloc: Global, fault: &SFault) -> Result<Answer, AllocError>
     ensures status { IfOk result (λ a. a.status ≡ ends.Script) }
-    ensures bytes { IfOk result (λ a. a.bytes.items ≡ unbuilt_script_line) }
+    ensures bytes { IfOk result (λ a. script_fault_line fault.now ≡ Some a.bytes.items) }
 {
-    let line = ts_lines::fault(alloc, "unbuilt", Status::Script)?;
-    Ok(Answer::of_line(Status::Script, line))
+    match ts_replies::script_fault(alloc, fault)? {
+        Some(line) => Ok(Answer::of_line(Status::Script, line)),
+        None => Err(AllocError),
+    }
+}
+
+/// The answer where queries are not loaded.
+pub(crate) fn not_loaded(alloc: Global, fault: &LoadFault) -> Result<Answer, AllocError>
+    ensures status { IfOk result (λ a. a.status ≡ ends.Query) }
+    ensures bytes { IfOk result (λ a. load_line fault.now ≡ Some a.bytes.items) }
+{
+    match load_line(alloc, fault)? {
+        Some(line) => Ok(Answer::of_line(Status::Query, line)),
+        None => Err(AllocError),
+    }
 }

@@ -1,15 +1,23 @@
-//! The replay of a script by its files: the paths of a grammar and a script, and an order of the
-//! clients' steps, go in; a status and what is printed come out.
+//! Sessions: the paths of a grammar and a script go in, and a session that can be run, or the refusal
+//! of the files, comes out; and a session and an order of its clients' steps go in, and what is
+//! printed of that run comes out.
 #![tactic(auto)]
 
 mod answer;
 mod first;
 mod judging;
 mod laws;
+mod opened;
+mod opening;
 mod openings;
-mod played;
+mod queries;
+mod replaying;
 mod session;
 
 pub use answer::{Answer, Unanswered};
-pub use laws::{replayable_is_done, replays_once};
-pub use session::{Paths, replay};
+pub use laws::{
+    clear_is_not_refused, clear_is_replayed, clear_is_run, one_refusal, replays_once, runs_once,
+};
+pub use opened::Opened;
+pub use opening::{Paths, open};
+pub use session::Session;

@@ -1,57 +1,17 @@
--- Words and files come to one status, and to one list of bytes but for the line of an outcome and the
--- print of a run.
-use Rattle.std.proofs.Common.{◌≡◌, ◌∙◌, sym, ap, subst, refl, ℕ, inl, inr, List, [], ◌∷◌, length, Option, Some, None, codes, arith}
+-- Words, files and a host come to one status, and to one list of bytes but for the line of an outcome
+-- and the print of a run.
+use Rattle.std.proofs.Common.{◌≡◌, ◌∙◌, sym, ap, subst, refl, ℕ, List, [], ◌∷◌, length, codes, arith}
 use Rattle.ts_base.specs.Bytes.{Bytes}
-use Rattle.ts_core.specs.declared.flat.FlatGrammar.{FlatGrammar}
-use Rattle.spec_output.specs.Faults.{absent_line, broken_line}
 use Rattle.spec_output.specs.declared.status.Status.{Status}
 use Rattle.spec_output.specs.declared.status.Status.TheVariants.{Done}
-use Rattle.ts_io.specs.Outside.{Files, file_at}
-use Rattle.ts_langfile.specs.Spelling.{spelling}
-use Rattle.ts_text.specs.Text.{IsText, BreaksAt}
-use Rattle.ts_front.specs.Compiled.{IsCompiled, IsRefusalLine}
+use Rattle.ts_io.specs.Outside.{Files}
 use Rattle.ts_turns.specs.Turns.{Spells}
-use Rattle.ts_session.specs.Grammars.{Builds}
-use Rattle.ts_session.specs.Replays.{Replays, IsReplayable}
-use Rattle.ts_top.specs.Answer.{Parses, Compiles, AsksReplay, Has, IsAbsent, Judged, large_grammar, refused_grammar, too_large, no_text, parsed, Compiled, large, refused, written, Answers, usage, absent, judged, lacking, compiled, replayed, IsClean, IsCompilable, CanReplay}
+use Rattle.ts_session.specs.Replays.{Replays}
+use Rattle.ts_session.specs.Sessions.{IsClear}
+use Rattle.ts_top.specs.Answer.{Parses, Compiles, AsksReplay, Schedule, in_order, AsksSession, PlainAnswers, SessionAnswers, Answers, usage, plain, played, IsUsage, IsClean, IsCompilable, CanPlay}
+use Rattle.ts_top.proofs.PlainLemmas.{FileLaws, AreOne, plain_once, plain_compiled, plain_is_done, plain_compilable, plain_asks}
 
--- what is known of the bytes of files, of the word of an order, and of replays
-pub record Laws : Type 0 where
-  pub breaks_once : (bytes : Bytes) (m n : ℕ) → BreaksAt bytes m → BreaksAt bytes n → m ≡ n
-  pub whole : (bytes : Bytes) (n : ℕ) → IsText bytes → BreaksAt bytes n → ⊥
-  pub compiled_once : (w a b : Bytes) → IsCompiled w a → IsCompiled w b → a ≡ b
-  pub line_once : (w a b : Bytes) → IsRefusalLine w a → IsRefusalLine w b → a ≡ b
-  pub line_or_compiled : (w a b : Bytes) → IsRefusalLine w a → IsCompiled w b → ⊥
-  pub spelled_once : (word : Bytes) (a b : List ℕ) → Spells word a → Spells word b → a ≡ b
-  pub replay_status_once : (files : Files) (grammar script : Bytes) (order : List ℕ) (s t : Status) (b c : Bytes) → Replays files grammar script order s b → Replays files grammar script order t c → s ≡ t
-  pub replay_bytes_once : (files : Files) (grammar script : Bytes) (order : List ℕ) (s t : Status) (b c : Bytes) → Replays files grammar script order s b → Replays files grammar script order t c → (s ≡ Done → ⊥) → b ≡ c
-
--- one status, and one list of bytes but where a text was parsed or a script was run
-pub record AreOne (s t : Status) (b c : Bytes) : Type 0 where
-  pub status : s ≡ t
-  pub bytes : (s ≡ Done → ⊥) → b ≡ c
-
--- ---- words and files
-
-parses_once : (words : List Bytes) (grammar text other_grammar other_text : Bytes) → Parses words grammar text → Parses words other_grammar other_text → (grammar ≡ other_grammar) × (text ≡ other_text)
-parses_once words grammar text other_grammar other_text p q =
-    let e : codes "parse" ∷ grammar ∷ text ∷ [] ≡ codes "parse" ∷ other_grammar ∷ other_text ∷ [] = sym p ∙ q in
-    let first : grammar ≡ other_grammar = cc in
-    let second : text ≡ other_text = cc in
-    (first, second)
-
-compiles_once : (words : List Bytes) (path other : Bytes) → Compiles words path → Compiles words other → path ≡ other
-compiles_once words path other p q =
-    let e : codes "compile" ∷ path ∷ [] ≡ codes "compile" ∷ other ∷ [] = sym p ∙ q in
-    let first : path ≡ other = cc in
-    first
-
--- words do not ask for both
-one_form : (words : List Bytes) (g t path : Bytes) → Parses words g t → Compiles words path → ⊥
-one_form words g t path p q =
-    let e : length (codes "parse" ∷ g ∷ t ∷ []) ≡ length (codes "compile" ∷ path ∷ []) = ap length (sym p ∙ q) in
-    let never : ⊥ = omega (arith, e) in
-    never
+-- ---- words
 
 parse_or_replay : (words : List Bytes) (g t grammar script : Bytes) (order : List ℕ) → Parses words g t → AsksReplay words grammar script order → ⊥
 parse_or_replay words g t grammar script order p a =
@@ -65,223 +25,107 @@ compile_or_replay words path grammar script order p a =
     let never : ⊥ = omega (arith, e) in
     never
 
-file_once : (files : Files) (p q a b : Bytes) → p ≡ q → file_at files p ≡ Some a → file_at files q ≡ Some b → a ≡ b
-file_once files p q a b e x y =
-    let both : Some a ≡ Some b = sym x ∙ ap (file_at files) e ∙ y in
-    let first : a ≡ b = cc in
-    first
+pub parse_or_play : (words : List Bytes) (g t grammar script : Bytes) (schedule : Schedule) → Parses words g t → AsksSession words grammar script schedule → ⊥
+parse_or_play words g t grammar script (in_order order) p a = parse_or_replay words g t grammar script order p a
 
-none_there : {X : Type 0} (x : X) (o : Option X) → o ≡ None → o ≡ Some x → ⊥
-none_there x o n s = let never : ⊥ = cc in never
+pub compile_or_play : (words : List Bytes) (path grammar script : Bytes) (schedule : Schedule) → Compiles words path → AsksSession words grammar script schedule → ⊥
+compile_or_play words path grammar script (in_order order) p a = compile_or_replay words path grammar script order p a
 
-pub absent_or_there : (files : Files) (words : List Bytes) (path g t p : Bytes) → IsAbsent files words path → Has files words g t p → ⊥
-absent_or_there files words path g t p a h =
-    let same = parses_once words a.grammar_path a.text_path h.grammar_path p a.parses h.parses in
-    elim a.first [
-      | inl no_grammar ↦ none_there g (file_at files h.grammar_path) (sym (ap (file_at files) same.0) ∙ no_grammar.0) h.grammar_is
-      | inr no_file ↦ none_there t (file_at files p) (sym (ap (file_at files) same.1) ∙ no_file.2) h.text_is
-    ]
+plain_or_usage : (files : Files) (words : List Bytes) (s : Status) (b : Bytes) → PlainAnswers files words s b → IsUsage words → ⊥
+plain_or_usage files words s b a u = plain_asks ⊥ files words s b a u.no_parse u.no_compile
 
-absent_once : (files : Files) (words : List Bytes) (path other : Bytes) → IsAbsent files words path → IsAbsent files words other → path ≡ other
-absent_once files words path other a c =
-    let same = parses_once words a.grammar_path a.text_path c.grammar_path c.text_path a.parses c.parses in
-    elim a.first [
-      | inl missing ↦ elim c.first [
-        | inl also ↦ missing.1 ∙ same.0 ∙ sym also.1
-        | inr file ↦ absurd (none_there file.0 (file_at files c.grammar_path) (sym (ap (file_at files) same.0) ∙ missing.0) file.1)
-      ]
-      | inr here ↦ elim c.first [
-        | inl also ↦ absurd (none_there here.0 (file_at files a.grammar_path) (ap (file_at files) same.0 ∙ also.0) here.1)
-        | inr file ↦ here.3 ∙ same.1 ∙ sym file.3
-      ]
-    ]
+plain_or_play : (files : Files) (words : List Bytes) (s : Status) (b grammar script : Bytes) (schedule : Schedule) → PlainAnswers files words s b → AsksSession words grammar script schedule → ⊥
+plain_or_play files words s b grammar script schedule a asks =
+    plain_asks ⊥ files words s b a (λ g t p. parse_or_play words g t grammar script schedule p asks) (λ path c. compile_or_play words path grammar script schedule c asks)
 
--- ---- what a grammar and a text come to
+-- words ask for one session
+asks_replay_once : (words : List Bytes) (g c g2 c2 : Bytes) (o o2 : List ℕ) → ((word : Bytes) (a b : List ℕ) → Spells word a → Spells word b → a ≡ b)
+    → AsksReplay words g c o → AsksReplay words g2 c2 o2 → (g ≡ g2) × (c ≡ c2) × (o ≡ o2)
+asks_replay_once words g c g2 c2 o o2 spelled_once a d =
+    let e : codes "replay" ∷ g ∷ c ∷ a.word ∷ [] ≡ codes "replay" ∷ g2 ∷ c2 ∷ d.word ∷ [] = sym a.words_are ∙ d.words_are in
+    let grammar : g ≡ g2 = cc in
+    let script : c ≡ c2 = cc in
+    let word : a.word ≡ d.word = cc in
+    (grammar, script, spelled_once a.word o o2 a.spells (subst (λ (w : Bytes). Spells w o2) (sym word) d.spells))
 
-builds_compiled : (g : Bytes) (f : FlatGrammar) → Builds g f → IsCompiled g (spelling f)
-builds_compiled g f b = record { form = f; is_form = b.is_form; table = b.table; bytes_are = refl }
+asks_once : (words : List Bytes) (g c g2 c2 : Bytes) (s s2 : Schedule) → ((word : Bytes) (a b : List ℕ) → Spells word a → Spells word b → a ≡ b)
+    → AsksSession words g c s → AsksSession words g2 c2 s2 → (g ≡ g2) × (c ≡ c2) × (s ≡ s2)
+asks_once words g c g2 c2 (in_order o) (in_order o2) spelled_once a d =
+    let e = asks_replay_once words g c g2 c2 o o2 spelled_once a d in
+    (e.0, e.1, ap in_order e.2)
 
-module _ (laws : Laws) where
-  refused_or_builds : (g line : Bytes) (f : FlatGrammar) → IsRefusalLine g line → Builds g f → ⊥
-  refused_or_builds g line f r b = laws.line_or_compiled g line (spelling f) r (builds_compiled g f b)
+module _ (called : List Bytes) (accepts : ℕ → Bytes → Type 0) where
+  -- what is known of the bytes of files, of the word of an order, and of replays
+  pub record Laws : Type 0 where
+    pub files : FileLaws
+    pub spelled_once : (word : Bytes) (a b : List ℕ) → Spells word a → Spells word b → a ≡ b
+    pub replay_status : (files : Files) (grammar script : Bytes) (order : List ℕ) (s t : Status) (b c : Bytes) → Replays called accepts files grammar script order s b → Replays called accepts files grammar script order t c → s ≡ t
+    pub replay_bytes : (files : Files) (grammar script : Bytes) (order : List ℕ) (s t : Status) (b c : Bytes) → Replays called accepts files grammar script order s b → Replays called accepts files grammar script order t c → (s ≡ Done → ⊥) → b ≡ c
 
-  judged_once : (g t p : Bytes) (s s2 : Status) (b b2 : Bytes) → Judged g t p s b → Judged g t p s2 b2 → AreOne s s2 b b2
-  judged_once g t p _ _ _ _ (large_grammar l) (large_grammar k) = record { status = refl; bytes = λ n. refl }
-  judged_once g t p _ _ _ _ (large_grammar l) (refused_grammar line k r) = absurd (omega (arith, l, k))
-  judged_once g t p _ _ _ _ (large_grammar l) (too_large f k m) = let w = k.small in absurd (omega (arith, l, w))
-  judged_once g t p _ _ _ _ (large_grammar l) (no_text f place k m) = let w = k.small in absurd (omega (arith, l, w))
-  judged_once g t p _ _ _ _ (large_grammar l) (parsed f o k m n) = let w = k.small in absurd (omega (arith, l, w))
-  judged_once g t p _ _ _ _ (refused_grammar line k r) (large_grammar l) = absurd (omega (arith, l, k))
-  judged_once g t p _ _ _ _ (refused_grammar line k r) (refused_grammar other l q) = record { status = refl; bytes = λ n. laws.line_once g line other r q }
-  judged_once g t p _ _ _ _ (refused_grammar line k r) (too_large f b m) = absurd (refused_or_builds g line f r b)
-  judged_once g t p _ _ _ _ (refused_grammar line k r) (no_text f place b m) = absurd (refused_or_builds g line f r b)
-  judged_once g t p _ _ _ _ (refused_grammar line k r) (parsed f o b m n) = absurd (refused_or_builds g line f r b)
-  judged_once g t p _ _ _ _ (too_large f k m) (large_grammar l) = let w = k.small in absurd (omega (arith, l, w))
-  judged_once g t p _ _ _ _ (too_large f b m) (refused_grammar line k r) = absurd (refused_or_builds g line f r b)
-  judged_once g t p _ _ _ _ (too_large f b m) (too_large h c n) = record { status = refl; bytes = λ n. refl }
-  judged_once g t p _ _ _ _ (too_large f b m) (no_text h place c n) = let w = n.within in absurd (omega (arith, m, w))
-  judged_once g t p _ _ _ _ (too_large f b m) (parsed h o c n q) = let w = n.within in absurd (omega (arith, m, w))
-  judged_once g t p _ _ _ _ (no_text f place k m) (large_grammar l) = let w = k.small in absurd (omega (arith, l, w))
-  judged_once g t p _ _ _ _ (no_text f place b m) (refused_grammar line k r) = absurd (refused_or_builds g line f r b)
-  judged_once g t p _ _ _ _ (no_text f place b m) (too_large h c n) = let w = m.within in absurd (omega (arith, n, w))
-  judged_once g t p _ _ _ _ (no_text f place b m) (no_text h other c n) = record { status = refl; bytes = λ k. ap (broken_line p) (laws.breaks_once t place other m n) }
-  judged_once g t p _ _ _ _ (no_text f place b m) (parsed h o c n q) = absurd (laws.whole t place n m)
-  judged_once g t p _ _ _ _ (parsed f o k m n) (large_grammar l) = let w = k.small in absurd (omega (arith, l, w))
-  judged_once g t p _ _ _ _ (parsed f o b m n) (refused_grammar line k r) = absurd (refused_or_builds g line f r b)
-  judged_once g t p _ _ _ _ (parsed f o b m n) (too_large h c q) = let w = m.within in absurd (omega (arith, q, w))
-  judged_once g t p _ _ _ _ (parsed f o b m n) (no_text h place c q) = absurd (laws.whole t place m q)
-  judged_once g t p _ _ _ _ (parsed f o b m n) (parsed h q c k r) = record { status = refl; bytes = λ z. absurd (z refl) }
+  module _ (laws : Laws) where
+    session_once : (files : Files) (g c : Bytes) (schedule : Schedule) (s s2 : Status) (b b2 : Bytes) → SessionAnswers called accepts files g c schedule s b → SessionAnswers called accepts files g c schedule s2 b2 → AreOne s s2 b b2
+    session_once files g c (in_order o) s s2 b b2 j k = record { status = laws.replay_status files g c o s s2 b b2 j k; bytes = laws.replay_bytes files g c o s s2 b b2 j k }
 
-  has_once : (files : Files) (words : List Bytes) (g t p g2 t2 p2 : Bytes) → Has files words g t p → Has files words g2 t2 p2 → (g ≡ g2) × (t ≡ t2) × (p ≡ p2)
-  has_once files words g t p g2 t2 p2 h k =
-      let e = parses_once words h.grammar_path p k.grammar_path p2 h.parses k.parses in
-      (file_once files h.grammar_path k.grammar_path g g2 e.0 h.grammar_is k.grammar_is, file_once files p p2 t t2 e.1 h.text_is k.text_is, e.1)
+    session_there : (files : Files) (words : List Bytes) (g c g2 c2 : Bytes) (o o2 : Schedule) (s s2 : Status) (b b2 : Bytes) → AsksSession words g c o → AsksSession words g2 c2 o2
+        → SessionAnswers called accepts files g c o s b → SessionAnswers called accepts files g2 c2 o2 s2 b2 → AreOne s s2 b b2
+    session_there files words g c g2 c2 o o2 s s2 b b2 a d j k =
+        let e = asks_once words g c g2 c2 o o2 laws.spelled_once a d in
+        let grammar : SessionAnswers called accepts files g c2 o2 s2 b2 = subst (λ (x : Bytes). SessionAnswers called accepts files x c2 o2 s2 b2) (sym e.0) k in
+        let script : SessionAnswers called accepts files g c o2 s2 b2 = subst (λ (x : Bytes). SessionAnswers called accepts files g x o2 s2 b2) (sym e.1) grammar in
+        let schedule : SessionAnswers called accepts files g c o s2 b2 = subst (λ (x : Schedule). SessionAnswers called accepts files g c x s2 b2) (sym e.2) script in
+        session_once files g c o s s2 b b2 j schedule
 
-  judged_there : (files : Files) (words : List Bytes) (g t p g2 t2 p2 : Bytes) (s s2 : Status) (b b2 : Bytes) → Has files words g t p → Has files words g2 t2 p2
-      → Judged g t p s b → Judged g2 t2 p2 s2 b2 → AreOne s s2 b b2
-  judged_there files words g t p g2 t2 p2 s s2 b b2 h k j i =
-      let e = has_once files words g t p g2 t2 p2 h k in
-      let grammar : Judged g t2 p2 s2 b2 = subst (λ (x : Bytes). Judged x t2 p2 s2 b2) (sym e.0) i in
-      let text : Judged g t p2 s2 b2 = subst (λ (x : Bytes). Judged g x p2 s2 b2) (sym e.1) grammar in
-      let path : Judged g t p s2 b2 = subst (λ (x : Bytes). Judged g t x s2 b2) (sym e.2) text in
-      judged_once g t p s s2 b b2 j path
+    -- ---- answers
 
-  -- ---- compiling
+    once : (files : Files) (words : List Bytes) (s s2 : Status) (b b2 : Bytes) → Answers called accepts files words s b → Answers called accepts files words s2 b2 → AreOne s s2 b b2
+    once files words _ _ _ _ (usage u) (usage v) = record { status = refl; bytes = λ n. refl }
+    once files words _ _ _ _ (usage u) (plain s b a) = absurd (plain_or_usage files words s b a u)
+    once files words _ _ _ _ (usage u) (played g c o s b asks j) = absurd (u.no_session g c o asks)
+    once files words _ _ _ _ (plain s b a) (usage v) = absurd (plain_or_usage files words s b a v)
+    once files words _ _ _ _ (plain s b a) (plain s2 b2 d) = plain_once laws.files files words s s2 b b2 a d
+    once files words _ _ _ _ (plain s b a) (played g c o s2 b2 asks j) = absurd (plain_or_play files words s b g c o a asks)
+    once files words _ _ _ _ (played g c o s b asks j) (usage v) = absurd (v.no_session g c o asks)
+    once files words _ _ _ _ (played g c o s b asks j) (plain s2 b2 d) = absurd (plain_or_play files words s2 b2 g c o d asks)
+    once files words _ _ _ _ (played g c o s b asks j) (played g2 c2 o2 s2 b2 asks2 k) = session_there files words g c g2 c2 o o2 s s2 b b2 asks asks2 j k
 
-  compiled_by : (w : Bytes) (s s2 : Status) (b b2 : Bytes) → Compiled w s b → Compiled w s2 b2 → (s ≡ s2) × (b ≡ b2)
-  compiled_by w _ _ _ _ (large l) (large k) = (refl, refl)
-  compiled_by w _ _ _ _ (large l) (refused line k r) = absurd (omega (arith, l, k))
-  compiled_by w _ _ _ _ (large l) (written bytes k r) = absurd (omega (arith, l, k))
-  compiled_by w _ _ _ _ (refused line k r) (large l) = absurd (omega (arith, l, k))
-  compiled_by w _ _ _ _ (refused line k r) (refused other l q) = (refl, laws.line_once w line other r q)
-  compiled_by w _ _ _ _ (refused line k r) (written bytes l q) = absurd (laws.line_or_compiled w line bytes r q)
-  compiled_by w _ _ _ _ (written bytes k r) (large l) = absurd (omega (arith, l, k))
-  compiled_by w _ _ _ _ (written bytes k r) (refused line l q) = absurd (laws.line_or_compiled w line bytes q r)
-  compiled_by w _ _ _ _ (written bytes k r) (written other l q) = (refl, laws.compiled_once w bytes other r q)
+    pub status_once : (files : Files) (words : List Bytes) (s s2 : Status) (b b2 : Bytes) → Answers called accepts files words s b → Answers called accepts files words s2 b2 → s ≡ s2
+    status_once files words s s2 b b2 a c = (once files words s s2 b b2 a c).status
 
-  compiled_there : (files : Files) (words : List Bytes) (p q w v : Bytes) (s s2 : Status) (b b2 : Bytes) → Compiles words p → Compiles words q → file_at files p ≡ Some w → file_at files q ≡ Some v
-      → Compiled w s b → Compiled v s2 b2 → (s ≡ s2) × (b ≡ b2)
-  compiled_there files words p q w v s s2 b b2 c d x y j k =
-      let e : w ≡ v = file_once files p q w v (compiles_once words p q c d) x y in
-      compiled_by w s s2 b b2 j (subst (λ (z : Bytes). Compiled z s2 b2) (sym e) k)
+    pub bytes_once : (files : Files) (words : List Bytes) (s s2 : Status) (b b2 : Bytes) → Answers called accepts files words s b → Answers called accepts files words s2 b2 → (s ≡ Done → ⊥) → b ≡ b2
+    bytes_once files words s s2 b b2 a c = (once files words s s2 b b2 a c).bytes
 
-  lacking_or_there : (files : Files) (words : List Bytes) (p q w : Bytes) → Compiles words p → Compiles words q → file_at files p ≡ None → file_at files q ≡ Some w → ⊥
-  lacking_or_there files words p q w c d x y = none_there w (file_at files q) (sym (ap (file_at files) (compiles_once words p q c d)) ∙ x) y
+    -- where words ask to parse or to compile, an answer is a plain one
+    plain_of : (files : Files) (words : List Bytes) (s : Status) (b : Bytes) → (IsUsage words → ⊥) → ((g c : Bytes) (o : Schedule) → AsksSession words g c o → ⊥) → Answers called accepts files words s b → PlainAnswers files words s b
+    plain_of files words _ _ form no_session (usage u) = absurd (form u)
+    plain_of files words _ _ form no_session (plain s b a) = a
+    plain_of files words _ _ form no_session (played g c o s b asks j) = absurd (no_session g c o asks)
 
-  -- ---- replaying
+    compile_plain : (files : Files) (words : List Bytes) (path : Bytes) (s : Status) (b : Bytes) → Compiles words path → Answers called accepts files words s b → PlainAnswers files words s b
+    compile_plain files words path s b c a = plain_of files words s b (λ u. u.no_compile path c) (λ g t o asks. compile_or_play words path g t o c asks) a
 
-  asks_once : (words : List Bytes) (g c g2 c2 : Bytes) (o o2 : List ℕ) → AsksReplay words g c o → AsksReplay words g2 c2 o2 → (g ≡ g2) × (c ≡ c2) × (o ≡ o2)
-  asks_once words g c g2 c2 o o2 a d =
-      let e : codes "replay" ∷ g ∷ c ∷ a.word ∷ [] ≡ codes "replay" ∷ g2 ∷ c2 ∷ d.word ∷ [] = sym a.words_are ∙ d.words_are in
-      let grammar : g ≡ g2 = cc in
-      let script : c ≡ c2 = cc in
-      let word : a.word ≡ d.word = cc in
-      (grammar, script, laws.spelled_once a.word o o2 a.spells (subst (λ (w : Bytes). Spells w o2) (sym word) d.spells))
+    parse_plain : (files : Files) (words : List Bytes) (g t : Bytes) (s : Status) (b : Bytes) → Parses words g t → Answers called accepts files words s b → PlainAnswers files words s b
+    parse_plain files words g t s b p a = plain_of files words s b (λ u. u.no_parse g t p) (λ g2 c o asks. parse_or_play words g t g2 c o p asks) a
 
-  replayed_there : (files : Files) (words : List Bytes) (g c g2 c2 : Bytes) (o o2 : List ℕ) (s s2 : Status) (b b2 : Bytes) → AsksReplay words g c o → AsksReplay words g2 c2 o2
-      → Replays files g c o s b → Replays files g2 c2 o2 s2 b2 → AreOne s s2 b b2
-  replayed_there files words g c g2 c2 o o2 s s2 b b2 a d j k =
-      let e = asks_once words g c g2 c2 o o2 a d in
-      let grammar : Replays files g c2 o2 s2 b2 = subst (λ (x : Bytes). Replays files x c2 o2 s2 b2) (sym e.0) k in
-      let script : Replays files g c o2 s2 b2 = subst (λ (x : Bytes). Replays files g x o2 s2 b2) (sym e.1) grammar in
-      let order : Replays files g c o s2 b2 = subst (λ (x : List ℕ). Replays files g c x s2 b2) (sym e.2) script in
-      record { status = laws.replay_status_once files g c o s s2 b b2 j order; bytes = laws.replay_bytes_once files g c o s s2 b b2 j order }
+    pub compiled_bytes_once : (files : Files) (words : List Bytes) (path : Bytes) (s s2 : Status) (b b2 : Bytes) → Compiles words path → Answers called accepts files words s b → Answers called accepts files words s2 b2 → b ≡ b2
+    compiled_bytes_once files words path s s2 b b2 c a d = plain_compiled laws.files files words path s s2 b b2 c (compile_plain files words path s b c a) (compile_plain files words path s2 b2 c d)
 
-  -- ---- answers
+    -- ---- where nothing stands in the way
 
-  once : (files : Files) (words : List Bytes) (s s2 : Status) (b b2 : Bytes) → Answers files words s b → Answers files words s2 b2 → AreOne s s2 b b2
-  once files words _ _ _ _ (usage u) (usage v) = record { status = refl; bytes = λ n. refl }
-  once files words _ _ _ _ (usage u) (absent path a) = absurd (u.no_parse a.grammar_path a.text_path a.parses)
-  once files words _ _ _ _ (usage u) (judged g t p s b h j) = absurd (u.no_parse h.grammar_path p h.parses)
-  once files words _ _ _ _ (usage u) (lacking path c n) = absurd (u.no_compile path c)
-  once files words _ _ _ _ (usage u) (compiled path w s b c at k) = absurd (u.no_compile path c)
-  once files words _ _ _ _ (usage u) (replayed g c o s b r k) = absurd (u.no_replay g c o r)
-  once files words _ _ _ _ (absent path a) (usage v) = absurd (v.no_parse a.grammar_path a.text_path a.parses)
-  once files words _ _ _ _ (absent path a) (absent other c) = record { status = refl; bytes = λ n. ap absent_line (absent_once files words path other a c) }
-  once files words _ _ _ _ (absent path a) (judged g t p s b h j) = absurd (absent_or_there files words path g t p a h)
-  once files words _ _ _ _ (absent path a) (lacking other c n) = absurd (one_form words a.grammar_path a.text_path other a.parses c)
-  once files words _ _ _ _ (absent path a) (compiled other w s b c at k) = absurd (one_form words a.grammar_path a.text_path other a.parses c)
-  once files words _ _ _ _ (absent path a) (replayed g c o s b r k) = absurd (parse_or_replay words a.grammar_path a.text_path g c o a.parses r)
-  once files words _ _ _ _ (judged g t p s b h j) (usage v) = absurd (v.no_parse h.grammar_path p h.parses)
-  once files words _ _ _ _ (judged g t p s b h j) (absent path a) = absurd (absent_or_there files words path g t p a h)
-  once files words _ _ _ _ (judged g t p s b h j) (judged g2 t2 p2 s2 b2 k i) = judged_there files words g t p g2 t2 p2 s s2 b b2 h k j i
-  once files words _ _ _ _ (judged g t p s b h j) (lacking other c n) = absurd (one_form words h.grammar_path p other h.parses c)
-  once files words _ _ _ _ (judged g t p s b h j) (compiled other w s2 b2 c at k) = absurd (one_form words h.grammar_path p other h.parses c)
-  once files words _ _ _ _ (judged g t p s b h j) (replayed g2 c o s2 b2 r k) = absurd (parse_or_replay words h.grammar_path p g2 c o h.parses r)
-  once files words _ _ _ _ (lacking path c n) (usage v) = absurd (v.no_compile path c)
-  once files words _ _ _ _ (lacking path c n) (absent other a) = absurd (one_form words a.grammar_path a.text_path path a.parses c)
-  once files words _ _ _ _ (lacking path c n) (judged g t p s b h j) = absurd (one_form words h.grammar_path p path h.parses c)
-  once files words _ _ _ _ (lacking path c n) (lacking other d m) = record { status = refl; bytes = λ z. ap absent_line (compiles_once words path other c d) }
-  once files words _ _ _ _ (lacking path c n) (compiled other w s b d at k) = absurd (lacking_or_there files words path other w c d n at)
-  once files words _ _ _ _ (lacking path c n) (replayed g d o s b r k) = absurd (compile_or_replay words path g d o c r)
-  once files words _ _ _ _ (compiled path w s b c at k) (usage v) = absurd (v.no_compile path c)
-  once files words _ _ _ _ (compiled path w s b c at k) (absent other a) = absurd (one_form words a.grammar_path a.text_path path a.parses c)
-  once files words _ _ _ _ (compiled path w s b c at k) (judged g t p s2 b2 h j) = absurd (one_form words h.grammar_path p path h.parses c)
-  once files words _ _ _ _ (compiled path w s b c at k) (lacking other d n) = absurd (lacking_or_there files words other path w d c n at)
-  once files words _ _ _ _ (compiled path w s b c at k) (compiled other v s2 b2 d there m) =
-      let e = compiled_there files words path other w v s s2 b b2 c d at there k m in
-      record { status = e.0; bytes = λ n. e.1 }
-  once files words _ _ _ _ (compiled path w s b c at k) (replayed g d o s2 b2 r m) = absurd (compile_or_replay words path g d o c r)
-  once files words _ _ _ _ (replayed g c o s b r k) (usage v) = absurd (v.no_replay g c o r)
-  once files words _ _ _ _ (replayed g c o s b r k) (absent path a) = absurd (parse_or_replay words a.grammar_path a.text_path g c o a.parses r)
-  once files words _ _ _ _ (replayed g c o s b r k) (judged g2 t p s2 b2 h j) = absurd (parse_or_replay words h.grammar_path p g c o h.parses r)
-  once files words _ _ _ _ (replayed g c o s b r k) (lacking path d n) = absurd (compile_or_replay words path g c o d r)
-  once files words _ _ _ _ (replayed g c o s b r k) (compiled path w s2 b2 d at m) = absurd (compile_or_replay words path g c o d r)
-  once files words _ _ _ _ (replayed g c o s b r k) (replayed g2 c2 o2 s2 b2 q m) = replayed_there files words g c g2 c2 o o2 s s2 b b2 r q k m
+    pub clean_is_done : (files : Files) (words : List Bytes) (s : Status) (b : Bytes) → IsClean files words → Answers called accepts files words s b → s ≡ Done
+    clean_is_done files words s b c a = plain_is_done laws.files files words s b c (parse_plain files words c.has.grammar_path c.path s b c.has.parses a)
 
-  pub status_once : (files : Files) (words : List Bytes) (s s2 : Status) (b b2 : Bytes) → Answers files words s b → Answers files words s2 b2 → s ≡ s2
-  status_once files words s s2 b b2 a c = (once files words s s2 b b2 a c).status
+    pub compilable_is_done : (files : Files) (words : List Bytes) (s : Status) (b : Bytes) → IsCompilable files words → Answers called accepts files words s b → s ≡ Done
+    compilable_is_done files words s b c a = plain_compilable laws.files files words s b c (compile_plain files words c.path s b c.compiles a)
 
-  pub bytes_once : (files : Files) (words : List Bytes) (s s2 : Status) (b b2 : Bytes) → Answers files words s b → Answers files words s2 b2 → (s ≡ Done → ⊥) → b ≡ b2
-  bytes_once files words s s2 b b2 a c = (once files words s s2 b b2 a c).bytes
+    module _ (replayed : (files : Files) (grammar script : Bytes) (order : List ℕ) (s : Status) (b : Bytes) → IsClear called files grammar script → Replays called accepts files grammar script order s b → s ≡ Done) where
+      session_is_done : (files : Files) (g c : Bytes) (schedule : Schedule) (s : Status) (b : Bytes) → IsClear called files g c → SessionAnswers called accepts files g c schedule s b → s ≡ Done
+      session_is_done files g c (in_order o) s b clear j = replayed files g c o s b clear j
 
-  pub compiled_bytes_once : (files : Files) (words : List Bytes) (path : Bytes) (s s2 : Status) (b b2 : Bytes) → Compiles words path → Answers files words s b → Answers files words s2 b2 → b ≡ b2
-  compiled_bytes_once files words path s s2 b b2 c a d = by s s2 b b2 a d (once files words s s2 b b2 a d)
-    where
-      by : (s s2 : Status) (b b2 : Bytes) → Answers files words s b → Answers files words s2 b2 → AreOne s s2 b b2 → b ≡ b2
-      by _ s2 _ b2 (usage u) d o = absurd (u.no_compile path c)
-      by _ s2 _ b2 (absent other a) d o = absurd (one_form words a.grammar_path a.text_path path a.parses c)
-      by _ s2 _ b2 (judged g t p s b h j) d o = absurd (one_form words h.grammar_path p path h.parses c)
-      by _ s2 _ b2 (lacking other k n) d o = o.bytes (λ e. cc)
-      by _ s2 _ b2 (replayed g t order s b r j) d o = absurd (compile_or_replay words path g t order c r)
-      by _ _ _ _ (compiled p w s b k at j) (usage u) o = absurd (u.no_compile path c)
-      by _ _ _ _ (compiled p w s b k at j) (absent other a) o = absurd (one_form words a.grammar_path a.text_path path a.parses c)
-      by _ _ _ _ (compiled p w s b k at j) (judged g t q s2 b2 h i) o = absurd (one_form words h.grammar_path q path h.parses c)
-      by _ _ _ _ (compiled p w s b k at j) (lacking other l n) o = absurd (lacking_or_there files words other p w l k n at)
-      by _ _ _ _ (compiled p w s b k at j) (compiled q v s2 b2 l there i) o = (compiled_there files words p q w v s s2 b b2 k l at there j i).1
-      by _ _ _ _ (compiled p w s b k at j) (replayed g t order s2 b2 r i) o = absurd (compile_or_replay words path g t order c r)
-
-  -- ---- where nothing stands in the way
-
-  clean_judged : (g t p : Bytes) (s : Status) (b : Bytes) (f : FlatGrammar) → Builds g f → IsText t → Judged g t p s b → s ≡ Done
-  clean_judged g t p _ _ f b is (large_grammar l) = let w = b.small in absurd (omega (arith, l, w))
-  clean_judged g t p _ _ f b is (refused_grammar line k r) = absurd (refused_or_builds g line f r b)
-  clean_judged g t p _ _ f b is (too_large h c m) = let w = is.within in absurd (omega (arith, m, w))
-  clean_judged g t p _ _ f b is (no_text h place c m) = absurd (laws.whole t place is m)
-  clean_judged g t p _ _ f b is (parsed h o c m n) = refl
-
-  pub clean_is_done : (files : Files) (words : List Bytes) (s : Status) (b : Bytes) → IsClean files words → Answers files words s b → s ≡ Done
-  clean_is_done files words _ _ c (usage u) = absurd (u.no_parse c.has.grammar_path c.path c.has.parses)
-  clean_is_done files words _ _ c (absent path a) = absurd (absent_or_there files words path c.grammar c.text c.path a c.has)
-  clean_is_done files words _ _ c (judged g t p s b h j) =
-      let e = has_once files words c.grammar c.text c.path g t p c.has h in
-      clean_judged g t p s b c.form (subst (λ (x : Bytes). Builds x c.form) e.0 c.builds) (subst IsText e.1 c.is_text) j
-  clean_is_done files words _ _ c (lacking path d n) = absurd (one_form words c.has.grammar_path c.path path c.has.parses d)
-  clean_is_done files words _ _ c (compiled path w s b d at k) = absurd (one_form words c.has.grammar_path c.path path c.has.parses d)
-  clean_is_done files words _ _ c (replayed g d o s b r k) = absurd (parse_or_replay words c.has.grammar_path c.path g d o c.has.parses r)
-
-  pub compilable_is_done : (files : Files) (words : List Bytes) (s : Status) (b : Bytes) → IsCompilable files words → Answers files words s b → s ≡ Done
-  compilable_is_done files words s b c a = status_once files words s Done b c.bytes a (compiled c.path c.file Done c.bytes c.compiles c.file_is (written c.bytes c.small c.is_compiled))
-
-  module _ (replayable_is_done : (files : Files) (grammar script : Bytes) (order : List ℕ) (s : Status) (b : Bytes) → IsReplayable files grammar script → Replays files grammar script order s b → s ≡ Done) where
-    pub replay_is_done : (files : Files) (words : List Bytes) (s : Status) (b : Bytes) → CanReplay files words → Answers files words s b → s ≡ Done
-    replay_is_done files words _ _ c (usage u) = absurd (u.no_replay c.grammar c.script c.order c.asks)
-    replay_is_done files words _ _ c (absent path a) = absurd (parse_or_replay words a.grammar_path a.text_path c.grammar c.script c.order a.parses c.asks)
-    replay_is_done files words _ _ c (judged g t p s b h j) = absurd (parse_or_replay words h.grammar_path p c.grammar c.script c.order h.parses c.asks)
-    replay_is_done files words _ _ c (lacking path d n) = absurd (compile_or_replay words path c.grammar c.script c.order d c.asks)
-    replay_is_done files words _ _ c (compiled path w s b d at k) = absurd (compile_or_replay words path c.grammar c.script c.order d c.asks)
-    replay_is_done files words _ _ c (replayed g t o s b r k) =
-        let e = asks_once words c.grammar c.script g t c.order o c.asks r in
-        let grammar : IsReplayable files g c.script = subst (λ (x : Bytes). IsReplayable files x c.script) e.0 c.replayable in
-        let both : IsReplayable files g t = subst (λ (x : Bytes). IsReplayable files g x) e.1 grammar in
-        replayable_is_done files g t o s b both k
+      pub play_is_done : (files : Files) (words : List Bytes) (s : Status) (b : Bytes) → CanPlay called files words → Answers called accepts files words s b → s ≡ Done
+      play_is_done files words _ _ c (usage u) = absurd (u.no_session c.grammar c.script c.schedule c.asks)
+      play_is_done files words _ _ c (plain s b a) = absurd (plain_or_play files words s b c.grammar c.script c.schedule a c.asks)
+      play_is_done files words _ _ c (played g t o s b asks k) =
+          let e = asks_once words c.grammar c.script g t c.schedule o laws.spelled_once c.asks asks in
+          let grammar : IsClear called files g c.script = subst (λ (x : Bytes). IsClear called files x c.script) e.0 c.clear in
+          let both : IsClear called files g t = subst (λ (x : Bytes). IsClear called files g x) e.1 grammar in
+          session_is_done files g t o s b both k

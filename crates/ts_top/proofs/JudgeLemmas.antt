@@ -22,7 +22,8 @@ use Rattle.ts_top.specs.Answer.{Judged, large_grammar, too_large, no_text, parse
 use Rattle.ts_front.specs.Compiled.{IsRefusalLine, IsUncompiled}
 use Rattle.ts_front.specs.declared.compile.Uncompiled.{Uncompiled}
 use Rattle.ts_front.specs.declared.compile.Uncompiled.TheVariants.{Refused}
-use Rattle.ts_top.specs.Stops.{AreRead, IsTextFault}
+use Rattle.ts_session.specs.Firsts.{IsTextFault}
+use Rattle.ts_top.specs.Stops.{AreRead}
 use Rattle.ts_session.specs.declared.answer.Answer.{Answer}
 use Rattle.ts_top.specs.declared.stop.Stop.{Stop}
 

@@ -16,8 +16,9 @@ use Rattle.ts_print.specs.Printed.{shown_outcome}
 use Rattle.ts_front.specs.Compiled.{IsCompiled, IsRefusalLine}
 use Rattle.ts_turns.specs.Turns.{Spells}
 use Rattle.ts_session.specs.Grammars.{Builds, size_line}
-use Rattle.ts_session.specs.Replays.{Replays, IsReplayable}
 use Rattle.ts_session.specs.Limits.{most_file_bytes, most_text_bytes}
+use Rattle.ts_session.specs.Replays.{Replays}
+use Rattle.ts_session.specs.Sessions.{IsClear, IsRegexRefusal}
 
 -- the words, as bytes
 abbrev pub texts : List (String Global) → List Bytes
@@ -39,12 +40,20 @@ pub record AsksReplay (words : List Bytes) (grammar script : Bytes) (order : Lis
   pub words_are : words ≡ codes "replay" ∷ grammar ∷ script ∷ word ∷ []
   pub spells : Spells word order
 
+-- How the steps of a script's clients are run: on one thread, in this order of their clients.
+pub data Schedule : Type 0 where
+  in_order : List ℕ → Schedule
+
+-- the words ask to run the script at a path by the grammar at another, on this schedule
+abbrev pub AsksSession : List Bytes → Bytes → Bytes → Schedule → Type 0
+AsksSession words grammar script (in_order order) = AsksReplay words grammar script order
+
 -- the words have none of the forms
 pub record IsUsage (words : List Bytes) : Type 0 where
   pub no_parse : (grammar text : Bytes) → Parses words grammar text → ⊥
   pub no_compile : (grammar : Bytes) → Compiles words grammar → ⊥
-  pub no_replay : (grammar script : Bytes) (order : List ℕ)
-      → AsksReplay words grammar script order → ⊥
+  pub no_session : (grammar script : Bytes) (schedule : Schedule)
+      → AsksSession words grammar script schedule → ⊥
 
 -- ---- what stands at the paths
 
@@ -95,22 +104,19 @@ pub data Compiled (file : Bytes) : Status → Bytes → Type 0 where
   written : (bytes : Bytes) → length file ≤ most_file_bytes → IsCompiled file bytes
       → Compiled file status.Done bytes
 
--- Words and files come to this status and these bytes. The words are judged first, then the files
--- are read, and then what they hold is judged.
-pub data Answers (files : Files) (words : List Bytes) : Status → Bytes → Type 0 where
-  usage : IsUsage words → Answers files words status.Usage usage_line
+-- What words that ask to parse or to compile, and the files, come to: the status and the bytes. The
+-- files are read first, and then what they hold is judged.
+pub data PlainAnswers (files : Files) (words : List Bytes) : Status → Bytes → Type 0 where
   absent : (path : Bytes) → IsAbsent files words path
-      → Answers files words status.Absent (absent_line path)
+      → PlainAnswers files words status.Absent (absent_line path)
   judged : (grammar text path : Bytes) (ends : Status) (bytes : Bytes)
       → Has files words grammar text path
-      → Judged grammar text path ends bytes → Answers files words ends bytes
+      → Judged grammar text path ends bytes → PlainAnswers files words ends bytes
   lacking : (path : Bytes) → Compiles words path → file_at files path ≡ None
-      → Answers files words status.Absent (absent_line path)
+      → PlainAnswers files words status.Absent (absent_line path)
   compiled : (path file : Bytes) (ends : Status) (bytes : Bytes) → Compiles words path
-      → file_at files path ≡ Some file → Compiled file ends bytes → Answers files words ends bytes
-  replayed : (grammar script : Bytes) (order : List ℕ) (ends : Status) (bytes : Bytes)
-      → AsksReplay words grammar script order → Replays files grammar script order ends bytes
-      → Answers files words ends bytes
+      → file_at files path ≡ Some file → Compiled file ends bytes
+      → PlainAnswers files words ends bytes
 
 -- Both files are there, the grammar has a parse table, and the text is one: nothing stands in the
 -- way of an outcome.
@@ -133,13 +139,46 @@ pub record IsCompilable (files : Files) (words : List Bytes) : Type 0 where
   pub bytes : Bytes
   pub is_compiled : IsCompiled file bytes
 
--- The words ask to replay a script, and nothing stands in the way of a run.
-pub record CanReplay (files : Files) (words : List Bytes) : Type 0 where
+-- ---- scripts
+
+-- The words ask to run a script, and nothing stands in the way of it.
+pub record CanPlay (called : List Bytes) (files : Files) (words : List Bytes) : Type 0 where
   pub grammar : Bytes
   pub script : Bytes
-  pub order : List ℕ
-  pub asks : AsksReplay words grammar script order
-  pub replayable : IsReplayable files grammar script
+  pub schedule : Schedule
+  pub asks : AsksSession words grammar script schedule
+  pub clear : IsClear called files grammar script
+
+module _ (called : List Bytes) (accepts : ℕ → Bytes → Type 0) where
+  -- What the files at the paths of a grammar and a script come to, where the steps are run on this
+  -- schedule: the status and the bytes.
+  abbrev pub SessionAnswers : Files → Bytes → Bytes → Schedule → Status → Bytes → Type 0
+  SessionAnswers files grammar script (in_order order) =
+      Replays called accepts files grammar script order
+
+  -- ---- words and files
+
+  -- Words and files come to this status and these bytes. The words are judged first, then the files
+  -- are read, and then what they hold is judged.
+  pub data Answers (files : Files) (words : List Bytes) : Status → Bytes → Type 0 where
+    usage : IsUsage words → Answers files words status.Usage usage_line
+    plain : (ends : Status) (bytes : Bytes) → PlainAnswers files words ends bytes
+        → Answers files words ends bytes
+    played : (grammar script : Bytes) (schedule : Schedule) (ends : Status) (bytes : Bytes)
+        → AsksSession words grammar script schedule
+        → SessionAnswers files grammar script schedule ends bytes → Answers files words ends bytes
+
+  -- What a call comes to: what the words and the files come to; or an expression in a query of the
+  -- script is refused, and the count of refusals rose. The list of expressions that were asked for
+  -- was `old`, and is `new`.
+  pub data ComesTo (files : Files) (words : List Bytes) (rose : Type 0) (old new : List Bytes)
+      : Status → Bytes → Type 0 where
+    answered : (ends : Status) (bytes : Bytes) → Answers files words ends bytes
+        → ComesTo files words rose old new ends bytes
+    unbuilt : (grammar script : Bytes) (schedule : Schedule) (line : Bytes)
+        → AsksSession words grammar script schedule → rose
+        → IsRegexRefusal called files grammar script old new line
+        → ComesTo files words rose old new status.Query line
 
 -- ---- what the sink is given
 
@@ -148,16 +187,15 @@ abbrev pub Told : Option Files → (Files → Type 0) → Type 0
 Told None claim = Unit {0}
 Told (Some files) claim = claim files
 
--- the new bytes are the old ones and then the answer's, at this status
-pub record Writes (files : Files) (words : List Bytes) (ends : Status)
-    (old new : Option Bytes) : Type 0 where
+-- the new bytes are the old ones and then bytes of which this holds
+pub record Writes (Is : Bytes → Type 0) (old new : Option Bytes) : Type 0 where
   pub bytes : Bytes
-  pub answers : Answers files words ends bytes
+  pub are : Is bytes
   pub appends : Appends old new bytes
 
--- the new bytes are the old ones and then a prefix of the answer's, at some status
-pub record WritesPrefix (files : Files) (words : List Bytes) (old new : Option Bytes) : Type 0 where
+-- the new bytes are the old ones and then a prefix of bytes of which this holds, at some status
+pub record WritesPrefix (Is : Status → Bytes → Type 0) (old new : Option Bytes) : Type 0 where
   pub ends : Status
   pub bytes : Bytes
-  pub answers : Answers files words ends bytes
+  pub are : Is ends bytes
   pub appends : AppendsPrefix old new bytes

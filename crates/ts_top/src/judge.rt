@@ -6,11 +6,12 @@ ghost use Rattle.ts_base.specs.Bytes.{Bytes};
 ghost use Rattle.ts_core.specs.declared.flat.FlatGrammar.{FlatGrammar as AnyForm};
 ghost use Rattle.ts_io.specs.Read.{AnswersFor, KeepsLimit};
 ghost use Rattle.ts_text.specs.Text.{IsText};
+ghost use Rattle.ts_session.specs.Firsts.{IsTextFault};
 ghost use Rattle.ts_session.specs.Grammars.{Builds};
-ghost use Rattle.ts_top.specs.Answer.{Judged};
 ghost use Rattle.ts_session.specs.Limits.{most_file_bytes, most_text_bytes};
 ghost use Rattle.ts_session.specs.Replays.{IsJudged};
-ghost use Rattle.ts_top.specs.Stops.{AreRead, IsTextFault};
+ghost use Rattle.ts_top.specs.Answer.{Judged};
+ghost use Rattle.ts_top.specs.Stops.{AreRead};
 ghost use Rattle.ts_top.specs.declared.stop.Stop.TheVariants.{Memory};
 
 use crate::compile::too_large;

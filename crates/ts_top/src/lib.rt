@@ -2,13 +2,16 @@
 #![tactic(auto)]
 
 mod compile;
+mod host;
 mod judge;
 mod laws;
 mod outcome;
+mod plain;
+mod play;
 mod program;
-mod replay;
 mod stop;
 
+pub use host::AsciiHost;
 pub use laws::{answers_once, clean_is_done};
 pub use program::run;
 pub use spec_output::Status;

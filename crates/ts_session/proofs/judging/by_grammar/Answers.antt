@@ -1,23 +1,43 @@
-use Rattle.std.proofs.Common.{◌≡◌, ℕ, List, Some, subst, string_bytes}
-use Rattle.spec_output.specs.declared.status.Status.TheVariants.{Grammar}
+use Rattle.std.proofs.Common.{◌≡◌, ◌∙◌, sym, ap, subst, refl, ℕ, ◌≤◌, ◌^◌, All, List, length, Some, None, string_bytes, arith}
+use Rattle.spec_output.specs.Faults.{absent_line}
+use Rattle.spec_output.specs.GrammarFaults.{limit_line}
+use Rattle.spec_output.specs.declared.status.Status.TheVariants.{Grammar, Query, Script, Absent, Text}
 use Rattle.ts_base.specs.Bytes.{Bytes}
+use Rattle.ts_core.specs.declared.flat.FlatGrammar.{FlatGrammar}
+use Rattle.ts_core.specs.declared.limits.Limited.TheVariants.{File}
 use Rattle.ts_front.specs.Compiled.{IsUncompiled}
-use Rattle.ts_io.specs.Outside.{Files}
+use Rattle.ts_io.specs.Outside.{Files, file_at}
 use Rattle.ts_io.specs.Read.{AnswersFor}
+use Rattle.ts_loading.specs.Loads.{AreQueries, HasCause, GrewByEach}
+use Rattle.ts_query_syntax.specs.Refusals.{HasRisen}
 use Rattle.ts_script.specs.Rules.{most_script_bytes}
-use Rattle.ts_session.specs.Replays.{ScriptJudged, FilesJudged, built, refused_grammar}
-use Rattle.ts_session.specs.declared.answer.Answer.{Answer}
-use Rattle.ts_session.proofs.JudgeLemmas.{moved, ok_then}
+use Rattle.ts_script.specs.Script.{IsScript, too_large}
+use Rattle.ts_script.specs.declared.fault.SFault.TheVariants.{Limit}
+use Rattle.ts_script.specs.declared.plan.Source.{Source}
+use Rattle.ts_session.specs.Documents.{IsMissing, IsRefused, AreOpened}
+use Rattle.ts_session.specs.Firsts.{IsFoundAt, AreFirsts, AreLookedAt, AreOpenings}
+use Rattle.ts_session.specs.Grammars.{Builds}
+use Rattle.ts_session.specs.Limits.{most_file_bytes}
+use Rattle.ts_session.specs.Opened.{IsOpened, HasRead}
+use Rattle.ts_session.specs.Refusals.{RefusesPlan, missing, no_text, no_script, large_grammar, no_grammar, grammar_absent, script_absent}
+use Rattle.ts_session.specs.Sessions.{IsAsked}
+use Rattle.ts_session.specs.declared.opened.Opened.{Opened}
+use Rattle.ts_session.proofs.FirstLemmas.{firsts_are_files}
+use Rattle.ts_session.proofs.JudgeLemmas.{moved, ok_then, over, no_memory}
+use Rattle.ts_session.proofs.OpenedLemmas.{refuses_bytes, refuses_script, refuses_plan, refused_as, not_loaded, exact_of, complete_of}
+use Rattle.ts_session.proofs.ScriptLemmas.{IsShort, queries_short, queries_few}
 use Rattle.ts_session.proofs.judging.by_grammar.Goals as goal
 
-pub returns-in-Ok-clause-answers : goal.returns-in-Ok-clause-answers
-returns-in-Ok-clause-answers g c =
+pub returns-in-Ok-clause-opened : goal.returns-in-Ok-clause-opened
+returns-in-Ok-clause-opened g c =
     ok_then c.by_table.result
-    (λ (a : Answer). (files : Files) (s : Bytes) → g.F.Folder.files c.args.folder.now ≡ Some files → AnswersFor (Some s) most_script_bytes c.args.script.now → ScriptJudged files c.in-Ok.table.grammar s c.args.order.now a.status a.bytes.items)
-    (λ (a : Answer). (files : Files) (s : Bytes) → g.F.Folder.files c.args.folder.now ≡ Some files → AnswersFor (Some s) most_script_bytes c.args.script.now → FilesJudged files c.args.grammar.now s c.args.order.now a.status a.bytes.items)
-    (λ a j. λ files s told answers. built c.in-Ok.table.grammar a.status a.bytes.items (record { small = c.requires; is_form = c.in-Ok.ensures.form; table = c.in-Ok.ensures.has }) (j files s told answers)) c.by_table.ensures.answers
+    (λ (o : Opened). (files : Files) (path other w s : Bytes) → g.F.Folder.files c.args.folder.now ≡ Some files → file_at files path ≡ Some w → Builds w c.in-Ok.table.grammar → file_at files other ≡ Some s → AnswersFor (Some s) most_script_bytes c.args.script.now
+    → IsOpened c.args.names.now files path other (HasRisen (g.P.Patterns.refusals c.args.patterns.now) (g.P.Patterns.refusals c.by_table.new.patterns)) (g.P.Patterns.sources c.args.patterns.now) (g.P.Patterns.sources c.by_table.new.patterns) o)
+    (λ (o : Opened). (files : Files) (path other s : Bytes) → g.F.Folder.files c.args.folder.now ≡ Some files → file_at files path ≡ Some c.args.grammar.now → file_at files other ≡ Some s → AnswersFor (Some s) most_script_bytes c.args.script.now
+    → IsOpened c.args.names.now files path other (HasRisen (g.P.Patterns.refusals c.args.patterns.now) (g.P.Patterns.refusals c.by_table.new.patterns)) (g.P.Patterns.sources c.args.patterns.now) (g.P.Patterns.sources c.by_table.new.patterns) o)
+    (λ o j. λ files path other s told x y q. j files path other c.args.grammar.now s told x (record { small = c.requires.within; is_form = c.in-Ok.ensures.form; table = c.in-Ok.ensures.has }) y q) c.by_table.ensures.opened
 
-pub returns-in-Err-Refused-clause-answers : goal.returns-in-Err-Refused-clause-answers
-returns-in-Err-Refused-clause-answers g c = λ files s told answers.
-    moved (FilesJudged files c.args.grammar.now s c.args.order.now) c.of_line.result.status Grammar c.of_line.result.bytes.items (string_bytes c.in-Err-Refused.line) c.of_line.ensures.status (rw c.in-Err-Refused.field-0-is at c.of_line.ensures.bytes)
-    (refused_grammar (string_bytes c.in-Err-Refused.line) c.requires (subst (IsUncompiled c.args.grammar.now) c.in-Err-Refused.field-0-is c.in-Err-Refused.ensures.refused))
+pub returns-in-Err-Refused-clause-opened : goal.returns-in-Err-Refused-clause-opened
+returns-in-Err-Refused-clause-opened g c = λ files path other s told x y q.
+    refused_as c.args.names.now files path other _ _ _ c.of_line.result.status Grammar c.of_line.result.bytes.items (string_bytes c.in-Err-Refused.line) c.of_line.ensures.status (rw c.in-Err-Refused.field-0-is at c.of_line.ensures.bytes)
+    (refuses_bytes c.args.names.now files path other c.args.grammar.now s Grammar (string_bytes c.in-Err-Refused.line) x y (no_grammar (string_bytes c.in-Err-Refused.line) c.requires.within (subst (IsUncompiled c.args.grammar.now) c.in-Err-Refused.field-0-is c.in-Err-Refused.ensures.refused)))

@@ -1,17 +1,19 @@
-use Rattle.ts_session.proofs.DocumentLemmas.{TextLaws}
-use Rattle.ts_session.proofs.ReplayLemmas.{Laws, status_once, bytes_once}
+use Rattle.std.proofs.Common.{ℕ, List}
+use Rattle.ts_base.specs.Bytes.{Bytes}
+use Rattle.ts_core.specs.declared.flat.FlatGrammar.{FlatGrammar}
+use Rattle.ts_predicate.specs.Predicates.{AnswersOf}
+use Rattle.ts_query_syntax.specs.declared.read_query.ReadQuery.{ReadQuery}
+use Rattle.ts_script.specs.declared.plan.Plan.{Plan}
+use Rattle.ts_session.specs.Replays.{IsReplay}
+use Rattle.ts_session.proofs.PlayLemmas.{status_once, bytes_once}
 use Rattle.ts_session.proofs.laws.replays_once.Goals as goal
 
 pub returns : goal.returns
-returns c =
-    let texts : TextLaws = (record { breaks_once = c.breaks_once.ensures.place; whole = c.breaks_once.ensures.text }) in
-    let laws : Laws = (record {
-      texts = texts;
-      form_once = c.one_answer.ensures.form;
-      line_once = c.one_compilation.ensures.line;
-      line_or_compiled = c.one_compilation.ensures.either;
-      plan_once = c.one_plan.ensures;
-      fault_once = c.one_fault.ensures;
-      fault_or_plan = c.refused_is_no_script.ensures;
-    }) in
-    record { status = status_once laws; bytes = bytes_once laws }
+returns g c = record {
+  status = λ files gp sp order s t b d.
+      status_once (λ (f : FlatGrammar) (plan : Plan) (queries : List ReadQuery) (openings : List Bytes) (bytes : Bytes). IsReplay f plan queries (AnswersOf (g.H.Hosts.called c.args._hosts.now) (g.H.Hosts.accepts c.args._hosts.now)) openings order bytes)
+      (record { status = c.one_refusal.ensures.status; line = c.one_refusal.ensures.line; loaded = c.one_refusal.ensures.loaded }) (g.H.Hosts.called c.args._hosts.now) files gp sp s t b d;
+  bytes = λ files gp sp order s t b d.
+      bytes_once (λ (f : FlatGrammar) (plan : Plan) (queries : List ReadQuery) (openings : List Bytes) (bytes : Bytes). IsReplay f plan queries (AnswersOf (g.H.Hosts.called c.args._hosts.now) (g.H.Hosts.accepts c.args._hosts.now)) openings order bytes)
+      (record { status = c.one_refusal.ensures.status; line = c.one_refusal.ensures.line; loaded = c.one_refusal.ensures.loaded }) (g.H.Hosts.called c.args._hosts.now) files gp sp s t b d;
+}

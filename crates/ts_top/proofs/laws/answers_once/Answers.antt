@@ -1,16 +1,24 @@
+use Rattle.std.proofs.Common.{ℕ, List}
+use Rattle.ts_base.specs.Bytes.{Bytes}
+use Rattle.ts_top.proofs.PlainLemmas.{FileLaws}
 use Rattle.ts_top.proofs.AnswerLemmas.{Laws, status_once, bytes_once, compiled_bytes_once}
 use Rattle.ts_top.proofs.laws.answers_once.Goals as goal
 
 pub returns : goal.returns
-returns c =
-    let laws : Laws = (record {
+returns g c =
+    let called : List Bytes = g.H.Hosts.called c.args.hosts.now in
+    let accepts : ℕ → Bytes → Type 0 = g.H.Hosts.accepts c.args.hosts.now in
+    let files : FileLaws = (record {
       breaks_once = c.breaks_once.ensures.place;
       whole = c.breaks_once.ensures.text;
       compiled_once = c.one_compilation.ensures.bytes;
       line_once = c.one_compilation.ensures.line;
       line_or_compiled = c.one_compilation.ensures.either;
-      spelled_once = c.spelled_once.ensures;
-      replay_status_once = c.replays_once.ensures.status;
-      replay_bytes_once = c.replays_once.ensures.bytes;
     }) in
-    record { status = status_once laws; bytes = bytes_once laws; compiled = compiled_bytes_once laws }
+    let laws : Laws called accepts = (record {
+      files = files;
+      spelled_once = c.spelled_once.ensures;
+      replay_status = c.replays_once.ensures.status;
+      replay_bytes = c.replays_once.ensures.bytes;
+    }) in
+    record { status = status_once called accepts laws; bytes = bytes_once called accepts laws; compiled = compiled_bytes_once called accepts laws }

@@ -1,20 +1,28 @@
-use Rattle.ts_top.proofs.AnswerLemmas.{Laws, clean_is_done, compilable_is_done, replay_is_done}
+use Rattle.std.proofs.Common.{ℕ, List}
+use Rattle.ts_base.specs.Bytes.{Bytes}
+use Rattle.ts_top.proofs.PlainLemmas.{FileLaws}
+use Rattle.ts_top.proofs.AnswerLemmas.{Laws, clean_is_done, compilable_is_done, play_is_done}
 use Rattle.ts_top.proofs.laws.clean_is_done.Goals as goal
 
 pub returns : goal.returns
-returns c =
-    let laws : Laws = (record {
+returns g c =
+    let called : List Bytes = g.H.Hosts.called c.args.hosts.now in
+    let accepts : ℕ → Bytes → Type 0 = g.H.Hosts.accepts c.args.hosts.now in
+    let files : FileLaws = (record {
       breaks_once = c.breaks_once.ensures.place;
       whole = c.breaks_once.ensures.text;
       compiled_once = c.one_compilation.ensures.bytes;
       line_once = c.one_compilation.ensures.line;
       line_or_compiled = c.one_compilation.ensures.either;
+    }) in
+    let laws : Laws called accepts = (record {
+      files = files;
       spelled_once = c.spelled_once.ensures;
-      replay_status_once = c.replays_once.ensures.status;
-      replay_bytes_once = c.replays_once.ensures.bytes;
+      replay_status = c.replays_once.ensures.status;
+      replay_bytes = c.replays_once.ensures.bytes;
     }) in
     record {
-      parsed = clean_is_done laws;
-      compiled = compilable_is_done laws;
-      replayed = replay_is_done laws c.replayable_is_done.ensures;
+      parsed = clean_is_done called accepts laws;
+      compiled = compilable_is_done called accepts laws;
+      played = play_is_done called accepts laws c.clear_is_replayed.ensures;
     }

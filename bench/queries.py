@@ -1,0 +1,158 @@
+#!/usr/bin/env python3
+"""Times of the built program: queries over large trees.
+
+    python3 bench/queries.py [PROGRAM [SECONDS]]
+
+PROGRAM is `crates/ts_cli/out/ts_cli` if none is given, which `./hemshale build` makes. What takes longer than SECONDS
+by the clock (300 if none are given) or more than 4 GiB of memory is stopped, and that is said. Each query is asked
+once in a replay of one document. Its time is the processor time of that replay less that of one that loads the query
+and asks nothing, so that tables, parsing and the printed tree do not count, but the printed matches do. The inputs,
+which this script writes:
+
+- a C-like text of 1 MiB, with one function of 65,000 calls: some 1,100,000 visible nodes
+- up to 10,000 siblings of two kinds: all of one, and four of one and one of the other in turn
+- arrays in arrays, 250 deep: 100,000 visible nodes
+"""
+import json
+import os
+import subprocess
+import sys
+import tempfile
+import time
+
+sys.dont_write_bytecode = True
+TOP = os.path.dirname(os.path.dirname(os.path.abspath(__file__)))
+TEXT_BYTES = 1_048_576
+MOST_MEMORY = 4 << 30
+SIBLINGS = {
+    "name": "siblings",
+    "rules": {
+        "s": {
+            "type": "REPEAT",
+            "content": {
+                "type": "CHOICE",
+                "members": [{"type": "SYMBOL", "name": "x"}, {"type": "SYMBOL", "name": "y"}],
+            },
+        },
+        "x": {"type": "STRING", "value": "a"},
+        "y": {"type": "STRING", "value": "z"},
+    },
+}
+CALL_QUERIES = [
+    "(call function: (identifier) @f)",
+    "(function name: (identifier) @name)",
+    '((call function: (identifier) @f) (#match? @f "^g"))',
+    "(expression_statement (call (arguments . (identifier) @first)) @c)",
+]
+SIBLING_QUERY = "(s (x)* @a (x) @b (y)? @c)"
+NESTED_QUERY = "(_ (_ (_) @c))"
+
+
+def calls():
+    """Calls of six arguments: seventeen visible nodes in sixteen bytes."""
+    before, one, after = "int main() {", "f(a,a,a,a,a,a);\n", "}"
+    return before + one * ((TEXT_BYTES - len(before) - len(after)) // len(one)) + after
+
+
+def nested(nodes, deep=250):
+    """Arrays in arrays, with three visible nodes a level."""
+    return "[" + ",".join("[" * deep + "]" * deep for _ in range(nodes // (3 * deep))) + "]"
+
+
+def line(**members):
+    return json.dumps(members, separators=(",", ":")) + "\n"
+
+
+class Stopped(Exception):
+    """The program took too long, or too much memory."""
+
+
+def resident(child):
+    """The bytes of memory that it has now."""
+    try:
+        with open(f"/proc/{child.pid}/statm") as file:
+            return int(file.read().split()[1]) * os.sysconf("SC_PAGE_SIZE")
+    except (FileNotFoundError, IndexError):
+        return 0
+
+
+def ended(child, seconds):
+    """The status and what was used, once it has ended in time and memory."""
+    start = time.monotonic()
+    while True:
+        pid, status, used = os.wait4(child.pid, os.WNOHANG)
+        if pid:
+            child.returncode = status
+            return status, used
+        late = time.monotonic() - start > seconds
+        if late or resident(child) > MOST_MEMORY:
+            child.kill()
+            child.wait()
+            raise Stopped(f"more than {seconds} s" if late else f"more than {MOST_MEMORY >> 30} GiB")
+        time.sleep(0.05)
+
+
+def replayed(program, grammar, folder, query, asks, seconds):
+    """The seconds of processor time, the most memory in MiB and what was printed."""
+    script = line(op="open", path=f"{folder}/text") + line(op="load", source=query)
+    if asks:
+        script += line(client=0, op="query", document=0, queries=[0])
+    with open(f"{folder}/script", "w") as out:
+        out.write(script)
+    with open(f"{folder}/printed", "wb") as printed:
+        child = subprocess.Popen([program, "replay", grammar, f"{folder}/script", ""], stdout=printed)
+        status, used = ended(child, seconds)
+    with open(f"{folder}/printed", "rb") as printed:
+        lines = printed.read().splitlines()
+    if status:
+        sys.exit(f"status {status >> 8}: {lines[-1:]}")
+    return used.ru_utime + used.ru_stime, used.ru_maxrss >> 10, lines
+
+
+def matches_in(printed):
+    """How many matches the last line tells."""
+    reply = json.loads(printed[-1])
+    results = reply.get("results", [reply["reply"]])[0]
+    return results if isinstance(results, str) else f"{len(results):,} matches"
+
+
+def measure(program, name, grammar, text, queries, seconds):
+    with tempfile.TemporaryDirectory() as folder:
+        path = grammar
+        if isinstance(grammar, dict):
+            path = f"{folder}/grammar"
+            with open(path, "w") as out:
+                json.dump(grammar, out)
+        with open(f"{folder}/text", "w") as out:
+            out.write(text)
+        for query in queries:
+            try:
+                none = replayed(program, path, folder, query, False, seconds)
+            except Stopped as why:
+                print(f"{name}: {why} without a query", flush=True)
+                return
+            told = f"{name}, {none[2][0].count(b'],[') + 1:,} nodes, {query}"
+            try:
+                found = replayed(program, path, folder, query, True, seconds)
+            except Stopped as why:
+                print(f"{told}: {why}", flush=True)
+                continue
+            print(
+                f"{told}: {found[0] - none[0]:.2f} s, {matches_in(found[2])}, {found[1]} MiB"
+                f" ({none[0]:.2f} s and {none[1]} MiB without it)",
+                flush=True,
+            )
+
+
+def main():
+    program = sys.argv[1] if len(sys.argv) > 1 else f"{TOP}/crates/ts_cli/out/ts_cli"
+    seconds = int(sys.argv[2]) if len(sys.argv) > 2 else 300
+    measure(program, "calls", f"{TOP}/examples/clike.json", calls(), CALL_QUERIES, seconds)
+    for siblings in (100, 1_000, 10_000):
+        measure(program, "one kind", SIBLINGS, "a" * siblings, [SIBLING_QUERY], seconds)
+        measure(program, "two kinds", SIBLINGS, "aaaaz" * (siblings // 5), [SIBLING_QUERY], seconds)
+    measure(program, "nested", f"{TOP}/examples/json.json", nested(100_000), [NESTED_QUERY], seconds)
+
+
+if __name__ == "__main__":
+    main()

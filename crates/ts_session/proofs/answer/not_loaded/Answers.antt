@@ -1,0 +1,5 @@
+use Rattle.ts_session.proofs.JudgeLemmas.{line_told}
+use Rattle.ts_session.proofs.answer.not_loaded.Goals as goal
+
+pub returns-in-Some-clause-bytes : goal.returns-in-Some-clause-bytes
+returns-in-Some-clause-bytes c = line_told c.in_ok-line.field-0 c.in-Some.line _ c.of_line.result.bytes.items c.in_ok-line.ensures c.in-Some.is c.of_line.ensures.bytes
