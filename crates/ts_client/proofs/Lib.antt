@@ -1,4 +1,7 @@
+pub mod AskLemmas
+pub mod BetweenLemmas
 pub mod DeskLemmas
+pub mod HeldLemmas
 pub mod LookLemmas
 pub mod SeenFirst
 pub mod ServeLemmas

@@ -26,14 +26,14 @@ use Rattle.ts_replies.specs.declared.reply.Reply.TheVariants as reply
 use Rattle.spec_history.specs.Replies.{document_of, version_of, turn_told, turns_of, most_looks}
 use Rattle.spec_history.specs.Histories.{JournalEntry, version_text, entries_below}
 use Rattle.spec_history.specs.Legal as legal
-use Rattle.spec_history.specs.Legal.{IsRight, CanEdit, ShowsAt, IsShown, HadAllLooks}
+use Rattle.spec_history.specs.Legal.{IsRight, CanEdit, ShowsAt, IsShown, HasTree, HadAllLooks}
 use Rattle.spec_history.specs.Books.{journal_entry_of}
 use Rattle.spec_clients.specs.Seen.{journal_seen, version_seen}
 use Rattle.spec_clients.specs.Served.{taken_until}
 use Rattle.spec_clients.specs.Next.{TakesThese, TellsOneOf, IsNewEntry}
 use Rattle.ts_client.specs.Looks.{IsLatest}
 use Rattle.ts_client.specs.Nexts.{HoldsSeen, IsServedNext}
-use Rattle.ts_client.specs.Steps.{Standing, standing, ServesStep, publishes, is_behind, out_of_range, too_large, looks, waits, gives_up, shows, has_no_memory}
+use Rattle.ts_client.specs.Steps.{Standing, standing, ServesStep, publishes, is_behind, out_of_range, too_large, looks, waits, gives_up, shows, has_no_memory, Serves, asks_nothing, finds, has_no_tree}
 use Rattle.ts_client.specs.Turns.{TakesIdle, LooksUntil}
 use Rattle.ts_client.proofs.SeenFirst.{entries_early}
 use Rattle.ts_client.proofs.LookLemmas.{only_one, one_there, until_all, rises_le, same_idle}
@@ -327,8 +327,28 @@ module _ (Finds : Bytes → List ℕ → List ShownResult → Type 0) (plan : Pl
   serves_next _ _ _ (has_no_memory s turns k t few) on opens =
       untold s (reply.Memory old.number) k turns t few refl tt refl (λ last text. legal.memory s old.number number_is)
 
+  -- the text of the held version, by the grammar
+  by_grammar : (P : FlatGrammar → Bytes → Type 0) → TextPremise old.knows.seen → P old.version.table.grammar old.version.text
+      → P g (version_text plan opening.text (journal_seen old.knows.seen) before)
+  by_grammar P text p =
+      subst (λ (h : FlatGrammar). P h (version_text plan opening.text (journal_seen old.knows.seen) before)) table_is
+      (subst (λ (t : Bytes). P old.version.table.grammar t) (text_is old.knows.seen version_is text) p)
+
+  -- and so is each query
+  pub asks_next : (s : ScriptStep) (r : Reply) (new : Standing) → Serves Finds client number old s r new → document_of s ≡ document
+      → new.knows.opening ≡ Some opening → IsServedNext Finds plan g opening client number document before old s r new
+  asks_next _ _ _ (asks_nothing s r new does) on opens = serves_next s r new does on opens
+  asks_next _ _ _ (finds at queries results has found) on opens =
+      untold (step.Query at queries) (reply.Results results old.number) old.knows [] (same_idle old.knows) (omega arith) refl tt refl
+      (λ last text. legal.results at old.number queries results (by_grammar (λ h t. HasTree h t) text has)
+      (by_grammar (λ h t. Finds t queries results) text found) number_is)
+  asks_next _ _ _ (has_no_tree at queries outcome none shown_it) on opens =
+      untold (step.Query at queries) (reply.Absent outcome old.number) old.knows [] (same_idle old.knows) (omega arith) refl tt refl
+      (λ last text. legal.absent at old.number queries outcome (by_grammar (λ h t. HasTree h t → ⊥) text none)
+      (by_grammar (λ h t. IsShown h t outcome) text shown_it) number_is)
+
 pub held_serves_next : (Finds : Bytes → List ℕ → List ShownResult → Type 0) (plan : Plan) (g : FlatGrammar) (opening : ParsedText) (client number document before : ℕ)
-    (old new : Standing) (s : ScriptStep) (r : Reply) → HoldsSeen g opening before old → ServesStep client number old s r new → document_of s ≡ document
+    (old new : Standing) (s : ScriptStep) (r : Reply) → HoldsSeen g opening before old → Serves Finds client number old s r new → document_of s ≡ document
     → new.knows.opening ≡ Some opening → IsServedNext Finds plan g opening client number document before old s r new
 held_serves_next Finds plan g opening client number document before old new s r h does on opens =
-    serves_next Finds plan g opening client number document before old h.is_pass h.number_is h.there h.version_is h.grammar_is s r new does on opens
+    asks_next Finds plan g opening client number document before old h.is_pass h.number_is h.there h.version_is h.grammar_is s r new does on opens

@@ -1,5 +1,6 @@
 -- One step of a client at its desk of the step's document.
 use Rattle.std.specs.Prelude.{◌≡◌, ℕ, ◌<◌, ◌≤◌, List, [], ◌∷◌, length}
+use Rattle.ts_base.specs.Bytes.{Bytes}
 use Rattle.spec_output.specs.declared.outcome.ShownOutcome.{ShownOutcome}
 use Rattle.ts_text.specs.Edit.{InRange, IsOver}
 use Rattle.ts_text.specs.declared.edit.Edit.{Edit as TextEdit}
@@ -10,10 +11,11 @@ use Rattle.ts_docs.specs.declared.parsed.Drafted.{Drafted}
 use Rattle.ts_docs.specs.Versions.{Drafts}
 use Rattle.ts_script.specs.declared.plan.ScriptStep.{ScriptStep}
 use Rattle.ts_script.specs.declared.plan.ScriptStep.TheVariants as step
+use Rattle.ts_replies.specs.declared.reply.ShownResult.{ShownResult}
 use Rattle.ts_replies.specs.declared.reply.Reply.{Reply}
 use Rattle.ts_replies.specs.declared.reply.Reply.TheVariants as reply
 use Rattle.spec_history.specs.Replies.{most_looks}
-use Rattle.spec_history.specs.Legal.{CanEdit, IsShown}
+use Rattle.spec_history.specs.Legal.{CanEdit, IsShown, HasTree}
 use Rattle.ts_client.specs.declared.desk.Desk.{Desk}
 use Rattle.ts_client.specs.Looks.{IsLatest}
 use Rattle.ts_client.specs.Turns.{TakesIdle, LooksUntil, RunsOut}
@@ -33,8 +35,10 @@ standing knows number version =
 abbrev pub standing_at : Desk → Standing
 standing_at d = standing d.pass.knows d.number d.version
 
--- what the client's step of this number does: the reply to it, and what the client has after it
-pub data ServesStep (client number : ℕ) (old : Standing) : ScriptStep → Reply → Standing → Type 0 where
+-- What the client's step of this number does where it asks no queries, or finds no memory: the
+-- reply to it, and what the client has after it.
+pub data ServesStep (client number : ℕ) (old : Standing) : ScriptStep → Reply → Standing
+    → Type 0 where
   -- a draft of the held version is published
   publishes : (document : ℕ) (edit : TextEdit) (d : Drafted) (k : Knowledge ParsedText Drafted)
       (turn version : ℕ) → CanEdit old.version.text edit
@@ -81,6 +85,32 @@ pub data ServesStep (client number : ℕ) (old : Standing) : ScriptStep → Repl
       → TakesIdle old.knows k turns → length turns ≤ most_looks
       → ServesStep client number old s (reply.Memory old.number)
       (standing k old.number old.version)
+
+-- the same for each step
+pub data Serves (Finds : Bytes → List ℕ → List ShownResult → Type 0) (client number : ℕ)
+    (old : Standing) : ScriptStep → Reply → Standing → Type 0 where
+  asks_nothing : (s : ScriptStep) (r : Reply) (new : Standing)
+      → ServesStep client number old s r new → Serves Finds client number old s r new
+  -- what the queries find in the tree of the held version
+  finds : (document : ℕ) (queries : List ℕ) (results : List ShownResult)
+      → HasTree old.version.table.grammar old.version.text
+      → Finds old.version.text queries results
+      → Serves Finds client number old (step.Query document queries)
+      (reply.Results results old.number) old
+  -- the held version has no tree to ask
+  has_no_tree : (document : ℕ) (queries : List ℕ) (outcome : ShownOutcome)
+      → (HasTree old.version.table.grammar old.version.text → ⊥)
+      → IsShown old.version.table.grammar old.version.text outcome
+      → Serves Finds client number old (step.Query document queries)
+      (reply.Absent outcome old.number) old
+
+-- the reply tells that the held version has no tree, and its outcome, or that there is no memory
+pub data TellsNoTree (old : Standing) : Reply → Type 0 where
+  tells_outcome : (outcome : ShownOutcome)
+      → (HasTree old.version.table.grammar old.version.text → ⊥)
+      → IsShown old.version.table.grammar old.version.text outcome
+      → TellsNoTree old (reply.Absent outcome old.number)
+  tells_nothing : TellsNoTree old (reply.Memory old.number)
 
 -- all turns of the document were over before the step was done
 pub record Stops (old new : Standing) : Type 0 where

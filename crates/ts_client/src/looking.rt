@@ -1,5 +1,5 @@
-//! Looks at a document: the shelf and a pass go in; the newest version comes out, at once or as soon
-//! as it is one that is awaited.
+//! Looks at a document: the shelf and a pass go in; the newest version comes out, at once or as
+//! soon as it is one that is awaited.
 ghost use Rattle.std.specs.Prelude.{◌≡◌, IfOk, IfErr};
 ghost use Rattle.ts_shelf.specs.Passes.{IsPass};
 ghost use Rattle.ts_docs.specs.Versions.{IsOfTable};
@@ -15,7 +15,8 @@ use ts_shelf::{Denied, Pass, Seen, Shelf};
 /// How many looks an await makes at most.
 const MOST_LOOKS: u64 = 10_000_000;
 
-/// Looks until there is a version, and tells what the last look showed. It gives up after all looks.
+/// Looks until there is a version, and tells what the last look showed. It gives up after all
+/// looks.
 ///
 /// # Errors
 ///

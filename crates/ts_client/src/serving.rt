@@ -9,13 +9,15 @@ ghost use Rattle.ts_text.specs.Edit.{InRange, IsOver};
 ghost use Rattle.ts_script.specs.declared.plan.ScriptStep.TheVariants as script_step;
 ghost use Rattle.ts_replies.specs.declared.reply.Reply.TheVariants as reply;
 ghost use Rattle.spec_history.specs.Legal.{CanEdit};
-ghost use Rattle.ts_client.specs.Desks.{AsksNoQuery};
-ghost use Rattle.ts_client.specs.Steps.{standing_at, ServesStep, Stops};
+ghost use Rattle.ts_replay.specs.Replays.{AsksAmong};
+ghost use Rattle.ts_client.specs.Steps.{standing_at, ServesStep, Serves, Stops};
 ghost use Rattle.ts_client.specs.Serving.{MayServe, offers_of};
 ghost use Rattle.ts_client.specs.Turns.{SamePass};
 
+use crate::asking::query;
 use crate::desk::Desk;
 use crate::looking::watch;
+use spec_history::Finder;
 use std::alloc::Global;
 use std::sync::Wait;
 use ts_docs::{Book, Draft, Refused, Version, prepare};
@@ -37,10 +39,11 @@ pub struct Asker {
 
 /// Does a step, and gives the reply to it. Want of memory is a reply, and then the held version
 /// stays. `None` comes where all turns of the document are over.
-pub fn serve<R: Wait>(
+pub fn serve<R: Wait, F: Finder>(
     rt: &R,
     alloc: Global,
     table: &Table,
+    finder: &F,
     lexer: &mut Lexer,
     shelf: &Shelf<Book>,
     desk: &mut Desk,
@@ -50,12 +53,13 @@ pub fn serve<R: Wait>(
     requires lexer { IsLexerOf lexer.old table.now }
     requires may { MayServe table.now shelf.now desk.old }
     requires offers { offers_of step.now ≤ desk.old.pass.knows.offers }
-    requires no_query { AsksNoQuery step.now }
+    requires form { F.form finder.now ≡ table.now.grammar }
+    requires asks { AsksAmong (F.count finder.now) step.now }
     ensures lexer { IsLexerOf lexer.new table.now }
     ensures may { MayServe table.now shelf.now desk.new }
     ensures same { SamePass desk.old.pass.knows desk.new.pass.knows }
     ensures offers { desk.old.pass.knows.offers ≤ desk.new.pass.knows.offers + offers_of step.now }
-    ensures serves { IfSome result (λ reply. ServesStep asker.client asker.number
+    ensures serves { IfSome result (λ reply. Serves (F.finds finder.now) asker.client asker.number
         (standing_at desk.old) step.now reply (standing_at desk.new)) }
     ensures stops { IfNone result (Stops (standing_at desk.old) (standing_at desk.new)) }
 {
@@ -66,8 +70,8 @@ pub fn serve<R: Wait>(
         ScriptStep::Look { document: _ } => look(rt, shelf, desk),
         ScriptStep::Query {
             document: _,
-            queries: _,
-        } => unreachable!(),
+            queries,
+        } => Some(query(alloc, table, finder, desk, queries.as_slice())),
         ScriptStep::Tree { document: _ } => Some(tree(alloc, table, desk)),
         ScriptStep::Await {
             document: _,
@@ -133,10 +137,11 @@ fn drafted(
 
 /// Offers a draft of the held version, at one turn.
 fn offer<R: Wait>(rt: &R, shelf: &Shelf<Book>, desk: &mut Desk, draft: Draft) -> Option<Reply>
-    requires may { (table : AnyTable) × MayServe table shelf.now desk.old × (draft.version.table ≡ table) }
+    requires may { (table : AnyTable) × MayServe table shelf.now desk.old
+        × (draft.version.table ≡ table) }
     requires offers { 0 < desk.old.pass.knows.offers }
-    ensures may { (table : AnyTable) → MayServe table shelf.now desk.old → draft.version.table ≡ table
-        → MayServe table shelf.now desk.new }
+    ensures may { (table : AnyTable) → MayServe table shelf.now desk.old
+        → draft.version.table ≡ table → MayServe table shelf.now desk.new }
     ensures same { SamePass desk.old.pass.knows desk.new.pass.knows }
     ensures offers { desk.old.pass.knows.offers ≤ desk.new.pass.knows.offers + 1 }
     ensures serves { IfSome result (λ reply. (client number document : ℕ) (edit : AnyEdit)
