@@ -1,0 +1,11 @@
+pub mod CloseLemmas
+pub mod CountLemmas
+pub mod DoneLemmas
+pub mod EndLemmas
+pub mod FrontLemmas
+pub mod HireLemmas
+pub mod JoinLemmas
+pub mod ListLemmas
+pub mod RunLemmas
+pub mod SendLemmas
+pub mod TakeLemmas

@@ -1,0 +1,4 @@
+pub mod Changes
+pub mod Fronts
+pub mod Joins
+pub mod Workers
