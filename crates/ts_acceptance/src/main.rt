@@ -21,6 +21,8 @@ use crate::trial::Trial;
 use std::env;
 use std::process::ExitCode;
 use std::rt::{Env, Files};
+use std::sync::Wait;
+use std::thread::Threads;
 use ts_io::OsFolder;
 
 fn main(rt: HostRuntime) -> anyhow::Result<ExitCode> {
@@ -30,7 +32,9 @@ fn main(rt: HostRuntime) -> anyhow::Result<ExitCode> {
 }
 
 /// The tally of all rows in the files that the program's words name.
-fn tried<R: AllocGlobal + Env + Files + Print>(rt: &R) -> anyhow::Result<Tally> {
+fn tried<R: AllocGlobal + Env + Files + Print + Threads + Wait + Sync>(
+    rt: &R,
+) -> anyhow::Result<Tally> {
     let mut tally = Tally::default();
     let mut folder = OsFolder::new(rt);
     for word in env::args(rt)?.skip(1) {

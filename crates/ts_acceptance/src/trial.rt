@@ -3,6 +3,8 @@ use crate::fault::RowFault;
 use crate::row::Row;
 use serde_json::Value;
 use std::alloc::Global;
+use std::sync::Wait;
+use std::thread::Threads;
 use ts_io::{MemFolder, MemSink};
 use ts_query_syntax::Builder;
 use ts_top::AsciiHost;
@@ -24,7 +26,10 @@ pub(crate) struct Trial {
 
 impl Trial {
     /// Makes the run of a row, over files and a sink in memory, with the host of the program.
-    pub(crate) fn of<R: AllocGlobal>(rt: &R, row: Value) -> Result<Trial, RowFault> {
+    pub(crate) fn of<R: AllocGlobal + Threads + Wait + Sync>(
+        rt: &R,
+        row: Value,
+    ) -> Result<Trial, RowFault> {
         let alloc = rt.alloc();
         let row: Row = serde_json::from_value(alloc, row).map_err(RowFault::Json)?;
         let given = answer_of(rt, &row)?;
@@ -46,7 +51,10 @@ impl Trial {
 }
 
 /// How the row's run ends.
-fn answer_of<R: AllocGlobal>(rt: &R, row: &Row) -> Result<Answer, RowFault> {
+fn answer_of<R: AllocGlobal + Threads + Wait + Sync>(
+    rt: &R,
+    row: &Row,
+) -> Result<Answer, RowFault> {
     let alloc = rt.alloc();
     let most = row.most();
     if most == 0 {

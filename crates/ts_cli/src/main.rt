@@ -19,6 +19,8 @@ use std::env;
 use std::io::ErrorKind;
 use std::process::ExitCode;
 use std::rt::Env;
+use std::sync::Wait;
+use std::thread::Threads;
 use trouble::tell;
 use ts_io::{Folder, OsFolder, OutSink, Sink};
 use ts_lines::number;
@@ -33,6 +35,8 @@ of texts.
   hemshale compile GRAMMAR              write the language file of the grammar GRAMMAR
   hemshale replay GRAMMAR SCRIPT ORDER  run the clients' steps in the file SCRIPT in this order of
                                         clients, as 0,1,0, and print each version and each reply
+  hemshale run GRAMMAR SCRIPT           run the clients in the file SCRIPT at once, each on a thread of
+                                        its own, and print each version and each reply
   hemshale --help                       print this
   hemshale --version                    print the version
 
@@ -58,7 +62,7 @@ fn main(rt: HostRuntime) -> ExitCode {
 }
 
 /// Runs the words with a host that has the predicate `ascii?`, and answers the number of a status.
-fn command<R: AllocGlobal, F: Folder, S: Sink>(
+fn command<R: AllocGlobal + Threads + Wait + Sync, F: Folder, S: Sink>(
     rt: &R,
     words: &[String],
     folder: &mut F,

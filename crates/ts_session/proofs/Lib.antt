@@ -6,3 +6,4 @@ pub mod PlayLemmas
 pub mod OpenedLemmas
 pub mod JudgeLemmas
 pub mod PlayedLemmas
+pub mod SyncLemmas

@@ -1,6 +1,6 @@
 //! Sessions: the paths of a grammar and a script go in, and a session that can be run, or the refusal
-//! of the files, comes out; and a session and an order of its clients' steps go in, and what is
-//! printed of that run comes out.
+//! of the files, comes out; and a session goes in, with an order of its clients' steps or to run all
+//! clients at once, and what is printed of that run comes out.
 #![tactic(auto)]
 
 mod answer;
@@ -12,6 +12,7 @@ mod opening;
 mod openings;
 mod queries;
 mod replaying;
+mod running;
 mod session;
 
 pub use answer::{Answer, Unanswered};

@@ -6,9 +6,9 @@ use Rattle.spec_output.specs.declared.status.Status.{Status}
 use Rattle.spec_output.specs.declared.status.Status.TheVariants.{Done}
 use Rattle.ts_io.specs.Outside.{Files}
 use Rattle.ts_turns.specs.Turns.{Spells}
-use Rattle.ts_session.specs.Replays.{Replays}
+use Rattle.ts_session.specs.Replays.{Replays, Runs}
 use Rattle.ts_session.specs.Sessions.{IsClear}
-use Rattle.ts_top.specs.Answer.{Parses, Compiles, AsksReplay, Schedule, in_order, AsksSession, PlainAnswers, SessionAnswers, Answers, usage, plain, played, IsUsage, IsClean, IsCompilable, CanPlay}
+use Rattle.ts_top.specs.Answer.{Parses, Compiles, AsksReplay, AsksRun, Schedule, in_order, at_once, AsksSession, PlainAnswers, SessionAnswers, Answers, usage, plain, played, IsUsage, IsClean, IsCompilable, CanPlay}
 use Rattle.ts_top.proofs.PlainLemmas.{FileLaws, AreOne, plain_once, plain_compiled, plain_is_done, plain_compilable, plain_asks}
 
 -- ---- words
@@ -25,11 +25,40 @@ compile_or_replay words path grammar script order p a =
     let never : ⊥ = omega (arith, e) in
     never
 
+parse_or_run : (words : List Bytes) (g t grammar script : Bytes) → Parses words g t → AsksRun words grammar script → ⊥
+parse_or_run words g t grammar script p r =
+    let e : codes "parse" ∷ g ∷ t ∷ [] ≡ codes "run" ∷ grammar ∷ script ∷ [] = sym p ∙ r in
+    let word : codes "parse" ≡ codes "run" = cc in
+    let n : length (codes "parse") ≡ length (codes "run") = ap length word in
+    let never : ⊥ = omega (arith, n) in
+    never
+
+compile_or_run : (words : List Bytes) (path grammar script : Bytes) → Compiles words path → AsksRun words grammar script → ⊥
+compile_or_run words path grammar script p r =
+    let e : length (codes "compile" ∷ path ∷ []) ≡ length (codes "run" ∷ grammar ∷ script ∷ []) = ap length (sym p ∙ r) in
+    let never : ⊥ = omega (arith, e) in
+    never
+
+replay_or_run : (words : List Bytes) (g c grammar script : Bytes) (order : List ℕ) → AsksReplay words g c order → AsksRun words grammar script → ⊥
+replay_or_run words g c grammar script order a r =
+    let e : length (codes "replay" ∷ g ∷ c ∷ a.word ∷ []) ≡ length (codes "run" ∷ grammar ∷ script ∷ []) = ap length (sym a.words_are ∙ r) in
+    let never : ⊥ = omega (arith, e) in
+    never
+
+asks_run_once : (words : List Bytes) (g c g2 c2 : Bytes) → AsksRun words g c → AsksRun words g2 c2 → (g ≡ g2) × (c ≡ c2)
+asks_run_once words g c g2 c2 p q =
+    let e : codes "run" ∷ g ∷ c ∷ [] ≡ codes "run" ∷ g2 ∷ c2 ∷ [] = sym p ∙ q in
+    let grammar : g ≡ g2 = cc in
+    let script : c ≡ c2 = cc in
+    (grammar, script)
+
 pub parse_or_play : (words : List Bytes) (g t grammar script : Bytes) (schedule : Schedule) → Parses words g t → AsksSession words grammar script schedule → ⊥
 parse_or_play words g t grammar script (in_order order) p a = parse_or_replay words g t grammar script order p a
+parse_or_play words g t grammar script at_once p a = parse_or_run words g t grammar script p a
 
 pub compile_or_play : (words : List Bytes) (path grammar script : Bytes) (schedule : Schedule) → Compiles words path → AsksSession words grammar script schedule → ⊥
 compile_or_play words path grammar script (in_order order) p a = compile_or_replay words path grammar script order p a
+compile_or_play words path grammar script at_once p a = compile_or_run words path grammar script p a
 
 plain_or_usage : (files : Files) (words : List Bytes) (s : Status) (b : Bytes) → PlainAnswers files words s b → IsUsage words → ⊥
 plain_or_usage files words s b a u = plain_asks ⊥ files words s b a u.no_parse u.no_compile
@@ -53,6 +82,11 @@ asks_once : (words : List Bytes) (g c g2 c2 : Bytes) (s s2 : Schedule) → ((wor
 asks_once words g c g2 c2 (in_order o) (in_order o2) spelled_once a d =
     let e = asks_replay_once words g c g2 c2 o o2 spelled_once a d in
     (e.0, e.1, ap in_order e.2)
+asks_once words g c g2 c2 (in_order o) at_once spelled_once a d = absurd (replay_or_run words g c g2 c2 o a d)
+asks_once words g c g2 c2 at_once (in_order o) spelled_once a d = absurd (replay_or_run words g2 c2 g c o d a)
+asks_once words g c g2 c2 at_once at_once spelled_once a d =
+    let e = asks_run_once words g c g2 c2 a d in
+    (e.0, e.1, refl)
 
 module _ (called : List Bytes) (accepts : ℕ → Bytes → Type 0) where
   -- what is known of the bytes of files, of the word of an order, and of replays
@@ -61,10 +95,13 @@ module _ (called : List Bytes) (accepts : ℕ → Bytes → Type 0) where
     pub spelled_once : (word : Bytes) (a b : List ℕ) → Spells word a → Spells word b → a ≡ b
     pub replay_status : (files : Files) (grammar script : Bytes) (order : List ℕ) (s t : Status) (b c : Bytes) → Replays called accepts files grammar script order s b → Replays called accepts files grammar script order t c → s ≡ t
     pub replay_bytes : (files : Files) (grammar script : Bytes) (order : List ℕ) (s t : Status) (b c : Bytes) → Replays called accepts files grammar script order s b → Replays called accepts files grammar script order t c → (s ≡ Done → ⊥) → b ≡ c
+    pub run_status : (files : Files) (grammar script : Bytes) (s t : Status) (b c : Bytes) → Runs called accepts files grammar script s b → Runs called accepts files grammar script t c → s ≡ t
+    pub run_bytes : (files : Files) (grammar script : Bytes) (s t : Status) (b c : Bytes) → Runs called accepts files grammar script s b → Runs called accepts files grammar script t c → (s ≡ Done → ⊥) → b ≡ c
 
   module _ (laws : Laws) where
     session_once : (files : Files) (g c : Bytes) (schedule : Schedule) (s s2 : Status) (b b2 : Bytes) → SessionAnswers called accepts files g c schedule s b → SessionAnswers called accepts files g c schedule s2 b2 → AreOne s s2 b b2
     session_once files g c (in_order o) s s2 b b2 j k = record { status = laws.replay_status files g c o s s2 b b2 j k; bytes = laws.replay_bytes files g c o s s2 b b2 j k }
+    session_once files g c at_once s s2 b b2 j k = record { status = laws.run_status files g c s s2 b b2 j k; bytes = laws.run_bytes files g c s s2 b b2 j k }
 
     session_there : (files : Files) (words : List Bytes) (g c g2 c2 : Bytes) (o o2 : Schedule) (s s2 : Status) (b b2 : Bytes) → AsksSession words g c o → AsksSession words g2 c2 o2
         → SessionAnswers called accepts files g c o s b → SessionAnswers called accepts files g2 c2 o2 s2 b2 → AreOne s s2 b b2
@@ -117,9 +154,11 @@ module _ (called : List Bytes) (accepts : ℕ → Bytes → Type 0) where
     pub compilable_is_done : (files : Files) (words : List Bytes) (s : Status) (b : Bytes) → IsCompilable files words → Answers called accepts files words s b → s ≡ Done
     compilable_is_done files words s b c a = plain_compilable laws.files files words s b c (compile_plain files words c.path s b c.compiles a)
 
-    module _ (replayed : (files : Files) (grammar script : Bytes) (order : List ℕ) (s : Status) (b : Bytes) → IsClear called files grammar script → Replays called accepts files grammar script order s b → s ≡ Done) where
+    module _ (replayed : (files : Files) (grammar script : Bytes) (order : List ℕ) (s : Status) (b : Bytes) → IsClear called files grammar script → Replays called accepts files grammar script order s b → s ≡ Done)
+        (ran : (files : Files) (grammar script : Bytes) (s : Status) (b : Bytes) → IsClear called files grammar script → Runs called accepts files grammar script s b → s ≡ Done) where
       session_is_done : (files : Files) (g c : Bytes) (schedule : Schedule) (s : Status) (b : Bytes) → IsClear called files g c → SessionAnswers called accepts files g c schedule s b → s ≡ Done
       session_is_done files g c (in_order o) s b clear j = replayed files g c o s b clear j
+      session_is_done files g c at_once s b clear j = ran files g c s b clear j
 
       pub play_is_done : (files : Files) (words : List Bytes) (s : Status) (b : Bytes) → CanPlay called files words → Answers called accepts files words s b → s ≡ Done
       play_is_done files words _ _ c (usage u) = absurd (u.no_session c.grammar c.script c.schedule c.asks)

@@ -1,6 +1,8 @@
 -- What scripts come to, and what is known of an answer.
 use Rattle.std.proofs.Common.{◌≡◌, ◌∙◌, sym, ap, subst, refl, ℕ, ◌<◌, ◌≤◌, ◌⊎◌, inl, inr, List, [], ◌∷◌, slice_get, Option, Some, None, Result, Ok, Err, arith}
 use Rattle.std.specs.Borrow.{Bor}
+use Rattle.std.specs.Prelude.{MatchOption}
+use Rattle.std.specs.Global.{Vec}
 use Rattle.std.specs.Result.{IfOk, IfErr}
 use Rattle.ts_base.specs.Bytes.{Bytes}
 use Rattle.spec_output.specs.Faults.{absent_line, usage_line}
@@ -15,19 +17,30 @@ use Rattle.ts_session.specs.declared.opened.Opened.TheVariants.{Ready, Refused}
 use Rattle.ts_session.specs.declared.session.Session.{Session}
 use Rattle.ts_session.specs.Opened.{IsOpened, HasStatus}
 use Rattle.ts_session.specs.Refusals.{Refuses}
-use Rattle.ts_session.specs.Replays.{IsJudged, IsReplay, refused, printed}
+use Rattle.ts_session.specs.Replays.{IsJudged, IsReplay, IsRun, refused, printed}
 use Rattle.ts_session.specs.Sessions.{IsLoaded, IsRefusal, of_files, of_patterns}
-use Rattle.ts_top.specs.Answer.{IsUsage, AsksReplay, Schedule, in_order, AsksSession, PlainAnswers, SessionAnswers, Answers, usage, plain, played, ComesTo, answered, unbuilt, Told, Writes, WritesPrefix, IsClean, IsCompilable, CanPlay}
+use Rattle.ts_top.specs.Answer.{IsUsage, AsksReplay, AsksRun, Schedule, in_order, at_once, AsksSession, PlainAnswers, SessionAnswers, Answers, usage, plain, played, ComesTo, answered, unbuilt, Told, Writes, WritesPrefix, IsClean, IsCompilable, CanPlay}
 use Rattle.ts_top.specs.Status.{IsUnbuilt}
-use Rattle.ts_top.specs.Stops.{IsPlain, IsAnswer, misused, other, IsPlayed, Stopped}
+use Rattle.ts_top.specs.Stops.{IsPlain, IsAnswer, misused, other, IsPlayed, Prints, Stopped, schedule_of}
+use Rattle.ts_top.specs.declared.play.Schedule.{Schedule as Chosen}
+use Rattle.ts_top.specs.declared.play.Schedule.TheVariants as chosen
 use Rattle.ts_top.specs.declared.stop.Stop.{Stop}
 use Rattle.ts_top.specs.declared.stop.Stop.TheVariants.{Usage, Absent, Read, Memory}
 use Rattle.ts_top.proofs.AnswerLemmas.{parse_or_play, compile_or_play}
 
--- words that ask for no replay ask for no session
-pub no_session : (words : List Bytes) → ((grammar script : Bytes) (order : List ℕ) → AsksReplay words grammar script order → ⊥)
+-- words that ask for no replay and for no run ask for no session
+pub no_session : (words : List Bytes) → ((grammar script : Bytes) (order : List ℕ) → AsksReplay words grammar script order → ⊥) → ((grammar script : Bytes) → AsksRun words grammar script → ⊥)
     → (grammar script : Bytes) (schedule : Schedule) → AsksSession words grammar script schedule → ⊥
-no_session words none grammar script (in_order order) asks = none grammar script order asks
+no_session words no_replay no_run grammar script (in_order order) asks = no_replay grammar script order asks
+no_session words no_replay no_run grammar script at_once asks = no_run grammar script asks
+
+-- what the words ask for, where they do not ask for a run
+pub asked_ok : {A E : Type 0} (r : Result (Option A) E) (words : List Bytes) (P : A → Type 0) → ((grammar script : Bytes) → AsksRun words grammar script → ⊥)
+    → IfOk r (λ found. MatchOption found ((grammar script : Bytes) (order : List ℕ) → AsksReplay words grammar script order → ⊥) P)
+    → IfOk r (λ found. MatchOption found ((grammar script : Bytes) (schedule : Schedule) → AsksSession words grammar script schedule → ⊥) P)
+asked_ok (Ok (Some a)) words P no_run h = h
+asked_ok (Ok None) words P no_run h = no_session words h no_run
+asked_ok (Err e) words P no_run h = tt
 
 -- a refusal has a status that the files decide
 pub refused_judged : (opened : Opened) (a : Answer) → opened ≡ Refused a → HasStatus opened → IsJudged a.status
@@ -102,6 +115,7 @@ module _ (called : List Bytes) (accepts : ℕ → Bytes → Type 0) where
   -- a refusal is what the files come to on each schedule
   refused_session : (files : Files) (g s : Bytes) (schedule : Schedule) (ends : Status) (line : Bytes) → Refuses called files g s ends line → SessionAnswers called accepts files g s schedule ends line
   refused_session files g s (in_order order) ends line r = refused ends line r
+  refused_session files g s at_once ends line r = refused ends line r
 
   session_comes : (files : Files) (words : List Bytes) (g s : Bytes) (schedule : Schedule) (rose : Type 0) (old new : List Bytes) (ends : Status) (bytes : Bytes) → AsksSession words g s schedule
       → SessionAnswers called accepts files g s schedule ends bytes ⊎ IsRefusal called files g s rose old new ends bytes → ComesTo called accepts files words rose old new ends bytes
@@ -111,14 +125,28 @@ module _ (called : List Bytes) (accepts : ℕ → Bytes → Type 0) where
   session_comes files words g s schedule rose old new _ _ asks (inr (of_patterns line risen r)) = unbuilt g s schedule line asks risen r
 
   -- what was opened is a session, and its run is printed
-  pub ready_plays : (files : Option Files) (g s : Bytes) (order slice : List ℕ) (rose : Type 0) (old new : List Bytes) (opened : Opened) (session : Session) (ends : Status) (bytes : Bytes) → opened ≡ Ready session
-      → ((known : Files) → files ≡ Some known → IsOpened called known g s rose old new opened) → ends ≡ status.Done → slice ≡ order
-      → IsReplay session.table.grammar session.plan session.queries (AnswersOf called accepts) session.texts.items slice bytes → IsPlayed called accepts files g s (in_order order) rose old new ends bytes
-  ready_plays files g s order slice rose old new opened session ends bytes is opens done same replay = λ known told.
-      let replays : IsReplay session.table.grammar session.plan session.queries (AnswersOf called accepts) session.texts.items order bytes =
-      subst (λ (o : List ℕ). IsReplay session.table.grammar session.plan session.queries (AnswersOf called accepts) session.texts.items o bytes) same replay in
+  session_printed : (files : Files) (g s : Bytes) (schedule : Schedule) (session : Session) (bytes : Bytes) → IsLoaded called files g s session.table.grammar session.plan session.queries session.texts.items
+      → Prints called accepts session schedule bytes → SessionAnswers called accepts files g s schedule status.Done bytes
+  session_printed files g s (in_order order) session bytes loaded prints = printed session.table.grammar session.plan session.queries session.texts.items bytes loaded prints
+  session_printed files g s at_once session bytes loaded prints = printed session.table.grammar session.plan session.queries session.texts.items bytes loaded prints
+
+  pub ready_plays : (files : Option Files) (g s : Bytes) (schedule : Schedule) (rose : Type 0) (old new : List Bytes) (opened : Opened) (session : Session) (ends : Status) (bytes : Bytes) → opened ≡ Ready session
+      → ((known : Files) → files ≡ Some known → IsOpened called known g s rose old new opened) → ends ≡ status.Done
+      → Prints called accepts session schedule bytes → IsPlayed called accepts files g s schedule rose old new ends bytes
+  ready_plays files g s schedule rose old new opened session ends bytes is opens done prints = λ known told.
       let loaded : IsLoaded called known g s session.table.grammar session.plan session.queries session.texts.items = subst (IsOpened called known g s rose old new) is (opens known told) in
-      inl (subst (λ (e : Status). SessionAnswers called accepts known g s (in_order order) e bytes) (sym done) (printed session.table.grammar session.plan session.queries session.texts.items bytes loaded replays))
+      inl (subst (λ (e : Status). SessionAnswers called accepts known g s schedule e bytes) (sym done) (session_printed known g s schedule session bytes loaded prints))
+
+  -- what is printed on the schedule that the words were taken for
+  pub prints_in_order : (schedule : Chosen) (order : Vec ℕ) (slice : List ℕ) (session : Session) (bytes : Bytes) → schedule ≡ chosen.InOrder order → slice ≡ order.items
+      → IsReplay session.table.grammar session.plan session.queries (AnswersOf called accepts) session.texts.items slice bytes → Prints called accepts session (schedule_of schedule) bytes
+  prints_in_order schedule order slice session bytes is same replay =
+      subst (λ (s : Chosen). Prints called accepts session (schedule_of s) bytes) (sym is)
+      (subst (λ (o : List ℕ). IsReplay session.table.grammar session.plan session.queries (AnswersOf called accepts) session.texts.items o bytes) same replay)
+
+  pub prints_at_once : (schedule : Chosen) (session : Session) (bytes : Bytes) → schedule ≡ chosen.AtOnce
+      → IsRun session.table.grammar session.plan session.queries (AnswersOf called accepts) session.texts.items bytes → Prints called accepts session (schedule_of schedule) bytes
+  prints_at_once schedule session bytes is run = subst (λ (s : Chosen). Prints called accepts session (schedule_of s) bytes) (sym is) run
 
   -- what was opened is a refusal
   pub refused_plays : (files : Option Files) (g s : Bytes) (schedule : Schedule) (rose : Type 0) (old new : List Bytes) (opened : Opened) (a : Answer) → opened ≡ Refused a

@@ -17,7 +17,7 @@ use Rattle.ts_front.specs.Compiled.{IsCompiled, IsRefusalLine}
 use Rattle.ts_turns.specs.Turns.{Spells}
 use Rattle.ts_session.specs.Grammars.{Builds, size_line}
 use Rattle.ts_session.specs.Limits.{most_file_bytes, most_text_bytes}
-use Rattle.ts_session.specs.Replays.{Replays}
+use Rattle.ts_session.specs.Replays.{Replays, Runs}
 use Rattle.ts_session.specs.Sessions.{IsClear, IsRegexRefusal}
 
 -- the words, as bytes
@@ -40,13 +40,20 @@ pub record AsksReplay (words : List Bytes) (grammar script : Bytes) (order : Lis
   pub words_are : words ≡ codes "replay" ∷ grammar ∷ script ∷ word ∷ []
   pub spells : Spells word order
 
--- How the steps of a script's clients are run: on one thread, in this order of their clients.
+-- the words ask to run the script at a path by the grammar at another, all clients at once
+abbrev pub AsksRun : List Bytes → Bytes → Bytes → Type 0
+AsksRun words grammar script = words ≡ codes "run" ∷ grammar ∷ script ∷ []
+
+-- How the steps of a script's clients are run: on one thread, in this order of their clients; or all
+-- clients at once, each on a thread of its own.
 pub data Schedule : Type 0 where
   in_order : List ℕ → Schedule
+  at_once : Schedule
 
 -- the words ask to run the script at a path by the grammar at another, on this schedule
 abbrev pub AsksSession : List Bytes → Bytes → Bytes → Schedule → Type 0
 AsksSession words grammar script (in_order order) = AsksReplay words grammar script order
+AsksSession words grammar script at_once = AsksRun words grammar script
 
 -- the words have none of the forms
 pub record IsUsage (words : List Bytes) : Type 0 where
@@ -155,6 +162,7 @@ module _ (called : List Bytes) (accepts : ℕ → Bytes → Type 0) where
   abbrev pub SessionAnswers : Files → Bytes → Bytes → Schedule → Status → Bytes → Type 0
   SessionAnswers files grammar script (in_order order) =
       Replays called accepts files grammar script order
+  SessionAnswers files grammar script at_once = Runs called accepts files grammar script
 
   -- ---- words and files
 

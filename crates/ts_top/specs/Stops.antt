@@ -8,9 +8,13 @@ use Rattle.spec_output.specs.Faults.{absent_line, usage_line}
 use Rattle.spec_output.specs.declared.status.Status.{Status}
 use Rattle.spec_output.specs.declared.status.Status.TheVariants as status
 use Rattle.ts_session.specs.Limits.{most_file_bytes, most_text_bytes}
-use Rattle.ts_session.specs.Replays.{IsJudged}
+use Rattle.ts_predicate.specs.Predicates.{AnswersOf}
+use Rattle.ts_session.specs.Replays.{IsJudged, IsReplay, IsRun}
 use Rattle.ts_session.specs.Sessions.{IsRefusal}
-use Rattle.ts_top.specs.Answer.{Schedule, PlainAnswers, SessionAnswers, ComesTo, IsUsage, Told}
+use Rattle.ts_session.specs.declared.session.Session.{Session}
+use Rattle.ts_top.specs.Answer.{Schedule, in_order, at_once, PlainAnswers, SessionAnswers, ComesTo, IsUsage, Told}
+use Rattle.ts_top.specs.declared.play.Schedule.{Schedule as Chosen}
+use Rattle.ts_top.specs.declared.play.Schedule.TheVariants as chosen
 use Rattle.ts_top.specs.declared.stop.Stop.{Stop}
 use Rattle.ts_top.specs.declared.stop.Stop.TheVariants.{Usage, Absent, Read, Memory}
 
@@ -28,6 +32,18 @@ pub data IsAnswer (called : List Bytes) (accepts : ℕ → Bytes → Type 0) (fi
   other : (ends : Status) (bytes : Bytes) → IsJudged ends → (IsUsage words → ⊥)
       → Told files (λ known. ComesTo called accepts known words rose old new ends bytes)
       → IsAnswer called accepts files words rose old new ends bytes
+
+-- the schedule that the words were taken for
+abbrev pub schedule_of : Chosen → Schedule
+schedule_of (chosen.InOrder order) = in_order order.items
+schedule_of chosen.AtOnce = at_once
+
+-- the bytes are the print of the session, run on the schedule
+abbrev pub Prints : List Bytes → (ℕ → Bytes → Type 0) → Session → Schedule → Bytes → Type 0
+Prints called accepts s (in_order order) bytes = IsReplay s.table.grammar s.plan s.queries
+    (AnswersOf called accepts) s.texts.items order bytes
+Prints called accepts s at_once bytes = IsRun s.table.grammar s.plan s.queries
+    (AnswersOf called accepts) s.texts.items bytes
 
 -- What the script at a path comes to by the grammar at another, on this schedule, where the files
 -- are told.

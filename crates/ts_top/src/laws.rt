@@ -28,6 +28,7 @@ pub fn answers_once<H: Hosts>(hosts: &H)
     ts_front::one_compilation();
     ts_turns::spelled_once();
     ts_session::replays_once(hosts);
+    ts_session::runs_once(hosts);
 }
 
 /// Where nothing stands in the way of an outcome, of a language file or of a run, the program is
@@ -50,5 +51,7 @@ pub fn clean_is_done<H: Hosts>(hosts: &H)
     ts_front::one_compilation();
     ts_turns::spelled_once();
     ts_session::replays_once(hosts);
+    ts_session::runs_once(hosts);
     ts_session::clear_is_replayed(hosts);
+    ts_session::clear_is_run(hosts);
 }

@@ -17,6 +17,8 @@ use crate::play::play;
 use crate::stop::Stop;
 use spec_output::Status;
 use std::alloc::{AllocError, Global};
+use std::sync::Wait;
+use std::thread::Threads;
 use thiserror::Error;
 use ts_io::{Folder, Sink, WriteFault, put};
 use ts_lines::number;
@@ -45,7 +47,8 @@ impl From<AllocError> for Unanswered {
 
 /// Runs the program on its words: `parse GRAMMAR TEXT` writes the outcome of parsing the text as
 /// one line, `compile GRAMMAR` the language file of a grammar, and `replay GRAMMAR SCRIPT ORDER`
-/// the versions and replies of a script's clients, whose steps are run in an order on one thread.
+/// the versions and replies of a script's clients, whose steps are run in an order on one thread;
+/// `run GRAMMAR SCRIPT` runs the clients at once, each on a thread of its own, and waits for all.
 /// Where a step asks queries, its reply tells what they find in the version that its client holds:
 /// all matches of which the predicates hold, those of `hosts` among them. `patterns` builds the
 /// regular expressions in the script's queries.
@@ -57,14 +60,13 @@ impl From<AllocError> for Unanswered {
 /// `ReadFault` and `WriteFault` come only where a read or a write failed in this call, and `Query`
 /// for an expression that is refused only where `patterns` refused one in this call.
 /// `OutOfMemory` may come at any time.
-pub fn run<R: AllocGlobal, F: Folder, S: Sink, H: Hosts, P: Patterns>(
-    rt: &R,
-    words: &[String],
-    folder: &mut F,
-    sink: &mut S,
-    hosts: &H,
-    patterns: &mut P,
-) -> u8
+pub fn run<
+    R: AllocGlobal + Threads + Wait + Sync,
+    F: Folder,
+    S: Sink,
+    H: Hosts + Sync,
+    P: Patterns,
+>(rt: &R, words: &[String], folder: &mut F, sink: &mut S, hosts: &H, patterns: &mut P) -> u8
     ensures statuses { IsStatus result }
 
     // What was written, at each status.
@@ -146,7 +148,7 @@ pub fn run<R: AllocGlobal, F: Folder, S: Sink, H: Hosts, P: Patterns>(
 {
     answers_once(hosts);
     clean_is_done(hosts);
-    match answer_to(rt.alloc(), words, folder, hosts, patterns) {
+    match answer_to(rt, rt.alloc(), words, folder, hosts, patterns) {
         Ok(answer) => match put(sink, answer.bytes.as_slice()) {
             Ok(()) => number(answer.status),
             Err(WriteFault::Failed) => number(Status::WriteFault),
@@ -157,7 +159,8 @@ pub fn run<R: AllocGlobal, F: Folder, S: Sink, H: Hosts, P: Patterns>(
 }
 
 /// The answer of the words and the files.
-fn answer_to<F: Folder, H: Hosts, P: Patterns>(
+fn answer_to<R: Threads + Wait + Sync, F: Folder, H: Hosts + Sync, P: Patterns>(
+    rt: &R,
     alloc: Global,
     words: &[String],
     folder: &mut F,
@@ -178,7 +181,7 @@ fn answer_to<F: Folder, H: Hosts, P: Patterns>(
     ensures later { F.faults folder.old ≤ F.faults folder.new }
     ensures refusals { P.refusals patterns.old ≤ P.refusals patterns.new }
 {
-    match done(alloc, words, folder, hosts, patterns) {
+    match done(rt, alloc, words, folder, hosts, patterns) {
         Ok(answer) => Ok(answer),
         Err(Stop::Usage) => Ok(usage(alloc)?),
         Err(Stop::Absent(path)) => Ok(absent(alloc, path)?),
@@ -212,7 +215,8 @@ fn absent(alloc: Global, path: &str) -> Result<Answer, AllocError>
 }
 
 /// What the words ask for, done.
-fn done<'a, F: Folder, H: Hosts, P: Patterns>(
+fn done<'a, R: Threads + Wait + Sync, F: Folder, H: Hosts + Sync, P: Patterns>(
+    rt: &R,
     alloc: Global,
     words: &'a [String],
     folder: &mut F,
@@ -235,12 +239,13 @@ fn done<'a, F: Folder, H: Hosts, P: Patterns>(
 {
     match compile_path(words) {
         Some(path) => compile(alloc, words, folder, path),
-        None => parse_or_play(alloc, words, folder, hosts, patterns),
+        None => parse_or_play(rt, alloc, words, folder, hosts, patterns),
     }
 }
 
 /// Parses a text or runs a script, where the words ask for it.
-fn parse_or_play<'a, F: Folder, H: Hosts, P: Patterns>(
+fn parse_or_play<'a, R: Threads + Wait + Sync, F: Folder, H: Hosts + Sync, P: Patterns>(
+    rt: &R,
     alloc: Global,
     words: &'a [String],
     folder: &mut F,
@@ -264,6 +269,6 @@ fn parse_or_play<'a, F: Folder, H: Hosts, P: Patterns>(
 {
     match paths_in(words) {
         Some(paths) => parse(alloc, words, folder, paths),
-        None => play(alloc, words, folder, hosts, patterns),
+        None => play(rt, alloc, words, folder, hosts, patterns),
     }
 }

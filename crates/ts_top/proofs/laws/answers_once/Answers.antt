@@ -20,5 +20,7 @@ returns g c =
       spelled_once = c.spelled_once.ensures;
       replay_status = c.replays_once.ensures.status;
       replay_bytes = c.replays_once.ensures.bytes;
+      run_status = c.runs_once.ensures.status;
+      run_bytes = c.runs_once.ensures.bytes;
     }) in
     record { status = status_once called accepts laws; bytes = bytes_once called accepts laws; compiled = compiled_bytes_once called accepts laws }

@@ -20,9 +20,11 @@ returns g c =
       spelled_once = c.spelled_once.ensures;
       replay_status = c.replays_once.ensures.status;
       replay_bytes = c.replays_once.ensures.bytes;
+      run_status = c.runs_once.ensures.status;
+      run_bytes = c.runs_once.ensures.bytes;
     }) in
     record {
       parsed = clean_is_done called accepts laws;
       compiled = compilable_is_done called accepts laws;
-      played = play_is_done called accepts laws c.clear_is_replayed.ensures;
+      played = play_is_done called accepts laws c.clear_is_replayed.ensures c.clear_is_run.ensures;
     }

@@ -1,0 +1,87 @@
+#!/usr/bin/env python3
+"""Times of the built program: clients on threads of their own (`run`) beside the same steps on one thread (`replay`).
+
+    python3 bench/clients.py [PROGRAM]
+
+PROGRAM is `crates/ts_cli/out/ts_cli` if none is given, which `./hemshale build` makes. Printed are, for both words, the
+seconds by the clock and of processor time, the most memory, and how many edits were published, of:
+
+- sixteen clients, each of which edits a JSON text of 100 KB of its own twenty times and asks a query after each edit
+- sixteen clients that edit one text, a hundred times each, and look before each edit
+"""
+import json
+import os
+import subprocess
+import sys
+import tempfile
+import time
+
+sys.dont_write_bytecode = True
+TOP = os.path.dirname(os.path.dirname(os.path.abspath(__file__)))
+CLIENTS = 16
+
+
+def line(**members):
+    return json.dumps(members, separators=(",", ":")) + "\n"
+
+
+def numbers(size):
+    """An array of three-digit numbers, of so many bytes."""
+    return "[" + ",".join(str(100 + k * 7 % 900) for k in range((size - 1) // 4)) + "]"
+
+
+def apart():
+    """Each client changes numbers of its own document."""
+    text, steps = numbers(100_000), ""
+    script = line(op="open", text=text) * CLIENTS + line(op="load", source='((number) @n (#eq? @n "7"))')
+    for k in range(20):
+        start = 1 + 4 * (k * 997 % 24_000)
+        for client in range(CLIENTS):
+            own = {"client": client, "document": client}
+            steps += line(op="edit", start=start, end=start + 3, new=f"{100 + k}", **own)
+            steps += line(op="query", queries=[0], **own)
+    return script + steps
+
+
+def together():
+    """All clients put numbers at the start of one document."""
+    script = line(op="open", text="[0]")
+    for _ in range(100):
+        for client in range(CLIENTS):
+            script += line(client=client, op="look", document=0)
+            script += line(client=client, op="edit", document=0, start=1, end=1, new="1,")
+    return script
+
+
+def measured(words):
+    """The seconds by the clock and of processor time, the most memory in MiB, what was printed, and the status."""
+    start = time.monotonic()
+    with subprocess.Popen(words, stdout=subprocess.PIPE) as child:
+        printed = child.stdout.read()
+        _, status, used = os.wait4(child.pid, 0)
+    return time.monotonic() - start, used.ru_utime + used.ru_stime, used.ru_maxrss >> 10, printed, status >> 8
+
+
+def main():
+    program = sys.argv[1] if len(sys.argv) > 1 else f"{TOP}/crates/ts_cli/out/ts_cli"
+    grammar = f"{TOP}/examples/json.json"
+    with tempfile.TemporaryDirectory() as folder:
+        path = f"{folder}/script"
+        for name, make in (("sixteen documents", apart), ("one document", together)):
+            with open(path, "w") as out:
+                out.write(make())
+            for words in ([program, "run", grammar, path], [program, "replay", grammar, path, ""]):
+                clock, spent, memory, printed, status = measured(words)
+                if status:
+                    print(f"{name}, {words[1]}: status {status}, {printed[:100].decode()}", flush=True)
+                    continue
+                published = printed.count(b'"reply":"published"')
+                print(
+                    f"{name}, {words[1]}: {clock:.2f} s by the clock, {spent:.2f} s of processors, {memory} MiB, "
+                    f"{published} published, {len(printed):,} bytes printed",
+                    flush=True,
+                )
+
+
+if __name__ == "__main__":
+    main()
