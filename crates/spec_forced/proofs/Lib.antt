@@ -1,0 +1,15 @@
+pub mod ItemLemmas
+pub mod SeenLemmas
+pub mod StackLemmas
+pub mod DecidedLemmas
+pub mod ForcedLemmas
+pub mod SpanLemmas
+pub mod TrailLemmas
+pub mod FirstLemmas
+pub mod NodeLemmas
+pub mod LeafLemmas
+pub mod OnlyLemmas
+pub mod RunLemmas
+pub mod SoundLemmas
+pub mod KeepLemmas
+pub mod TakingLemmas

@@ -1,0 +1,5 @@
+pub mod Forced
+pub mod OnlyRuns
+pub mod Sound
+pub mod Taking
+pub mod Laws

@@ -1,0 +1,11 @@
+//! Forced runs, on which a parser makes no choice, the nodes that stand since such a run makes them,
+//! and trees that are sound for a text: definitions with their laws alone. No value goes in or out.
+#![tactic(auto)]
+
+mod laws;
+
+pub use laws::{
+    extras_stay, forced_nodes_stand, forced_runs_are_only, items_decide, leaves_stand,
+    lexings_are_decided, nodes_stand, offers_change_nothing, only_runs_are_one_way, pushed_whole,
+    sound_trees_offer_honestly, stacks_stay_sound, states_tell,
+};

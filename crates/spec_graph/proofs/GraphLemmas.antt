@@ -1,0 +1,344 @@
+-- Ways in a graph of stacks: what they stand for, and that runs come to it.
+use Rattle.std.proofs.Common.{◌≡◌, ◌∙◌, sym, ap, refl, subst, ℕ, zero, suc, ◌+◌, ◌<◌, ◌≤◌, ◌⊎◌, inl, inr, ⊎_elim, Bool, true, false, true≢false, List, [], ◌∷◌, ◌++◌, append-nil, append_assoc, length, length-append, reverse, map, slice_get, Option, Some, None, arith}
+use Rattle.std.specs.List.{Contains}
+use Rattle.std.proofs.lemmas.List.{reverse-append, reverse-reverse, length-map, length-reverse}
+use Rattle.ts_core.specs.declared.flat.Production.{Production}
+use Rattle.ts_core.specs.declared.flat.Step.{Step}
+use Rattle.ts_core.specs.declared.symbol.Symbol.{Symbol}
+use Rattle.spec_lexing.specs.Lexing.{token}
+use Rattle.spec_tables.specs.Actions.{Act, shift, reduce}
+use Rattle.spec_trees.specs.declared.tree.Tree.{Tree}
+use Rattle.spec_trees.specs.Trees.{symbol_of, pad_of, size_of, is_extra_node, span_of, all_spans, first_pad, tree_depth}
+use Rattle.spec_trees.specs.Made.{filling, step_symbols, BeginsFilled, most_depth}
+use Rattle.spec_runs.specs.Configurations.{Configuration, starting, token_tree, AreExtras}
+use Rattle.spec_runs.specs.Runs.{Run, IsReached}
+use Rattle.spec_packing.proofs.MadeLemmas.{CanMake}
+use Rattle.spec_graph.specs.declared.graph.Head.{Head}
+use Rattle.spec_graph.specs.declared.graph.Link.{Link}
+use Rattle.spec_graph.specs.States.{LeadsTo, at_first, ShareState, AreStates, AreRanks}
+use Rattle.spec_graph.specs.Laying.{Parsing, from_start, SeesAt, GoesOn, PassesAt, ReducesAt, extra_tree, node_made, Taken, some, nothing, Lays, flat, stood, shifted, passed, made, ComesOver}
+use Rattle.spec_graph.specs.Replacing.{AreAlike}
+use Rattle.spec_graph.specs.Keys.{Key, LaysBefore, flat_before, stood_before, shifted_before, passed_before, made_before}
+use Rattle.spec_graph.specs.Links.{IsAt, IsWay, trees_of, StandsFor, AllStandFor, HasWay, HasLink, IsLinked, IsGraph, IsWholeTo}
+use Rattle.spec_graph.proofs.SightLemmas.{Facts, lead_once, share_back, share_on, same_token, sees_one, clash, move_shared, sees_shared, passes_shared}
+use Rattle.spec_graph.proofs.EntryLemmas.{LeafSays, token_says, extra_says, node_tells, kind_of, symbol_is, filling_tree, filling_extra, filling_turned, filling_none, spans_turned, children_fill, pass_bytes}
+use Rattle.spec_graph.proofs.LayLemmas.{IsBase, HasBottom, bottom_turned, order_cases, lays_read, can_make, begins_taken, lays_spans, grows, lays_none, lays_state, joins, extras_same, Peeled, bare_place, one_more, peel, starts, sound, nothing_laid}
+use Rattle.spec_graph.proofs.OrderLemmas.{before_lays}
+
+module _ (P : Parsing) (facts : Facts P) where
+  -- ---- heads
+
+  pub same_head : (heads : List Head) (h : ℕ) (γ δ : List ℕ) (p q : ℕ) → (a : IsAt P heads h γ p) → (b : IsAt P heads h δ q) → a.head ≡ b.head
+  same_head heads h γ δ p q a b = let e : Some a.head ≡ Some b.head = sym a.is ∙ b.is in cc
+
+  pub same_place : (heads : List Head) (h : ℕ) (γ δ : List ℕ) (p q : ℕ) → IsAt P heads h γ p → IsAt P heads h δ q → p ≡ q
+  same_place heads h γ δ p q a b = sym a.place_is ∙ ap (λ (t : Head). t.place) (same_head heads h γ δ p q a b) ∙ b.place_is
+
+  -- two lists of symbols of one head share its state
+  pub share_head : (heads : List Head) (h : ℕ) (γ δ : List ℕ) (p q : ℕ) → IsAt P heads h γ p → IsAt P heads h δ q → ShareState P.goto γ δ
+  share_head heads h γ δ p q a b = (b.head.state, subst (λ (x : Head). LeadsTo P.goto γ x.state) (same_head heads h γ δ p q a b) a.state, b.state)
+
+  -- a head is that of all lists of symbols that share its state
+  pub at_shared : (heads : List Head) (h : ℕ) (γ δ : List ℕ) (p : ℕ) → IsAt P heads h γ p → ShareState P.goto γ δ → IsAt P heads h δ p
+  at_shared heads h γ δ p a s = record {
+    head = a.head;
+    is = a.is;
+    state = subst (λ (n : ℕ). LeadsTo P.goto δ n) (lead_once P.goto γ s.0 a.head.state s.1 a.state) s.2;
+    place_is = a.place_is;
+  }
+
+  pub at_place : (heads : List Head) (h : ℕ) (γ δ : List ℕ) (p q : ℕ) → γ ≡ δ → p ≡ q → IsAt P heads h γ p → IsAt P heads h δ q
+  at_place heads h γ δ p q e f a = subst (λ (g : List ℕ). IsAt P heads h g q) e (subst (λ (m : ℕ). IsAt P heads h γ m) f a)
+
+  module _ (base : IsBase P) where
+    -- ---- what is laid after some symbols, after others of one state
+
+    pub record Shared (γ' : List ℕ) (q : ℕ) (w : List Tree) (p : ℕ) (δ : List ℕ) : Type 0 where
+      pub now : List ℕ
+      pub lays : Lays P γ' q w p now
+      pub share : ShareState P.goto δ now
+
+    share_tree : (t : Tree) (δ δ' : List ℕ) → ShareState P.goto δ δ' → (m : ℕ) → LeadsTo P.goto (filling (t ∷ []) ++ δ) m → ShareState P.goto (filling (t ∷ []) ++ δ) (filling (t ∷ []) ++ δ')
+    share_tree t δ δ' s m l = by (is_extra_node t) refl
+      where
+        by : (b : Bool) → is_extra_node t ≡ b → ShareState P.goto (filling (t ∷ []) ++ δ) (filling (t ∷ []) ++ δ')
+        by true e = subst (λ (r : List ℕ). ShareState P.goto (r ++ δ) (r ++ δ')) (sym (filling_extra t [] e)) s
+        by false e = subst (λ (r : List ℕ). ShareState P.goto (r ++ δ) (r ++ δ')) (sym (filling_tree t [] e))
+            (share_on P.goto δ δ' (symbol_of t) m s (subst (λ (r : List ℕ). LeadsTo P.goto (r ++ δ) m) (filling_tree t [] e) l))
+
+    share_through : (a b c : List ℕ) → ShareState P.goto a b → ShareState P.goto b c → ShareState P.goto a c
+    share_through a b c s t = (t.0, subst (λ (n : ℕ). LeadsTo P.goto a n) (lead_once P.goto b s.0 t.0 s.2 t.1) s.1, t.2)
+
+    taken_shared : (ks w : List Tree) (γ γ' : List ℕ) (q : ℕ) → ShareState P.goto γ γ' → Taken ks w γ q → Taken ks w γ' q
+    taken_shared ks w γ γ' q s (some lt begins ends) = some lt begins ends
+    taken_shared ks w γ γ' q s (nothing none low read place) =
+        let first : LeadsTo P.goto [] s.0 = subst (λ (r : List ℕ). LeadsTo P.goto r s.0) read s.1 in
+        let at_zero : s.0 ≡ 0 = lead_once P.goto [] s.0 0 first at_first in
+        nothing none low (facts.states.begins γ' (subst (λ (n : ℕ). LeadsTo P.goto γ' n) at_zero s.2)) place
+
+    pub transfer : (γ γ' : List ℕ) (q : ℕ) (w : List Tree) (p : ℕ) (δ : List ℕ) → Lays P γ q w p δ → ShareState P.goto γ γ' → Shared γ' q w p δ
+    transfer γ γ' q _ _ _ (flat _ _) s = record { now = γ'; lays = flat γ' q; share = s }
+    transfer γ γ' q _ _ _ (stood _ _ w p δ t above below l at place share) s =
+        let h = transfer γ γ' q w p δ l s in
+        let state = lays_state P facts base γ q (t ∷ w) (p + span_of t) (filling (t ∷ []) ++ δ) s.0 s.1 (stood γ q w p δ t above below l at place share) in
+        record {
+          now = filling (t ∷ []) ++ h.now;
+          lays = stood γ' q w p h.now t above below h.lays at place (share_through (filling below) δ h.now share h.share);
+          share = share_tree t δ h.now h.share state.0 state.1;
+        }
+    transfer γ γ' q _ _ _ (shifted _ _ w p δ t pad size l late sees acts) s =
+        let h = transfer γ γ' q w p δ l s in
+        let state = lays_state P facts base γ q (token_tree t pad size ∷ w) (p + (pad + size)) (t.0 ∷ δ) s.0 s.1 (shifted γ q w p δ t pad size l late sees acts) in
+        record {
+          now = t.0 ∷ h.now;
+          lays = shifted γ' q w p h.now t pad size h.lays late (sees_shared P facts δ h.now h.share p (token t pad size) sees) (facts.states.acts δ h.now t.0 shift h.share acts);
+          share = share_on P.goto δ h.now t.0 state.0 h.share state.1;
+        }
+    transfer γ γ' q _ _ _ (passed _ _ w p δ t pad size l late passes) s =
+        let h = transfer γ γ' q w p δ l s in
+        record {
+          now = h.now;
+          lays = passed γ' q w p h.now t pad size h.lays late (passes_shared P facts δ h.now h.share p t pad size passes);
+          share = h.share;
+        }
+    transfer γ γ' q _ _ _ (made _ _ w p δ ks end ε xs look number left pr l inner outer all late taken folds count deep) s =
+        let h = transfer γ γ' q w p δ l s in
+        let i = transfer δ h.now p (reverse ks) end ε inner h.share in
+        let o = transfer ε i.now end xs look ε outer i.share in
+        let flat_read : o.now ≡ i.now = extras_same P facts base xs i.now end look o.now all o.lays in
+        let state = lays_state P facts base γ q (node_made P number ks ∷ w) end (left ∷ δ) s.0 s.1 (made γ q w p δ ks end ε xs look number left pr l inner outer all late taken folds count deep) in
+        let filled = children_fill P facts ε δ look number left pr ks folds (lays_read P facts δ p (reverse ks) end ε inner) count in
+        let read_is : i.now ≡ reverse (step_symbols pr) ++ h.now =
+        lays_read P facts h.now p (reverse ks) end i.now i.lays ∙ ap (λ (r : List ℕ). r ++ h.now) (filling_turned ks ∙ ap (λ (r : List ℕ). reverse r) filled) in
+        record {
+          now = left ∷ h.now;
+          lays = made γ' q w p h.now ks end i.now xs look number left pr h.lays i.lays (subst (λ (r : List ℕ). Lays P i.now end xs look r) flat_read o.lays) all late (taken_shared ks w γ γ' q s taken)
+              (record {
+                symbol = folds.symbol;
+                pad = folds.pad;
+                size = folds.size;
+                sees = sees_shared P facts ε i.now i.share look (token folds.symbol folds.pad folds.size) folds.sees;
+                stays = facts.states.acts ε i.now folds.symbol.0 (reduce number) i.share folds.stays;
+                at = folds.at;
+                read_is = read_is;
+              }) count deep;
+          share = share_on P.goto δ h.now left state.0 h.share state.1;
+        }
+
+    -- ---- ways for what comes before a key
+
+    module _ (rank : ℕ → ℕ) (most : ℕ) (ranked : AreRanks P.grammar rank most) (heads : List Head) (links : List Link) (k : Key) (whole : IsWholeTo P rank heads links k) where
+      way_on : (b : ℕ) (w : List Tree) (t : Tree) (p m : ℕ) (δ μ : List ℕ) → (h : HasWay P heads links b w p δ) → LaysBefore P rank k δ p (t ∷ []) m μ → HasWay P heads links b (t ∷ w) m μ
+      way_on b w t p m δ μ h l =
+          let x = whole.linked h.head δ p t m μ h.at l in
+          record {
+            head = x.link.above;
+            at = x.above;
+            way = x.link ∷ h.way;
+            is = (x.there, refl, subst (λ (n : ℕ). IsWay links n h.way b) (sym x.below) h.is);
+            stands = (x.stands, h.stands);
+          }
+
+      taken_alone : (ks w : List Tree) (γ : List ℕ) (q p : ℕ) (δ : List ℕ) → Lays P γ q w p δ → Taken ks w γ q → Taken ks [] δ p
+      taken_alone ks w γ q p δ l (some lt begins ends) = some lt begins ends
+      taken_alone ks w γ q p δ l (nothing none low read place) = let h = lays_none P facts base γ q w p δ l low in nothing none refl (h.1 ∙ read) (h.0 ∙ place)
+
+      pub has_way : (b : ℕ) (γ : List ℕ) (q : ℕ) (w : List Tree) (p : ℕ) (δ : List ℕ) → IsAt P heads b γ q → LaysBefore P rank k γ q w p δ → HasWay P heads links b w p δ
+      has_way b γ q _ _ _ at (flat_before _ _) = record { head = b; at = at; way = []; is = refl; stands = tt }
+      has_way b γ q _ _ _ at (stood_before _ _ w p δ t above below l at2 place share) =
+          way_on b w t p (p + span_of t) δ (filling (t ∷ []) ++ δ) (has_way b γ q w p δ at l) (stood_before δ p [] p δ t above below (flat_before δ p) at2 place share)
+      has_way b γ q _ _ _ at (shifted_before _ _ w p δ s pad size l late lt sees acts) =
+          way_on b w (token_tree s pad size) p (p + (pad + size)) δ (s.0 ∷ δ) (has_way b γ q w p δ at l) (shifted_before δ p [] p δ s pad size (flat_before δ p) late lt sees acts)
+      has_way b γ q _ _ _ at (passed_before _ _ w p δ s pad size l late lt passes) =
+          way_on b w (extra_tree s pad size) p (p + (pad + size)) δ δ (has_way b γ q w p δ at l) (passed_before δ p [] p δ s pad size (flat_before δ p) late lt passes)
+      has_way b γ q _ _ _ at (made_before _ _ w p δ ks end ε xs look number left pr l inner outer all late taken folds count deep earlier) =
+          way_on b w (node_made P number ks) p end δ (left ∷ δ) (has_way b γ q w p δ at l)
+          (made_before δ p [] p δ ks end ε xs look number left pr (flat_before δ p) inner outer all late
+          (taken_alone ks w γ q p δ (before_lays P facts base rank k γ q w p δ l) taken) folds count deep earlier)
+
+-- ---- soundness, where runs go on from the start
+
+module _ (P : Parsing) (facts : Facts P) (base : IsBase P) (fresh : P.stack ≡ []) (zero_place : P.place ≡ 0) where
+  -- sound, as told of what is laid from the start
+  pub record IsLaid (heads : List Head) (l : Link) (t : Tree) : Type 0 where
+    pub under : List ℕ
+    pub over : List ℕ
+    pub from : ℕ
+    pub to : ℕ
+    pub below : IsAt P heads l.below under from
+    pub above : IsAt P heads l.above over to
+    pub lays : Lays P under from (t ∷ []) to over
+
+  -- for each link of a way a tree that can be laid between its heads
+  abbrev pub AreLaid : List Head → List Link → List Tree → Type 0
+  AreLaid heads [] [] = Unit {0}
+  AreLaid heads [] (t ∷ ts) = ⊥
+  AreLaid heads (l ∷ way) [] = ⊥
+  AreLaid heads (l ∷ way) (t ∷ ts) = IsLaid heads l t × AreLaid heads way ts
+
+  pub record WayLaid (heads : List Head) (b : ℕ) (γ : List ℕ) (q : ℕ) (ts : List Tree) (h p : ℕ) : Type 0 where
+    pub now : List ℕ
+    pub lays : Lays P γ q ts p now
+    pub at : IsAt P heads h now p
+
+  -- each way from a head down to another is laid on it, with any such trees
+  pub ways : (heads : List Head) (links : List Link) (b : ℕ) (γ : List ℕ) (q : ℕ) → IsAt P heads b γ q → (way : List Link) (ts : List Tree) (h p : ℕ) (δ : List ℕ) → IsAt P heads h δ p → IsWay links h way b → AreLaid heads way ts → WayLaid heads b γ q ts h p
+  ways heads links b γ q bottom [] [] h p δ at is all =
+      let here : IsAt P heads h γ q = subst (λ (n : ℕ). IsAt P heads n γ q) (sym is) bottom in
+      let place : q ≡ p = same_place P facts heads h γ δ q p here at in
+      record { now = γ; lays = subst (λ (m : ℕ). Lays P γ q [] m γ) place (flat γ q); at = subst (λ (m : ℕ). IsAt P heads h γ m) place here }
+  ways heads links b γ q bottom [] (t ∷ ts) h p δ at is all = absurd all
+  ways heads links b γ q bottom (l ∷ way) [] h p δ at is all = absurd all
+  ways heads links b γ q bottom (l ∷ way) (t ∷ ts) h p δ at is all =
+      let k = all.0 in
+      let low = ways heads links b γ q bottom way ts l.below k.from k.under k.below is.2 all.1 in
+      let share = share_head P facts heads l.below k.under low.now k.from k.from k.below low.at in
+      let one = transfer P facts base k.under low.now k.from (t ∷ []) k.to k.over k.lays share in
+      let top : IsAt P heads h k.over k.to = subst (λ (n : ℕ). IsAt P heads n k.over k.to) is.1 k.above in
+      let place : k.to ≡ p = same_place P facts heads h k.over δ k.to p top at in
+      record {
+        now = one.now;
+        lays = subst (λ (m : ℕ). Lays P γ q (t ∷ ts) m one.now) place (joins P facts base γ q ts k.from low.now (t ∷ []) k.to one.now (λ none z. bottom_none ts k.from low.now low.lays none z) low.lays one.lays);
+        at = subst (λ (m : ℕ). IsAt P heads h one.now m) place (at_shared P facts heads h k.over one.now k.to top one.share);
+      }
+    where
+      bottom_none : (ts : List Tree) (m : ℕ) (μ : List ℕ) → Lays P γ q ts m μ → μ ≡ [] → m ≡ 0 → (ts ≡ []) × (γ ≡ []) × (q ≡ 0)
+      bottom_none ts m μ l none z =
+          let e = nothing_laid P facts base fresh zero_place γ q ts m μ l none z in
+          let h = lays_none P facts base γ q ts m μ l e in
+          (e, sym h.1 ∙ none, sym h.0 ∙ z)
+
+  -- such a way from the start is reached, where no extra is passed at its head
+  pub way_reached : (heads : List Head) (ts : List Tree) (h p : ℕ) → (w : WayLaid heads 0 [] 0 ts h p) → ((s : Symbol) (pad size : ℕ) → PassesAt P w.now p s pad size → ⊥) → IsReached P.grammar P.text (record { stack = ts; place = p })
+  way_reached heads ts h p w quiet =
+      let f = sound P facts base fresh zero_place [] 0 ts p w.now 0 at_first w.lays [] refl (λ a b. refl) in
+      by f (peel P facts base w.now p f.extras f.look w.now f.lays f.all_extras (omega (arith, zero_place)) refl)
+    where
+      by : (f : ComesOver P [] ts 0 p w.now) → Peeled P facts base w.now p f.extras f.look → IsReached P.grammar P.text (record { stack = ts; place = p })
+      by f (bare_place none place) =
+          subst (λ (u : List Tree). IsReached P.grammar P.text (record { stack = u; place = p })) (append-nil ts)
+          (subst (λ (m : ℕ). IsReached P.grammar P.text (record { stack = ts ++ []; place = m })) (sym place)
+          (subst (λ (u : List Tree). IsReached P.grammar P.text (record { stack = u ++ (ts ++ []); place = f.look })) none f.run))
+      by f (one_more ys s pad size is late first rest all) = absurd (quiet s pad size first)
+
+  -- ---- what can be packed
+
+  -- the token that is seen where a tree begins, and its pad
+  abbrev Reads : List ℕ → ℕ → ℕ → Type 0
+  Reads γ q low = (s : Symbol) × (pad : ℕ) × (size : ℕ) × SeesAt P γ q (token s pad size) × (low ≡ pad)
+
+  abbrev low_pad : List Tree → ℕ
+  low_pad [] = 0
+  low_pad (t ∷ []) = pad_of t
+  low_pad (t ∷ u ∷ w) = low_pad (u ∷ w)
+
+  low_front : (w : List Tree) (t : Tree) → low_pad (w ++ t ∷ []) ≡ pad_of t
+  low_front [] t = refl
+  low_front (x ∷ []) t = refl
+  low_front (x ∷ y ∷ w) t = low_front (y ∷ w) t
+
+  low_turned : (ks : List Tree) → low_pad (reverse ks) ≡ first_pad ks
+  low_turned [] = refl
+  low_turned (k ∷ ks) = ap low_pad (reverse-append (k ∷ []) ks) ∙ low_front (reverse ks) k
+
+  moved_read : (γ δ : List ℕ) (q p low low2 : ℕ) → δ ≡ γ → p ≡ q → low2 ≡ low → Reads δ p low → Reads γ q low2
+  moved_read γ δ q p low low2 e f g r = (r.0, r.1, r.2, subst (λ (m : ℕ). SeesAt P γ m (token r.0 r.1 r.2)) f (subst (λ (h : List ℕ). SeesAt P h p (token r.0 r.1 r.2)) e r.3), g ∙ r.4)
+
+  lowest : (γ : List ℕ) (q : ℕ) (w : List Tree) (p : ℕ) (δ : List ℕ) → Lays P γ q w p δ → HasBottom w → Reads γ q (low_pad w)
+  lowest γ q _ _ _ (flat _ _) h = absurd h
+  lowest γ q _ _ _ (stood _ _ w p δ t above below l at place share) h = absurd (let lt = base.low above below t at in omega (arith, lt, zero_place))
+  lowest γ q _ _ _ (shifted _ _ [] p δ s pad size l late sees acts) h =
+      let e = lays_none P facts base γ q [] p δ l refl in
+      moved_read γ δ q p pad (pad_of (token_tree s pad size)) e.1 e.0 (token_says facts.laws.runs s pad size).pad (s, pad, size, sees, refl)
+  lowest γ q _ _ _ (shifted _ _ (f ∷ w) p δ s pad size l late sees acts) h = lowest γ q (f ∷ w) p δ l h
+  lowest γ q _ _ _ (passed _ _ [] p δ s pad size l late passes) h = absurd (true≢false (sym (extra_says facts.laws.runs s pad size).kind ∙ h.0))
+  lowest γ q _ _ _ (passed _ _ (f ∷ w) p δ s pad size l late passes) h = lowest γ q (f ∷ w) p δ l h
+  lowest γ q _ _ _ (made _ _ (f ∷ w) p δ ks end ε xs look number left pr l inner outer all late taken folds count deep) h = lowest γ q (f ∷ w) p δ l h
+  lowest γ q _ _ _ (made _ _ [] p δ ks end ε xs look number left pr l inner outer all late taken folds count deep) h =
+      let e = lays_none P facts base γ q [] p δ l refl in
+      let make = can_make P facts base δ p ks end ε look number left pr inner (begins_taken P facts ks [] γ q taken) folds count in
+      let n = node_tells P facts number left pr ks make in
+      let bytes : 0 < all_spans ks = (let b = h.1 in omega (arith, b, n.span)) in
+      moved_read γ δ q p (low_pad (reverse ks)) (pad_of (node_made P number ks)) e.1 e.0 (n.pad ∙ sym (low_turned ks))
+      (lowest δ p (reverse ks) end ε inner (bottom_turned P.grammar number left pr ks (long ks bytes) make))
+    where
+      long : (ks : List Tree) → 0 < all_spans ks → 0 < length ks
+      long [] lt = lt
+      long (k ∷ ks) lt = omega arith
+
+  -- an extra is what is seen where it begins
+  extra_read : (γ : List ℕ) (q : ℕ) (w : List Tree) (t : Tree) (p : ℕ) (δ : List ℕ) → Lays P γ q w p δ → w ≡ t ∷ [] → is_extra_node t ≡ true → (s : Symbol) × (pad : ℕ) × (size : ℕ) × (t ≡ extra_tree s pad size) × PassesAt P γ q s pad size
+  extra_read γ q _ t _ _ (flat _ _) is e = absurd (let h : [] ≡ t ∷ [] = is in cc)
+  extra_read γ q _ t _ _ (stood _ _ w p δ u above below l at place share) is e = absurd (let lt = base.low above below u at in omega (arith, lt, zero_place))
+  extra_read γ q _ t _ _ (shifted _ _ w p δ s pad size l late sees acts) is e =
+      let same : token_tree s pad size ≡ t = cc in
+      absurd (true≢false (sym e ∙ ap is_extra_node (sym same) ∙ (token_says facts.laws.runs s pad size).kind))
+  extra_read γ q _ t _ _ (made _ _ w p δ ks end ε xs look number left pr l inner outer all late taken folds count deep) is e =
+      let same : node_made P number ks ≡ t = cc in
+      absurd (true≢false (sym e ∙ ap is_extra_node (sym same) ∙ kind_of P facts number left pr ks folds.at))
+  extra_read γ q _ t _ _ (passed _ _ w p δ s pad size l late passes) is e =
+      let same : extra_tree s pad size ≡ t = cc in
+      let none : w ≡ [] = cc in
+      let h = lays_none P facts base γ q w p δ l none in
+      (s, pad, size, sym same, subst (λ (m : ℕ). PassesAt P γ m s pad size) h.0 (subst (λ (r : List ℕ). PassesAt P r p s pad size) h.1 passes))
+
+  alone_spans : (γ : List ℕ) (q : ℕ) (t : Tree) (p : ℕ) (δ : List ℕ) → Lays P γ q (t ∷ []) p δ → q + span_of t ≡ p
+  alone_spans γ q t p δ l = let h = lays_spans P facts base γ q (t ∷ []) p δ l in omega (arith, h)
+
+  same_read : (γ : List ℕ) (q : ℕ) (t u : Tree) (p : ℕ) (δ ε : List ℕ) → Lays P γ q (t ∷ []) p δ → Lays P γ q (u ∷ []) p ε → is_extra_node t ≡ false → is_extra_node u ≡ false → pad_of t ≡ pad_of u
+  same_read γ q t u p δ ε l m e f = by (order_cases 0 (span_of t))
+    where
+      spans : span_of t ≡ span_of u
+      spans = omega (arith, alone_spans γ q t p δ l, alone_spans γ q u p ε m)
+
+      by : (0 < span_of t) ⊎ (span_of t ≤ 0) → pad_of t ≡ pad_of u
+      by (inl some_bytes) =
+          let a = lowest γ q (t ∷ []) p δ l (e, some_bytes) in
+          let b = lowest γ q (u ∷ []) p ε m (f, omega (arith, some_bytes, spans)) in
+          let same = same_token a.0 b.0 a.1 b.1 a.2 b.2 (sees_one P facts γ q (token a.0 a.1 a.2) (token b.0 b.1 b.2) a.3 b.3) in
+          a.4 ∙ same.1 ∙ sym b.4
+      by (inr none) = omega (arith, none, spans)
+
+  -- a tree that is not an extra, and an extra, do not begin at one place with one end
+  mixed : (γ : List ℕ) (q : ℕ) (t u : Tree) (p : ℕ) (δ ε : List ℕ) → Lays P γ q (t ∷ []) p δ → Lays P γ q (u ∷ []) p ε → is_extra_node t ≡ false → is_extra_node u ≡ true → ⊥
+  mixed γ q t u p δ ε l m e f =
+      let r = extra_read γ q (u ∷ []) u p ε m refl f in
+      let b = pass_bytes P facts γ q r.0 r.1 r.2 r.4 in
+      let x = extra_says facts.laws.runs r.0 r.1 r.2 in
+      let span_u : span_of u ≡ r.1 + r.2 = ap span_of r.3 ∙ (let y = x.pad in let z = x.size in omega (arith, y, z)) in
+      let some_bytes : 0 < span_of t = omega (arith, b, span_u, alone_spans γ q t p δ l, alone_spans γ q u p ε m) in
+      clash P facts γ q r.0 r.1 r.2 (starts P facts base γ q (t ∷ []) p δ l (omega (arith, zero_place)) (e, some_bytes)) r.4
+
+  -- What is laid between two heads twice is of one kind, with one symbol and the same bytes.
+  pub like : (heads : List Head) (a b : ℕ) (γ δ under over : List ℕ) (q p : ℕ) (t u : Tree) → IsAt P heads a γ q → IsAt P heads b δ p → IsAt P heads a under q → IsAt P heads b over p
+      → Lays P γ q (t ∷ []) p δ → Lays P under q (u ∷ []) p over → AreAlike t u
+  like heads a b γ δ under over q p t u low high low2 high2 l m0 = by (is_extra_node t) (is_extra_node u) refl refl
+    where
+      share : ShareState P.goto under γ
+      share = share_head P facts heads a under γ q q low2 low
+
+      m : Shared P facts base γ q (u ∷ []) p over
+      m = transfer P facts base under γ q (u ∷ []) p over m0 share
+
+      spans : span_of t ≡ span_of u
+      spans = omega (arith, alone_spans γ q t p δ l, alone_spans γ q u p m.now m.lays)
+
+      sizes : pad_of t ≡ pad_of u → size_of t ≡ size_of u
+      sizes e = let s = spans in omega (arith, s, e)
+
+      by : (x y : Bool) → is_extra_node t ≡ x → is_extra_node u ≡ y → AreAlike t u
+      by true true e f =
+          let r = extra_read γ q (t ∷ []) t p δ l refl e in
+          let z = extra_read γ q (u ∷ []) u p m.now m.lays refl f in
+          let same = same_token r.0 z.0 r.1 z.1 r.2 z.2 (sees_one P facts γ q (token r.0 r.1 r.2) (token z.0 z.1 z.2) r.4.sees z.4.sees) in
+          let one : t ≡ u = r.3 ∙ ap (λ (x : Symbol). extra_tree x r.1 r.2) same.0 ∙ ap (λ (x : ℕ). extra_tree z.0 x r.2) same.1 ∙ ap (λ (x : ℕ). extra_tree z.0 z.1 x) same.2 ∙ sym z.3 in
+          record { symbol = ap symbol_of one; extra = ap is_extra_node one; pad = ap pad_of one; size = ap size_of one }
+      by true false e f = absurd (mixed γ q u t p m.now δ m.lays l f e)
+      by false true e f = absurd (mixed γ q t u p δ m.now l m.lays e f)
+      by false false e f =
+          let top = share_head P facts heads b δ over p p high high2 in
+          let d : δ ≡ symbol_of t ∷ γ = lays_read P facts γ q (t ∷ []) p δ l ∙ ap (λ (r : List ℕ). r ++ γ) (filling_tree t [] e) in
+          let o : over ≡ symbol_of u ∷ under = lays_read P facts under q (u ∷ []) p over m0 ∙ ap (λ (r : List ℕ). r ++ under) (filling_tree u [] f) in
+          let both : ShareState P.goto (symbol_of t ∷ γ) (symbol_of u ∷ under) = subst (λ (r : List ℕ). ShareState P.goto r (symbol_of u ∷ under)) d (subst (λ (r : List ℕ). ShareState P.goto δ r) o top) in
+          let pads = same_read γ q t u p δ m.now l m.lays e f in
+          record { symbol = facts.states.enters γ under (symbol_of t) (symbol_of u) both; extra = e ∙ sym f; pad = pads; size = sizes pads }

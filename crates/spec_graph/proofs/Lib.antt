@@ -1,0 +1,12 @@
+pub mod SightLemmas
+pub mod EntryLemmas
+pub mod ReplaceLemmas
+pub mod NodeLemmas
+pub mod RootLemmas
+pub mod LayLemmas
+pub mod OrderLemmas
+pub mod GraphLemmas
+pub mod KeyLemmas
+pub mod BaseLemmas
+pub mod OutcomeLemmas
+pub mod DueLemmas

@@ -1,0 +1,7 @@
+pub mod States
+pub mod Laying
+pub mod Replacing
+pub mod Links
+pub mod Keys
+pub mod Outcomes
+pub mod Laws

@@ -1,0 +1,341 @@
+//! Laws of the definitions, each a function without a body: what other crates may use of them.
+
+ghost use Rattle.std.specs.Prelude.{◌≡◌, ℕ, ◌+◌, ◌<◌, ◌≤◌, suc, List, [], ◌∷◌, ◌++◌, length, map, reverse};
+ghost use Rattle.spec_tables.specs.Fit.{Fit};
+ghost use Rattle.ts_core.specs.declared.flat.Production.{Production};
+ghost use Rattle.ts_core.specs.declared.symbol.Symbol.{Symbol as AnySymbol};
+ghost use Rattle.spec_trees.specs.declared.tree.Tree.{Tree};
+ghost use Rattle.spec_trees.specs.Trees.{span_of, all_spans, tree_depth};
+ghost use Rattle.spec_trees.specs.Made.{form_of, filling, BeginsFilled, most_depth};
+ghost use Rattle.spec_trees.specs.Choice.{Better};
+ghost use Rattle.spec_runs.specs.Configurations.{Configuration, stack_symbols};
+ghost use Rattle.spec_runs.specs.Runs.{Run, IsReached, ComesTooDeep, AcceptsTree, StopsAt};
+ghost use Rattle.spec_runs.specs.Outcomes.{SomeIsTooDeep, SomeAccepts, SomeStopsAt, IsBestTree, IsLastStop};
+ghost use Rattle.spec_graph.specs.declared.graph.Head.{Head as AnyHead};
+ghost use Rattle.spec_graph.specs.declared.graph.Link.{Link as AnyLink};
+ghost use Rattle.spec_graph.specs.States.{LeadsTo, AreStates, AreRanks};
+ghost use Rattle.spec_graph.specs.Laying.{Parsing, from_start, PassesAt, ReducesAt, extra_tree, node_made, Lays, CanMakeNode, IsBegun, ComesOver};
+ghost use Rattle.spec_graph.specs.Replacing.{AreAlike, Replaces, AllReplace, depth_over};
+ghost use Rattle.spec_graph.specs.Keys.{Key, Earlier, IsNextKey, LaysBefore};
+ghost use Rattle.spec_graph.specs.Links.{IsAt, trees_of, HasWay, IsGraph, IsWholeTo, IsDue, way_depth, AreDone, HasNoneDue, HasGrown, AreAdded, IsOpened, HasStood};
+ghost use Rattle.spec_graph.specs.Outcomes.{GraphAccepts, GraphStopsAt, GraphIsDeep, IsBestOfGraph, IsLastOfGraph};
+ghost use Rattle.spec_graph.specs.Laws.{GraphLaws};
+
+use spec_lexing::{fewer_tokens, one_answer, token_within};
+use spec_reuse::{no_new_tokens, some_move_stays};
+use spec_runs::{
+    bare_trees, empty_rules_are_unused, moves_have_their_place, repetitions_repeat,
+    start_is_no_repetition,
+};
+
+/// The laws of other crates hold.
+fn laws_hold()
+    ensures { GraphLaws }
+{
+    bare_trees();
+    empty_rules_are_unused();
+    moves_have_their_place();
+    repetitions_repeat();
+    start_is_no_repetition();
+    fewer_tokens();
+    one_answer();
+    token_within();
+    no_new_tokens();
+    some_move_stays();
+}
+
+/// What runs reach is laid, from the start and over the stack from which runs go on; and what is laid
+/// is reached, once the extras behind it are passed.
+pub fn runs_lay()
+    ensures start { (P : Parsing) → Fit P.grammar → AreStates P.grammar P.goto → (c : Configuration)
+        → IsReached P.grammar P.text c
+        → Lays (from_start P) [] 0 c.stack c.place (stack_symbols c.stack) }
+    ensures on { (P : Parsing) → Fit P.grammar → AreStates P.grammar P.goto
+        → (c d : Configuration) → IsReached P.grammar P.text c → IsBegun P c
+        → Run P.grammar P.text c d → Lays P [] 0 d.stack d.place (stack_symbols d.stack) }
+    ensures reached { (P : Parsing) → Fit P.grammar → AreStates P.grammar P.goto
+        → (w : List Tree) (place : ℕ) (now : List ℕ)
+        → Lays (from_start P) [] 0 w place now → ComesOver (from_start P) [] w 0 place now }
+    ensures embeds { (P : Parsing) → Fit P.grammar → AreStates P.grammar P.goto
+        → (c : Configuration) → IsReached P.grammar P.text c → IsBegun P c
+        → (read now : List ℕ) (from place : ℕ) (w : List Tree)
+        → Lays P read from w place now → Lays (from_start P) read from w place now }
+{
+    laws_hold();
+}
+
+/// A tree may take its own place, and that of what a tree may whose place it may take. In every node
+/// trees may be replaced so; and the depth of a node is told by those of its children.
+pub fn trees_replace()
+    ensures same { (t : Tree) → Replaces t t }
+    ensures through { (t u v : Tree) → Replaces t u → Replaces u v → Replaces t v }
+    ensures nodes { (P : Parsing) → Fit P.grammar → AreStates P.grammar P.goto
+        → (now over other : List ℕ) (place end look number left : ℕ) (p : Production)
+        (ks us : List Tree)
+        → Lays (from_start P) now place (reverse ks) end over
+        → Lays (from_start P) now place (reverse us) end other
+        → BeginsFilled us → ReducesAt P other look number left p now
+        → length (filling us) ≡ length p.steps → AllReplace ks us
+        → Replaces (node_made P number ks) (node_made P number us) }
+    ensures depth { (P : Parsing) → Fit P.grammar → AreStates P.grammar P.goto
+        → (now over : List ℕ) (place end look number left : ℕ) (p : Production) (ks : List Tree)
+        → Lays (from_start P) now place (reverse ks) end over
+        → BeginsFilled ks → ReducesAt P over look number left p now
+        → length (filling ks) ≡ length p.steps
+        → tree_depth (node_made P number ks)
+        ≡ depth_over (form_of P.grammar left number) (map tree_depth ks) }
+{
+    laws_hold();
+}
+
+/// All that a node is made of comes before it, and so do the extras up to its lookahead.
+pub fn parts_come_first()
+    ensures inner { (P : Parsing) → Fit P.grammar → AreStates P.grammar P.goto
+        → (c : Configuration) → IsReached P.grammar P.text c → IsBegun P c
+        → (rank : ℕ → ℕ) (most : ℕ) → AreRanks P.grammar rank most
+        → (now over : List ℕ) (place end look number left n : ℕ) (p : Production)
+        (ks extras : List Tree) → LeadsTo P.goto now n
+        → CanMakeNode P now place ks end over extras look number left p
+        → LaysBefore P rank (record { look = look; begins = place; rank = rank left })
+        now place (reverse ks) end over }
+    ensures outer { (P : Parsing) → Fit P.grammar → AreStates P.grammar P.goto
+        → (c : Configuration) → IsReached P.grammar P.text c → IsBegun P c
+        → (rank : ℕ → ℕ) (most : ℕ) → AreRanks P.grammar rank most
+        → (now over : List ℕ) (place end look number left : ℕ) (p : Production)
+        (ks extras : List Tree)
+        → CanMakeNode P now place ks end over extras look number left p
+        → LaysBefore P rank (record { look = look; begins = place; rank = rank left })
+        over end extras look over }
+{
+    laws_hold();
+}
+
+/// What is laid twice between two heads is of one kind, with one symbol and the same bytes, so that
+/// the better of both can be kept.
+pub fn links_pack()
+    ensures { (P : Parsing) → Fit P.grammar → AreStates P.grammar P.goto
+        → (heads : List AnyHead) (a b : ℕ) (read other now then : List ℕ) (from to : ℕ)
+        (t u : Tree) → IsAt P heads a read from → IsAt P heads b now to
+        → IsAt P heads a other from → IsAt P heads b then to
+        → Lays (from_start P) read from (t ∷ []) to now
+        → Lays (from_start P) other from (u ∷ []) to then → AreAlike t u }
+{
+    laws_hold();
+}
+
+/// A graph is whole up to the first key where all that stood has links. From there it is whole up to
+/// each next key once all reductions of a key are done.
+pub fn whole_to_the_next()
+    ensures begins { (P : Parsing) → Fit P.grammar → AreStates P.grammar P.goto
+        → (c : Configuration) → IsReached P.grammar P.text c → IsBegun P c
+        → (rank : ℕ → ℕ) (most : ℕ) → AreRanks P.grammar rank most
+        → (heads : List AnyHead) (links : List AnyLink) → IsAt P heads 0 [] 0
+        → HasStood P heads links
+        → IsWholeTo P rank heads links
+        (record { look = P.place; begins = P.place; rank = most }) }
+    ensures on { (P : Parsing) → Fit P.grammar → AreStates P.grammar P.goto
+        → (c : Configuration) → IsReached P.grammar P.text c → IsBegun P c
+        → (rank : ℕ → ℕ) (most : ℕ) → AreRanks P.grammar rank most
+        → (heads : List AnyHead) (links : List AnyLink) (heads' : List AnyHead)
+        (links' : List AnyLink) (k m : Key) → IsGraph P heads links
+        → IsWholeTo P rank heads links k → AreDone P rank heads links heads' links' k
+        → HasGrown P heads links heads' links' → AreAdded P rank heads heads' links' m
+        → IsNextKey most k m → k.look ≡ m.look → IsWholeTo P rank heads' links' m }
+    ensures next_place { (P : Parsing) → Fit P.grammar → AreStates P.grammar P.goto
+        → (c : Configuration) → IsReached P.grammar P.text c → IsBegun P c
+        → (rank : ℕ → ℕ) (most : ℕ) → AreRanks P.grammar rank most
+        → (heads : List AnyHead) (links : List AnyLink) (heads' : List AnyHead)
+        (links' : List AnyLink) (k m : Key) → IsGraph P heads links
+        → IsWholeTo P rank heads links k → AreDone P rank heads links heads' links' k
+        → HasGrown P heads links heads' links' → AreAdded P rank heads heads' links' m
+        → IsOpened P heads' links' k.look → IsNextKey most k m → m.look ≡ suc k.look
+        → IsWholeTo P rank heads' links' m }
+{
+    laws_hold();
+}
+
+/// Keys that follow one another: a lower rank, an earlier start, the next place.
+pub fn keys_follow()
+    ensures rank { (most look begins rank : ℕ) → IsNextKey most
+        (record { look = look; begins = begins; rank = suc rank })
+        (record { look = look; begins = begins; rank = rank }) }
+    ensures start { (most look begins : ℕ) → IsNextKey most
+        (record { look = look; begins = suc begins; rank = 0 })
+        (record { look = look; begins = begins; rank = most }) }
+    ensures look { (most look : ℕ) → IsNextKey most
+        (record { look = look; begins = 0; rank = 0 })
+        (record { look = suc look; begins = suc look; rank = most }) }
+{}
+
+/// A graph in which nothing is due at some keys is whole up to the key behind them: lower ranks at one
+/// start, and earlier starts.
+pub fn keys_pass()
+    ensures ranks { (P : Parsing) → Fit P.grammar → AreStates P.grammar P.goto
+        → (c : Configuration) → IsReached P.grammar P.text c → IsBegun P c
+        → (rank : ℕ → ℕ) (most : ℕ) → AreRanks P.grammar rank most
+        → (heads : List AnyHead) (links : List AnyLink) → IsGraph P heads links
+        → (n look begins r : ℕ) → IsWholeTo P rank heads links
+        (record { look = look; begins = begins; rank = n + r })
+        → ((i : ℕ) → r < i → i ≤ n + r → HasNoneDue P rank heads links
+        (record { look = look; begins = begins; rank = i }))
+        → IsWholeTo P rank heads links (record { look = look; begins = begins; rank = r }) }
+    ensures starts { (P : Parsing) → Fit P.grammar → AreStates P.grammar P.goto
+        → (c : Configuration) → IsReached P.grammar P.text c → IsBegun P c
+        → (rank : ℕ → ℕ) (most : ℕ) → AreRanks P.grammar rank most
+        → (heads : List AnyHead) (links : List AnyLink) → IsGraph P heads links
+        → (n look begins : ℕ) → IsWholeTo P rank heads links
+        (record { look = look; begins = n + begins; rank = most })
+        → ((b i : ℕ) → begins < b → b ≤ n + begins → i ≤ most → HasNoneDue P rank heads links
+        (record { look = look; begins = b; rank = i }))
+        → IsWholeTo P rank heads links
+        (record { look = look; begins = begins; rank = most }) }
+{
+    laws_hold();
+}
+
+/// What a reduction in a sound graph makes can be laid from its lower head to that of its rule: the
+/// node over the trees of its way, which is no deeper than the way says, and some tree of that depth.
+/// Each extra above is passed over it too.
+pub fn reductions_are_laid()
+    ensures node { (P : Parsing) → Fit P.grammar → AreStates P.grammar P.goto
+        → (rank : ℕ → ℕ) (heads : List AnyHead) (links : List AnyLink) → IsGraph P heads links
+        → (k : Key) (number left : ℕ) (p : Production) (h e b : ℕ) (outer inner : List AnyLink)
+        (over now : List ℕ) (end : ℕ)
+        → IsDue P rank heads links k number left p h e b outer inner over now end
+        → way_depth P number left inner ≤ most_depth
+        → Lays (from_start P) now k.begins
+        (node_made P number (reverse (trees_of inner)) ∷ []) end (left ∷ now) }
+    ensures depth { (P : Parsing) → Fit P.grammar → AreStates P.grammar P.goto
+        → (rank : ℕ → ℕ) (heads : List AnyHead) (links : List AnyLink) → IsGraph P heads links
+        → (k : Key) (number left : ℕ) (p : Production) (h e b : ℕ) (outer inner : List AnyLink)
+        (over now : List ℕ) (end : ℕ)
+        → IsDue P rank heads links k number left p h e b outer inner over now end
+        → tree_depth (node_made P number (reverse (trees_of inner)))
+        ≤ way_depth P number left inner }
+    ensures deepest { (P : Parsing) → Fit P.grammar → AreStates P.grammar P.goto
+        → (rank : ℕ → ℕ) (heads : List AnyHead) (links : List AnyLink) → IsGraph P heads links
+        → (k : Key) (number left : ℕ) (p : Production) (h e b : ℕ) (outer inner : List AnyLink)
+        (over now : List ℕ) (end : ℕ)
+        → IsDue P rank heads links k number left p h e b outer inner over now end
+        → way_depth P number left inner ≤ most_depth
+        → (t : Tree) × Lays (from_start P) now k.begins (t ∷ []) end (left ∷ now)
+        × (tree_depth t ≡ way_depth P number left inner) }
+    ensures extras { (P : Parsing) → Fit P.grammar → AreStates P.grammar P.goto
+        → (rank : ℕ → ℕ) (heads : List AnyHead) (links : List AnyLink) → IsGraph P heads links
+        → (k : Key) (number left : ℕ) (p : Production) (h e b : ℕ) (outer inner : List AnyLink)
+        (over now : List ℕ) (end : ℕ)
+        → IsDue P rank heads links k number left p h e b outer inner over now end
+        → way_depth P number left inner ≤ most_depth
+        → (above below : List Tree) (x : Tree) → trees_of outer ≡ above ++ x ∷ below
+        → Lays (from_start P) (left ∷ now) (end + all_spans below) (x ∷ [])
+        ((end + all_spans below) + span_of x) (left ∷ now) }
+{
+    laws_hold();
+}
+
+/// On a head at which an extra is passed nothing else is laid, and no node begins there. On one that
+/// stands no earlier than a key's token nothing is laid before the key, and no node begins there
+/// before it. Head 0 is left out.
+pub fn new_heads_have_little()
+    ensures extra { (P : Parsing) → Fit P.grammar → AreStates P.grammar P.goto
+        → (c : Configuration) → IsReached P.grammar P.text c → IsBegun P c
+        → (rank : ℕ → ℕ) (k : Key) (read : List ℕ) (from : ℕ) (s : AnySymbol) (pad size : ℕ)
+        → P.place ≤ from → (read ≡ [] → ⊥) → PassesAt P read from s pad size
+        → (place : ℕ) (now : List ℕ) (t : Tree)
+        → LaysBefore P rank k read from (t ∷ []) place now
+        → (t ≡ extra_tree s pad size) × (place ≡ from + (pad + size)) × (now ≡ read) }
+    ensures none { (P : Parsing) → Fit P.grammar → AreStates P.grammar P.goto
+        → (c : Configuration) → IsReached P.grammar P.text c → IsBegun P c
+        → (read : List ℕ) (from : ℕ) (s : AnySymbol) (pad size : ℕ)
+        → P.place ≤ from → (read ≡ [] → ⊥) → PassesAt P read from s pad size
+        → (ks : List Tree) (end : ℕ) (over : List ℕ) (extras : List Tree)
+        (look number left : ℕ) (p : Production)
+        → CanMakeNode P read from ks end over extras look number left p → ⊥ }
+    ensures late { (P : Parsing) → Fit P.grammar → AreStates P.grammar P.goto
+        → (c : Configuration) → IsReached P.grammar P.text c → IsBegun P c
+        → (rank : ℕ → ℕ) (k : Key) (read : List ℕ) (from : ℕ)
+        → P.place ≤ from → (read ≡ [] → ⊥) → k.look ≤ from
+        → (place : ℕ) (now : List ℕ) (t : Tree)
+        → LaysBefore P rank k read from (t ∷ []) place now → ⊥ }
+    ensures late_nodes { (P : Parsing) → Fit P.grammar → AreStates P.grammar P.goto
+        → (c : Configuration) → IsReached P.grammar P.text c → IsBegun P c
+        → (rank : ℕ → ℕ) (k : Key) (read : List ℕ) (from : ℕ)
+        → P.place ≤ from → (read ≡ [] → ⊥) → k.look ≤ from
+        → (ks : List Tree) (end : ℕ) (over : List ℕ) (extras : List Tree)
+        (look number left : ℕ) (p : Production)
+        → CanMakeNode P read from ks end over extras look number left p
+        → Earlier (record { look = look; begins = from; rank = rank left }) k → ⊥ }
+{
+    laws_hold();
+}
+
+/// All that runs reach from the stack from which they go on has a way in a graph that is whole, which
+/// stands for it; no run comes to a node that is too deep; and what runs end with there, the graph
+/// has, with a tree that is no worse.
+pub fn whole_graphs_have_all()
+    ensures way { (P : Parsing) → Fit P.grammar → AreStates P.grammar P.goto
+        → (c : Configuration) → IsReached P.grammar P.text c → IsBegun P c
+        → (rank : ℕ → ℕ) (most : ℕ) → AreRanks P.grammar rank most
+        → (heads : List AnyHead) (links : List AnyLink) (k : Key) → IsGraph P heads links
+        → IsWholeTo P rank heads links k → length P.text < k.look → P.place ≤ length P.text
+        → (d : Configuration) → Run P.grammar P.text c d
+        → HasWay P heads links 0 d.stack d.place (stack_symbols d.stack) }
+    ensures deep { (P : Parsing) → Fit P.grammar → AreStates P.grammar P.goto
+        → (c : Configuration) → IsReached P.grammar P.text c → IsBegun P c
+        → (rank : ℕ → ℕ) (most : ℕ) → AreRanks P.grammar rank most
+        → (heads : List AnyHead) (links : List AnyLink) (k : Key) → IsGraph P heads links
+        → IsWholeTo P rank heads links k → length P.text < k.look → P.place ≤ length P.text
+        → (d : Configuration) → Run P.grammar P.text c d
+        → ComesTooDeep P.grammar P.text d → ⊥ }
+    ensures accepts { (P : Parsing) → Fit P.grammar → AreStates P.grammar P.goto
+        → (c : Configuration) → IsReached P.grammar P.text c → IsBegun P c
+        → (rank : ℕ → ℕ) (most : ℕ) → AreRanks P.grammar rank most
+        → (heads : List AnyHead) (links : List AnyLink) (k : Key) → IsGraph P heads links
+        → IsWholeTo P rank heads links k → length P.text < k.look → P.place ≤ length P.text
+        → (d : Configuration) (u : Tree) → Run P.grammar P.text c d
+        → AcceptsTree P.grammar P.text d u
+        → (t : Tree) × GraphAccepts P heads links t × (Better u t → ⊥) }
+    ensures stops { (P : Parsing) → Fit P.grammar → AreStates P.grammar P.goto
+        → (c : Configuration) → IsReached P.grammar P.text c → IsBegun P c
+        → (rank : ℕ → ℕ) (most : ℕ) → AreRanks P.grammar rank most
+        → (heads : List AnyHead) (links : List AnyLink) (k : Key) → IsGraph P heads links
+        → IsWholeTo P rank heads links k → length P.text < k.look → P.place ≤ length P.text
+        → (d : Configuration) (stop : ℕ) → Run P.grammar P.text c d
+        → StopsAt P.grammar P.text d stop → GraphStopsAt P heads stop }
+{
+    laws_hold();
+}
+
+/// What a graph whose links are sound says is so: some run accepts the tree, stops at the place, or
+/// comes to a node that is too deep.
+pub fn graphs_are_sound()
+    ensures accepts { (P : Parsing) → Fit P.grammar → AreStates P.grammar P.goto
+        → (heads : List AnyHead) (links : List AnyLink) → IsGraph P heads links
+        → (t : Tree) → GraphAccepts P heads links t → SomeAccepts P.grammar P.text t }
+    ensures stops { (P : Parsing) → Fit P.grammar → AreStates P.grammar P.goto
+        → (heads : List AnyHead) (links : List AnyLink) → IsGraph P heads links
+        → (stop : ℕ) → GraphStopsAt P heads stop → SomeStopsAt P.grammar P.text stop }
+    ensures deep { (P : Parsing) → Fit P.grammar → AreStates P.grammar P.goto
+        → (rank : ℕ → ℕ) (heads : List AnyHead) (links : List AnyLink)
+        → IsGraph P heads links
+        → GraphIsDeep P rank heads links → SomeIsTooDeep P.grammar P.text }
+{
+    laws_hold();
+}
+
+/// The best tree and the last stop of a whole graph of all runs are the outcome of the text.
+pub fn graphs_tell_the_outcome()
+    ensures best { (P : Parsing) → Fit P.grammar → AreStates P.grammar P.goto → P.stack ≡ []
+        → P.place ≡ 0 → (rank : ℕ → ℕ) (most : ℕ) → AreRanks P.grammar rank most
+        → (heads : List AnyHead) (links : List AnyLink) (k : Key) → IsGraph P heads links
+        → IsWholeTo P rank heads links k → length P.text < k.look
+        → (t : Tree) → IsBestOfGraph P heads links t → IsBestTree P.grammar P.text t }
+    ensures last { (P : Parsing) → Fit P.grammar → AreStates P.grammar P.goto → P.stack ≡ []
+        → P.place ≡ 0 → (rank : ℕ → ℕ) (most : ℕ) → AreRanks P.grammar rank most
+        → (heads : List AnyHead) (links : List AnyLink) (k : Key) → IsGraph P heads links
+        → IsWholeTo P rank heads links k → length P.text < k.look
+        → (stop : ℕ) → IsLastOfGraph P heads links stop
+        → IsLastStop P.grammar P.text stop }
+{
+    laws_hold();
+}
