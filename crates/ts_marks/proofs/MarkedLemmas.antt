@@ -248,20 +248,3 @@ greatest_in (t ∷ ts) (suc k) c e = omega (arith, greatest_in ts k c e)
 
 pub child_depth : (t : Tree) (k : ℕ) (c : Tree) → slice_get (children_of t) k ≡ Some c → tree_depth c < tree_depth t
 child_depth t k c e = omega (arith, greatest_in (children_of t) k c e, depth_is t)
-
--- ---- leaves
-
-only_itself : (t u : Tree) → children_of t ≡ [] → IsNodeIn t u → u ≡ t
-only_itself t _ none nodes.itself = refl
-only_itself t u none (nodes.inside v _ k h e) =
-    let d : v ≡ t = only_itself t v none h in
-    let f : slice_get [] k ≡ Some u = ap (λ (ts : List Tree). slice_get ts k) (sym none) ∙ ap (λ (x : Tree). slice_get (children_of x) k) (sym d) ∙ e in
-    absurd (omega (arith, slice_get_within [] k u f))
-
-no_children : (ts : List Tree) → length ts ≡ 0 → ts ≡ []
-no_children [] e = refl
-no_children (t ∷ ts) e = absurd (omega (arith, e))
-
--- a node without children is whole
-pub whole_leaf : (t : Tree) → IsNode t → length (children_of t) ≤ 0 → IsWhole t
-whole_leaf t n none u h = subst (λ (x : Tree). IsNode x) (sym (only_itself t u (no_children (children_of t) (omega (arith, none))) h)) n

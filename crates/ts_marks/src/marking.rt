@@ -24,8 +24,7 @@ use ts_text::Edit;
 ///
 /// `AllocError` where memory runs out.
 pub fn mark(alloc: Global, tree: &Node, edit: &Edit) -> Result<Node, AllocError>
-    requires edit { IsEditOver (span_of tree.now) edit.now }
-    requires whole { IsWhole tree.now }
+    requires { IsEditOver (span_of tree.now) edit.now }
     ensures { IfOk result (λ new. new ≡ marked edit.now tree.now) }
 {
     remade_is_node();

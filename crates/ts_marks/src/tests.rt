@@ -10,7 +10,7 @@ use ts_text::{Edit, Part, Text, apply};
 /// A leaf of a text, marked by an edit of the text.
 fn marked_leaf(alloc: Global, text: &Text, leaf: &Node, edit: &Edit) -> Result<Option<Node>, Fail> {
     let _ = leaf.nodes();
-    if leaf.children() > 0 || leaf.pad() + leaf.size() > text.len() {
+    if leaf.pad() + leaf.size() > text.len() {
         return Ok(None);
     }
     match apply(alloc, text, edit) {

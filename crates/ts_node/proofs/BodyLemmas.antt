@@ -8,11 +8,13 @@ use Rattle.spec_trees.specs.declared.tree.Tree.TheOpen.{Tree-F}
 use Rattle.spec_trees.specs.declared.tree.Tree.TheViews.{out-Tree, out-roll-Tree}
 use Rattle.spec_trees.specs.declared.tree.Tree.TheFolds.{fold-roll-Tree, fold_out-Tree}
 use Rattle.spec_trees.specs.Trees.{production_of, children_of, elements_of, is_extra_node, pad_of, size_of, node_count, nodes_step, all_nodes, all_spans, first_pad, tree_depth, depth_step, greatest_depth}
+use Rattle.std.specs.Prelude.{All}
 use Rattle.spec_trees.specs.Made.{IsNode, node_over, children_count, AreCounted, most_span, most_depth}
 use Rattle.ts_node.specs.Falls.{nodes_of_body}
 use Rattle.ts_node.specs.declared.node.Leaf.{Leaf}
 use Rattle.ts_node.specs.declared.node.Summary.{Summary}
-use Rattle.ts_node.specs.Held.{leaf_tree, body_tree, IsSummary, Tells}
+use Rattle.ts_node.specs.Held.{leaf_tree, body_tree, HoldsNodes, IsSummary, Tells}
+use Rattle.ts_node.proofs.WholeLemmas.{holds}
 
 abbrev pub layer : Summary → Option ℕ → List Element → List Tree → Tree-F Tree
 layer s production elements children = record {
@@ -64,6 +66,7 @@ tells s p es ks t e k =
       nodes = k.counted ∙ ap node_count e;
       depth = k.deep ∙ ap tree_depth e;
       node = subst (λ (x : Tree). IsNode x) e k.node;
+      whole = subst (λ (x : Tree). HoldsNodes x) e k.whole;
     }
 
 pub production_is : (s : Summary) (p : Option ℕ) (es : List Element) (ks : List Tree) (t : Tree) → body_tree s p es ks ≡ t → production_of t ≡ p
@@ -154,13 +157,18 @@ pub record IsOver (s : Summary) (token : Symbol) (total : ℤ) (reach : ℕ) (be
   pub state : s.state ≡ below
   pub settled : s.settled ≡ true
   pub dynamic : s.dynamic ≡ total
+  pub whole : All HoldsNodes ks
 
 pub over_is : (s : Summary) (symbol : Symbol) (p : Option ℕ) (dynamic : ℤ) (extent : ℕ) (state : Option ℕ) (es : List Element) (ks : List Tree) → IsOver s symbol dynamic extent state es ks → body_tree s p es ks ≡ node_over symbol.0 p dynamic extent state es ks
 over_is s symbol p dynamic extent state es ks o = rw (o.symbol, o.pad, o.size, o.extent, o.state, o.settled, o.dynamic) refl
+
+over_node : (s : Summary) (symbol : Symbol) (p : Option ℕ) (dynamic : ℤ) (extent : ℕ) (state : Option ℕ) (es : List Element) (ks : List Tree) → IsOver s symbol dynamic extent state es ks → IsNode (node_over symbol.0 p dynamic extent state es ks) → IsNode (body_tree s p es ks)
+over_node s symbol p dynamic extent state es ks o n = subst (λ (x : Tree). IsNode x) (sym (over_is s symbol p dynamic extent state es ks o)) n
 
 pub over_kept : (s : Summary) (symbol : Symbol) (p : Option ℕ) (dynamic : ℤ) (extent : ℕ) (state : Option ℕ) (es : List Element) (ks : List Tree) → IsOver s symbol dynamic extent state es ks → IsNode (node_over symbol.0 p dynamic extent state es ks) → IsSummary s (body_tree s p es ks)
 over_kept s symbol p dynamic extent state es ks o n = record {
   counted = omega (arith, o.nodes, nodes_of_body s p es ks);
   deep = omega (arith, o.depth, depth_of_body s p es ks);
-  node = subst (λ (x : Tree). IsNode x) (sym (over_is s symbol p dynamic extent state es ks o)) n;
+  node = over_node s symbol p dynamic extent state es ks o n;
+  whole = holds (body_tree s p es ks) ks (children_are s p es ks (body_tree s p es ks) refl) (over_node s symbol p dynamic extent state es ks o n) o.whole;
 }

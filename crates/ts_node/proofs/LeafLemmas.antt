@@ -12,7 +12,8 @@ use Rattle.spec_trees.specs.declared.tree.Tree.TheFolds.{fold-roll-Tree}
 use Rattle.spec_trees.specs.Trees.{pad_of, size_of, span_of, node_extent, is_settled, total_of, children_of, elements_of, node_count, nodes_step, tree_depth, depth_step, all_spans}
 use Rattle.spec_trees.specs.Made.{IsNode, IsLeaf, AreCounted, EndBy, most_span, as_extra}
 use Rattle.ts_node.specs.declared.node.Leaf.{Leaf}
-use Rattle.ts_node.specs.Held.{leaf_tree, extra_leaf, Tells}
+use Rattle.ts_node.specs.Held.{leaf_tree, extra_leaf, HoldsNodes, Tells}
+use Rattle.ts_node.proofs.WholeLemmas.{holds}
 use Rattle.ts_node.proofs.BodyLemmas.{leaf_layer, out_leaf, leaf_production, leaf_elements}
 
 pub nodes_of_leaf : (l : Leaf) → node_count (leaf_tree l) ≡ 1
@@ -88,6 +89,7 @@ tells_leaf l n =
       nodes = sym (nodes_of_leaf l);
       depth = sym (depth_of_leaf l);
       node = n;
+      whole = holds (leaf_tree l) [] (children_are l) n (All-nil HoldsNodes);
     }
 
 pub is_leaf : (l : Leaf) (t : Tree) → leaf_tree l ≡ t → IsLeaf t

@@ -9,6 +9,6 @@ pub mod ReducedLemmas
 pub mod RemadeLemmas
 pub mod RemakeLemmas
 pub mod RunLemmas
-pub mod SmallLemmas
 pub mod StandingLemmas
 pub mod TotalLemmas
+pub mod WholeLemmas

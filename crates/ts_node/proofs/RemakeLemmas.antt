@@ -10,9 +10,10 @@ use Rattle.spec_trees.specs.Trees.{all_nodes, greatest_depth}
 use Rattle.spec_trees.specs.Made.{IsNode, remade, replaced, most_depth}
 use Rattle.ts_node.specs.declared.node.Summary.{Summary}
 use Rattle.ts_node.specs.declared.node.Leaf.{Leaf}
-use Rattle.ts_node.specs.Held.{body_tree, leaf_tree, remade_leaf, stretch, IsSummary}
+use Rattle.ts_node.specs.Held.{body_tree, leaf_tree, remade_leaf, stretch, HoldsNodes, IsSummary}
 use Rattle.ts_node.specs.Falls.{nodes_of_body}
-use Rattle.ts_node.proofs.BodyLemmas.{leaf_layer, out_body, out_leaf, depth_of_body}
+use Rattle.ts_node.proofs.BodyLemmas.{leaf_layer, out_body, out_leaf, depth_of_body, children_are}
+use Rattle.ts_node.proofs.WholeLemmas.{holds}
 
 pub length-replaced : (cs : List (ℕ × Tree)) (ts : List Tree) → length (replaced cs ts) ≡ length ts
 length-replaced [] ts = refl
@@ -29,6 +30,7 @@ pub record IsRemade (n s : Summary) (new_pad new_size : ℕ) (es : List Element)
   pub state : n.state ≡ s.state
   pub settled : n.settled ≡ false
   pub dynamic : n.dynamic ≡ s.dynamic
+  pub whole : All HoldsNodes ks
 
 remade_layer : (s : Summary) (p : Option ℕ) (es : List Element) (ks : List Tree) (t : Tree) (pad size : ℕ) (cs : List (ℕ × Tree)) → body_tree s p es ks ≡ t
     → remade t pad size cs ≡ body_tree (record { symbol = s.symbol; depth = 0; nodes = 0; pad = pad; size = size; extent = s.extent; state = s.state; settled = false; dynamic = s.dynamic }) p es (replaced cs ks)
@@ -37,11 +39,15 @@ remade_layer s p es ks t pad size cs e = ap (λ (x : Tree-F Tree). roll-Tree (re
 pub remade_is : (n s : Summary) (p : Option ℕ) (es : List Element) (ks : List Tree) (t : Tree) (pad size : ℕ) (cs : List (ℕ × Tree)) → body_tree s p es ks ≡ t → IsRemade n s pad size es (replaced cs ks) → body_tree n p es (replaced cs ks) ≡ remade t pad size cs
 remade_is n s p es ks t pad size cs e r = rw (remade_layer s p es ks t pad size cs e, r.symbol, r.pad, r.size, r.extent, r.state, r.settled, r.dynamic) refl
 
+remade_body : (n s : Summary) (p : Option ℕ) (es : List Element) (ks : List Tree) (t : Tree) (pad size : ℕ) (cs : List (ℕ × Tree)) → body_tree s p es ks ≡ t → IsRemade n s pad size es (replaced cs ks) → IsNode (remade t pad size cs) → IsNode (body_tree n p es (replaced cs ks))
+remade_body n s p es ks t pad size cs e r k = subst (λ (x : Tree). IsNode x) (sym (remade_is n s p es ks t pad size cs e r)) k
+
 pub remade_kept : (n s : Summary) (p : Option ℕ) (es : List Element) (ks : List Tree) (t : Tree) (pad size : ℕ) (cs : List (ℕ × Tree)) → body_tree s p es ks ≡ t → IsRemade n s pad size es (replaced cs ks) → IsNode (remade t pad size cs) → IsSummary n (body_tree n p es (replaced cs ks))
 remade_kept n s p es ks t pad size cs e r k = record {
   counted = omega (arith, r.nodes, nodes_of_body n p es (replaced cs ks));
   deep = omega (arith, r.depth, depth_of_body n p es (replaced cs ks));
-  node = subst (λ (x : Tree). IsNode x) (sym (remade_is n s p es ks t pad size cs e r)) k;
+  node = remade_body n s p es ks t pad size cs e r k;
+  whole = holds (body_tree n p es (replaced cs ks)) (replaced cs ks) (children_are n p es (replaced cs ks) (body_tree n p es (replaced cs ks)) refl) (remade_body n s p es ks t pad size cs e r k) r.whole;
 }
 
 -- what a remade node has room for

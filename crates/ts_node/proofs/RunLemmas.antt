@@ -1,6 +1,7 @@
 -- What is counted of two stretches, one after the other, and of a stretch with one child replaced.
 use Rattle.std.proofs.Common.{◌≡◌, ℕ, ◌+◌, ◌≤◌, ◌<◌, max, List, [], ◌∷◌, ◌++◌, length, Some, slice_get, arith, length-append, ap, refl, sym, ◌∙◌, ◌-◌}
 use Rattle.std.proofs.lemmas.List.{set-append_left, set-append_right}
+use Rattle.std.proofs.lemmas.List.Elements.{All-append}
 use Rattle.std.proofs.lemmas.Option.{slice_get_within}
 use Rattle.spec_trees.specs.declared.tree.Tree.{Tree}
 use Rattle.spec_trees.specs.declared.tree.Element.{Element}
@@ -9,7 +10,7 @@ use Rattle.spec_trees.specs.Trees.{all_spans, greatest_depth, first_pad, pad_of}
 use Rattle.spec_trees.specs.Made.{children_count}
 use Rattle.ts_node.specs.declared.node.Counts.{Counts}
 use Rattle.ts_node.specs.declared.node.Sums.{Sums}
-use Rattle.ts_node.specs.Held.{IsSum, IsCount, joined_stretch, stretch, changed}
+use Rattle.ts_node.specs.Held.{HoldsNodes, IsSum, IsCount, joined_stretch, stretch, changed}
 use Rattle.ts_node.specs.Falls.{all_nodes-append}
 
 pub all_spans-append : (xs ys : List Tree) → all_spans (xs ++ ys) ≡ all_spans xs + all_spans ys
@@ -31,6 +32,7 @@ both_sums a b xs ys p q = record {
   depth = omega (arith, p.depth, q.depth, greatest_depth-append xs ys);
   few = omega (arith, p.few, q.few, all_nodes-append xs ys, length-append xs ys);
   short = omega (arith, p.short, q.short, all_spans-append xs ys, length-append xs ys);
+  whole = All-append HoldsNodes xs ys p.whole q.whole;
 }
 
 pub both_counts : (a b : Counts) (s t : Stretch) → IsCount a s → IsCount b t

@@ -1,5 +1,5 @@
 -- What the parts of a node hold.
-use Rattle.std.specs.Prelude.{◌≡◌, ◌++◌, ◌*◌, ◌≤◌, ◌<◌, ℕ, List, [], length, set, Option, None, true, false}
+use Rattle.std.specs.Prelude.{◌≡◌, ◌++◌, ◌*◌, ◌≤◌, ◌<◌, ℕ, All, List, [], length, set, Option, None, true, false}
 use lib.IntN.{pos}
 use Rattle.spec_trees.specs.declared.tree.Tree.{Tree}
 use Rattle.spec_trees.specs.declared.tree.Element.{Element}
@@ -7,6 +7,7 @@ use Rattle.spec_trees.specs.declared.tree.Stretch.{Stretch}
 use Rattle.spec_trees.specs.declared.tree.Tree.TheViews.{roll-Tree}
 use Rattle.spec_trees.specs.Trees.{node_count, tree_depth, all_nodes, all_spans, greatest_depth, symbol_of, pad_of, size_of, node_extent, state_of, is_settled, total_of}
 use Rattle.spec_trees.specs.Made.{IsNode, children_count, most_span, node_limit}
+use Rattle.spec_trees.specs.Inside.{IsNodeIn}
 use Rattle.ts_node.specs.declared.node.Leaf.{Leaf}
 use Rattle.ts_node.specs.declared.node.Summary.{Summary}
 use Rattle.ts_node.specs.declared.node.Counts.{Counts}
@@ -84,13 +85,18 @@ IsKeptLeaf (kind.Leaf leaf) = IsNode (leaf_tree leaf)
 IsKeptLeaf (kind.Rule body) = Unit {0}
 IsKeptLeaf (kind.Repetition body) = Unit {0}
 
--- A summary agrees with its tree, which is a node.
+-- each node in a tree is one
+abbrev pub HoldsNodes : Tree → Type 0
+HoldsNodes t = (u : Tree) → IsNodeIn t u → IsNode u
+
+-- A summary agrees with its tree, which is a node, as are all nodes in it.
 pub record IsSummary (s : Summary) (t : Tree) : Type 0 where
   pub counted : s.nodes ≡ node_count t
   pub deep : s.depth ≡ tree_depth t
   pub node : IsNode t
+  pub whole : HoldsNodes t
 
--- a summary tells all this of a tree, which is a node
+-- a summary tells all this of a tree, which is a node, as are all nodes in it
 pub record Tells (s : Summary) (t : Tree) : Type 0 where
   pub symbol : s.symbol.0 ≡ symbol_of t
   pub pad : s.pad ≡ pad_of t
@@ -102,6 +108,7 @@ pub record Tells (s : Summary) (t : Tree) : Type 0 where
   pub nodes : s.nodes ≡ node_count t
   pub depth : s.depth ≡ tree_depth t
   pub node : IsNode t
+  pub whole : HoldsNodes t
 
 -- ---- runs
 
@@ -130,13 +137,14 @@ abbrev pub HasNoEmptyPart : Shape → Type 0
 HasNoEmptyPart (shape.Leaf elements children) = 0 < length elements
 HasNoEmptyPart (shape.Branch left right) = (0 < length left.elements) × (0 < length right.elements)
 
--- what is added up over children, each of which is a node
+-- what is added up over children, in which all nodes are nodes
 pub record IsSum (s : Sums) (ts : List Tree) : Type 0 where
   pub nodes : s.nodes ≡ all_nodes ts
   pub spans : s.spans ≡ all_spans ts
   pub depth : s.depth ≡ greatest_depth ts
   pub few : all_nodes ts ≤ node_limit * length ts
   pub short : all_spans ts ≤ most_span * length ts
+  pub whole : All HoldsNodes ts
 
 -- what is counted of a stretch, whose elements have just its children
 pub record IsCount (c : Counts) (s : Stretch) : Type 0 where

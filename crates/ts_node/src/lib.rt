@@ -11,8 +11,6 @@ mod node;
 mod productions;
 mod run;
 mod sums;
-#[cfg(test)]
-mod tests;
 
 pub use change::remake;
 pub use kind::NodeKind;

@@ -2,7 +2,7 @@
 ghost use Rattle.std.specs.Prelude.{◌≡◌, ◌<◌, ◌^◌, IfOk, false, length, slice_get, Some, None};
 ghost use Rattle.spec_trees.specs.Trees.{symbol_of, production_of, pad_of, size_of, node_extent, state_of, total_of, is_settled, is_extra_node, children_of, elements_of, node_count, tree_depth};
 ghost use Rattle.spec_trees.specs.Made.{AreCounted, IsNode, node_limit};
-ghost use Rattle.ts_node.specs.Held.{leaf_tree, extra_leaf, remade_leaf, Tells};
+ghost use Rattle.ts_node.specs.Held.{leaf_tree, extra_leaf, remade_leaf, HoldsNodes, Tells};
 
 use spec_trees::Element;
 use std::alloc::AllocError;
@@ -409,6 +409,7 @@ impl Node {
     pub fn nodes(&self) -> u32
         ensures count { result ≡ node_count self.now }
         ensures node { IsNode self.now }
+        ensures whole { HoldsNodes self.now }
     {
         self.summary().nodes
     }

@@ -11,6 +11,7 @@ use std::alloc::AllocError;
 use ts_base::List;
 
 /// The nodes and bytes of all children together, and the greatest depth.
+#[tactic(auto, using(crate::proofs::WholeLemmas::whole_more))]
 pub(crate) fn sums(children: &[Node]) -> Sums
     requires { length children.now < 2 ^ 32 }
     ensures { IsSum result children.now }

@@ -45,9 +45,9 @@ impl<'t> Old<'t> {
     ///
     /// `AllocError` where memory runs out.
     pub fn new(alloc: Global, marked: &'t Node) -> Result<Old<'t>, AllocError>
-        requires { IsWhole marked.now }
         ensures { IfOk result (λ old. old ≡ offering marked.now 0) }
     {
+        let _ = marked.nodes();
         let way = Way::new(alloc, marked)?;
         Ok(Old { way, least: 0 })
     }

@@ -12,22 +12,22 @@ use Rattle.ts_marks.proofs.RemadeLemmas.{root_is, root_can, moved_short, edit_or
 use Rattle.ts_marks.proofs.marking.mark.Goals as goal
 
 pub start-start-requires : goal.start-start-requires
-start-start-requires c = edit_ordered (span_of c.args.tree.now) c.args.edit.now c.requires.edit
+start-start-requires c = edit_ordered (span_of c.args.tree.now) c.args.edit.now c.requires
 
 pub moved-own-requires-clause-short : goal.moved-own-requires-clause-short
 moved-own-requires-clause-short c =
     subst (λ (e : Edit). moved e c.pad.result ≤ most_span) (sym c.start-start.ensures.edit)
-    (moved_short c.args.edit.now c.pad.result (span_of c.args.tree.now) (omega (arith, c.pad.ensures)) (edit_short (span_of c.args.tree.now) c.args.edit.now c.requires.edit))
+    (moved_short c.args.edit.now c.pad.result (span_of c.args.tree.now) (omega (arith, c.pad.ensures)) (edit_short (span_of c.args.tree.now) c.args.edit.now c.requires))
 
 pub moved-end-requires-clause-short : goal.moved-end-requires-clause-short
 moved-end-requires-clause-short c =
     subst (λ (e : Edit). moved e c.span-whole.result ≤ most_span) (sym c.start-start.ensures.edit)
-    (moved_short c.args.edit.now c.span-whole.result (span_of c.args.tree.now) (omega (arith, c.span-whole.ensures.span)) (edit_short (span_of c.args.tree.now) c.args.edit.now c.requires.edit))
+    (moved_short c.args.edit.now c.span-whole.result (span_of c.args.tree.now) (omega (arith, c.span-whole.ensures.span)) (edit_short (span_of c.args.tree.now) c.args.edit.now c.requires))
 
 pub changed_children-requires-clause-moved : goal.changed_children-requires-clause-moved
 changed_children-requires-clause-moved c =
     subst (λ (e : Edit). moved e (c.lead.result + all_spans (children_of c.args.tree.now)) ≤ most_span) (sym c.start-start.ensures.edit)
-    (moved_short c.args.edit.now (c.lead.result + all_spans (children_of c.args.tree.now)) (span_of c.args.tree.now) (omega (arith, c.lead.ensures, c.span-whole.ensures.node.sized.within)) (edit_short (span_of c.args.tree.now) c.args.edit.now c.requires.edit))
+    (moved_short c.args.edit.now (c.lead.result + all_spans (children_of c.args.tree.now)) (span_of c.args.tree.now) (omega (arith, c.lead.ensures, c.span-whole.ensures.node.sized.within)) (edit_short (span_of c.args.tree.now) c.args.edit.now c.requires))
 
 pub overflow_sub-end : goal.overflow_sub-end
 overflow_sub-end c =
@@ -43,7 +43,7 @@ remake-requires-clause-node c =
     ap (λ (cs : List (ℕ × Tree)). replaced cs (children_of c.args.tree.now)) c.as_slice.ensures.value ∙ c.in_ok-changed.ensures.changes
     ∙ ap (λ (e : Edit). all_marked e (children_of c.args.tree.now) c.lead.result) c.start-start.ensures.edit ∙ ap (λ (n : ℕ). all_marked c.args.edit.now (children_of c.args.tree.now) n) c.lead.ensures in
     c.remade_is_node.ensures c.args.tree.now c.moved-own.result (c.moved-end.result - c.moved-own.result) c.as_slice.result.now
-    (root_can c.args.edit.now c.args.tree.now c.moved-own.result c.moved-end.result c.as_slice.result.now c.span-whole.ensures.node o e d (edit_short (span_of c.args.tree.now) c.args.edit.now c.requires.edit))
+    (root_can c.args.edit.now c.args.tree.now c.moved-own.result c.moved-end.result c.as_slice.result.now c.span-whole.ensures.node o e d (edit_short (span_of c.args.tree.now) c.args.edit.now c.requires))
 
 pub returns : goal.returns
 returns c =

@@ -54,5 +54,6 @@ invariant_of-new c =
       state = c.summary-summary.ensures.state;
       settled = c.summary-summary.ensures.settled;
       dynamic = c.summary-summary.ensures.dynamic;
+      whole = q.whole;
     } in
     over_kept c.summary-summary.result c.args.head.symbol (Some c.args.number) c.args.head.dynamic c.args.head.extent c.args.head.state [] c.args.children o c.requires

@@ -46,5 +46,6 @@ invariant_of-new c =
       state = c.summary-summary.ensures.state;
       settled = c.summary-summary.ensures.settled;
       dynamic = c.summary-summary.ensures.dynamic;
+      whole = q.sums.whole;
     } in
     (over_kept c.summary-summary.result c.args.head.symbol None c.args.head.dynamic c.args.head.extent c.args.head.state c.args.run.elements c.args.run.children o c.requires, q.some)

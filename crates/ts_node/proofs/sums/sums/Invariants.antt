@@ -1,6 +1,8 @@
-use Rattle.std.proofs.Common.{◌≡◌, ◌+◌, ◌*◌, ◌≤◌, drop, max}
+use Rattle.std.proofs.Common.{◌≡◌, ◌+◌, ◌*◌, ◌≤◌, drop, max, take}
+use Rattle.std.specs.Prelude.{All}
 use Rattle.spec_trees.specs.Trees.{all_nodes, all_spans, greatest_depth}
 use Rattle.spec_trees.specs.Made.{node_limit, most_span}
+use Rattle.ts_node.specs.Held.{HoldsNodes}
 use Rattle.ts_node.proofs.sums.sums.Given as goal
 
 abbrev pub invariant-loop-child : goal.invariant-loop-child
@@ -10,4 +12,5 @@ invariant-loop-child l = record {
   depth : max l.depth (greatest_depth (drop l.child-index l.children)) ≡ greatest_depth l.children;
   few : l.nodes ≤ node_limit * l.child-index;
   short : l.spans ≤ most_span * l.child-index;
+  whole : All HoldsNodes (take l.child-index l.children);
 }

@@ -46,6 +46,7 @@ invariant_of-new c =
       state = c.remade-summary.ensures.state;
       settled = c.remade-summary.ensures.settled;
       dynamic = c.remade-summary.ensures.dynamic;
+      whole = q.sums.whole;
     } in
     (run_kept_with c.remade-summary.result c.self.inside.summary None c.self.inside.run c.in_ok-run.run' c.args.self.now c.args.pad c.args.size c.args.changed.now c.self.view_is new o c.requires.node, q.some)
 
@@ -70,6 +71,7 @@ returns c =
       state = c.remade-summary.ensures.state;
       settled = c.remade-summary.ensures.settled;
       dynamic = c.remade-summary.ensures.dynamic;
+      whole = q.sums.whole;
     } in
     let e : c.in_ok-body.body ≡ _ = c.in_ok-body.ensures in
     e ∙ run_is_with c.remade-summary.result c.self.inside.summary None c.self.inside.run c.in_ok-run.run' c.args.self.now c.args.pad c.args.size c.args.changed.now c.self.view_is new o

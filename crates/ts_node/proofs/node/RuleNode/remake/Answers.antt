@@ -61,6 +61,7 @@ invariant_of-new c =
       state = c.remade-summary.ensures.state;
       settled = c.remade-summary.ensures.settled;
       dynamic = c.remade-summary.ensures.dynamic;
+      whole = q.whole;
     } in
     kept_with c.remade-summary.result c.self.inside.summary (Some c.self.inside.production) [] c.self.inside.children c.in_ok-children.children c.args.self.now c.args.pad c.args.size c.args.changed.now c.self.view_is new o c.requires.node
 
@@ -87,6 +88,7 @@ returns c =
       state = c.remade-summary.ensures.state;
       settled = c.remade-summary.ensures.settled;
       dynamic = c.remade-summary.ensures.dynamic;
+      whole = q.whole;
     } in
     let e : c.in_ok-body.body ≡ _ = c.in_ok-body.ensures in
     e ∙ is_with c.remade-summary.result c.self.inside.summary (Some c.self.inside.production) [] c.self.inside.children c.in_ok-children.children c.args.self.now c.args.pad c.args.size c.args.changed.now c.self.view_is new o
