@@ -1,5 +1,5 @@
 -- What is open can be closed: some query begins with its signs.
-use Rattle.std.proofs.Common.{◌≡◌, true, not, List, [], ◌∷◌, ◌++◌, Option, Some, None, refl, sym, ap, subst, ◌∙◌, append-nil, true≢false}
+use Rattle.std.proofs.Common.{◌≡◌, true, List, [], ◌∷◌, ◌++◌, Option, Some, None, refl, sym, ap, subst, ◌∙◌, append-nil, true≢false}
 use Rattle.std.proofs.lemmas.List.{append_assoc}
 use Rattle.std.proofs.lemmas.Option.{none-some, same_Some}
 use Rattle.ts_query_tree.specs.declared.tree.Written.{Written}
@@ -10,6 +10,7 @@ use Rattle.ts_query_tree.specs.declared.level.Bracket.TheVariants.{Top, Opened, 
 use Rattle.ts_query_tree.specs.declared.level.Pending.{Pending}
 use Rattle.ts_query_tree.specs.declared.level.Pending.TheVariants as pending
 use Rattle.ts_query_tree.specs.declared.level.Content.{Content}
+use Rattle.ts_query_tree.specs.declared.level.Level.{Level}
 use Rattle.ts_query_tree.specs.declared.sign.Sign.{Sign}
 use Rattle.ts_query_tree.specs.declared.sign.Sign.TheVariants as sign
 use Rattle.ts_query_tree.specs.Trees.{Parts, empty, more, Part, item, predicate, wild, spelling, part_spelling, head_spelling, may_follow, is_fitting, is_filled}
@@ -17,7 +18,7 @@ use Rattle.ts_query_tree.specs.Machine.{Open, frame_of, ready, flushed, holds_gr
 use Rattle.ts_query_tree.proofs.Shapes.{Shape, shape, before_of, last_of, takes_mark, content_of, groups_at, asks_at, level_at, levels, open_at, shape_spelling, spelled, bracket_spelling, pending_spelling, holds, Formed, IsStarted}
 use Rattle.ts_query_tree.specs.Reads.{IsQuery, Begins}
 use Rattle.ts_query_tree.specs.Machine.{run_from, start}
-use Rattle.ts_query_tree.proofs.ShapeLemmas.{attach_part, attach_begun, spelled_more, unit_spells, flushed_all, content_predicate, field_in, with_unit, unit_added, started_more, unit_follows, wild_follows, group_follows}
+use Rattle.ts_query_tree.proofs.ShapeLemmas.{attach_part, attach_begun, spelled_more, unit_spells, flushed_all, content_predicate, field_in, with_unit, field_is, unit_added, started_more, unit_follows, wild_follows, group_follows}
 use Rattle.ts_query_tree.proofs.GrowLemmas.{fits, begins_node, begins_choice, ends, opened_empty, asked_follows, grows}
 use Rattle.ts_query_tree.proofs.RunLemmas.{go, stepped, any_goes, run_query}
 
@@ -128,12 +129,12 @@ closes_in (shape c rs q ∷ os) (Inside Choice) ps f s = closes_choice c rs q os
 closes_field : (b : Bracket) (ps : Parts) (w : Written) (os : List Shape) → Formed (shape b ps (pending.Field w)) os → Closes (shape b ps (pending.Field w)) os
 closes_field b ps w os f =
     let q : Part = item (Some w) (Any 0) empty None [] in
-    before (shape b ps (pending.Field w)) (shape b (more ps q) pending.Nothing) os os (sign.Name (wild 0)) (any_goes b ps (Some w) 0 os f.here.begun.0)
+    before (shape b ps (pending.Field w)) (shape b (more ps q) pending.Nothing) os os (sign.Name (wild 0)) (any_goes b ps (Some w) 0 os f.here.begun)
     (spelled_more (shape b ps (pending.Field w)) (shape b (more ps q) pending.Nothing) os (sign.Name (wild 0) ∷ []) (unit_spells b ps (pending.Field w) (Any 0) empty refl))
     (closes_in os b (more ps q)
     (record {
       here = record {
-        parts = ((refl, ap not f.here.begun.1, tt), unit_follows b ps (Some w) (Any 0) empty f.here.begun.0 refl refl, f.here.parts);
+        parts = ((refl, refl, tt), unit_follows b ps (Some w) (Any 0) empty f.here.begun refl refl, f.here.parts);
         begun = tt;
         link = f.here.link;
       };
@@ -144,7 +145,7 @@ closes_field b ps w os f =
 pub closes : (x : Shape) (os : List Shape) → Formed x os → IsStarted x → Closes x os
 closes (shape b ps pending.Nothing) os f s = closes_in os b ps f s
 closes (shape b ps (pending.Name w)) os f s =
-    before (shape b ps (pending.Name w)) (shape b ps (pending.Field w)) os os sign.Colon refl
+    before (shape b ps (pending.Name w)) (shape b ps (pending.Field w)) os os sign.Colon (ap (λ (l : Level). Some (l, levels os)) (field_is b ps w os))
     (spelled_more (shape b ps (pending.Name w)) (shape b ps (pending.Field w)) os (sign.Colon ∷ []) (attach_begun (bracket_spelling b) (spelling ps) (sign.Name w ∷ []) (sign.Name w ∷ sign.Colon ∷ []) (sign.Colon ∷ []) refl))
     (closes_field b ps w os (record { here = record { parts = f.here.parts; begun = f.here.begun; link = f.here.link }; round = f.round }))
 closes (shape b ps (pending.Field w)) os f s = closes_field b ps w os f

@@ -1,6 +1,6 @@
 -- A sign that can stand behind what is open leads to brackets that are open and formed, and that are
 -- spelled by that sign more.
-use Rattle.std.proofs.Common.{◌≡◌, ℕ, Bool, true, false, not, ◌&&◌, ◌||◌, List, [], ◌∷◌, ◌++◌, map, Option, Some, None, refl, sym, ap, ap₂, subst, ◌∙◌, append-nil, true≢false, arith, if◌then◌else◌}
+use Rattle.std.proofs.Common.{◌≡◌, ℕ, Bool, true, false, not, ◌&&◌, ◌||◌, List, [], ◌∷◌, ◌++◌, map, Option, Some, None, refl, sym, ap, subst, ◌∙◌, append-nil, true≢false, if◌then◌else◌}
 use Rattle.std.proofs.lemmas.List.{append_assoc}
 use Rattle.std.proofs.lemmas.Option.{none-some, same_Some}
 use Rattle.ts_query_tree.specs.declared.tree.Written.{Written}
@@ -22,9 +22,9 @@ use Rattle.ts_query_tree.specs.declared.sign.Sign.{Sign}
 use Rattle.ts_query_tree.specs.declared.sign.Sign.TheVariants as sign
 use Rattle.ts_query_tree.specs.Words.{is_wild}
 use Rattle.ts_query_tree.specs.Trees.{Parts, empty, more, Part, item, anchor, without, predicate, wild, spelling, part_spelling, head_spelling, field_spelling, mark_spelling, operand_sign, is_none, is_nil, has_item, is_group, is_loose, may_follow, begins_group, is_fitting, is_filled, AreFormed, IsFormed, values_of}
-use Rattle.ts_query_tree.specs.Machine.{Open, frame_of, as_group, level, ready, flushed, is_begun, content_with, content_in, frame_and, marked, captured, last_is, with_mark, with_capture, fresh, frame_with, is_opened, entered, lone_wild, wild_place, regrouped_at, is_choice, frame_marked, frame_captured, frame_ready, named, item_named, colon_in, predicates_in, anchors_in, holds_anchors, is_due, takes_unit, level_with, within, asking_in, opened_in, opened, put, closed_in, next}
-use Rattle.ts_query_tree.proofs.Shapes.{Shape, shape, before_of, last_of, takes_mark, content_of, groups_at, asks_at, frame_at, level_at, levels, open_at, shape_spelling, spelled, bracket_spelling, pending_spelling, holds, Begun, Linked, Here, AreRound, Formed, IsStarted, Grows}
-use Rattle.ts_query_tree.proofs.ShapeLemmas.{attach_part, attach_begun, attach_last, map_push, flushed_all, content_anchor, content_without, content_predicate, content_captured, field_in, with_unit, unit_is, unit_added, spelled_more, unit_spells, started_more, unit_follows, wild_follows, group_follows, begins_unit}
+use Rattle.ts_query_tree.specs.Machine.{Open, frame_of, as_group, level, ready, flushed, is_begun, content_with, content_in, frame_and, marked, captured, last_is, with_mark, with_capture, fresh, frame_with, is_opened, entered, kind_of, lone_kind, lone_wild, wild_place, wild_is_field, bare_wild, colon_behind, regrouped_at, is_choice, frame_marked, frame_captured, frame_ready, named, item_named, colon_in, predicates_in, anchors_in, holds_anchors, is_due, takes_unit, level_with, within, asking_in, opened_in, opened, put, closed_in, next}
+use Rattle.ts_query_tree.proofs.Shapes.{Shape, shape, before_of, last_of, takes_mark, content_of, groups_at, asks_at, frame_in, frame_at, level_at, levels, open_at, shape_spelling, spelled, bracket_spelling, pending_spelling, holds, Begun, Linked, Here, AreRound, Formed, IsStarted, Grows}
+use Rattle.ts_query_tree.proofs.ShapeLemmas.{attach_part, attach_begun, attach_last, map_push, flushed_all, content_anchor, content_without, content_predicate, content_captured, wild_is, field_in, with_unit, unit_is, unit_in_field, field_is, wild_field_is, unit_added, spelled_more, unit_spells, started_more, unit_follows, wild_follows, group_follows, begins_unit}
 
 -- ---- options and tests
 
@@ -47,17 +47,6 @@ within_some o (Some l) z e = (l, refl, sym (same_Some _ _ e))
 negated : (b : Bool) → not b ≡ true → b ≡ false
 negated true e = absurd (true≢false (sym e))
 negated false e = refl
-
-pub wild_is : (w : Written) → is_wild w.text ≡ true → w ≡ wild w.at
-wild_is w e = ap (λ (t : List ℕ). make w.at t) (text_is w.text e)
-  where
-    make : ℕ → List ℕ → Written
-    make at t = record { at = at; text = t }
-
-    text_is : (t : List ℕ) → is_wild t ≡ true → t ≡ 95 ∷ []
-    text_is [] e = absurd (true≢false (sym e))
-    text_is (c ∷ []) e = let c_is : c ≡ 95 = grind arith in ap (λ (n : ℕ). n ∷ []) c_is
-    text_is (c ∷ d ∷ t) e = absurd (true≢false (sym e))
 
 -- ---- what is formed
 
@@ -188,14 +177,14 @@ shifted x y os s z e g = record {
 
 record Enters (b : Bracket) (ps : Parts) (p : Pending) (os : List Shape) : Type 0 where
   bracket : Bracket
-  frame : entered (frame_at b ps os) ≡ frame_at bracket ps os
+  frame : entered (frame_in b ps p os) ≡ frame_in bracket ps p os
   here : Here bracket ps p os
   spells : shape_spelling (shape bracket ps p) ≡ shape_spelling (shape b ps p)
 
 begun_opened : (ps : Parts) (p : Pending) → Begun Opened ps p → p ≡ pending.Nothing
 begun_opened ps pending.Nothing h = refl
-begun_opened ps (pending.Name w) h = absurd (true≢false (sym h.0))
-begun_opened ps (pending.Field w) h = absurd (true≢false (sym h.0))
+begun_opened ps (pending.Name w) h = absurd (true≢false (sym h))
+begun_opened ps (pending.Field w) h = absurd (true≢false (sym h))
 begun_opened ps (pending.Predicate w os) h = absurd (true≢false (sym h.0))
 
 group_link : (os : List Shape) → Linked Opened os → groups_at os ≡ true → Linked (Inside Group) os
@@ -209,7 +198,7 @@ group_parts (more ps q) f = absurd (true≢false (sym f.1))
 enters_opened : (ps : Parts) (p : Pending) (os : List Shape) → Here Opened ps p os → (k : Bool) → groups_at os ≡ k → Enters Opened ps p os
 enters_opened ps p os h true e = record {
   bracket = Inside Group;
-  frame = ap (λ (k : Bool). if k then as_group (frame_at Opened ps os) else frame_at Opened ps os) e;
+  frame = ap (λ (k : Bool). if k then as_group (frame_in Opened ps p os) else frame_in Opened ps p os) e;
   here = record {
     parts = group_parts ps h.parts;
     begun = subst (Begun (Inside Group) ps) (sym (begun_opened ps p h.begun)) tt;
@@ -219,7 +208,7 @@ enters_opened ps p os h true e = record {
 }
 enters_opened ps p os h false e = record {
   bracket = Opened;
-  frame = ap (λ (k : Bool). if k then as_group (frame_at Opened ps os) else frame_at Opened ps os) e;
+  frame = ap (λ (k : Bool). if k then as_group (frame_in Opened ps p os) else frame_in Opened ps p os) e;
   here = h;
   spells = refl;
 }
@@ -246,7 +235,7 @@ level_due (Inside k) ps (pending.Predicate w o) os h xs r l f e = absurd (none-s
 pub fits : (b : Bracket) (ps : Parts) (p : Pending) (h : Head) (qs : Parts) → Begun b ps p → is_due p ≡ true → is_group h ≡ false → is_fitting (field_in p) h qs None [] ≡ true
 fits b ps pending.Nothing h qs f d n = ap (λ (k : Bool). if k then true else true) n
 fits b ps (pending.Name w) h qs f d n = absurd (true≢false (sym d))
-fits b ps (pending.Field w) h qs f d n = ap₂ (λ (k j : Bool). not k && not j) n f.1
+fits b ps (pending.Field w) h qs f d n = ap not n
 fits b ps (pending.Predicate w o) h qs f d n = absurd (true≢false (sym d))
 
 text_grown : (b : Bracket) (ps : Parts) (p : Pending) (os : List Shape) (w : Written) (l : Level) (z : Open) → Formed (shape b ps p) os →
@@ -259,7 +248,7 @@ text_grown b ps p os w l z f e ez =
     (refl, fits b ps p (Text w) empty f.here.begun due.1 refl, tt) refl (ez ∙ ap (λ (t : Level). (t, levels os)) is)
 
 text_entered : (b : Bracket) (ps : Parts) (p : Pending) (os : List Shape) (w : Written) (l : Level) (z : Open) → Formed (shape b ps p) os →
-    level_with (level (entered (frame_at b ps os)) p) (Text w) [] true ≡ Some l → z ≡ (l, levels os) → Grows (shape b ps p) os (sign.Text w) z
+    level_with (level (entered (frame_in b ps p os)) p) (Text w) [] true ≡ Some l → z ≡ (l, levels os) → Grows (shape b ps p) os (sign.Text w) z
 text_entered b ps p os w l z f e ez =
     let i = enters b ps p os f.here in
     shifted (shape i.bracket ps p) (shape b ps p) os (sign.Text w) z i.spells
@@ -294,7 +283,7 @@ item_name b ps os w z g f s e = by (is_wild w.text) refl
         (e ∙ ap (λ (k : Bool). paired (levels os) (if k then ready (frame_with (frame_at b ps os) None (Any w.at) [] true) else level (frame_at b ps os) (pending.Name w))) t
         ∙ ap (paired (levels os)) (unit_is b ps os None (Any w.at) empty [] true refl refl))
     by false t =
-        begun_grown b ps pending.Nothing (pending.Name w) os (sign.Name w) z refl f (g, t) (started_name b ps w)
+        begun_grown b ps pending.Nothing (pending.Name w) os (sign.Name w) z refl f g (started_name b ps w)
         (e ∙ ap (λ (k : Bool). paired (levels os) (if k then ready (frame_with (frame_at b ps os) None (Any w.at) [] true) else level (frame_at b ps os) (pending.Name w))) t)
 
 named_here : (b : Bracket) (ps : Parts) (os : List Shape) (w : Written) (z : Open) → Formed (shape b ps pending.Nothing) os → IsStarted (shape b ps pending.Nothing) →
@@ -324,38 +313,48 @@ name_step b ps (pending.Name v) os w z f s e = absurd (none-some z e)
 name_step b ps (pending.Field v) os w z f s e =
     let a = within_some (levels os) _ z e in
     let t = taken (is_wild w.text) _ a.0 a.1 in
-    any_grown b ps (pending.Field v) os w z refl t.0 f (field_follows b ps v w.at f.here.begun.0)
-    (a.2 ∙ ap (paired (levels os)) (sym (same_Some _ _ t.1) ∙ unit_is b ps os (Some v) (Any w.at) empty [] true refl refl))
+    any_grown b ps (pending.Field v) os w z refl t.0 f (field_follows b ps v w.at f.here.begun)
+    (a.2 ∙ ap (paired (levels os)) (sym (same_Some _ _ t.1) ∙ unit_in_field b ps os v (Any w.at) empty [] true refl refl))
 name_step b ps (pending.Predicate v ops) os w z f s e = operand_grown b ps v ops os (operand.Name w) z f (sym (same_Some _ _ e))
 
--- ---- a lone `_` that begins a group
+-- ---- a lone name that begins a group
 
-pub record IsLone (b : Bracket) (ps : Parts) (os : List Shape) (at : ℕ) : Type 0 where
-  kind : Written
+-- a round bracket with nothing behind its name, which may be a group
+record IsLoneKind (b : Bracket) (ps : Parts) (os : List Shape) (kind : Written) : Type 0 where
   bracket : b ≡ Inside (Node kind)
   parts : ps ≡ empty
   groups : groups_at os ≡ true
-  wild_kind : kind ≡ wild at
 
-wild_there : (b : Bracket) (at : ℕ) → wild_place b ≡ Some at → (kind : Written) × (b ≡ Inside (Node kind)) × (kind ≡ wild at)
-wild_there Top at e = absurd (none-some at e)
-wild_there Opened at e = absurd (none-some at e)
-wild_there (Inside (Any a)) at e = absurd (none-some at e)
-wild_there (Inside (Text text)) at e = absurd (none-some at e)
-wild_there (Inside (Node kind)) at e = let t = taken (is_wild kind.text) (Some kind.at) at e in (kind, refl, wild_is kind t.0 ∙ ap wild (same_Some _ _ t.1))
-wild_there (Inside Group) at e = absurd (none-some at e)
-wild_there (Inside Choice) at e = absurd (none-some at e)
+kind_there : (b : Bracket) (kind : Written) → kind_of b ≡ Some kind → b ≡ Inside (Node kind)
+kind_there Top kind e = absurd (none-some kind e)
+kind_there Opened kind e = absurd (none-some kind e)
+kind_there (Inside (Any a)) kind e = absurd (none-some kind e)
+kind_there (Inside (Text text)) kind e = absurd (none-some kind e)
+kind_there (Inside (Node w)) kind e = ap (λ (v : Written). Inside (Node v)) (same_Some _ _ e)
+kind_there (Inside Group) kind e = absurd (none-some kind e)
+kind_there (Inside Choice) kind e = absurd (none-some kind e)
 
 neither : (a b : Bool) → (not a || b) ≡ false → (a ≡ true) × (b ≡ false)
 neither true b e = (refl, e)
 neither false b e = absurd (true≢false e)
 
-lone : (b : Bracket) (ps : Parts) (os : List Shape) (at : ℕ) → lone_wild (frame_at b ps os) ≡ Some at → IsLone b ps os at
-lone b ps os at e =
-    let s = spared (not (groups_at os) || is_begun (content_of ps)) (wild_place b) at e in
+lone_name : (b : Bracket) (ps : Parts) (os : List Shape) (kind : Written) → lone_kind (frame_at b ps os) ≡ Some kind → IsLoneKind b ps os kind
+lone_name b ps os kind e =
+    let s = spared (not (groups_at os) || is_begun (content_of ps)) (kind_of b) kind e in
     let n = neither (groups_at os) (is_begun (content_of ps)) s.0 in
-    let t = wild_there b at s.1 in
-    record { kind = t.0; bracket = t.1; parts = begun_empty ps n.1; groups = n.0; wild_kind = t.2 }
+    record { bracket = kind_there b kind s.1; parts = begun_empty ps n.1; groups = n.0 }
+
+abbrev IsLone : Bracket → Parts → List Shape → ℕ → Type 0
+IsLone b ps os at = IsLoneKind b ps os (wild at)
+
+lone : (b : Bracket) (ps : Parts) (os : List Shape) (at : ℕ) → lone_wild (frame_at b ps os) ≡ Some at → IsLone b ps os at
+lone b ps os at e = by (lone_kind (frame_at b ps os)) refl e
+  where
+    by : (o : Option Written) → lone_kind (frame_at b ps os) ≡ o → wild_place o ≡ Some at → IsLone b ps os at
+    by None k h = absurd (none-some at h)
+    by (Some kind) k h =
+        let t = taken (is_wild kind.text) (Some kind.at) at h in
+        subst (IsLoneKind b ps os) (wild_is kind t.0 ∙ ap wild (same_Some _ _ t.1)) (lone_name b ps os kind k)
 
 -- the group behind `(_` with a quantifier or a capture
 regrown : (b : Bracket) (ps : Parts) (os : List Shape) (at : ℕ) (m : Option Mark) (cs : List Written) (s : Sign) (z : Open) → IsLone b ps os at → Formed (shape b ps pending.Nothing) os →
@@ -373,7 +372,7 @@ regrown b ps os at m cs s z l f begins signs e = record {
   where
     before : shape (Inside (Node (wild at))) empty pending.Nothing ≡ shape b ps pending.Nothing
     before =
-        ap (λ (w : Written). shape (Inside (Node w)) empty pending.Nothing) (sym l.wild_kind) ∙ ap (λ (c : Bracket). shape c empty pending.Nothing) (sym l.bracket)
+        ap (λ (c : Bracket). shape c empty pending.Nothing) (sym l.bracket)
         ∙ ap (λ (qs : Parts). shape b qs pending.Nothing) (sym l.parts)
 
     linked : (rs : List Shape) → Linked b rs → groups_at rs ≡ true → Linked (Inside Group) rs
@@ -571,41 +570,79 @@ anchor_step b ps (pending.Name v) os z f e = absurd (none-some z e)
 anchor_step b ps (pending.Field v) os z f e = absurd (none-some z e)
 anchor_step b ps (pending.Predicate v ops) os z f e = absurd (none-some z e)
 
-colon_kind : (kind : Written) (ps : Parts) (os : List Shape) (l : Level) (z : Open) → Formed (shape (Inside (Node kind)) ps pending.Nothing) os →
-    colon_in (frame_at (Inside (Node kind)) ps os) ≡ Some l → z ≡ (l, levels os) → Grows (shape (Inside (Node kind)) ps pending.Nothing) os sign.Colon z
-colon_kind kind ps os l z f e ez =
-    let t = taken (groups_at os && not (is_begun (content_of ps)) && not (is_wild kind.text)) _ l e in
-    let first = both (groups_at os && not (is_begun (content_of ps))) (not (is_wild kind.text)) t.0 in
-    let second = both (groups_at os) (not (is_begun (content_of ps))) first.0 in
-    let none_there = begun_empty ps (negated _ second.1) in
-    let tame : is_wild kind.text ≡ false = negated _ first.1 in record {
-      inner = shape (Inside Group) empty (pending.Field kind);
-      round = os;
-      same = ez ∙ ap (paired (levels os)) (sym (same_Some _ _ t.1)) ∙ ap (λ (qs : Parts). paired (levels os) (level (frame_of (Inside Group) (groups_at os) (asks_at os) (content_of qs)) (pending.Field kind))) none_there;
-      spells = spelled_more (shape (Inside (Node kind)) ps pending.Nothing) (shape (Inside Group) empty (pending.Field kind)) os (sign.Colon ∷ [])
-          (ap (λ (qs : Parts). shape_spelling (shape (Inside (Node kind)) qs pending.Nothing) ++ sign.Colon ∷ []) (sym none_there));
-      formed = record { here = record { parts = tt; begun = (refl, tame); link = linked os second.0 }; round = f.round };
-      started = tt;
-    }
+-- a field's name begins a group
+kind_colon : (b : Bracket) (ps : Parts) (os : List Shape) (kind : Written) (l : Level) (z : Open) → Formed (shape b ps pending.Nothing) os → IsLoneKind b ps os kind →
+    level (as_group (frame_at b ps os)) (pending.Field kind) ≡ l → z ≡ (l, levels os) → Grows (shape b ps pending.Nothing) os sign.Colon z
+kind_colon b ps os kind l z f k e ez = record {
+  inner = shape (Inside Group) empty (pending.Field kind);
+  round = os;
+  same = ez ∙ ap (paired (levels os)) (sym e)
+      ∙ ap (λ (qs : Parts). paired (levels os) (level (frame_of (Inside Group) (groups_at os) (asks_at os) (content_of qs)) (pending.Field kind))) k.parts;
+  spells = spelled_more (shape b ps pending.Nothing) (shape (Inside Group) empty (pending.Field kind)) os (sign.Colon ∷ [])
+      (ap (λ (c : Bracket). shape_spelling (shape c empty pending.Nothing) ++ sign.Colon ∷ []) (sym k.bracket)
+      ∙ ap (λ (qs : Parts). shape_spelling (shape b qs pending.Nothing) ++ sign.Colon ∷ []) (sym k.parts));
+  formed = record { here = record { parts = tt; begun = refl; link = linked os k.groups }; round = f.round };
+  started = tt;
+}
   where
     linked : (rs : List Shape) → groups_at rs ≡ true → Linked (Inside Group) rs
     linked [] g = absurd (true≢false (sym g))
     linked (r ∷ rs) g = g
 
+follows_holds : (b : Bracket) (ps : Parts) (q : Part) → may_follow b ps q ≡ true → holds b ≡ true
+follows_holds Top ps q e = refl
+follows_holds Opened ps q e = e
+follows_holds (Inside (Any at)) ps q e = e
+follows_holds (Inside (Text text)) ps q e = e
+follows_holds (Inside (Node kind)) ps q e = refl
+follows_holds (Inside Group) ps q e = refl
+follows_holds (Inside Choice) ps q e = refl
+
+no_wild : (k : Bool) (f : Frame) (l : Level) → wild_is_field f (if k then None else None) ≡ Some l → ⊥
+no_wild true f l e = none-some l e
+no_wild false f l e = none-some l e
+
+-- the last `_` is a field's name
+wild_colon : (b : Bracket) (ps : Parts) (os : List Shape) (l : Level) (z : Open) → Formed (shape b ps pending.Nothing) os →
+    wild_is_field (frame_at b ps os) (bare_wild (content_of ps)) ≡ Some l → z ≡ (l, levels os) → Grows (shape b ps pending.Nothing) os sign.Colon z
+wild_colon b empty os l z f e ez = absurd (none-some l e)
+wild_colon b (more ps (item None (Any at) empty None [])) os l z f e ez =
+    record {
+      inner = shape b ps (pending.Field (wild at));
+      round = os;
+      same = ez ∙ ap (paired (levels os)) (same_Some _ _ (sym e ∙ wild_field_is b ps at os));
+      spells = spelled_more (shape b (more ps (item None (Any at) empty None [])) pending.Nothing) (shape b ps (pending.Field (wild at))) os (sign.Colon ∷ [])
+          (attach_begun (bracket_spelling b) (spelling ps) (sign.Name (wild at) ∷ []) (sign.Name (wild at) ∷ sign.Colon ∷ []) (sign.Colon ∷ []) refl
+          ∙ ap (λ (t : List Sign). (bracket_spelling b ++ t) ++ sign.Colon ∷ []) (sym (append-nil (spelling ps ++ sign.Name (wild at) ∷ []))));
+      formed = record { here = record { parts = f.here.parts.2; begun = follows_holds b ps (item None (Any at) empty None []) f.here.parts.1; link = f.here.link }; round = f.round };
+      started = started_field b ps (wild at);
+    }
+wild_colon b (more ps (item None (Any at) (more qs q) None [])) os l z f e ez = absurd (true≢false (sym f.here.parts.0.2.1))
+wild_colon b (more ps (item None (Text text) qs None [])) os l z f e ez = absurd (none-some l e)
+wild_colon b (more ps (item None (Node kind) qs None [])) os l z f e ez = absurd (none-some l e)
+wild_colon b (more ps (item None Group qs None [])) os l z f e ez = absurd (no_wild (is_loose qs) (frame_at b (more ps (item None Group qs None [])) os) l e)
+wild_colon b (more ps (item None Choice qs None [])) os l z f e ez = absurd (none-some l e)
+wild_colon b (more ps (item (Some v) h qs None [])) os l z f e ez = absurd (no_wild (takes_mark h qs) (frame_at b (more ps (item (Some v) h qs None [])) os) l e)
+wild_colon b (more ps (item v h qs None (c ∷ cs))) os l z f e ez = absurd (none-some l e)
+wild_colon b (more ps (item v h qs (Some k) cs)) os l z f e ez = absurd (none-some l e)
+wild_colon b (more ps anchor) os l z f e ez = absurd (none-some l e)
+wild_colon b (more ps (without w)) os l z f e ez = absurd (none-some l e)
+wild_colon b (more ps (predicate w ops)) os l z f e ez = absurd (none-some l e)
+
 colon_in_step : (b : Bracket) (ps : Parts) (os : List Shape) (l : Level) (z : Open) → Formed (shape b ps pending.Nothing) os →
     colon_in (frame_at b ps os) ≡ Some l → z ≡ (l, levels os) → Grows (shape b ps pending.Nothing) os sign.Colon z
-colon_in_step Top ps os l z f e ez = absurd (none-some l e)
-colon_in_step Opened ps os l z f e ez = absurd (none-some l e)
-colon_in_step (Inside (Any at)) ps os l z f e ez = absurd (none-some l e)
-colon_in_step (Inside (Text text)) ps os l z f e ez = absurd (none-some l e)
-colon_in_step (Inside (Node kind)) ps os l z f e ez = colon_kind kind ps os l z f e ez
-colon_in_step (Inside Group) ps os l z f e ez = absurd (none-some l e)
-colon_in_step (Inside Choice) ps os l z f e ez = absurd (none-some l e)
+colon_in_step b ps os l z f e ez = by (lone_kind (frame_at b ps os)) refl e
+  where
+    by : (o : Option Written) → lone_kind (frame_at b ps os) ≡ o → colon_behind (frame_at b ps os) o ≡ Some l → Grows (shape b ps pending.Nothing) os sign.Colon z
+    by None k h = wild_colon b ps os l z f h ez
+    by (Some kind) k h = kind_colon b ps os kind l z f (lone_name b ps os kind k) (same_Some _ _ h) ez
 
 colon_step : (b : Bracket) (ps : Parts) (p : Pending) (os : List Shape) (z : Open) → Formed (shape b ps p) os →
     next (level_at (shape b ps p) os) (levels os) sign.Colon ≡ Some z → Grows (shape b ps p) os sign.Colon z
 colon_step b ps pending.Nothing os z f e = let a = within_some (levels os) _ z e in colon_in_step b ps os a.0 z f a.1 a.2
-colon_step b ps (pending.Name v) os z f e = begun_grown b ps (pending.Name v) (pending.Field v) os sign.Colon z refl f f.here.begun (started_field b ps v) (sym (same_Some _ _ e))
+colon_step b ps (pending.Name v) os z f e =
+    begun_grown b ps (pending.Name v) (pending.Field v) os sign.Colon z refl f f.here.begun (started_field b ps v)
+    (sym (same_Some _ _ e) ∙ ap (paired (levels os)) (field_is b ps v os))
 colon_step b ps (pending.Field v) os z f e = absurd (none-some z e)
 colon_step b ps (pending.Predicate v ops) os z f e = absurd (none-some z e)
 
@@ -631,7 +668,7 @@ abbrev Opens : Bracket → Sign → Type 0
 Opens b s = (shape_spelling (shape b empty pending.Nothing) ≡ s ∷ []) × ((r : Shape) (os : List Shape) → Linked b (r ∷ os)) × IsStarted (shape b empty pending.Nothing)
 
 open_in : (c : Bracket) (s : Sign) (b : Bracket) (ps : Parts) (p : Pending) (os : List Shape) (z : Open) → Opens c s → Formed (shape b ps p) os →
-    opened_in (frame_at b ps os) p c (levels os) ≡ Some z → Grows (shape b ps p) os s z
+    opened_in (frame_in b ps p os) p c (levels os) ≡ Some z → Grows (shape b ps p) os s z
 open_in c s b ps p os z o f e =
     let t = taken (takes_unit b p) _ z e in
     let d = both (is_due p) (not (is_opened b)) t.0 in record {

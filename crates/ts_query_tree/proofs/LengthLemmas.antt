@@ -40,7 +40,7 @@ text_after : (w : Bytes) (i : ℕ) → IsAfter i (text_at w i)
 text_after w i = string_after i (i + 1) (inside (drop (i + 1) w)) (omega arith)
 
 -- a name has a byte
-run_some : (v : Bytes) (c : ℕ) → slice_get v 0 ≡ Some c → is_name_start c ≡ true → 0 < prefix_len is_name_byte v
+pub run_some : (v : Bytes) (c : ℕ) → slice_get v 0 ≡ Some c → is_name_start c ≡ true → 0 < prefix_len is_name_byte v
 run_some [] c at h = let no : None ≡ Some c = at in cc
 run_some (d ∷ v) c at h =
     let same : Some d ≡ Some c = at in
@@ -48,7 +48,7 @@ run_some (d ∷ v) c at h =
     let starts : is_name_byte d ≡ true = ap is_name_byte e ∙ ap (λ (b : Bool). b || (c == 45) || (c == 46)) h in
     subst (λ (b : Bool). 0 < (if b then 1 + prefix_len is_name_byte v else 0)) (sym starts) (omega arith)
 
-from_here : (w : Bytes) (i : ℕ) → slice_get (drop i w) 0 ≡ slice_get w i
+pub from_here : (w : Bytes) (i : ℕ) → slice_get (drop i w) 0 ≡ slice_get w i
 from_here [] zero = refl
 from_here [] (suc i) = refl
 from_here (c ∷ w) zero = refl

@@ -9,3 +9,4 @@ pub mod LawLemmas
 pub mod StateLemmas
 pub mod ReaderLemmas
 pub mod LengthLemmas
+pub mod PlaceLemmas

@@ -1,5 +1,5 @@
 -- The signs of a part lead the reader from what is open before it to what is open behind it.
-use Rattle.std.proofs.Common.{◌≡◌, ℕ, Bool, true, false, not, ◌&&◌, ◌||◌, List, [], ◌∷◌, ◌++◌, map, Option, Some, None, refl, sym, ap, subst, ◌∙◌, append-nil, true≢false, if◌then◌else◌}
+use Rattle.std.proofs.Common.{◌≡◌, ℕ, Bool, true, false, not, ◌&&◌, ◌||◌, List, [], ◌∷◌, ◌++◌, map, Option, Some, None, refl, sym, ap, ◌∙◌, append-nil, true≢false, if◌then◌else◌}
 use Rattle.std.proofs.lemmas.List.{append_assoc}
 use Rattle.ts_query_tree.specs.declared.tree.Written.{Written}
 use Rattle.ts_query_tree.specs.declared.tree.Mark.{Mark}
@@ -20,10 +20,10 @@ use Rattle.ts_query_tree.specs.declared.sign.Sign.{Sign}
 use Rattle.ts_query_tree.specs.declared.sign.Sign.TheVariants as sign
 use Rattle.ts_query_tree.specs.Words.{is_wild}
 use Rattle.ts_query_tree.specs.Trees.{Parts, empty, more, Part, item, anchor, without, predicate, wild, spelling, part_spelling, head_spelling, field_spelling, mark_spelling, operand_sign, is_nil, has_item, is_group, is_loose, may_follow, begins_group, is_fitting, AreFormed, IsFormed, values_of}
-use Rattle.ts_query_tree.specs.Machine.{Open, frame_of, as_group, level, ready, flushed, is_begun, content_in, frame_and, marked, last_is, with_mark, with_capture, frame_with, entered, lone_wild, wild_place, regrouped, regrouped_at, is_choice, frame_marked, frame_captured, frame_ready, holds_groups, predicates_in, anchors_in, holds_anchors, is_due, level_with, within, asking_in, opened_in, opened, put, next}
-use Rattle.ts_query_tree.proofs.Shapes.{Shape, shape, unit_of, before_of, last_of, takes_mark, content_of, groups_at, asks_at, frame_at, level_at, levels, open_at, holds}
+use Rattle.ts_query_tree.specs.Machine.{Open, frame_of, as_group, level, ready, flushed, is_begun, content_in, frame_and, marked, last_is, with_mark, with_capture, frame_with, entered, kind_of, lone_kind, lone_wild, wild_place, colon_behind, regrouped, regrouped_at, is_choice, frame_marked, frame_captured, frame_ready, holds_groups, predicates_in, anchors_in, holds_anchors, is_due, level_with, within, asking_in, opened_in, opened, put, next}
+use Rattle.ts_query_tree.proofs.Shapes.{Shape, shape, unit_of, before_of, last_of, takes_mark, content_of, groups_at, asks_at, frame_in, frame_at, level_at, levels, open_at, holds}
 use Rattle.ts_query_tree.specs.Machine.{run_from, start}
-use Rattle.ts_query_tree.proofs.ShapeLemmas.{flushed_all, content_anchor, content_without, content_predicate, content_captured, field_in, unit_is, unit_added}
+use Rattle.ts_query_tree.proofs.ShapeLemmas.{flushed_all, content_anchor, content_without, content_predicate, content_captured, wild_is, field_in, unit_is, unit_in_field, field_is, wild_field_is, unit_added}
 
 abbrev pub go : Shape → List Shape → List Sign → Option Open
 go x os ss = run_from (Some (open_at x os)) ss
@@ -31,10 +31,6 @@ go x os ss = run_from (Some (open_at x os)) ss
 -- one sign
 pub stepped : (x y : Shape) (os rs : List Shape) (s : Sign) (rest : List Sign) → next (level_at x os) (levels os) s ≡ Some (open_at y rs) → go x os (s ∷ rest) ≡ go y rs rest
 stepped x y os rs s rest e = ap (λ (o : Option Open). run_from o rest) e
-
-both : (a b : Bool) → (a && b) ≡ true → (a ≡ true) × (b ≡ true)
-both true b e = (refl, e)
-both false b e = absurd (true≢false (sym e))
 
 -- ---- what was begun is no lone `_`
 
@@ -60,13 +56,16 @@ begun_more ps (predicate w os) = by (values_of ps)
     by [] = refl
     by (x ∷ xs) = refl
 
-lone_none : (b : Bracket) (ps : Parts) (q : Part) (os : List Shape) → lone_wild (frame_at b (more ps q) os) ≡ None
-lone_none b ps q os =
-    ap (λ (k : Bool). if not (groups_at os) || k then None else wild_place b) (begun_more ps q) ∙ by (groups_at os)
+kind_none : (b : Bracket) (ps : Parts) (q : Part) (os : List Shape) → lone_kind (frame_at b (more ps q) os) ≡ None
+kind_none b ps q os =
+    ap (λ (k : Bool). if not (groups_at os) || k then None else kind_of b) (begun_more ps q) ∙ by (groups_at os)
   where
-    by : (g : Bool) → (if not g || true then None else wild_place b) ≡ None
+    by : (g : Bool) → (if not g || true then None else kind_of b) ≡ None
     by true = refl
     by false = refl
+
+lone_none : (b : Bracket) (ps : Parts) (q : Part) (os : List Shape) → lone_wild (frame_at b (more ps q) os) ≡ None
+lone_none b ps q os = ap wild_place (kind_none b ps q os)
 
 regrouped_same : (b : Bracket) (ps : Parts) (q : Part) (os : List Shape) → regrouped (frame_at b (more ps q) os) ≡ frame_at b (more ps q) os
 regrouped_same b ps q os = ap (regrouped_at (frame_at b (more ps q) os)) (lone_none b ps q os)
@@ -168,34 +167,55 @@ unit_goes b ps f os h qs xs r g ex er =
     ap (within (levels os)) (unit_added b ps (begun_field f) os h qs xs r g (due_field_is f) ex er)
     ∙ ap (λ (v : Option Written). Some (open_at (shape b (more ps (item v h qs None [])) pending.Nothing) os)) (field_back f)
 
-entered_same : (b : Bracket) (ps : Parts) (os : List Shape) → holds b ≡ true → entered (frame_at b ps os) ≡ frame_at b ps os
-entered_same Top ps os g = refl
-entered_same Opened ps os g = absurd (true≢false (sym g))
-entered_same (Inside h) ps os g = refl
-
-field_goes : (b : Bracket) (ps : Parts) (f : Option Written) (os : List Shape) (rest : List Sign) → holds b ≡ true → ((v : Written) → f ≡ Some v → is_wild v.text ≡ false) →
-    go (shape b ps pending.Nothing) os (field_spelling f ++ rest) ≡ go (shape b ps (begun_field f)) os rest
-field_goes b ps None os rest g n = refl
-field_goes b ps (Some v) os rest g n = stepped (shape b ps pending.Nothing) (shape b ps (pending.Name v)) os os (sign.Name v) (sign.Colon ∷ rest) (by b g)
-  where
-    by : (c : Bracket) → holds c ≡ true → next (level_at (shape c ps pending.Nothing) os) (levels os) (sign.Name v) ≡ Some (open_at (shape c ps (pending.Name v)) os)
-    by Top k = ap (λ (t : Bool). Some (if t then ready (frame_with (frame_at Top ps os) None (Any v.at) [] true) else level (frame_at Top ps os) (pending.Name v), levels os)) (n v refl)
-    by Opened k = absurd (true≢false (sym k))
-    by (Inside h) k = ap (λ (t : Bool). Some (if t then ready (frame_with (frame_at (Inside h) ps os) None (Any v.at) [] true) else level (frame_at (Inside h) ps os) (pending.Name v), levels os)) (n v refl)
+entered_same : (b : Bracket) (ps : Parts) (p : Pending) (os : List Shape) → holds b ≡ true → entered (frame_in b ps p os) ≡ frame_in b ps p os
+entered_same Top ps p os g = refl
+entered_same Opened ps p os g = absurd (true≢false (sym g))
+entered_same (Inside h) ps p os g = refl
 
 pub any_goes : (b : Bracket) (ps : Parts) (f : Option Written) (at : ℕ) (os : List Shape) → holds b ≡ true →
     next (level_at (shape b ps (begun_field f)) os) (levels os) (sign.Name (wild at)) ≡ Some (open_at (shape b (more ps (item f (Any at) empty None [])) pending.Nothing) os)
 any_goes Top ps None at os g = ap (λ (l : Level). Some (l, levels os)) (unit_is Top ps os None (Any at) empty [] true refl refl)
 any_goes Opened ps None at os g = absurd (true≢false (sym g))
 any_goes (Inside h) ps None at os g = ap (λ (l : Level). Some (l, levels os)) (unit_is (Inside h) ps os None (Any at) empty [] true refl refl)
-any_goes b ps (Some v) at os g = ap (λ (l : Level). Some (l, levels os)) (unit_is b ps os (Some v) (Any at) empty [] true refl refl)
+any_goes b ps (Some v) at os g = ap (λ (l : Level). Some (l, levels os)) (unit_in_field b ps os v (Any at) empty [] true refl refl)
+
+-- a name that is no `_` needs its colon
+name_goes : (b : Bracket) (ps : Parts) (v : Written) (os : List Shape) → holds b ≡ true → is_wild v.text ≡ false →
+    next (level_at (shape b ps pending.Nothing) os) (levels os) (sign.Name v) ≡ Some (open_at (shape b ps (pending.Name v)) os)
+name_goes Top ps v os g n =
+    ap (λ (t : Bool). Some (if t then ready (frame_with (frame_at Top ps os) None (Any v.at) [] true) else level (frame_at Top ps os) (pending.Name v), levels os)) n
+name_goes Opened ps v os g n = absurd (true≢false (sym g))
+name_goes (Inside h) ps v os g n =
+    ap (λ (t : Bool). Some (if t then ready (frame_with (frame_at (Inside h) ps os) None (Any v.at) [] true) else level (frame_at (Inside h) ps os) (pending.Name v), levels os)) n
+
+-- the last `_` is a field's name before a colon
+wild_colon_goes : (b : Bracket) (ps : Parts) (at : ℕ) (os : List Shape) →
+    next (level_at (shape b (more ps (item None (Any at) empty None [])) pending.Nothing) os) (levels os) sign.Colon ≡ Some (open_at (shape b ps (pending.Field (wild at))) os)
+wild_colon_goes b ps at os =
+    ap (λ (o : Option Written). within (levels os) (colon_behind (frame_at b (more ps (item None (Any at) empty None [])) os) o)) (kind_none b ps (item None (Any at) empty None []) os)
+    ∙ ap (within (levels os)) (wild_field_is b ps at os)
+
+field_goes : (b : Bracket) (ps : Parts) (f : Option Written) (os : List Shape) (rest : List Sign) → holds b ≡ true →
+    go (shape b ps pending.Nothing) os (field_spelling f ++ rest) ≡ go (shape b ps (begun_field f)) os rest
+field_goes b ps None os rest g = refl
+field_goes b ps (Some v) os rest g = by (is_wild v.text) refl
+  where
+    by : (k : Bool) → is_wild v.text ≡ k → go (shape b ps pending.Nothing) os (sign.Name v ∷ sign.Colon ∷ rest) ≡ go (shape b ps (pending.Field v)) os rest
+    by true t =
+        ap (λ (u : Written). go (shape b ps pending.Nothing) os (sign.Name u ∷ sign.Colon ∷ rest)) (wild_is v t)
+        ∙ stepped (shape b ps pending.Nothing) (shape b (more ps (item None (Any v.at) empty None [])) pending.Nothing) os os (sign.Name (wild v.at)) (sign.Colon ∷ rest) (any_goes b ps None v.at os g)
+        ∙ stepped (shape b (more ps (item None (Any v.at) empty None [])) pending.Nothing) (shape b ps (pending.Field (wild v.at))) os os sign.Colon rest (wild_colon_goes b ps v.at os)
+        ∙ ap (λ (u : Written). go (shape b ps (pending.Field u)) os rest) (sym (wild_is v t))
+    by false t =
+        stepped (shape b ps pending.Nothing) (shape b ps (pending.Name v)) os os (sign.Name v) (sign.Colon ∷ rest) (name_goes b ps v os g t)
+        ∙ stepped (shape b ps (pending.Name v)) (shape b ps (pending.Field v)) os os sign.Colon rest (ap (λ (l : Level). Some (l, levels os)) (field_is b ps v os))
 
 text_goes : (b : Bracket) (ps : Parts) (f : Option Written) (w : Written) (os : List Shape) → holds b ≡ true →
     next (level_at (shape b ps (begun_field f)) os) (levels os) (sign.Text w) ≡ Some (open_at (shape b (more ps (item f (Text w) empty None [])) pending.Nothing) os)
 text_goes b ps None w os g =
-    ap (λ (x : Frame). within (levels os) (level_with (level x pending.Nothing) (Text w) [] true)) (entered_same b ps os g) ∙ unit_goes b ps None os (Text w) empty [] true g refl refl
+    ap (λ (x : Frame). within (levels os) (level_with (level x pending.Nothing) (Text w) [] true)) (entered_same b ps pending.Nothing os g) ∙ unit_goes b ps None os (Text w) empty [] true g refl refl
 text_goes b ps (Some v) w os g =
-    ap (λ (x : Frame). within (levels os) (level_with (level x (pending.Field v)) (Text w) [] true)) (entered_same b ps os g) ∙ unit_goes b ps (Some v) os (Text w) empty [] true g refl refl
+    ap (λ (x : Frame). within (levels os) (level_with (level x (pending.Field v)) (Text w) [] true)) (entered_same b ps (pending.Field v) os g) ∙ unit_goes b ps (Some v) os (Text w) empty [] true g refl refl
 
 open_goes : (c b : Bracket) (ps : Parts) (f : Option Written) (os : List Shape) → holds b ≡ true →
     opened (level_at (shape b ps (begun_field f)) os) c (levels os) ≡ Some (open_at (shape c empty pending.Nothing) (shape b ps (begun_field f) ∷ os))
@@ -210,7 +230,7 @@ open_goes c (Inside h) ps (Some v) os g = refl
 anchor_goes : (b : Bracket) (ps : Parts) (os : List Shape) → holds b ≡ true → may_follow b ps anchor ≡ true →
     next (level_at (shape b ps pending.Nothing) os) (levels os) sign.Anchor ≡ Some (open_at (shape b (more ps anchor) pending.Nothing) os)
 anchor_goes b ps os g e =
-    ap (λ (x : Frame). within (levels os) (if holds_anchors x then Some (ready (frame_and x value.Anchor true)) else None)) (entered_same b ps os g)
+    ap (λ (x : Frame). within (levels os) (if holds_anchors x then Some (ready (frame_and x value.Anchor true)) else None)) (entered_same b ps pending.Nothing os g)
     ∙ ap (λ (k : Bool). within (levels os) (if k then Some (ready (frame_and (frame_at b ps os) value.Anchor true)) else None)) (by b ps e)
     ∙ ap (λ (c : Content). Some (ready (frame_of b (groups_at os) (asks_at os) c), levels os)) (content_anchor ps)
   where
@@ -317,15 +337,16 @@ alike_open : (c : Bracket) (os : List Shape) (ss : List Sign) → groups_at os �
     run_from (opened (level_at (shape Opened empty pending.Nothing) os) c (levels os)) ss ≡ run_from (opened (level_at (shape (Inside Group) empty pending.Nothing) os) c (levels os)) ss
 alike_open c os ss e = ap (λ (x : Frame). run_from (opened_in x pending.Nothing c (levels os)) ss) (entered_group os e)
 
-alike_field : (v : Written) (os : List Shape) (ss : List Sign) → groups_at os ≡ true → is_wild v.text ≡ false → Alike os (sign.Name v ∷ sign.Colon ∷ ss)
-alike_field v os ss e n =
-    ap (λ (k : Bool). run_from (within (levels os) (if k && not (is_wild v.text) then Some (level (frame_at (Inside Group) empty os) (pending.Field v)) else None)) ss) (ap (λ (g : Bool). g && true) e)
-    ∙ ap (λ (k : Bool). run_from (within (levels os) (if not k then Some (level (frame_at (Inside Group) empty os) (pending.Field v)) else None)) ss) n
-    ∙ sym (stepped (shape (Inside Group) empty pending.Nothing) (shape (Inside Group) empty (pending.Name v)) os os (sign.Name v) (sign.Colon ∷ ss)
-    (ap (λ (t : Bool). Some (if t then ready (frame_with (frame_at (Inside Group) empty os) None (Any v.at) [] true) else level (frame_at (Inside Group) empty os) (pending.Name v), levels os)) n))
+kind_there : (v : Written) (os : List Shape) → groups_at os ≡ true → lone_kind (frame_at (Inside (Node v)) empty os) ≡ Some v
+kind_there v os e = ap (λ (k : Bool). if not k || false then None else Some v) e
+
+alike_field : (v : Written) (os : List Shape) (ss : List Sign) → groups_at os ≡ true → Alike os (sign.Name v ∷ sign.Colon ∷ ss)
+alike_field v os ss e =
+    ap (λ (o : Option Written). run_from (within (levels os) (colon_behind (frame_at (Inside (Node v)) empty os) o)) ss) (kind_there v os e)
+    ∙ sym (field_goes (Inside Group) empty (Some v) os ss refl)
 
 lone_there : (at : ℕ) (os : List Shape) → groups_at os ≡ true → lone_wild (frame_at (Inside (Node (wild at))) empty os) ≡ Some at
-lone_there at os e = ap (λ (k : Bool). if not k || false then None else Some at) e
+lone_there at os e = ap wild_place (kind_there (wild at) os e)
 
 alike_mark : (at : ℕ) (m : Mark) (os : List Shape) (ss : List Sign) → groups_at os ≡ true → Alike os (sign.Name (wild at) ∷ sign.Mark m ∷ ss)
 alike_mark at m os ss e =
@@ -347,13 +368,6 @@ alike_text w os ss e = ap (λ (x : Frame). run_from (within (levels os) (level_w
 alike_anchor : (os : List Shape) (ss : List Sign) → groups_at os ≡ true → Alike os (sign.Anchor ∷ ss)
 alike_anchor os ss e = ap (λ (x : Frame). run_from (within (levels os) (if holds_anchors x then Some (ready (frame_and x value.Anchor true)) else None)) ss) (entered_group os e)
 
-tame_field : (v : Written) (h : Head) (qs : Parts) (m : Option Mark) (cs : List Written) → is_fitting (Some v) h qs m cs ≡ true → is_wild v.text ≡ false
-tame_field v h qs m cs e = let t = both (not (is_group h)) (not (is_wild v.text)) e in by (is_wild v.text) t.1
-  where
-    by : (k : Bool) → not k ≡ true → k ≡ false
-    by true n = absurd (true≢false (sym n))
-    by false n = refl
-
 first_alike : (q : Part) (os : List Shape) (rest : List Sign) → begins_group q ≡ true → IsFormed q → groups_at os ≡ true → Alike os (part_spelling q ++ rest)
 first_alike (item None (Any at) qs None []) os rest b made e = absurd (true≢false (sym b))
 first_alike (item None (Any at) empty None (c ∷ cs)) os rest b made e = alike_capture at c os (map sign.Capture cs ++ rest) e
@@ -365,7 +379,7 @@ first_alike (item None (Node kind) qs m cs) os rest b made e = alike_open Opened
 first_alike (item None Group qs m cs) os rest b made e = alike_open Opened os (((spelling qs ++ sign.Close ∷ []) ++ (mark_spelling m ++ map sign.Capture cs)) ++ rest) e
 first_alike (item None Choice qs m cs) os rest b made e = alike_open (Inside Choice) os (((spelling qs ++ sign.CloseChoice ∷ []) ++ (mark_spelling m ++ map sign.Capture cs)) ++ rest) e
 first_alike (item (Some v) h qs m cs) os rest b made e =
-    alike_field v os ((head_spelling h (spelling qs) ++ (mark_spelling m ++ map sign.Capture cs)) ++ rest) e (tame_field v h qs m cs made.1)
+    alike_field v os ((head_spelling h (spelling qs) ++ (mark_spelling m ++ map sign.Capture cs)) ++ rest) e
 first_alike anchor os rest b made e = alike_anchor os rest e
 first_alike (without w) os rest b made e = absurd (true≢false (sym b))
 first_alike (predicate w xs) os rest b made e = absurd (true≢false (sym b))
@@ -386,7 +400,6 @@ item_goes f h qs m cs b ps os rest g follows fitting head =
     ∙ ap (λ (t : List Sign). field_spelling f ++ t) (append_assoc (head_spelling h (spelling qs)) (mark_spelling m ++ map sign.Capture cs) rest)
     ∙ ap (λ (t : List Sign). field_spelling f ++ (head_spelling h (spelling qs) ++ t)) (append_assoc (mark_spelling m) (map sign.Capture cs) rest))
     ∙ field_goes b ps f os (head_spelling h (spelling qs) ++ (mark_spelling m ++ (map sign.Capture cs ++ rest))) g
-    (λ v e. tame_field v h qs m cs (subst (λ (o : Option Written). is_fitting o h qs m cs ≡ true) e fitting))
     ∙ head (mark_spelling m ++ (map sign.Capture cs ++ rest))
     ∙ tail_goes b ps f h qs m cs os rest follows fitting
 

@@ -1,5 +1,5 @@
 -- What is kept of brackets, and the signs that spell them, with one part more or the last one changed.
-use Rattle.std.proofs.Common.{◌≡◌, ℕ, Bool, true, false, not, ◌&&◌, List, [], ◌∷◌, ◌++◌, map, Option, Some, None, refl, sym, ap, ◌∙◌, append-nil, true≢false}
+use Rattle.std.proofs.Common.{◌≡◌, ℕ, Bool, true, false, not, ◌&&◌, List, [], ◌∷◌, ◌++◌, map, Option, Some, None, refl, sym, ap, ◌∙◌, append-nil, true≢false, arith}
 use Rattle.std.proofs.lemmas.List.{append_assoc}
 use Rattle.ts_query_tree.specs.declared.tree.Written.{Written}
 use Rattle.ts_query_tree.specs.declared.tree.Mark.{Mark}
@@ -17,9 +17,10 @@ use Rattle.ts_query_tree.specs.declared.level.Content.{Content}
 use Rattle.ts_query_tree.specs.declared.level.Level.{Level}
 use Rattle.ts_query_tree.specs.declared.sign.Sign.{Sign}
 use Rattle.ts_query_tree.specs.declared.sign.Sign.TheVariants as sign
-use Rattle.ts_query_tree.specs.Trees.{Parts, empty, more, Part, item, anchor, without, predicate, spelling, head_spelling, has_item, is_group, is_loose, may_follow, begins_group, values_of}
-use Rattle.ts_query_tree.specs.Machine.{frame_of, ready, flushed, content_with, content_and, last_is, with_capture, fresh, frame_with, level_with, is_due, holds_groups}
-use Rattle.ts_query_tree.proofs.Shapes.{Shape, shape, unit_of, before_of, last_of, takes_mark, repeats, content_of, groups_at, asks_at, frame_at, level_at, shape_spelling, spelled, bracket_spelling, holds, IsStarted}
+use Rattle.ts_query_tree.specs.Words.{is_wild}
+use Rattle.ts_query_tree.specs.Trees.{Parts, empty, more, Part, item, anchor, without, predicate, spelling, head_spelling, has_item, wild, is_group, is_loose, may_follow, begins_group, values_of}
+use Rattle.ts_query_tree.specs.Machine.{frame_of, level, ready, flushed, awaiting, sealed, wild_is_field, with_content, content_with, content_and, last_is, with_capture, fresh, frame_with, level_with, is_due, holds_groups}
+use Rattle.ts_query_tree.proofs.Shapes.{Shape, shape, unit_of, before_of, last_of, takes_mark, repeats, content_of, groups_at, asks_at, frame_in, frame_at, level_at, shape_spelling, spelled, bracket_spelling, holds, IsStarted}
 
 -- ---- lists
 
@@ -54,6 +55,19 @@ attach_last b s f h t u ts e =
 pub map_push : {A B : Type 0} (g : A → B) (xs : List A) (x : A) → map g (xs ++ x ∷ []) ≡ map g xs ++ g x ∷ []
 map_push g [] x = refl
 map_push g (y ∷ xs) x = ap (λ t. g y ∷ t) (map_push g xs x)
+
+-- ---- the name `_`
+
+pub wild_is : (w : Written) → is_wild w.text ≡ true → w ≡ wild w.at
+wild_is w e = ap (λ (t : List ℕ). make w.at t) (text_is w.text e)
+  where
+    make : ℕ → List ℕ → Written
+    make at t = record { at = at; text = t }
+
+    text_is : (t : List ℕ) → is_wild t ≡ true → t ≡ 95 ∷ []
+    text_is [] e = absurd (true≢false (sym e))
+    text_is (c ∷ []) e = let c_is : c ≡ 95 = grind arith in ap (λ (n : ℕ). n ∷ []) c_is
+    text_is (c ∷ d ∷ t) e = absurd (true≢false (sym e))
 
 -- ---- what is kept
 
@@ -133,17 +147,40 @@ pub unit_is : (b : Bracket) (ps : Parts) (os : List Shape) (f : Option Written) 
     ready (frame_with (frame_at b ps os) f h xs r) ≡ level_at (shape b (more ps (item f h qs None [])) pending.Nothing) os
 unit_is b ps os f h qs xs r ex er = ap (λ (c : Content). ready (frame_of b (groups_at os) (asks_at os) c)) (content_item ps f h qs xs r ex er)
 
+-- the same behind a field
+pub unit_in_field : (b : Bracket) (ps : Parts) (os : List Shape) (v : Written) (h : Head) (qs : Parts) (xs : List Value) (r : Bool) → xs ≡ values_of qs → r ≡ takes_mark h qs →
+    ready (frame_with (frame_in b ps (pending.Field v) os) (Some v) h xs r) ≡ level_at (shape b (more ps (item (Some v) h qs None [])) pending.Nothing) os
+unit_in_field b ps os v h qs xs r ex er =
+    ap (λ (c : Content). ready (frame_of b (groups_at os) (asks_at os) c))
+    (ap (λ (t : List Value). make_item ps h (Some v) (values_of ps) t r) ex ∙ ap (make_item ps h (Some v) (values_of ps) (values_of qs)) er)
+
 pub unit_added : (b : Bracket) (ps : Parts) (p : Pending) (os : List Shape) (h : Head) (qs : Parts) (xs : List Value) (r : Bool) → holds b ≡ true → is_due p ≡ true →
     xs ≡ values_of qs → r ≡ takes_mark h qs → level_with (level_at (shape b ps p) os) h xs r ≡ Some (level_at (with_unit b ps p h qs) os)
 unit_added Top ps pending.Nothing os h qs xs r g d ex er = ap (λ (l : Level). Some l) (unit_is Top ps os None h qs xs r ex er)
 unit_added Top ps (pending.Name w) os h qs xs r g d ex er = absurd (true≢false (sym d))
-unit_added Top ps (pending.Field w) os h qs xs r g d ex er = ap (λ (l : Level). Some l) (unit_is Top ps os (Some w) h qs xs r ex er)
+unit_added Top ps (pending.Field w) os h qs xs r g d ex er = ap (λ (l : Level). Some l) (unit_in_field Top ps os w h qs xs r ex er)
 unit_added Top ps (pending.Predicate w o) os h qs xs r g d ex er = absurd (true≢false (sym d))
 unit_added Opened ps p os h qs xs r g d ex er = absurd (true≢false (sym g))
 unit_added (Inside k) ps pending.Nothing os h qs xs r g d ex er = ap (λ (l : Level). Some l) (unit_is (Inside k) ps os None h qs xs r ex er)
 unit_added (Inside k) ps (pending.Name w) os h qs xs r g d ex er = absurd (true≢false (sym d))
-unit_added (Inside k) ps (pending.Field w) os h qs xs r g d ex er = ap (λ (l : Level). Some l) (unit_is (Inside k) ps os (Some w) h qs xs r ex er)
+unit_added (Inside k) ps (pending.Field w) os h qs xs r g d ex er = ap (λ (l : Level). Some l) (unit_in_field (Inside k) ps os w h qs xs r ex er)
 unit_added (Inside k) ps (pending.Predicate w o) os h qs xs r g d ex er = absurd (true≢false (sym d))
+
+-- a field is begun behind a name
+pub field_is : (b : Bracket) (ps : Parts) (w : Written) (os : List Shape) →
+    level (with_content (frame_at b ps os) (sealed (content_of ps))) (pending.Field w) ≡ level_at (shape b ps (pending.Field w)) os
+field_is b ps w os =
+    ap (λ (xs : List Value). level (frame_of b (groups_at os) (asks_at os) (awaiting xs (is_loose ps))) (pending.Field w)) (flushed_all ps)
+
+loose_more : (k : Bool) → (k && true) ≡ k
+loose_more true = refl
+loose_more false = refl
+
+-- a field is begun with the last `_`
+pub wild_field_is : (b : Bracket) (ps : Parts) (at : ℕ) (os : List Shape) →
+    wild_is_field (frame_at b (more ps (item None (Any at) empty None [])) os) (Some at) ≡ Some (level_at (shape b ps (pending.Field (wild at))) os)
+wild_field_is b ps at os =
+    ap (λ (k : Bool). Some (level (frame_of b (groups_at os) (asks_at os) (awaiting (values_of ps) k)) (pending.Field (wild at)))) (loose_more (is_loose ps))
 
 -- ---- the signs
 

@@ -17,9 +17,8 @@ use Rattle.ts_query_tree.specs.declared.level.Frame.{Frame}
 use Rattle.ts_query_tree.specs.declared.level.Level.{Level}
 use Rattle.ts_query_tree.specs.declared.sign.Sign.{Sign}
 use Rattle.ts_query_tree.specs.declared.sign.Sign.TheVariants as sign
-use Rattle.ts_query_tree.specs.Words.{is_wild}
 use Rattle.ts_query_tree.specs.Trees.{Parts, empty, more, item, anchor, without, predicate, spelling, operand_sign, has_item, is_group, is_loose, ends_tied, may_follow, AreFormed, values_of}
-use Rattle.ts_query_tree.specs.Machine.{Open, frame_of, level, is_nothing, holds_groups, predicates_in, is_due}
+use Rattle.ts_query_tree.specs.Machine.{Open, frame_of, awaiting, level, is_nothing, holds_groups, predicates_in, is_due}
 
 -- a bracket with its parts, and what is begun behind them
 pub data Shape : Type 0 where
@@ -67,19 +66,29 @@ content_of ps = record {
   repeatable = repeats ps;
 }
 
+-- the same where something is begun: behind a field an item must follow
+abbrev pub content_at : Parts → Pending → Content
+content_at ps pending.Nothing = content_of ps
+content_at ps (pending.Name w) = content_of ps
+content_at ps (pending.Field w) = awaiting (values_of ps) (is_loose ps)
+content_at ps (pending.Predicate w os) = content_of ps
+
 abbrev pub groups_at : List Shape → Bool
 groups_at [] = false
 groups_at (shape b ps p ∷ os) = is_nothing p && holds_groups b
 
 abbrev pub asks_at : List Shape → Bool
 asks_at [] = false
-asks_at (shape b ps p ∷ os) = is_nothing p && predicates_in (content_of ps) b
+asks_at (shape b ps p ∷ os) = is_nothing p && predicates_in (content_at ps p) b
+
+abbrev pub frame_in : Bracket → Parts → Pending → List Shape → Frame
+frame_in b ps p os = frame_of b (groups_at os) (asks_at os) (content_at ps p)
 
 abbrev pub frame_at : Bracket → Parts → List Shape → Frame
-frame_at b ps os = frame_of b (groups_at os) (asks_at os) (content_of ps)
+frame_at b ps os = frame_in b ps pending.Nothing os
 
 abbrev pub level_at : Shape → List Shape → Level
-level_at (shape b ps p) os = level (frame_at b ps os) p
+level_at (shape b ps p) os = level (frame_in b ps p os) p
 
 abbrev pub levels : List Shape → List Level
 levels [] = []
@@ -127,8 +136,8 @@ holds (Inside Choice) = true
 
 abbrev pub Begun : Bracket → Parts → Pending → Type 0
 Begun b ps pending.Nothing = ⊤
-Begun b ps (pending.Name w) = (holds b ≡ true) × (is_wild w.text ≡ false)
-Begun b ps (pending.Field w) = (holds b ≡ true) × (is_wild w.text ≡ false)
+Begun b ps (pending.Name w) = holds b ≡ true
+Begun b ps (pending.Field w) = holds b ≡ true
 Begun b ps (pending.Predicate w os) = (holds b ≡ true) × (may_follow b ps (predicate w []) ≡ true)
 
 -- a bracket stands in another one that may hold it

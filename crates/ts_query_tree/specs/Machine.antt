@@ -20,7 +20,7 @@ use Rattle.ts_query_tree.specs.declared.level.Level.{Level}
 use Rattle.ts_query_tree.specs.declared.sign.Sign.{Sign}
 use Rattle.ts_query_tree.specs.declared.sign.Sign.TheVariants as sign
 use Rattle.ts_query_tree.specs.Words.{is_wild}
-use Rattle.ts_query_tree.specs.Trees.{is_group, is_none, is_nil}
+use Rattle.ts_query_tree.specs.Trees.{wild, is_group, is_none, is_nil}
 
 -- ---- what is in a bracket
 
@@ -96,6 +96,36 @@ last_marked c m (Some u) = Some (last_is c (with_mark u m))
 abbrev pub marked : Content → Mark → Option Content
 marked c m = if c.repeatable then last_marked c m c.last else None
 
+-- these parts, where an item must follow: what the last of them is tells nothing then
+abbrev pub awaiting : List Value → Bool → Content
+awaiting xs loose = record {
+  parts = xs;
+  last = None;
+  tied = false;
+  filled = false;
+  plain = loose;
+  repeatable = false;
+}
+
+abbrev pub sealed : Content → Content
+sealed c = awaiting (flushed c.parts c.last) c.plain
+
+abbrev pub any_place : Option Written → Head → Option ℕ
+any_place None (Any at) = Some at
+any_place None (Text text) = None
+any_place None (Node kind) = None
+any_place None Group = None
+any_place None Choice = None
+any_place (Some field) head = None
+
+abbrev pub any_last : Option Unit → Option ℕ
+any_last None = None
+any_last (Some u) = any_place u.field u.head
+
+-- the place of a `_` with neither a field nor anything behind it
+abbrev pub bare_wild : Content → Option ℕ
+bare_wild c = if c.repeatable then any_last c.last else None
+
 abbrev pub last_captured : Content → Written → Option Unit → Option Content
 last_captured c w None = None
 last_captured c w (Some u) =
@@ -138,18 +168,26 @@ frame_with f field head xs repeats =
 abbrev pub frame_and : Frame → Value → Bool → Frame
 frame_and f x ties = with_content f (content_and f.content x ties)
 
-abbrev pub wild_place : Bracket → Option ℕ
-wild_place Top = None
-wild_place Opened = None
-wild_place (Inside (Any at)) = None
-wild_place (Inside (Text text)) = None
-wild_place (Inside (Node kind)) = if is_wild kind.text then Some kind.at else None
-wild_place (Inside Group) = None
-wild_place (Inside Choice) = None
+abbrev pub kind_of : Bracket → Option Written
+kind_of Top = None
+kind_of Opened = None
+kind_of (Inside (Any at)) = None
+kind_of (Inside (Text text)) = None
+kind_of (Inside (Node kind)) = Some kind
+kind_of (Inside Group) = None
+kind_of (Inside Choice) = None
+
+-- a name that seems to be a node's kind and may begin a group
+abbrev pub lone_kind : Frame → Option Written
+lone_kind f = if not f.may_group || is_begun f.content then None else kind_of f.bracket
+
+abbrev pub wild_place : Option Written → Option ℕ
+wild_place None = None
+wild_place (Some name) = if is_wild name.text then Some name.at else None
 
 -- the place of a `_` that seems to be a node's kind and may begin a group
 abbrev pub lone_wild : Frame → Option ℕ
-lone_wild f = if not f.may_group || is_begun f.content then None else wild_place f.bracket
+lone_wild f = wild_place (lone_kind f)
 
 abbrev pub regrouped_at : Frame → Option ℕ → Frame
 regrouped_at f None = f
@@ -196,19 +234,19 @@ named_in f w (Inside h) = item_named f w
 abbrev pub named : Frame → Written → Level
 named f w = named_in f w f.bracket
 
-abbrev pub colon_of : Frame → Bracket → Option Level
-colon_of f Top = None
-colon_of f Opened = None
-colon_of f (Inside (Any at)) = None
-colon_of f (Inside (Text text)) = None
-colon_of f (Inside (Node kind)) =
-    if f.may_group && not (is_begun f.content) && not (is_wild kind.text)
-    then Some (level (as_group f) (pending.Field kind)) else None
-colon_of f (Inside Group) = None
-colon_of f (Inside Choice) = None
+-- the last `_` is a field's name
+abbrev pub wild_is_field : Frame → Option ℕ → Option Level
+wild_is_field f None = None
+wild_is_field f (Some at) = Some (level
+    (with_content f (awaiting f.content.parts f.content.plain))
+    (pending.Field (wild at)))
+
+abbrev pub colon_behind : Frame → Option Written → Option Level
+colon_behind f None = wild_is_field f (bare_wild f.content)
+colon_behind f (Some kind) = Some (level (as_group f) (pending.Field kind))
 
 abbrev pub colon_in : Frame → Option Level
-colon_in f = colon_of f f.bracket
+colon_in f = colon_behind f (lone_kind f)
 
 abbrev pub holds_groups : Bracket → Bool
 holds_groups Top = true
@@ -313,7 +351,7 @@ anchored l =
 
 abbrev pub colon_by : Frame → Pending → Option Level
 colon_by f pending.Nothing = colon_in f
-colon_by f (pending.Name w) = Some (level f (pending.Field w))
+colon_by f (pending.Name w) = Some (level (with_content f (sealed f.content)) (pending.Field w))
 colon_by f (pending.Field w) = None
 colon_by f (pending.Predicate w os) = None
 

@@ -12,7 +12,6 @@ use Rattle.ts_query_tree.specs.declared.level.Bracket.{Bracket}
 use Rattle.ts_query_tree.specs.declared.level.Bracket.TheVariants.{Top, Opened, Inside}
 use Rattle.ts_query_tree.specs.declared.sign.Sign.{Sign}
 use Rattle.ts_query_tree.specs.declared.sign.Sign.TheVariants as sign
-use Rattle.ts_query_tree.specs.Words.{is_wild}
 
 mutual
   -- what is in a bracket: parts, the last of them apart
@@ -169,11 +168,11 @@ is_filled Group ps = has_item ps
 is_filled Choice ps = has_item ps
 
 -- A group has no field and no captures, and with a quantifier neither anchors nor groups of its
--- own. No field has the name `_`.
+-- own.
 abbrev pub is_fitting : Option Written → Head → Parts → Option Mark → List Written → Bool
 is_fitting None head ps mark captures =
     if is_group head then is_nil captures && (is_none mark || is_loose ps) else true
-is_fitting (Some name) head ps mark captures = not (is_group head) && not (is_wild name.text)
+is_fitting (Some name) head ps mark captures = not (is_group head)
 
 -- each part may stand where it does, in such a bracket and at all levels below
 abbrev mutual

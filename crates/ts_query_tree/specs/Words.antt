@@ -43,9 +43,13 @@ is_wild [] = false
 is_wild (c ∷ []) = c == 95
 is_wild (c ∷ d ∷ w) = false
 
--- a space, a tab, a line feed, a carriage return, the `;` that begins a comment, or what is in one
+-- a space, or one of the bytes 9 to 13: tab, line feed, vertical tab, form feed, carriage return
+abbrev pub is_blank : ℕ → Bool
+is_blank c = (c == 32) || (nat_le 9 c && nat_le c 13)
+
+-- a blank, the `;` that begins a comment, or what is in one
 abbrev pub is_gap : Bool → ℕ → Bool
-is_gap in_comment c = in_comment || (c == 32) || (c == 9) || (c == 10) || (c == 13) || (c == 59)
+is_gap in_comment c = in_comment || is_blank c || (c == 59)
 
 -- whether a comment is open behind this byte: it begins with `;` and ends with the line
 abbrev pub stays_open : Bool → ℕ → Bool

@@ -1,7 +1,7 @@
 //! The bytes of a text, one at a place and in runs.
 ghost use Rattle.std.specs.Prelude.{◌≡◌, ◌+◌, ◌≤◌, ◌<◌, IsTrue, length, slice_get};
 ghost use Rattle.std.specs.Str.{IsCharBoundary};
-ghost use Rattle.ts_query_tree.specs.Words.{is_name_start, is_name_byte, is_gap, stays_open, passes, run, gap_end, begins_name};
+ghost use Rattle.ts_query_tree.specs.Words.{is_name_start, is_name_byte, is_blank, is_gap, stays_open, passes, run, gap_end, begins_name};
 
 /// What the bytes of a run have in common.
 #[derive(Clone, Copy)]
@@ -68,10 +68,17 @@ pub(crate) fn run(text: &str, at: usize, test: Test) -> usize
     rest.len()
 }
 
+/// Whether the byte is a space, a tab, a line feed, a vertical tab, a form feed or a carriage return.
+fn is_blank(byte: u8) -> bool
+    ensures { result ≡ is_blank byte }
+{
+    matches!(byte, b' ' | b'\t'..=b'\r')
+}
+
 fn is_gap(in_comment: bool, byte: u8) -> bool
     ensures { result ≡ is_gap in_comment byte }
 {
-    in_comment || matches!(byte, b' ' | b'\t' | b'\n' | b'\r' | b';')
+    in_comment || is_blank(byte) || byte == b';'
 }
 
 /// Whether a comment is open behind the byte.

@@ -5,6 +5,7 @@ ghost use Rattle.ts_query_tree.specs.declared.tree.Part.{Part as AnyPart};
 ghost use Rattle.ts_query_tree.specs.declared.fault.TreeFault.{TreeFault as AnyFault};
 ghost use Rattle.ts_query_tree.specs.Trees.{Parts, spelling, values_of};
 ghost use Rattle.ts_query_tree.specs.Reads.{IsQueryText, Reads, IsFault};
+ghost use Rattle.ts_query_tree.specs.Places.{places_in, Rise};
 
 use crate::fault::TreeFault;
 
@@ -25,6 +26,11 @@ pub fn refused_is_not_read()
 pub fn one_fault()
     ensures { (e f : AnyFault) (w : Bytes) → e ≢ TreeFault.Memory → f ≢ TreeFault.Memory
         → IsFault w e → IsFault w f → e ≡ f }
+{}
+
+/// What is read has its places in the order in which it is written, each before the text's end.
+pub fn places_rise()
+    ensures { (x : List AnyPart) (w : Bytes) → Reads w x → Rise 0 (places_in x) (length w) }
 {}
 
 /// A text has no more signs than bytes.

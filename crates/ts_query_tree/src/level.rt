@@ -1,12 +1,12 @@
 //! Brackets that are open: what is in them so far, and what may follow there.
 ghost use Rattle.std.specs.Prelude.{◌≡◌, ◌&&◌, ◌++◌, ◌∷◌, [], Bool, true, false, IfOk};
 ghost use Rattle.ts_query_tree.specs.Words.{is_wild};
-ghost use Rattle.ts_query_tree.specs.Machine.{no_content, is_begun, flushed, content_with, content_and, marked, captured, new_frame, entered, lone_wild, regrouped, frame_with, frame_and, named, colon_in, takes_unit, holds_groups, holds_predicates, frame_marked, frame_captured, holds_anchors};
+ghost use Rattle.ts_query_tree.specs.Machine.{no_content, is_begun, flushed, content_with, content_and, marked, captured, awaiting, sealed, any_last, bare_wild, new_frame, entered, lone_wild, regrouped, frame_with, frame_and, named, wild_is_field, colon_in, with_content, takes_unit, holds_groups, holds_predicates, frame_marked, frame_captured, holds_anchors};
 ghost use Rattle.ts_query_tree.specs.Trees.{is_group};
 
 use crate::tree::{Head, Mark, Operand, Part, Written};
 use std::alloc::{AllocError, Global};
-use ts_base::List;
+use ts_base::{List, Str};
 
 /// The brackets that hold what is written.
 #[derive(Drop)]
@@ -91,6 +91,19 @@ fn is_group(head: &Head) -> bool
     }
 }
 
+/// The place of an item that is a `_` without a field.
+fn any_last(last: &Option<Unit>) -> Option<u32>
+    ensures { result ≡ any_last last.now }
+{
+    match last {
+        Some(unit) if unit.field.is_none() => match &unit.head {
+            Head::Any(at) => Some(*at),
+            Head::Text(_) | Head::Node(_) | Head::Group | Head::Choice => None,
+        },
+        Some(_) | None => None,
+    }
+}
+
 /// The parts with the last item.
 fn flushed(mut parts: List<Part>, last: Option<Unit>) -> Result<List<Part>, AllocError>
     ensures { IfOk result (λ r. r ≡ flushed parts last) }
@@ -131,6 +144,20 @@ impl Content {
         }
     }
 
+    /// With these parts, where an item must follow.
+    fn awaiting(parts: List<Part>, plain: bool) -> Content
+        ensures { result ≡ awaiting parts plain }
+    {
+        Content {
+            parts,
+            last: None,
+            tied: false,
+            filled: false,
+            plain,
+            repeatable: false,
+        }
+    }
+
     fn is_begun(&self) -> bool
         ensures { result ≡ is_begun self.now }
     {
@@ -150,6 +177,25 @@ impl Content {
             repeatable: _,
         } = self;
         flushed(parts, last)
+    }
+
+    /// With all its parts, where an item must follow.
+    pub(crate) fn sealed(self) -> Result<Content, AllocError>
+        ensures { IfOk result (λ r. r ≡ sealed self) }
+    {
+        let plain = self.plain;
+        Ok(Content::awaiting(self.into_parts()?, plain))
+    }
+
+    /// The place of its last part, if that is a `_` with neither a field nor anything behind it.
+    fn bare_wild(&self) -> Option<u32>
+        ensures { result ≡ bare_wild self.now }
+    {
+        if self.repeatable {
+            any_last(&self.last)
+        } else {
+            None
+        }
     }
 
     /// With one more item.
@@ -502,11 +548,50 @@ impl Frame {
         }
     }
 
-    /// With a colon behind its name: what seemed a node is a group whose first item has a field.
-    pub(crate) fn colon(self) -> Option<Level>
-        ensures { result ≡ colon_in self }
+    /// With a colon behind its last part, if that is a `_`, which is a field's name then.
+    fn wild_is_field(self, alloc: Global) -> Result<Option<Level>, AllocError>
+        ensures { IfOk result (λ r. r ≡ wild_is_field self (bare_wild self.content)) }
     {
-        let lone = self.may_group && !self.content.is_begun();
+        let Some(at) = self.content.bare_wild() else {
+            return Ok(None);
+        };
+        let Frame {
+            bracket,
+            may_group,
+            may_ask,
+            content,
+        } = self;
+        let Content {
+            parts,
+            last: _,
+            tied: _,
+            filled: _,
+            plain,
+            repeatable: _,
+        } = content;
+        let name = Written {
+            at,
+            text: Str::from_text(alloc, "_")?,
+        };
+        Ok(Some(Level {
+            frame: Frame {
+                bracket,
+                may_group,
+                may_ask,
+                content: Content::awaiting(parts, plain),
+            },
+            pending: Pending::Field(name),
+        }))
+    }
+
+    /// With a colon behind what is written: what seemed a node is a group whose first item has a
+    /// field, or the last `_` is a field's name.
+    pub(crate) fn colon(self, alloc: Global) -> Result<Option<Level>, AllocError>
+        ensures { IfOk result (λ r. r ≡ colon_in self) }
+    {
+        if !self.may_group || self.content.is_begun() {
+            return self.wild_is_field(alloc);
+        }
         let Frame {
             bracket,
             may_group,
@@ -514,23 +599,45 @@ impl Frame {
             content,
         } = self;
         match bracket {
-            Bracket::Inside(Head::Node(name)) => {
-                if lone && !is_wild(&name) {
-                    Some(Level {
-                        frame: Frame {
-                            bracket: Bracket::Inside(Head::Group),
-                            may_group,
-                            may_ask,
-                            content,
-                        },
-                        pending: Pending::Field(name),
-                    })
-                } else {
-                    None
-                }
+            Bracket::Inside(Head::Node(name)) => Ok(Some(Level {
+                frame: Frame {
+                    bracket: Bracket::Inside(Head::Group),
+                    may_group,
+                    may_ask,
+                    content,
+                },
+                pending: Pending::Field(name),
+            })),
+            Bracket::Top
+            | Bracket::Opened
+            | Bracket::Inside(Head::Any(_) | Head::Text(_) | Head::Group | Head::Choice) => {
+                let frame = Frame {
+                    bracket,
+                    may_group,
+                    may_ask,
+                    content,
+                };
+                frame.wild_is_field(alloc)
             }
-            Bracket::Top | Bracket::Opened | Bracket::Inside(_) => None,
         }
+    }
+
+    /// With all its parts, where an item must follow.
+    pub(crate) fn sealed(self) -> Result<Frame, AllocError>
+        ensures { IfOk result (λ r. r ≡ with_content self (sealed self.content)) }
+    {
+        let Frame {
+            bracket,
+            may_group,
+            may_ask,
+            content,
+        } = self;
+        Ok(Frame {
+            bracket,
+            may_group,
+            may_ask,
+            content: content.sealed()?,
+        })
     }
 
     /// Whether a group may stand next.

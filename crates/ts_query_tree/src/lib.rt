@@ -18,6 +18,6 @@ mod tests;
 mod tree;
 
 pub use fault::TreeFault;
-pub use laws::{one_fault, one_query, refused_is_not_read, signs_fit};
+pub use laws::{one_fault, one_query, places_rise, refused_is_not_read, signs_fit};
 pub use reader::read;
 pub use tree::{Head, Mark, Operand, Part, Quantity, Written};

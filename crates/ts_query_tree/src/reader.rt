@@ -11,7 +11,8 @@ use std::alloc::Global;
 use ts_base::List;
 
 /// Reads a whole text, by the rules of Tree-sitter's query files: blanks (space, tab, line feed,
-/// carriage return) and comments may stand between all signs, also behind `@`, `!` and `#`. The
+/// vertical tab, form feed, carriage return) and comments may stand between all signs, also behind
+/// `@`, `!` and `#`. A lone `_` is a name behind these and before a colon, else it is any node. The
 /// parts of the answer are its patterns, each an item.
 ///
 /// # Errors

@@ -105,17 +105,17 @@ fn anchored(level: Level) -> Result<Option<Level>, AllocError>
     Ok(Some(ready(frame.with_part(Part::Anchor, true)?)))
 }
 
-fn colon(level: Level) -> Option<Level>
-    ensures { result ≡ colon level }
+fn colon(alloc: Global, level: Level) -> Result<Option<Level>, AllocError>
+    ensures { IfOk result (λ r. r ≡ colon level) }
 {
     let Level { frame, pending } = level;
     match pending {
-        Pending::Name(name) => Some(Level {
-            frame,
+        Pending::Name(name) => Ok(Some(Level {
+            frame: frame.sealed()?,
             pending: Pending::Field(name),
-        }),
-        Pending::Nothing => frame.colon(),
-        Pending::Field(_) | Pending::Predicate(_, _) => None,
+        })),
+        Pending::Nothing => frame.colon(alloc),
+        Pending::Field(_) | Pending::Predicate(_, _) => Ok(None),
     }
 }
 
@@ -331,7 +331,7 @@ pub(crate) fn take(
         Sign::OpenChoice => opened(alloc, level, Bracket::Inside(Head::Choice), outer),
         Sign::CloseChoice => choice_closed(alloc, level, outer),
         Sign::Anchor => anchored(level),
-        Sign::Colon => Ok(colon(level)),
+        Sign::Colon => colon(alloc, level),
         Sign::Mark(mark) => marked(alloc, level, mark),
         Sign::Name(name) => named(alloc, level, name),
         Sign::Text(text) => texted(alloc, level, text),

@@ -20,13 +20,18 @@ x y ~> syntax 2
 [((x))] ~> syntax 2
 () ~> syntax 1
 [] ~> syntax 1
-(_ : (x)) ~> syntax 3
+f: (_: (x)) ~> syntax 5
+[(_: (x))] ~> syntax 3
+f: _: (x) ~> syntax 4
+_ @a: (x) ~> syntax 4
+_: ~> syntax 2
 ((x)) @c ~> syntax 6
 f: ((x)) ~> syntax 4
 ((#eq? @a) (x)) ~> syntax 2
 $ ~> syntax 0
 (x) ; é ( ~> none 1
 (x: (y) (z)) (_ @a (b)) (_* "c") ~> none 3
+_: (x) (_ : (x) _ ) [_: _ _] (x . _: "a" !_ _* _: _) ~> none 4
 (n !f f: (_ (x)? @a @b) . ["a\"é" k: _ @c] @d (#eq? @a "x" y)) _ ~> none 2
 "#;
 
@@ -57,6 +62,7 @@ fn answers_the_first_fault(rt: HostRuntime) -> Result<(), Fail> {
     for row in QUERIES.trim().lines() {
         assert!(rt; holds(alloc, row));
     }
+    assert!(rt; shown(alloc, "(x\u{b})\u{c}@\t\u{b}") == ("syntax", 8));
     let deep = "(".repeat(alloc, 201)?;
     assert!(rt; shown(alloc, deep.as_str()) == ("deep", 200));
     Ok(())
