@@ -1,24 +1,28 @@
 -- Captures of siblings, one after another.
-use Rattle.std.proofs.Common.{◌≡◌, ◌∙◌, sym, ap, refl, subst, ℕ, zero, suc, ◌+◌, ◌-◌, ◌<◌, ◌≤◌, ⊎_elim, List, [], ◌∷◌, ◌++◌, append_assoc, length, slice_get, Some, arith, ◌↔◌}
+use Rattle.std.proofs.Common.{◌≡◌, ◌∙◌, sym, ap, refl, subst, ℕ, zero, suc, ◌+◌, ◌-◌, ◌<◌, ◌≤◌, ⊎_elim, List, [], ◌∷◌, ◌++◌, append_assoc, length, slice_get, Some, Bool, arith, ◌↔◌}
 use Rattle.std.specs.List.{Contains}
 use Rattle.spec_matches.specs.declared.found.Capture.{Capture}
-use Rattle.ts_search.specs.Adding.{Adds}
+use Rattle.ts_search.specs.Adding.{Finds}
 use Rattle.ts_search.specs.Steps.{AreBare, Before, Joins}
 use Rattle.ts_search.specs.Table.{Takes}
 use Rattle.spec_matches.specs.Embedding.{Along, offset}
 use Rattle.spec_matches.specs.declared.placing.Slot.{Slot}
-use Rattle.ts_search.proofs.PlaceLemmas.{cases_lt_or_eq, none_in_nil}
-use Rattle.ts_search.proofs.AddLemmas.{adds_all, one_in, in_one}
+use Rattle.ts_search.proofs.PlaceLemmas.{cases_lt_or_eq}
+use Rattle.ts_search.proofs.AddLemmas.{one_in, in_one}
+use Rattle.ts_search.proofs.GainLemmas.{finds_nothing, finds_same}
 
 module _ (takes : ℕ → ℕ → ℕ → List Capture → Type 0) (k : ℕ) where
-  pub longer_none : (o p : ℕ) (backs cs : List (List Capture)) → cs ≡ [] → ((c : List Capture) → takes k o p c → ⊥) → (c : List Capture) → Contains cs c ↔ ((u : List Capture) × takes k o p u × Before backs u c)
-  longer_none o p backs cs e nothing c = ((λ h. absurd (none_in_nil c (subst (λ (l : List (List Capture)). Contains l c) e h))), (λ h. absurd (nothing h.0 h.1)))
+  -- a sibling that is taken, and then one of some lists
+  abbrev TakenFirst : ℕ → ℕ → List (List Capture) → List Capture → Type 0
+  TakenFirst o p backs c = (u : List Capture) × takes k o p u × Before backs u c
 
-  pub longer_some : (o p : ℕ) (fronts backs cs : List (List Capture)) → Adds (Joins fronts backs) [] cs → ((c : List Capture) → takes k o p c ↔ Contains fronts c)
-      → (c : List Capture) → Contains cs c ↔ ((u : List Capture) × takes k o p u × Before backs u c)
-  longer_some o p fronts backs cs adds are c =
-      let all = adds_all (Joins fronts backs) cs adds c in
-      ((λ h. let j = all.0 h in (j.0, (are j.0).1 j.1, j.2)), (λ h. all.1 (h.0, (are h.0).0 h.1, h.2)))
+  pub longer_none : (o p : ℕ) (backs : List (List Capture)) (w : Bool) (cs : List (List Capture)) → cs ≡ [] → ((c : List Capture) → takes k o p c → ⊥) → Finds (TakenFirst o p backs) w w cs
+  longer_none o p backs w cs e nothing = finds_nothing (TakenFirst o p backs) w cs e (λ c h. nothing h.0 h.1)
+
+  pub longer_some : (o p : ℕ) (fronts backs : List (List Capture)) (u v : Bool) (cs : List (List Capture)) → Finds (Joins fronts backs) u v cs → ((c : List Capture) → takes k o p c ↔ Contains fronts c)
+      → Finds (TakenFirst o p backs) u v cs
+  longer_some o p fronts backs u v cs finds are =
+      finds_same (Joins fronts backs) (TakenFirst o p backs) u v cs finds (λ c h. (h.0, (are h.0).1 h.1, h.2)) (λ c h. (h.0, (are h.0).0 h.1, h.2))
 
 module _ (takes : ℕ → ℕ → ℕ → List Capture → Type 0) (k : ℕ) (i : Slot) (first : ℕ) where
   -- captures of some siblings, and then of those after them
@@ -58,29 +62,36 @@ module _ (takes : ℕ → ℕ → ℕ → List Capture → Type 0) (k : ℕ) (i 
             subst (λ (r : ℕ). Along takes k i first m r w.1) (sym q) w.4,
           )
 
-  pub along_halves : (from middle to : ℕ) (fronts backs cs : List (List Capture)) → from ≤ middle → middle ≤ to
-      → ((c : List Capture) → Contains fronts c ↔ Along takes k i first (middle - from) from c) → ((c : List Capture) → Contains backs c ↔ Along takes k i first (to - middle) middle c)
-      → Adds (Joins fronts backs) [] cs → (c : List Capture) → Contains cs c ↔ Along takes k i first (to - from) from c
-  along_halves from middle to fronts backs cs low high one two adds c =
-      let all = adds_all (Joins fronts backs) cs adds c in
+  pub along_halves : (from middle to : ℕ) (u v w x : Bool) (fronts backs cs : List (List Capture)) → from ≤ middle → middle ≤ to
+      → Finds (Along takes k i first (middle - from) from) u v fronts → Finds (Along takes k i first (to - middle) middle) v w backs
+      → Finds (Joins fronts backs) w x cs → Finds (Along takes k i first (to - from) from) u x cs
+  along_halves from middle to u v w x fronts backs cs low high one two joins =
       let sum : to - from ≡ (middle - from) + (to - middle) = omega arith in
       let place : from + (middle - from) ≡ middle = omega arith in
-      subst (λ (n : ℕ). Contains cs c ↔ Along takes k i first n from c) (sym sum) (
-        (λ h.
-            let j = all.0 h in
+      subst (λ (n : ℕ). Finds (Along takes k i first n from) u x cs) (sym sum) (record {
+        only = λ c h.
+            let j = joins.only c h in
             subst (λ (l : List Capture). Along takes k i first ((middle - from) + (to - middle)) from l) (sym j.2.2)
-            (along_join (middle - from) (to - middle) from j.0 j.2.0 ((one j.0).0 j.1) (subst (λ (r : ℕ). Along takes k i first (to - middle) r j.2.0) (sym place) ((two j.2.0).0 j.2.1)))),
-        (λ h.
-            let w = along_split (middle - from) (to - middle) from c h in
-            all.1 (w.0, (one w.0).1 w.3, (w.1, (two w.1).1 (subst (λ (r : ℕ). Along takes k i first (to - middle) r w.1) place w.4), w.2))),
-      )
+            (along_join (middle - from) (to - middle) from j.0 j.2.0 (one.only j.0 j.1) (subst (λ (r : ℕ). Along takes k i first (to - middle) r j.2.0) (sym place) (two.only j.2.0 j.2.1)));
+        earlier = λ e. one.earlier (two.earlier (joins.earlier e));
+        all = λ e c h.
+            let y = along_split (middle - from) (to - middle) from c h in
+            joins.all e c (
+              y.0,
+              one.all (two.earlier (joins.earlier e)) y.0 y.3,
+              (y.1, two.all (joins.earlier e) y.1 (subst (λ (r : ℕ). Along takes k i first (to - middle) r y.1) place y.4), y.2),
+            );
+      })
 
-  pub along_one : (p : ℕ) (lists cs : List (List Capture)) → lists ≡ [] ∷ [] → ((c : List Capture) → Contains cs c ↔ ((u : List Capture) × takes k (offset i first p) p u × Before lists u c))
-      → (c : List Capture) → Contains cs c ↔ Along takes k i first 1 p c
-  along_one p lists cs e all c = (
-    (λ h. let w = (all c).0 h in (w.0, w.2.0, w.2.2, w.1, one_in [] w.2.0 (subst (λ (l : List (List Capture)). Contains l w.2.0) e w.2.1))),
-    (λ h. (all c).1 (h.0, h.3, (h.1, subst (λ (l : List (List Capture)). Contains l h.1) (sym e) (in_one [] h.1 h.4), h.2))),
-  )
+  pub along_one : (p : ℕ) (lists : List (List Capture)) (u v : Bool) (cs : List (List Capture)) → lists ≡ [] ∷ []
+      → Finds (λ (c : List Capture). (u : List Capture) × takes k (offset i first p) p u × Before lists u c) u v cs → Finds (Along takes k i first 1 p) u v cs
+  along_one p lists u v cs e finds =
+      finds_same (λ (c : List Capture). (u : List Capture) × takes k (offset i first p) p u × Before lists u c) (Along takes k i first 1 p) u v cs finds
+      (λ c w. (w.0, w.2.0, w.2.2, w.1, one_in [] w.2.0 (subst (λ (l : List (List Capture)). Contains l w.2.0) e w.2.1)))
+      (λ c h. (h.0, h.3, (h.1, subst (λ (l : List (List Capture)). Contains l h.1) (sym e) (in_one [] h.1 h.4), h.2)))
+
+  pub along_at : (n m p : ℕ) (u v : Bool) (cs : List (List Capture)) → n ≡ m → Finds (Along takes k i first m p) u v cs → Finds (Along takes k i first n p) u v cs
+  along_at n m p u v cs e h = subst (λ (j : ℕ). Finds (Along takes k i first j p) u v cs) (sym e) h
 
   pub along_zero : (n p : ℕ) (cs : List (List Capture)) → n ≡ 0 → cs ≡ [] ∷ [] → (c : List Capture) → Contains cs c ↔ Along takes k i first n p c
   along_zero n p cs z e c =

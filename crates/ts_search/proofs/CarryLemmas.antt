@@ -1,18 +1,19 @@
 -- Embeddings depend only on what the items take.
-use Rattle.std.proofs.Common.{ℕ, zero, suc, ◌+◌, List, [], ◌∷◌, Option, Some, None, Bool, true, false}
+use Rattle.std.proofs.Common.{refl, ℕ, zero, suc, ◌+◌, ◌-◌, ◌<◌, ◌≤◌, List, [], ◌∷◌, ◌++◌, Option, Some, None, Bool, true, false, arith}
 use Rattle.spec_matches.specs.declared.placing.Slot.{Slot}
 use Rattle.spec_matches.specs.declared.placing.Run.{Run}
 use Rattle.spec_matches.specs.declared.found.Capture.{Capture}
 use Rattle.spec_matches.specs.declared.placing.Placing.{Placing}
 use Rattle.spec_matches.specs.Embedding.{offset, Fits, Embeds, Along, Gives, IsWay}
 
-module _ (t u : ℕ → ℕ → ℕ → List Capture → Type 0) (to : (k o p : ℕ) (c : List Capture) → t k o p c → u k o p c) where
+-- where one takes anything the other takes something
+module _ (t u : ℕ → ℕ → ℕ → List Capture → Type 0) (any : (k o p : ℕ) (c : List Capture) → t k o p c → (d : List Capture) × u k o p d) where
   fits_to : (n k : ℕ) (i : Slot) (r : Run) → Fits t n i k r → Fits u n i k r
   fits_to n k i r f = record {
     some = f.some;
     inside = f.inside;
     rounds = f.rounds;
-    covers = λ p low below. ((f.covers p low below).0, to k (offset i r.first p) p (f.covers p low below).0 (f.covers p low below).1);
+    covers = λ p low below. any k (offset i r.first p) p (f.covers p low below).0 (f.covers p low below).1;
   }
 
   pub embeds_to : (named : List Bool) (closed : Bool) (is : List Slot) (k lo : ℕ) (b : Bool) (rs : List (Option Run)) → Embeds t named closed is k lo b rs → Embeds u named closed is k lo b rs
@@ -22,6 +23,8 @@ module _ (t u : ℕ → ℕ → ℕ → List Capture → Type 0) (to : (k o p : 
   embeds_to named closed (i ∷ is) k lo b (None ∷ rs) e = (e.0, embeds_to named closed is (k + 1) lo false rs e.1)
   embeds_to named closed (i ∷ is) k lo b (Some r ∷ rs) e = (record { fits = fits_to _ k i r e.0.fits; after = e.0.after; anchored = e.0.anchored }, embeds_to named closed is (k + 1) r.past true rs e.1)
 
+-- what one takes the other takes
+module _ (t u : ℕ → ℕ → ℕ → List Capture → Type 0) (to : (k o p : ℕ) (c : List Capture) → t k o p c → u k o p c) where
   along_to : (k : ℕ) (i : Slot) (first n p : ℕ) (c : List Capture) → Along t k i first n p c → Along u k i first n p c
   along_to k i first zero p c e = e
   along_to k i first (suc n) p c e = (e.0, e.1, e.2, to k (offset i first p) p e.0 e.3, along_to k i first n (p + 1) e.1 e.4)
@@ -32,15 +35,51 @@ module _ (t u : ℕ → ℕ → ℕ → List Capture → Type 0) (to : (k o p : 
   gives_to (i ∷ is) k (None ∷ rs) c e = gives_to is (k + 1) rs c e
   gives_to (i ∷ is) k (Some r ∷ rs) c e = (e.0, e.1, e.2, along_to k i r.first _ r.first e.0 e.3, gives_to is (k + 1) rs e.1 e.4)
 
-module _ (t u : ℕ → ℕ → ℕ → List Capture → Type 0) (to : (k o p : ℕ) (c : List Capture) → t k o p c → u k o p c) (from : (k o p : ℕ) (c : List Capture) → u k o p c → t k o p c) where
-  pub way_to : (named : List Bool) (closed : Bool) (is : List Slot) (f : Placing) → IsWay t named closed is 0 0 true f → IsWay u named closed is 0 0 true f
-  way_to named closed is f w = record {
+-- each embedding gives some captures
+module _ (t : ℕ → ℕ → ℕ → List Capture → Type 0) where
+  along_any : (k : ℕ) (i : Slot) (first n p : ℕ) → ((q : ℕ) → p ≤ q → q < p + n → (c : List Capture) × t k (offset i first q) q c) → (c : List Capture) × Along t k i first n p c
+  along_any k i first zero p covers = ([], refl)
+  along_any k i first (suc n) p covers =
+      let one = covers p (omega arith) (omega arith) in
+      let rest = along_any k i first n (p + 1) (λ q low below. covers q (omega arith) (omega arith)) in
+      (one.0 ++ rest.0, (one.0, rest.0, refl, one.1, rest.1))
+
+  pub gives_any : (named : List Bool) (closed : Bool) (is : List Slot) (k lo : ℕ) (b : Bool) (rs : List (Option Run)) → Embeds t named closed is k lo b rs → (c : List Capture) × Gives t is k rs c
+  gives_any named closed [] k lo b rs e = ([], refl)
+  gives_any named closed (i ∷ is) k lo b [] e = absurd e
+  gives_any named closed (i ∷ is) k lo b (None ∷ rs) e = gives_any named closed is (k + 1) lo false rs e.1
+  gives_any named closed (i ∷ is) k lo b (Some r ∷ rs) e =
+      let some = e.0.fits.some in
+      let one = along_any k i r.first (r.past - r.first) r.first (λ q low below. e.0.fits.covers q low (omega arith)) in
+      let rest = gives_any named closed is (k + 1) r.past true rs e.1 in
+      (one.0 ++ rest.0, (one.0, rest.0, refl, one.1, rest.1))
+
+module _ (t u : ℕ → ℕ → ℕ → List Capture → Type 0) (back : (k o p : ℕ) (c : List Capture) → u k o p c → (d : List Capture) × t k o p d) where
+  pub way_to : ((k o p : ℕ) (c : List Capture) → t k o p c → u k o p c) → (named : List Bool) (closed : Bool) (is : List Slot) (f : Placing) → IsWay t named closed is 0 0 true f → IsWay u named closed is 0 0 true f
+  way_to to named closed is f w = record {
     runs = w.runs;
     full = record {
-      embeds = embeds_to t u to named closed is 0 0 true w.runs w.full.embeds;
-      widest = λ ws more e. w.full.widest ws more (embeds_to u t from named closed is 0 0 true ws e);
+      embeds = embeds_to t u (λ k o p c h. (c, to k o p c h)) named closed is 0 0 true w.runs w.full.embeds;
+      widest = λ ws more e. w.full.widest ws more (embeds_to u t back named closed is 0 0 true ws e);
     };
     gives = gives_to t u to is 0 w.runs f.captures w.gives;
     first = w.first;
     near = w.near;
   }
+
+  -- where there is a way there is one in what the other takes
+  pub way_any : ((k o p : ℕ) (c : List Capture) → t k o p c → (d : List Capture) × u k o p d) → (named : List Bool) (closed : Bool) (is : List Slot) (f : Placing) → IsWay t named closed is 0 0 true f
+      → (g : Placing) × IsWay u named closed is 0 0 true g
+  way_any any named closed is f w =
+      let embeds = embeds_to t u any named closed is 0 0 true w.runs w.full.embeds in
+      let c = gives_any u named closed is 0 0 true w.runs embeds in
+      let g : Placing = record { first = f.first; near = f.near; captures = c.0 } in (
+        g,
+        record {
+          runs = w.runs;
+          full = record { embeds = embeds; widest = λ ws more e. w.full.widest ws more (embeds_to u t back named closed is 0 0 true ws e) };
+          gives = c.1;
+          first = w.first;
+          near = w.near;
+        },
+      )

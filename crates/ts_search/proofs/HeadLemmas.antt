@@ -7,45 +7,56 @@ use Rattle.spec_matches.specs.declared.placing.Run.{Run}
 use Rattle.ts_search.specs.declared.stand.Stand.{Stand}
 use Rattle.ts_search.specs.declared.stand.Siblings.{Siblings}
 use Rattle.spec_matches.specs.declared.placing.Placing.{Placing}
-use Rattle.ts_search.specs.Adding.{Adds, OfSome}
+use Rattle.ts_search.specs.Adding.{Adds, Finds, Gains, OfSome}
 use Rattle.spec_matches.specs.Embedding.{Rounds, Unnamed, Placed, Full, Gives, Along, IsWay, first_of, near_of}
 use Rattle.ts_search.specs.Table.{Takes}
 use Rattle.ts_search.specs.declared.stand.Wanted.{Wanted}
-use Rattle.ts_search.specs.declared.stand.Wanted.TheVariants.{All, Here}
+use Rattle.ts_search.specs.declared.stand.Wanted.TheVariants.{All, Captures, Here}
 use Rattle.ts_search.specs.Memory.{Begun, IsBare, Told, WaysOf}
 use Rattle.ts_search.specs.Steps.{AnyStays, BeginsLate, HeadFrom, HeadNone, HeadTaken, HeadWay, NoneBefore, Reaches, RunBefore, Shown, Suits, TakenFrom, TakesAt}
 use Rattle.ts_search.proofs.GrowLemmas.{late_placed}
 use Rattle.ts_search.proofs.WidenLemmas.{no_offset}
 use Rattle.ts_search.proofs.PlaceLemmas.{cases_lt_or_eq, none_in_nil}
-use Rattle.ts_search.proofs.AddLemmas.{adds_none, adds_both, adds_same, adds_all, one_in, in_one}
-use Rattle.ts_search.proofs.WayLemmas.{ahead_from, ahead_to, none_way, way_heads}
+use Rattle.ts_search.proofs.AddLemmas.{adds_none, one_in, in_one}
+use Rattle.ts_search.proofs.GainLemmas.{finds_cut, finds_same, gains_both, gains_empty, gains_finds, gains_none, gains_same}
+use Rattle.ts_search.proofs.WayLemmas.{ahead_from, ahead_to, none_from, none_to, way_heads}
 
 module _ (s : Siblings) (is : List Slot) (at : Stand) where
   abbrev After : ℕ → Bool → Placing → Type 0
   After lo b = IsWay (Takes s.table) s.named s.closed is (at.number + 1) lo b
 
-  module _ (r : Run) (wanted : Wanted) (suits : Suits s at r.past wanted) (tails : List Placing)
-      (are : (t : Placing) → Contains tails t ↔ Told wanted r.past (After r.past true) t) (placed : Placed (Takes s.table) s.named at.slot at.number at.lo at.beside r) where
-    pub adds_head_run : (fronts : List (List Capture)) (a b : List (List Capture)) → ((c : List Capture) → Contains fronts c ↔ Along (Takes s.table) at.number at.slot r.first (r.past - r.first) r.first c)
-        → Adds (OfSome (RunBefore s is at r fronts) tails) a b → Adds (HeadTaken s is at r) a b
-    adds_head_run fronts a b fits adds =
-        adds_same (OfSome (RunBefore s is at r fronts) tails) (HeadTaken s is at r) a b adds
-        (λ c h. ahead_to s is at r wanted suits tails are placed c (h.0, h.1, h.2.stays, h.2.some.0, (fits h.2.some.0).0 h.2.some.1, h.2.some.2))
-        (λ c h. let x = ahead_from s is at r wanted suits tails are placed c h in (x.0, x.1, record { stays = x.2; some = (x.3, (fits x.3).1 x.4, x.5) }))
+  module _ (r : Run) (wanted : Wanted) (suits : Suits s at r.past wanted) (u v : Bool) (tails : List Placing)
+      (are : Finds (Told wanted r.past (After r.past true)) u v tails) (placed : Placed (Takes s.table) s.named at.slot at.number at.lo at.beside r) where
+    pub adds_head_run : (w x : Bool) (fronts : List (List Capture)) (a b : List (List Capture)) → Finds (Along (Takes s.table) at.number at.slot r.first (r.past - r.first) r.first) v w fronts
+        → Gains (OfSome (RunBefore s is at r fronts) tails) w x a b → Gains (HeadTaken s is at r) u x a b
+    adds_head_run w x fronts a b fits gains = record {
+      more = gains.more;
+      is = gains.is;
+      only = λ c m.
+          let h = gains.only c m in
+          ahead_to s is at r wanted suits tails placed are.only c (h.0, h.1, h.2.stays, h.2.some.0, fits.only h.2.some.0 h.2.some.1, h.2.some.2);
+      earlier = λ e. are.earlier (fits.earlier (gains.earlier e));
+      added = λ e c h.
+          let y = ahead_from s is at r wanted suits tails placed (are.all (fits.earlier (gains.earlier e))) c h in
+          gains.added e c (y.0, y.1, record { stays = y.2; some = (y.3, fits.all (gains.earlier e) y.3 y.4, y.5) });
+    }
 
-    pub adds_no_run : (a : List (List Capture)) → (AnyStays s is at r tails → ⊥) → Adds (HeadTaken s is at r) a a
-    adds_no_run a none = adds_none (HeadTaken s is at r) a (λ c h. let x = ahead_from s is at r wanted suits tails are placed c h in none (x.0, x.1, x.2))
+    pub adds_no_run : (a : List (List Capture)) → (AnyStays s is at r tails → ⊥) → Gains (HeadTaken s is at r) u v a a
+    adds_no_run a none = gains_none (HeadTaken s is at r) u v a are.earlier (λ e c h. let y = ahead_from s is at r wanted suits tails placed (are.all e) c h in none (y.0, y.1, y.2))
 
   pub begun_told : (here : Bool) (lo : ℕ) (W : Placing → Type 0) (t : Placing) → Told (cond here Here All) lo W t ↔ Begun here lo W t
   begun_told true lo W t = ((λ h. (h.0, (λ e. h.1))), (λ h. (h.0, h.1 refl)))
   begun_told false lo W t = ((λ h. (h, (λ e. let f : false ≡ true = e in cc))), (λ h. h.0))
 
-  pub adds_head_none : (here : Bool) (tails a b : List Placing) → ((t : Placing) → Contains tails t ↔ Told (cond here Here All) at.lo (After at.lo false) t) → at.slot.optional ≡ true
-      → Adds (OfSome (NoneBefore s is at) tails) a b → Adds (HeadNone s is at here) a b
-  adds_head_none here tails a b are optional adds =
-      let begun : (t : Placing) → Contains tails t ↔ Begun here at.lo (After at.lo false) t =
-      λ t. let x = begun_told here at.lo (After at.lo false) t in ((λ h. x.0 ((are t).0 h)), (λ h. (are t).1 (x.1 h))) in
-      adds_same (OfSome (NoneBefore s is at) tails) (HeadNone s is at here) a b adds (λ f. (none_way s is at here tails begun optional f).0) (λ f. (none_way s is at here tails begun optional f).1)
+  pub adds_head_none : (here : Bool) (u v : Bool) (tails a b : List Placing) → Finds (Told (cond here Here All) at.lo (After at.lo false)) u v tails → at.slot.optional ≡ true
+      → Adds (OfSome (NoneBefore s is at) tails) a b → Gains (HeadNone s is at here) u v a b
+  adds_head_none here u v tails a b are optional adds = record {
+    more = adds.more;
+    is = adds.is;
+    only = λ f m. none_to s is at here tails (λ t h. (begun_told here at.lo (After at.lo false) t).0 (are.only t h)) optional f (adds.only f m);
+    earlier = are.earlier;
+    added = λ e f h. adds.added f (none_from s is at here tails (λ t y. are.all e t ((begun_told here at.lo (After at.lo false) t).1 y)) f h);
+  }
 
   pub adds_no_head : (here : Bool) (a : List Placing) → at.slot.optional ≡ false → Adds (HeadNone s is at here) a a
   adds_no_head here a e = adds_none (HeadNone s is at here) a (λ f h. let o = h.0.full.embeds.0 in cc)
@@ -54,33 +65,39 @@ module _ (s : Siblings) (is : List Slot) (at : Stand) where
   abbrev pub TakenUpTo : ℕ → ℕ → List Capture → Type 0
   TakenUpTo first last c = (past : ℕ) × (past ≤ last) × HeadTaken s is at (record { first = first; past = past }) c
 
-  pub up_to_none : (first : ℕ) (a : List (List Capture)) → Adds (TakenUpTo first first) a a
-  up_to_none first a = adds_none (TakenUpTo first first) a (λ c h. let some = h.2.full.embeds.0.fits.some in let le = h.1 in omega arith)
+  pub up_to_none : (first : ℕ) (w : Bool) (a : List (List Capture)) → a ≡ [] → Gains (TakenUpTo first first) w w [] a
+  up_to_none first w a e = gains_empty (TakenUpTo first first) w a e (λ c h. let some = h.2.full.embeds.0.fits.some in let le = h.1 in omega arith)
 
-  pub up_to_more : (first last : ℕ) (a b c : List (List Capture)) → Adds (TakenUpTo first last) a b → Adds (HeadTaken s is at (record { first = first; past = last + 1 })) b c → Adds (TakenUpTo first (last + 1)) a c
-  up_to_more first last a b c before one =
-      adds_both (TakenUpTo first last) (HeadTaken s is at (record { first = first; past = last + 1 })) (TakenUpTo first (last + 1)) a b c before one
+  pub up_to_more : (first last : ℕ) (u v m w : Bool) (a b c : List (List Capture)) → m ≡ v → Gains (TakenUpTo first last) u v a b → Gains (HeadTaken s is at (record { first = first; past = last + 1 })) m w b c
+      → Gains (TakenUpTo first (last + 1)) u w a c
+  up_to_more first last u v m w a b c same before one =
+      gains_both (TakenUpTo first last) (HeadTaken s is at (record { first = first; past = last + 1 })) (TakenUpTo first (last + 1)) u v w a b c before
+      (subst (λ (t : Bool). Gains (HeadTaken s is at (record { first = first; past = last + 1 })) t w b c) same one)
       (λ f h. (h.0, omega (arith, h.1), h.2)) (λ f h. (last + 1, omega arith, h))
       (λ f h. ⊎_elim (λ lt. inl (h.0, omega arith, h.2)) (λ e. inr (subst (λ (p : ℕ). HeadTaken s is at (record { first = first; past = p }) f) e h.2)) (cases_lt_or_eq h.0 (last + 1) (omega (arith, h.1))))
 
-  pub up_to_all : (first last end : ℕ) (a b : List (List Capture)) → end ≤ last → Reaches s at first end → Adds (TakenUpTo first last) a b → Adds (TakenFrom s is at first) a b
-  up_to_all first last end a b past reaches before =
-      adds_same (TakenUpTo first last) (TakenFrom s is at first) a b before (λ f h. (h.0, h.2)) (λ f h. (h.0, (let le = ((reaches h.0).0 h.1.full.embeds.0.fits).1 in omega arith), h.1))
+  pub up_to_all : (first last end : ℕ) (u v : Bool) (b : List (List Capture)) → end ≤ last → Reaches s at first end → Gains (TakenUpTo first last) u v [] b → Finds (TakenFrom s is at first) u v b
+  up_to_all first last end u v b past reaches before =
+      gains_finds (TakenFrom s is at first) u v b
+      (gains_same (TakenUpTo first last) (TakenFrom s is at first) u v [] b before (λ f h. (h.0, h.2)) (λ f h. (h.0, (let le = ((reaches h.0).0 h.1.full.embeds.0.fits).1 in omega arith), h.1)))
 
-  pub adds_first : (first : ℕ) (lists kept : List (List Capture)) (a b : List Placing) → Adds (TakenFrom s is at first) [] lists → ((c : List Capture) → Contains kept c ↔ Contains lists c)
-      → Adds (OfSome (Shown (Some first) true) kept) a b → Adds (HeadFrom s is at first) a b
-  adds_first first lists kept a b all each adds = adds_same (OfSome (Shown (Some first) true) kept) (HeadFrom s is at first) a b adds to from
+  pub up_to_part : (first last : ℕ) (u v w : Bool) (b : List (List Capture)) → w ≡ true → Gains (TakenUpTo first last) u v [] b → Finds (TakenFrom s is at first) u w b
+  up_to_part first last u v w b cut before = finds_cut (TakenUpTo first last) (TakenFrom s is at first) u v w b before cut (λ f h. (h.0, h.2))
+
+  pub adds_first : (first : ℕ) (u v : Bool) (lists kept : List (List Capture)) (a b : List Placing) → Finds (TakenFrom s is at first) u v lists → ((c : List Capture) → Contains kept c ↔ Contains lists c)
+      → Adds (OfSome (Shown (Some first) true) kept) a b → Gains (HeadFrom s is at first) u v a b
+  adds_first first u v lists kept a b all each adds = record { more = adds.more; is = adds.is; only = λ f h. to f (adds.only f h); earlier = all.earlier; added = λ e f h. adds.added f (from e f h) }
     where
       to : (f : Placing) → OfSome (Shown (Some first) true) kept f → HeadFrom s is at first f
       to f (c, there, is_it) =
-          let x = (adds_all (TakenFrom s is at first) lists all c).0 ((each c).0 there) in
+          let x = all.only c ((each c).0 there) in
           subst (HeadFrom s is at first) (sym is_it) (x.0, x.1)
 
-      from : (f : Placing) → HeadFrom s is at first f → OfSome (Shown (Some first) true) kept f
-      from f (past, h) =
+      from : v ≡ false → (f : Placing) → HeadFrom s is at first f → OfSome (Shown (Some first) true) kept f
+      from e f (past, h) =
           let r : Run = record { first = first; past = past } in
           let is_it : f ≡ record { first = Some first; near = true; captures = f.captures } = (λ k. record { first = h.first k; near = h.near k; captures = f.captures }) in
-          (f.captures, (each f.captures).1 ((adds_all (TakenFrom s is at first) lists all f.captures).1 (past, subst (HeadWay s is at (Some r)) is_it h)), is_it)
+          (f.captures, (each f.captures).1 (all.all e f.captures (past, subst (HeadWay s is at (Some r)) is_it h)), is_it)
 
   pub none_first : (first : ℕ) (a : List Placing) → (TakesAt s at first → ⊥) → Adds (HeadFrom s is at first) a a
   none_first first a none = adds_none (HeadFrom s is at first) a no_way
@@ -115,13 +132,16 @@ module _ (s : Siblings) (is : List Slot) (at : Stand) where
   abbrev pub HeadBelow : Bool → ℕ → Placing → Type 0
   HeadBelow here first f = HeadNone s is at here f ⊎ ((r : Run) × (r.first < first) × (here ≡ true → r.first ≡ at.lo) × HeadWay s is at (Some r) f)
 
-  pub below_none : (here : Bool) (a b : List Placing) → Adds (HeadNone s is at here) a b → Adds (HeadBelow here at.lo) a b
-  below_none here a b before = adds_same (HeadNone s is at here) (HeadBelow here at.lo) a b before (λ f h. inl h)
-      (λ f h. ⊎_elim (λ n. n) (λ r. let after = r.3.full.embeds.0.after in let lt = r.1 in absurd (omega arith)) h)
+  pub below_none : (here : Bool) (u v : Bool) (a b : List Placing) → a ≡ [] → Gains (HeadNone s is at here) u v a b → Gains (HeadBelow here at.lo) u v [] b
+  below_none here u v a b e before =
+      subst (λ (l : List Placing). Gains (HeadBelow here at.lo) u v l b) e
+      (gains_same (HeadNone s is at here) (HeadBelow here at.lo) u v a b before (λ f h. inl h)
+      (λ f h. ⊎_elim (λ n. n) (λ r. let after = r.3.full.embeds.0.after in let lt = r.1 in absurd (omega arith)) h))
 
-  pub below_more : (here : Bool) (first : ℕ) (a b c : List Placing) → (here ≡ true → first ≡ at.lo) → Adds (HeadBelow here first) a b → Adds (HeadFrom s is at first) b c → Adds (HeadBelow here (first + 1)) a c
-  below_more here first a b c only before one =
-      adds_both (HeadBelow here first) (HeadFrom s is at first) (HeadBelow here (first + 1)) a b c before one
+  pub below_more : (here : Bool) (first : ℕ) (u v m w : Bool) (a b c : List Placing) → (here ≡ true → first ≡ at.lo) → m ≡ v → Gains (HeadBelow here first) u v a b → Gains (HeadFrom s is at first) m w b c
+      → Gains (HeadBelow here (first + 1)) u w a c
+  below_more here first u v m w a b c only same before one =
+      gains_both (HeadBelow here first) (HeadFrom s is at first) (HeadBelow here (first + 1)) u v w a b c before (subst (λ (t : Bool). Gains (HeadFrom s is at first) t w b c) same one)
       (λ f h. ⊎_elim (λ n. inl n) (λ r. inr (r.0, omega (arith, r.1), r.2, r.3)) h) (λ f h. inr (record { first = first; past = h.0 }, omega arith, only, h.1)) either
     where
       split : (f : Placing) (r : Run) → (here ≡ true → r.first ≡ at.lo) → HeadWay s is at (Some r) f → (r.first < first) ⊎ (r.first ≡ first) → HeadBelow here first f ⊎ HeadFrom s is at first f
@@ -135,20 +155,12 @@ module _ (s : Siblings) (is : List Slot) (at : Stand) where
   some_is : (a b : ℕ) → Some a ≡ Some b → a ≡ b
   some_is a b e = cc
 
-  pub below_all : (here : Bool) (first end : ℕ) (b : List Placing) → end ≤ first → ((p : ℕ) → at.lo ≤ p → p < length s.named → (here ≡ true → p ≡ at.lo) → p < end) → Adds (HeadBelow here first) [] b
-      → (f : Placing) → Contains b f ↔ Begun here at.lo (WaysOf s (at.slot ∷ is) at.number at.lo at.beside) f
-  below_all here first end b past ends before f = (to, from)
-    where
-      all : (Contains b f → HeadBelow here first f) × (HeadBelow here first f → Contains b f)
-      all = adds_all (HeadBelow here first) b before f
+  module _ (here : Bool) (first : ℕ) (f : Placing) where
+    begins : HeadBelow here first f → Begun here at.lo (WaysOf s (at.slot ∷ is) at.number at.lo at.beside) f
+    begins (inl (h, here_it)) = ((way_heads s is at f).1 (inl h), here_it)
+    begins (inr (r, lt, here_it, h)) = ((way_heads s is at f).1 (inr (r, h)), (λ y. h.first ∙ ap Some (here_it y)))
 
-      begins : HeadBelow here first f → Begun here at.lo (WaysOf s (at.slot ∷ is) at.number at.lo at.beside) f
-      begins (inl (h, here_it)) = ((way_heads s is at f).1 (inl h), here_it)
-      begins (inr (r, lt, here_it, h)) = ((way_heads s is at f).1 (inr (r, h)), (λ y. h.first ∙ ap Some (here_it y)))
-
-      to : Contains b f → Begun here at.lo (WaysOf s (at.slot ∷ is) at.number at.lo at.beside) f
-      to h = begins (all.0 h)
-
+    module _ (end : ℕ) (past : end ≤ first) (ends : (p : ℕ) → at.lo ≤ p → p < length s.named → (here ≡ true → p ≡ at.lo) → p < end) where
       below : (here ≡ true → f.first ≡ Some at.lo) → HeadWay s is at None f ⊎ ((r : Run) × HeadWay s is at (Some r) f) → HeadBelow here first f
       below it (inl h) = inl (h, it)
       below it (inr (r, h)) =
@@ -159,8 +171,17 @@ module _ (s : Siblings) (is : List Slot) (at : Stand) where
           let low = ends r.first placed.after (omega arith) only in
           inr (r, omega arith, only, h)
 
-      from : Begun here at.lo (WaysOf s (at.slot ∷ is) at.number at.lo at.beside) f → Contains b f
-      from (w, it) = all.1 (below it ((way_heads s is at f).0 w))
+      from_begun : Begun here at.lo (WaysOf s (at.slot ∷ is) at.number at.lo at.beside) f → HeadBelow here first f
+      from_begun (w, it) = below it ((way_heads s is at f).0 w)
+
+  pub below_all : (here : Bool) (first end : ℕ) (u v : Bool) (b : List Placing) → end ≤ first → ((p : ℕ) → at.lo ≤ p → p < length s.named → (here ≡ true → p ≡ at.lo) → p < end) → Gains (HeadBelow here first) u v [] b
+      → Finds (Begun here at.lo (WaysOf s (at.slot ∷ is) at.number at.lo at.beside)) u v b
+  below_all here first end u v b past ends before =
+      finds_same (HeadBelow here first) (Begun here at.lo (WaysOf s (at.slot ∷ is) at.number at.lo at.beside)) u v b (gains_finds (HeadBelow here first) u v b before)
+      (begins here first) (λ f. from_begun here first f end past ends)
+
+  pub below_part : (here : Bool) (first : ℕ) (u v w : Bool) (b : List Placing) → w ≡ true → Gains (HeadBelow here first) u v [] b → Finds (Begun here at.lo (WaysOf s (at.slot ∷ is) at.number at.lo at.beside)) u w b
+  below_part here first u v w b cut before = finds_cut (HeadBelow here first) (Begun here at.lo (WaysOf s (at.slot ∷ is) at.number at.lo at.beside)) u v w b before cut (begins here first)
 
 -- the ways of no items
 pub end_way : (s : Siblings) (k lo : ℕ) (b : Bool) → (s.closed ≡ true → b ≡ true → Unnamed s.named lo (length s.named))
@@ -213,19 +234,29 @@ pub begun_all : (here : Bool) → here ≡ false → (lo : ℕ) (W : Placing →
 begun_all here e lo W f = ((λ h. (h, (λ (t : here ≡ true). let x : true ≡ false = sym t ∙ e in cc))), (λ h. h.0))
 
 -- ways as they are asked for
-module _ (lo : ℕ) (W : Placing → Type 0) (v : List Placing) where
-  pub told_all : ((f : Placing) → Contains v f ↔ Begun false lo W f) → (f : Placing) → Contains v f ↔ W f
-  told_all are f = ((λ h. ((are f).0 h).0), (λ h. (are f).1 ((begun_all false refl lo W f).0 h)))
+module _ (lo : ℕ) (W : Placing → Type 0) (u v : Bool) (found : List Placing) where
+  pub told_all : Finds (Begun false lo W) u v found → Finds (Told All lo W) u v found
+  told_all are = finds_same (Begun false lo W) (Told All lo W) u v found are (λ f h. h.0) (λ f h. (begun_all false refl lo W f).0 h)
 
-  pub told_here : ((f : Placing) → Contains v f ↔ Begun true lo W f) → (f : Placing) → Contains v f ↔ (W f × (f.first ≡ Some lo))
-  told_here are f = ((λ h. let x = (are f).0 h in (x.0, x.1 refl)), (λ h. (are f).1 (h.0, (λ e. h.1))))
+  pub of_all : Finds (Told All lo W) u v found → Finds W u v found
+  of_all are = finds_same (Told All lo W) W u v found are (λ f h. h) (λ f h. h)
 
-  pub told_bare : (w : List Placing) → ((f : Placing) → Contains v f ↔ Begun false lo W f) → ((f : Placing) → Contains w f ↔ OfSome IsBare v f)
-      → (f : Placing) → Contains w f ↔ ((g : Placing) × W g × IsBare g f)
-  told_bare w are bare f = (
-    (λ h. let x = (bare f).0 h in (x.0, ((are x.0).0 x.1).0, x.2)),
-    (λ h. (bare f).1 (h.0, (are h.0).1 ((begun_all false refl lo W h.0).0 h.1), h.2)),
-  )
+  pub told_here : Finds (Begun true lo W) u v found → Finds (Told Here lo W) u v found
+  told_here are = finds_same (Begun true lo W) (Told Here lo W) u v found are (λ f h. (h.0, h.1 refl)) (λ f h. (h.0, (λ e. h.1)))
+
+  pub told_bare : (bares : List Placing) → Finds (Begun false lo W) u v found → ((f : Placing) → Contains bares f ↔ OfSome IsBare found f) → Finds (Told Captures lo W) u v bares
+  told_bare bares are bare = record {
+    only = λ f h. let x = (bare f).0 h in (x.0, (are.only x.0 x.1).0, x.2);
+    earlier = are.earlier;
+    all = λ e f h. (bare f).1 (h.0, are.all e h.0 ((begun_all false refl lo W h.0).0 h.1), h.2);
+  }
+
+-- the same for an equal wish, and for equal items
+pub told_at : (lo : ℕ) (W : Placing → Type 0) (u v : Bool) (found : List Placing) (asked it : Wanted) → asked ≡ it → Finds (Told it lo W) u v found → Finds (Told asked lo W) u v found
+told_at lo W u v found asked it e h = subst (λ (w : Wanted). Finds (Told w lo W) u v found) (sym e) h
+
+pub begun_at : (s : Siblings) (slots it : List Slot) (k lo : ℕ) (b here : Bool) (u v : Bool) (found : List Placing) → slots ≡ it → Finds (Begun here lo (WaysOf s it k lo b)) u v found → Finds (Begun here lo (WaysOf s slots k lo b)) u v found
+begun_at s slots it k lo b here u v found e h = subst (λ (l : List Slot). Finds (Begun here lo (WaysOf s l k lo b)) u v found) (sym e) h
 
 pub begun_iff : (here : Bool) → here ≡ false → (lo : ℕ) (W : Placing → Type 0) (v : List Placing) (f : Placing) → Contains v f ↔ W f → Contains v f ↔ Begun here lo W f
 begun_iff here e lo W v f are = let x = begun_all here e lo W f in ((λ h. x.0 (are.0 h)), (λ h. are.1 (x.1 h)))

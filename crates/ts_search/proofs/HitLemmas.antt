@@ -13,7 +13,6 @@ use Rattle.spec_matches.specs.declared.scene.Scene.{Scene}
 use Rattle.spec_matches.specs.Siblings.{AreChildren, AreSiblings}
 use Rattle.spec_matches.specs.Taking.{Embedded}
 use Rattle.spec_matches.specs.Matches.{AreAll, AreMoreThan, OfPatterns, capture_cmp, match_cmp, match_eq, most_matches}
-use Rattle.ts_search.specs.Adding.{OfSome}
 use Rattle.ts_search.specs.Gathering.{Gathers, Has, Hits, HitsIn, HitsUnder, HitsUpTo, HitsOf, HitsBelow, IsFull, IsGathered}
 use Rattle.ts_search.proofs.ChildLemmas.{same_children}
 use Rattle.ts_search.proofs.PlaceLemmas.{cases_lt_or_eq, same_at}
@@ -63,11 +62,6 @@ module _ (kept : Match → Type 0) (k : ℕ) (siblings : List ℕ) (f : Placing)
           λ i. record { root = r i; pattern = n i; captures = c i }
 
 module _ (scene : Scene) (kept : Match → Type 0) (k : ℕ) (pattern : Pattern) where
-  pub hits_in : (siblings : List ℕ) (found : List Placing) (a b : BTreeSet Match) → ((f : Placing) → Contains found f ↔ Embedded scene pattern.items pattern.closed siblings f)
-      → Gathers (OfSome (Hits kept k siblings) found) a b → Gathers (HitsIn scene kept k pattern siblings) a b
-  hits_in siblings found a b are adds =
-      gathers_same (OfSome (Hits kept k siblings) found) (HitsIn scene kept k pattern siblings) a b adds (λ m h. (h.0, (are h.0).0 h.1, h.2)) (λ m h. (h.0, (are h.0).1 h.1, h.2))
-
   pub hits_under : (n : ℕ) (children : List ℕ) (a b : BTreeSet Match) → AreChildren scene.nodes n children → Gathers (HitsIn scene kept k pattern children) a b → Gathers (HitsUnder scene kept k pattern n) a b
   hits_under n children a b kids adds =
       gathers_same (HitsIn scene kept k pattern children) (HitsUnder scene kept k pattern n) a b adds (λ m h. (children, kids, h))

@@ -2,10 +2,12 @@ pub mod AddLemmas
 pub mod AlongLemmas
 pub mod CarryLemmas
 pub mod ChildLemmas
+pub mod GainLemmas
 pub mod GatherLemmas
 pub mod GrowLemmas
 pub mod HeadLemmas
 pub mod HitLemmas
+pub mod LimitLemmas
 pub mod MemoLemmas
 pub mod OnceLemmas
 pub mod OrderLemmas
@@ -19,3 +21,4 @@ pub mod SingleLemmas
 pub mod TakeLemmas
 pub mod WayLemmas
 pub mod WidenLemmas
+pub mod YieldLemmas

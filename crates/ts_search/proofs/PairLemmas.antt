@@ -1,5 +1,5 @@
 -- Lists that agree in pairs, and tables.
-use Rattle.std.proofs.Common.{◌≡◌, ◌∙◌, sym, ap, refl, subst, ℕ, zero, suc, ◌+◌, ◌<◌, ◌≤◌, ◌⊎◌, inl, inr, ⊎_elim, List, [], ◌∷◌, ◌++◌, map, length, take, get_or, Some, Bool, slice_get, true, ◌↔◌, arith}
+use Rattle.std.proofs.Common.{◌≡◌, ◌∙◌, sym, ap, refl, subst, ℕ, zero, suc, ◌+◌, ◌<◌, ◌≤◌, ◌⊎◌, inl, inr, ⊎_elim, List, [], ◌∷◌, ◌++◌, map, length, take, get_or, Some, Bool, slice_get, true, arith}
 use Rattle.std.specs.List.{Contains}
 use Rattle.std.proofs.lemmas.List.{take_all, take_more, length-append}
 use Rattle.std.proofs.lemmas.Option.{slice_get-get_or}
@@ -12,10 +12,12 @@ use Rattle.spec_matches.specs.Siblings.{nameds}
 use Rattle.spec_matches.specs.Embedding.{IsWay}
 use Rattle.spec_matches.specs.Taking.{On, Embedded, shapes_of, slots_of}
 use Rattle.ts_search.specs.Table.{Takes}
-use Rattle.ts_search.specs.Ways.{Pairs, Numbered, AreWays, IsRow, AreRowsOf, IsTable, TakenOf, slot_of, size_of}
+use Rattle.ts_search.specs.Adding.{Holds, Yields}
+use Rattle.ts_search.specs.Ways.{Pairs, Numbered, AreWays, IsRow, AreRowsOf, IsTable, SomeWays, SomeRow, SomeRows, SomeTable, HasRow, HasRows, HasTable, ItemTakes, TakenOf, slot_of, size_of}
 use Rattle.ts_search.proofs.ShapeLemmas.{taken_at, slots_are, within_round}
-use Rattle.ts_search.proofs.CarryLemmas.{way_to}
+use Rattle.ts_search.proofs.CarryLemmas.{way_any, way_to}
 use Rattle.ts_search.proofs.TakeLemmas.{take_push}
+use Rattle.ts_search.proofs.YieldLemmas.{holds_exact, holds_more, holds_same, yields_all}
 
 module _ {X Y : Type 0} (P : X → Y → Type 0) where
   push : (xs : List X) (ys : List Y) (x : X) (y : Y) → Pairs P xs ys → P x y → Pairs P (xs ++ x ∷ []) (ys ++ y ∷ [])
@@ -99,28 +101,116 @@ module _ {Y : Type 0} (P : ℕ → Y → Type 0) where
 abbrev Table : Type 0
 Table = List (List (List (List (List Capture))))
 
-module _ (scene : Scene) (is : List Item) (siblings : List ℕ) (table : Table) (h : IsTable scene siblings is table) where
-  to : (k o p : ℕ) (c : List Capture) → Takes table k o p c → On (TakenOf scene is) siblings k o p c
-  to k o p c t =
-      let i = left (AreRowsOf scene siblings) is table k t.rows h t.are_rows in
-      let row = i.2.each o t.row t.is_row in
-      let n = left (AreWays scene i.0 o) siblings t.row p t.ways row t.are_ways in
-      (n.0, n.1, (taken_at scene is k o n.0 c).1 (i.0, i.1, (n.2 c).0 t.one))
+-- ---- rows and tables that grow, of which some ways are left out
 
-  from : (k o p : ℕ) (c : List Capture) → On (TakenOf scene is) siblings k o p c → Takes table k o p c
-  from k o p c (n, there, w) =
+pub row_none : (scene : Scene) (i : Item) (o : ℕ) (w : Bool) (row : List (List (List Capture))) → row ≡ [] → HasRow scene i o [] w w row
+row_none scene i o w row e = holds_exact (SomeRow scene i o [] row) (IsRow scene i o [] row) w (subst (SomeRow scene i o []) (sym e) tt) (subst (IsRow scene i o []) (sym e) tt)
+
+pub row_more : (scene : Scene) (i : Item) (o : ℕ) (siblings : List ℕ) (n : ℕ) (u v w : Bool) (row : List (List (List Capture))) (ways : List (List Capture)) → n < length siblings
+    → HasRow scene i o (take n siblings) u v row → Yields (ItemTakes scene i o (get_or siblings n 0)) v w ways → HasRow scene i o (take (n + 1) siblings) u w (row ++ ways ∷ [])
+row_more scene i o siblings n u v w row ways below before one =
+    holds_more (SomeRow scene i o (take n siblings) row) (IsRow scene i o (take n siblings) row) (SomeRow scene i o (take (n + 1) siblings) (row ++ ways ∷ [])) (IsRow scene i o (take (n + 1) siblings) (row ++ ways ∷ [])) u v w before
+    one.finds.earlier
+    (λ h. pairs_more_at (SomeWays scene i o) siblings n 0 row ways below h one.part)
+    (λ e h. pairs_more_at (AreWays scene i o) siblings n 0 row ways below h (yields_all (ItemTakes scene i o (get_or siblings n 0)) v w ways one e))
+
+pub row_all : (scene : Scene) (i : Item) (o : ℕ) (siblings : List ℕ) (n : ℕ) (u v : Bool) (row : List (List (List Capture))) → length siblings ≤ n → HasRow scene i o (take n siblings) u v row → HasRow scene i o siblings u v row
+row_all scene i o siblings n u v row past h = subst (λ (l : List ℕ). HasRow scene i o l u v row) (take_all n siblings past) h
+
+-- the rows of the first places of a round
+pub record HasFirst (scene : Scene) (siblings : List ℕ) (i : Item) (n : ℕ) (was now : Bool) (rows : List (List (List (List Capture)))) : Type 0 where
+  pub it : Holds (Numbered (λ o row. SomeRow scene i o siblings row) n rows) (Numbered (λ o row. IsRow scene i o siblings row) n rows) was now
+
+module _ (scene : Scene) (siblings : List ℕ) (i : Item) where
+  abbrev SomeUpTo : ℕ → List (List (List (List Capture))) → Type 0
+  SomeUpTo n rows = Numbered (λ o row. SomeRow scene i o siblings row) n rows
+
+  abbrev AllUpTo : ℕ → List (List (List (List Capture))) → Type 0
+  AllUpTo n rows = Numbered (λ o row. IsRow scene i o siblings row) n rows
+
+  pub rows_none : (w : Bool) (rows : List (List (List (List Capture)))) → rows ≡ [] → HasFirst scene siblings i 0 w w rows
+  rows_none w rows e = record { it = holds_exact (SomeUpTo 0 rows) (AllUpTo 0 rows) w (numbered_none (λ o row. SomeRow scene i o siblings row) rows e) (numbered_none (λ o row. IsRow scene i o siblings row) rows e) }
+
+  pub rows_more : (n : ℕ) (u v w : Bool) (rows more : List (List (List (List Capture)))) (row : List (List (List Capture))) → more ≡ rows ++ row ∷ [] → HasRow scene i n siblings v w row → HasFirst scene siblings i n u v rows
+      → HasFirst scene siblings i (n + 1) u w more
+  rows_more n u v w rows more row e one before = record {
+    it = holds_more (SomeUpTo n rows) (AllUpTo n rows) (SomeUpTo (n + 1) more) (AllUpTo (n + 1) more) u v w before.it one.earlier
+        (λ h. numbered_more (λ o row. SomeRow scene i o siblings row) n rows more row e one.holds h)
+        (λ f h. numbered_more (λ o row. IsRow scene i o siblings row) n rows more row e (one.all f) h);
+  }
+
+  pub rows_all : (n : ℕ) (u v : Bool) (rows : List (List (List (List Capture)))) → n ≤ size_of i → size_of i ≤ n → HasFirst scene siblings i n u v rows → HasRows scene siblings i u v rows
+  rows_all n u v rows le ge h =
+      holds_same (SomeUpTo n rows) (AllUpTo n rows) (SomeRows scene siblings i rows) (AreRowsOf scene siblings i rows) u v h.it
+      (numbered_all (λ o row. SomeRow scene i o siblings row) n (size_of i) rows le ge) (numbered_all (λ o row. IsRow scene i o siblings row) n (size_of i) rows le ge)
+
+pub table_none : (scene : Scene) (siblings : List ℕ) (w : Bool) (table : Table) → table ≡ [] → HasTable scene siblings [] w w table
+table_none scene siblings w table e = holds_exact (SomeTable scene siblings [] table) (IsTable scene siblings [] table) w (subst (SomeTable scene siblings []) (sym e) tt) (subst (IsTable scene siblings []) (sym e) tt)
+
+pub table_more : (scene : Scene) (siblings : List ℕ) (is : List Item) (n : ℕ) (i : Item) (u v w : Bool) (table : Table) (rows : List (List (List (List Capture)))) → n < length is → i ≡ get_or is n i
+    → HasTable scene siblings (take n is) u v table → HasRows scene siblings i v w rows → HasTable scene siblings (take (n + 1) is) u w (table ++ rows ∷ [])
+table_more scene siblings is n i u v w table rows below same before one =
+    holds_more (SomeTable scene siblings (take n is) table) (IsTable scene siblings (take n is) table) (SomeTable scene siblings (take (n + 1) is) (table ++ rows ∷ [])) (IsTable scene siblings (take (n + 1) is) (table ++ rows ∷ [])) u v w before
+    one.earlier
+    (λ h. pairs_more (SomeRows scene siblings) is n i table rows below same h one.holds)
+    (λ e h. pairs_more (AreRowsOf scene siblings) is n i table rows below same h (one.all e))
+
+pub table_all : (scene : Scene) (siblings : List ℕ) (is : List Item) (n : ℕ) (u v : Bool) (table : Table) → length is ≤ n → HasTable scene siblings (take n is) u v table → HasTable scene siblings is u v table
+table_all scene siblings is n u v table past h = subst (λ (l : List Item). HasTable scene siblings l u v table) (take_all n is past) h
+
+-- ---- what a table takes
+
+module _ (scene : Scene) (is : List Item) (siblings : List ℕ) (table : Table) where
+  module _ (h : SomeTable scene siblings is table) where
+    to : (k o p : ℕ) (c : List Capture) → Takes table k o p c → On (TakenOf scene is) siblings k o p c
+    to k o p c t =
+        let i = left (SomeRows scene siblings) is table k t.rows h t.are_rows in
+        let row = i.2.each o t.row t.is_row in
+        let n = left (SomeWays scene i.0 o) siblings t.row p t.ways row t.are_ways in
+        (n.0, n.1, (taken_at scene is k o n.0 c).1 (i.0, i.1, n.2.only c t.one))
+
+    any : (k o p : ℕ) (c : List Capture) → On (TakenOf scene is) siblings k o p c → (d : List Capture) × Takes table k o p d
+    any k o p c (n, there, w) =
+        let i = (taken_at scene is k o n c).0 w in
+        let rows = right (SomeRows scene siblings) is table k i.0 h i.1 in
+        let row = at (λ o row. SomeRow scene i.0 o siblings row) (size_of i.0) rows.0 o [] rows.2 (within_round scene i.0 o n c i.2) in
+        let ways = right (SomeWays scene i.0 o) siblings row.0 p n row.2 there in
+        let d = ways.2.any c i.2 in
+        (d.0, record { rows = rows.0; are_rows = rows.1; row = row.0; is_row = row.1; ways = ways.0; are_ways = ways.1; one = d.1 })
+
+  from : IsTable scene siblings is table → (k o p : ℕ) (c : List Capture) → On (TakenOf scene is) siblings k o p c → Takes table k o p c
+  from h k o p c (n, there, w) =
       let i = (taken_at scene is k o n c).0 w in
       let rows = right (AreRowsOf scene siblings) is table k i.0 h i.1 in
       let row = at (λ o row. IsRow scene i.0 o siblings row) (size_of i.0) rows.0 o [] rows.2 (within_round scene i.0 o n c i.2) in
       let ways = right (AreWays scene i.0 o) siblings row.0 p n row.2 there in
       record { rows = rows.0; are_rows = rows.1; row = row.0; is_row = row.1; ways = ways.0; are_ways = ways.1; one = (ways.2 c).1 i.2 }
 
-  pub fully_are : (closed : Bool) (named : List Bool) (slots : List Slot) (found : List Placing) → named ≡ nameds scene.nodes siblings → slots ≡ map slot_of is
-      → ((f : Placing) → Contains found f ↔ IsWay (Takes table) named closed slots 0 0 true f) → (f : Placing) → Contains found f ↔ Embedded scene is closed siblings f
-  fully_are closed named slots found en er are f =
-      let e : slots_of (shapes_of is) ≡ slots = slots_are is ∙ sym er in (
-        (λ c. subst (λ (l : List Slot). IsWay (On (TakenOf scene is) siblings) (nameds scene.nodes siblings) closed l 0 0 true f) (sym e)
-            (subst (λ (b : List Bool). IsWay (On (TakenOf scene is) siblings) b closed slots 0 0 true f) en (way_to (Takes table) (On (TakenOf scene is) siblings) to from named closed slots f ((are f).0 c)))),
-        (λ w. (are f).1 (way_to (On (TakenOf scene is) siblings) (Takes table) from to named closed slots f
-            (subst (λ (b : List Bool). IsWay (On (TakenOf scene is) siblings) b closed slots 0 0 true f) (sym en) (subst (λ (l : List Slot). IsWay (On (TakenOf scene is) siblings) (nameds scene.nodes siblings) closed l 0 0 true f) e w)))),
-      )
+  abbrev Taken : ℕ → ℕ → ℕ → List Capture → Type 0
+  Taken = On (TakenOf scene is) siblings
+
+  pub fully_are : (u v x : Bool) → HasTable scene siblings is u v table → (closed : Bool) (named : List Bool) (slots : List Slot) (found : List Placing) → named ≡ nameds scene.nodes siblings → slots ≡ map slot_of is
+      → Yields (IsWay (Takes table) named closed slots 0 0 true) v x found → Yields (Embedded scene is closed siblings) u x found
+  fully_are u v x has closed named slots found en er yields = record {
+    part = record { only = only; any = λ f w. let g = way_any Taken (Takes table) back (any has.holds) named closed slots f (in_of f w) in yields.part.any g.0 g.1 };
+    finds = record {
+      only = only;
+      earlier = λ e. has.earlier (yields.finds.earlier e);
+      all = λ e f w. yields.finds.all e f (way_to Taken (Takes table) back (from (has.all (yields.finds.earlier e))) named closed slots f (in_of f w));
+    };
+  }
+    where
+      same : slots_of (shapes_of is) ≡ slots
+      same = slots_are is ∙ sym er
+
+      back : (k o p : ℕ) (c : List Capture) → Takes table k o p c → (d : List Capture) × Taken k o p d
+      back k o p c t = (c, to has.holds k o p c t)
+
+      in_of : (f : Placing) → Embedded scene is closed siblings f → IsWay Taken named closed slots 0 0 true f
+      in_of f w = subst (λ (b : List Bool). IsWay Taken b closed slots 0 0 true f) (sym en) (subst (λ (l : List Slot). IsWay Taken (nameds scene.nodes siblings) closed l 0 0 true f) same w)
+
+      of_in : (f : Placing) → IsWay Taken named closed slots 0 0 true f → Embedded scene is closed siblings f
+      of_in f w = subst (λ (l : List Slot). IsWay Taken (nameds scene.nodes siblings) closed l 0 0 true f) (sym same) (subst (λ (b : List Bool). IsWay Taken b closed slots 0 0 true f) en w)
+
+      only : (f : Placing) → Contains found f → Embedded scene is closed siblings f
+      only f h = of_in f (way_to (Takes table) Taken (any has.holds) (to has.holds) named closed slots f (yields.part.only f h))

@@ -13,13 +13,14 @@ use Rattle.spec_matches.specs.declared.scene.Scene.{Scene}
 use Rattle.spec_matches.specs.Siblings.{AreChildren}
 use Rattle.spec_matches.specs.Embedding.{first_of, near_of}
 use Rattle.spec_matches.specs.Taking.{Embedded, Fully, IsField, IsOfKind, NoneHas, captured, shapes_of, slots_of}
-use Rattle.ts_search.specs.Adding.{Adds, OfSome}
+use Rattle.ts_search.specs.Adding.{Adds, OfSome, Yields}
 use Rattle.ts_search.specs.Steps.{Before}
-use Rattle.ts_search.specs.Ways.{AreWays, HasOne, InsideOf, ItemTakes, PassesOf, PlainOf, TakenOf, parts_of}
-use Rattle.ts_search.proofs.AddLemmas.{adds_all, adds_same}
+use Rattle.ts_search.specs.Ways.{AnyTakes, HasOne, InsideOf, ItemTakes, PassesOf, PlainOf, TakenOf, parts_of}
+use Rattle.ts_search.proofs.AddLemmas.{adds_all}
 use Rattle.ts_search.proofs.PlaceLemmas.{at_of, in_map, none_in_nil, of_map, same_at, there}
 use Rattle.ts_search.proofs.ShapeLemmas.{taken_at, round_takes, plain_takes}
 use Rattle.ts_search.proofs.ChildLemmas.{same_children}
+use Rattle.ts_search.proofs.YieldLemmas.{yields_exact, yields_none, yields_nothing, yields_same}
 
 -- ---- lists
 
@@ -48,133 +49,131 @@ of_none nodes without numbers h = λ n inside w. h n w.0 w.1 inside w.2 w.3 w.4
 -- ---- one item
 
 module _ (scene : Scene) (i : Item) (n : ℕ) where
-  pub inside_are : (children : List ℕ) (found : List Placing) (cs : List (List Capture)) → AreChildren scene.nodes n children → NoneHas scene.nodes (out-Item i).without children
-      → ((f : Placing) → Contains found f ↔ Embedded scene (parts_of i) (out-Item i).closed children f)
-      → cs ≡ map (λ (f : Placing). f.captures) found → (c : List Capture) → Contains cs c ↔ InsideOf scene i n c
-  inside_are children found cs kids none are e c = (
-    (λ h.
-        let f = of_map (λ (f : Placing). f.captures) found (record { first = None; near = true; captures = [] }) c (subst (λ (l : List (List Capture)). Contains l c) e h) in
-        let w = (are f.0).0 f.1 in
-        record {
-          children = children;
-          are_children = kids;
-          none_has = none;
-          fully = subst (Fully (TakenOf scene (parts_of i)) (slots_of (shapes_of (parts_of i))) (out-Item i).closed scene.nodes children) f.2 (record { runs = w.runs; full = w.full; gives = w.gives });
-        }),
-    (λ h.
+  module _ (children : List ℕ) (kids : AreChildren scene.nodes n children) where
+    inside_to : NoneHas scene.nodes (out-Item i).without children → (f : Placing) → Embedded scene (parts_of i) (out-Item i).closed children f → InsideOf scene i n f.captures
+    inside_to none f w = record { children = children; are_children = kids; none_has = none; fully = record { runs = w.runs; full = w.full; gives = w.gives } }
+
+    inside_from : (c : List Capture) → InsideOf scene i n c → (f : Placing) × Embedded scene (parts_of i) (out-Item i).closed children f × (f.captures ≡ c)
+    inside_from c h =
         let same : h.children ≡ children = same_children scene.nodes n h.children children h.are_children kids in
         let w = subst (λ (l : List ℕ). Fully (TakenOf scene (parts_of i)) (slots_of (shapes_of (parts_of i))) (out-Item i).closed scene.nodes l c) same h.fully in
-        let f : Placing = record { first = first_of w.runs; near = near_of w.runs; captures = c } in
-        let there = (are f).1 (record { runs = w.runs; full = w.full; gives = w.gives; first = refl; near = refl }) in
-        subst (λ (l : List (List Capture)). Contains l c) (sym e) (in_map (λ (f : Placing). f.captures) found f there)),
-  )
+        (record { first = first_of w.runs; near = near_of w.runs; captures = c }, record { runs = w.runs; full = w.full; gives = w.gives; first = refl; near = refl }, refl)
 
-  pub not_inside : (children : List ℕ) (cs : List (List Capture)) → cs ≡ [] → AreChildren scene.nodes n children → (NoneHas scene.nodes (out-Item i).without children → ⊥)
-      → (c : List Capture) → Contains cs c ↔ InsideOf scene i n c
-  not_inside children cs e kids fails c = (
-    (λ h. absurd (in_none cs c e h)),
-    (λ h. absurd (fails (subst (NoneHas scene.nodes (out-Item i).without) (same_children scene.nodes n h.children children h.are_children kids) h.none_has))),
-  )
+    pub inside_are : (u v : Bool) (found : List Placing) (cs : List (List Capture)) → NoneHas scene.nodes (out-Item i).without children
+        → Yields (Embedded scene (parts_of i) (out-Item i).closed children) u v found → cs ≡ map (λ (f : Placing). f.captures) found → Yields (InsideOf scene i n) u v cs
+    inside_are u v found cs none are e = record {
+      part = record { only = only; any = λ c h. let f = inside_from c h in let g = are.part.any f.0 f.1 in (g.0.captures, in_of g.0 g.1) };
+      finds = record {
+        only = only;
+        earlier = are.finds.earlier;
+        all = λ t c h. let f = inside_from c h in subst (λ (d : List Capture). Contains cs d) f.2 (in_of f.0 (are.finds.all t f.0 f.1));
+      };
+    }
+      where
+        in_of : (f : Placing) → Contains found f → Contains cs f.captures
+        in_of f h = subst (λ (l : List (List Capture)). Contains l f.captures) (sym e) (in_map (λ (g : Placing). g.captures) found f h)
 
-  module _ (node : VisibleNode) (cs : List (List Capture)) where
+        only : (c : List Capture) → Contains cs c → InsideOf scene i n c
+        only c h =
+            let f = of_map (λ (g : Placing). g.captures) found (record { first = None; near = true; captures = [] }) c (subst (λ (l : List (List Capture)). Contains l c) e h) in
+            subst (InsideOf scene i n) f.2 (inside_to none f.0 (are.part.only f.0 f.1))
+
+    pub not_inside : (w : Bool) (cs : List (List Capture)) → cs ≡ [] → (NoneHas scene.nodes (out-Item i).without children → ⊥) → Yields (InsideOf scene i n) w w cs
+    not_inside w cs e fails =
+        yields_nothing (InsideOf scene i n) w cs e (λ c h. fails (subst (NoneHas scene.nodes (out-Item i).without) (same_children scene.nodes n h.children children h.are_children kids) h.none_has))
+
+  module _ (node : VisibleNode) (u v : Bool) (cs : List (List Capture)) where
     abbrev Passing : Test → Type 0
-    Passing test = (c : List Capture) → Contains cs c ↔ PassesOf scene i test n node c
+    Passing test = Yields (PassesOf scene i test n node) u v cs
 
-    pub passes_any : (out-Item i).test ≡ Any → ((c : List Capture) → Contains cs c ↔ (c ≡ [])) → (c : List Capture) → Contains cs c ↔ PassesOf scene i (out-Item i).test n node c
-    passes_any e are = subst Passing (sym e) are
+    pub passes_named : (out-Item i).test ≡ Named → node.named ≡ true → Yields (InsideOf scene i n) u v cs → Yields (PassesOf scene i (out-Item i).test n node) u v cs
+    passes_named e named are = subst Passing (sym e) (yields_same (InsideOf scene i n) (PassesOf scene i Named n node) u v cs are (λ c h. (named, h)) (λ c h. h.1))
 
-    pub passes_named : (out-Item i).test ≡ Named → node.named ≡ true → ((c : List Capture) → Contains cs c ↔ InsideOf scene i n c) → (c : List Capture) → Contains cs c ↔ PassesOf scene i (out-Item i).test n node c
-    passes_named e named are = subst Passing (sym e) (λ c. ((λ h. (named, (are c).0 h)), (λ h. (are c).1 h.1)))
+    pub passes_kind : (kind : ℕ) → (out-Item i).test ≡ Kind kind → IsOfKind scene.kinds kind node → Yields (InsideOf scene i n) u v cs → Yields (PassesOf scene i (out-Item i).test n node) u v cs
+    passes_kind kind e is are = subst Passing (sym e) (yields_same (InsideOf scene i n) (PassesOf scene i (Kind kind) n node) u v cs are (λ c h. (is, h)) (λ c h. h.1))
 
-    pub not_named : (out-Item i).test ≡ Named → cs ≡ [] → (node.named ≡ true → ⊥) → (c : List Capture) → Contains cs c ↔ PassesOf scene i (out-Item i).test n node c
-    not_named e none fails = subst Passing (sym e) (λ c. ((λ h. absurd (in_none cs c none h)), (λ h. absurd (fails h.0))))
+    pub passes_choice : (out-Item i).test ≡ Choice → Yields (AnyTakes scene (parts_of i) n) u v cs → Yields (PassesOf scene i (out-Item i).test n node) u v cs
+    passes_choice e are = subst Passing (sym e) (yields_same (AnyTakes scene (parts_of i) n) (PassesOf scene i Choice n node) u v cs are (λ c h. h) (λ c h. h))
 
-    pub passes_kind : (kind : ℕ) → (out-Item i).test ≡ Kind kind → IsOfKind scene.kinds kind node → ((c : List Capture) → Contains cs c ↔ InsideOf scene i n c)
-        → (c : List Capture) → Contains cs c ↔ PassesOf scene i (out-Item i).test n node c
-    passes_kind kind e is are = subst Passing (sym e) (λ c. ((λ h. (is, (are c).0 h)), (λ h. (are c).1 h.1)))
+  module _ (node : VisibleNode) (w : Bool) (cs : List (List Capture)) where
+    abbrev Passing1 : Test → Type 0
+    Passing1 test = Yields (PassesOf scene i test n node) w w cs
 
-    pub not_kind : (kind : ℕ) → (out-Item i).test ≡ Kind kind → cs ≡ [] → (IsOfKind scene.kinds kind node → ⊥) → (c : List Capture) → Contains cs c ↔ PassesOf scene i (out-Item i).test n node c
-    not_kind kind e none fails = subst Passing (sym e) (λ c. ((λ h. absurd (in_none cs c none h)), (λ h. absurd (fails h.0))))
+    pub passes_any : (out-Item i).test ≡ Any → ((c : List Capture) → Contains cs c ↔ (c ≡ [])) → Yields (PassesOf scene i (out-Item i).test n node) w w cs
+    passes_any e are = subst Passing1 (sym e) (yields_exact (PassesOf scene i Any n node) w cs are)
 
-    pub passes_choice : (out-Item i).test ≡ Choice → ((c : List Capture) → Contains cs c ↔ ((k : ℕ) × TakenOf scene (parts_of i) k 0 n c))
-        → (c : List Capture) → Contains cs c ↔ PassesOf scene i (out-Item i).test n node c
-    passes_choice e are = subst Passing (sym e) are
+    pub not_named : (out-Item i).test ≡ Named → cs ≡ [] → (node.named ≡ true → ⊥) → Yields (PassesOf scene i (out-Item i).test n node) w w cs
+    not_named e none fails = subst Passing1 (sym e) (yields_nothing (PassesOf scene i Named n node) w cs none (λ c h. fails h.0))
 
-    pub passes_round : (out-Item i).test ≡ Round → cs ≡ [] → (c : List Capture) → Contains cs c ↔ PassesOf scene i (out-Item i).test n node c
-    passes_round e none = subst Passing (sym e) (λ c. ((λ h. absurd (in_none cs c none h)), (λ h. absurd h)))
+    pub not_kind : (kind : ℕ) → (out-Item i).test ≡ Kind kind → cs ≡ [] → (IsOfKind scene.kinds kind node → ⊥) → Yields (PassesOf scene i (out-Item i).test n node) w w cs
+    not_kind kind e none fails = subst Passing1 (sym e) (yields_nothing (PassesOf scene i (Kind kind) n node) w cs none (λ c h. fails h.0))
 
-  pub no_node : (cs : List (List Capture)) → cs ≡ [] → slice_get scene.nodes n ≡ None → (c : List Capture) → Contains cs c ↔ PlainOf scene i n c
-  no_node cs none e c = ((λ h. absurd (in_none cs c none h)), (λ h. let f : None ≡ Some h.node = sym e ∙ h.is_node in cc))
+    pub passes_round : (out-Item i).test ≡ Round → cs ≡ [] → Yields (PassesOf scene i (out-Item i).test n node) w w cs
+    passes_round e none = subst Passing1 (sym e) (yields_nothing (PassesOf scene i Round n node) w cs none (λ c h. h))
 
-  pub no_field : (node : VisibleNode) (cs : List (List Capture)) → cs ≡ [] → slice_get scene.nodes n ≡ Some node → (IsField (out-Item i).field node → ⊥) → (c : List Capture) → Contains cs c ↔ PlainOf scene i n c
-  no_field node cs none at fails c = (
-    (λ h. absurd (in_none cs c none h)),
-    (λ h. absurd (fails (subst (IsField (out-Item i).field) (same_at scene.nodes n h.node node h.is_node at) h.field))),
-  )
+  pub no_node : (w : Bool) (cs : List (List Capture)) → cs ≡ [] → slice_get scene.nodes n ≡ None → Yields (PlainOf scene i n) w w cs
+  no_node w cs none e = yields_nothing (PlainOf scene i n) w cs none (λ c h. let f : None ≡ Some h.node = sym e ∙ h.is_node in cc)
 
-  module _ (node : VisibleNode) (inner cs : List (List Capture)) (at : slice_get scene.nodes n ≡ Some node) (are : (c : List Capture) → Contains inner c ↔ PassesOf scene i (out-Item i).test n node c) where
-    pub no_inner : inner ≡ [] → (c : List Capture) → Contains inner c ↔ PlainOf scene i n c
-    no_inner none c = (
-      (λ h. absurd (in_none inner c none h)),
-      (λ h. absurd (in_none inner h.inner none ((are h.inner).1 (subst (λ (m : VisibleNode). PassesOf scene i (out-Item i).test n m h.inner) (same_at scene.nodes n h.node node h.is_node at) h.passes)))),
-    )
+  pub no_field : (node : VisibleNode) (w : Bool) (cs : List (List Capture)) → cs ≡ [] → slice_get scene.nodes n ≡ Some node → (IsField (out-Item i).field node → ⊥) → Yields (PlainOf scene i n) w w cs
+  no_field node w cs none at fails = yields_nothing (PlainOf scene i n) w cs none (λ c h. fails (subst (IsField (out-Item i).field) (same_at scene.nodes n h.node node h.is_node at) h.field))
 
-    pub plain_are : IsField (out-Item i).field node → Adds (Before inner (captured (out-Item i).captures n node)) [] cs → (c : List Capture) → Contains cs c ↔ PlainOf scene i n c
-    plain_are field adds c =
-        let all = adds_all (Before inner (captured (out-Item i).captures n node)) cs adds c in (
-          (λ h. let w = all.0 h in record { node = node; is_node = at; field = field; inner = w.0; captures = w.2; passes = (are w.0).0 w.1 }),
-          (λ h.
-              let same = same_at scene.nodes n h.node node h.is_node at in
-              all.1 (
-                h.inner,
-                (are h.inner).1 (subst (λ (m : VisibleNode). PassesOf scene i (out-Item i).test n m h.inner) same h.passes),
-                subst (λ (m : VisibleNode). c ≡ captured (out-Item i).captures n m ++ h.inner) same h.captures,
-              )),
-        )
+  module _ (node : VisibleNode) (u v : Bool) (inner : List (List Capture)) (at : slice_get scene.nodes n ≡ Some node) (are : Yields (PassesOf scene i (out-Item i).test n node) u v inner) where
+    passes_it : (c : List Capture) (h : PlainOf scene i n c) → PassesOf scene i (out-Item i).test n node h.inner
+    passes_it c h = subst (λ (m : VisibleNode). PassesOf scene i (out-Item i).test n m h.inner) (same_at scene.nodes n h.node node h.is_node at) h.passes
 
-  pub ways_round : (o : ℕ) (cs : List (List Capture)) → (out-Item i).test ≡ Round → ((c : List Capture) → Contains cs c ↔ TakenOf scene (parts_of i) o 0 n c) → AreWays scene i o n cs
-  ways_round o cs e are c = let w = round_takes scene i o n c e in ((λ h. w.1 ((are c).0 h)), (λ h. (are c).1 (w.0 h)))
+    pub no_inner : inner ≡ [] → Yields (PlainOf scene i n) u v inner
+    no_inner none = yields_none (PlainOf scene i n) u v inner none are.finds.earlier (λ c h. let x = are.part.any h.inner (passes_it c h) in in_none inner x.0 none x.1)
 
-  pub ways_past : (o : ℕ) (cs : List (List Capture)) → ((out-Item i).test ≡ Round → ⊥) → 0 < o → cs ≡ [] → AreWays scene i o n cs
-  ways_past o cs other past e c = ((λ h. absurd (in_none cs c e h)), (λ h. let w = (plain_takes scene i o n c other).0 h in absurd (omega (arith, w.0))))
+    pub plain_are : (cs : List (List Capture)) → IsField (out-Item i).field node → Adds (Before inner (captured (out-Item i).captures n node)) [] cs → Yields (PlainOf scene i n) u v cs
+    plain_are cs field adds = record {
+      part = record { only = only; any = λ c h. let x = are.part.any h.inner (passes_it c h) in (own ++ x.0, adds.added (own ++ x.0) (x.0, x.1, refl)) };
+      finds = record {
+        only = only;
+        earlier = are.finds.earlier;
+        all = λ e c h. adds.added c (
+          h.inner,
+          are.finds.all e h.inner (passes_it c h),
+          subst (λ (m : VisibleNode). c ≡ captured (out-Item i).captures n m ++ h.inner) (same_at scene.nodes n h.node node h.is_node at) h.captures,
+        );
+      };
+    }
+      where
+        own : List Capture
+        own = captured (out-Item i).captures n node
 
-  pub ways_plain : (o : ℕ) (cs : List (List Capture)) → ((out-Item i).test ≡ Round → ⊥) → o ≤ 0 → ((c : List Capture) → Contains cs c ↔ PlainOf scene i n c) → AreWays scene i o n cs
-  ways_plain o cs other none are c =
-      let w = plain_takes scene i o n c other in
-      ((λ h. w.1 (omega arith, (are c).0 h)), (λ h. (are c).1 (w.0 h).1))
+        only : (c : List Capture) → Contains cs c → PlainOf scene i n c
+        only c h =
+            let w = (adds_all (Before inner own) cs adds c).0 h in
+            record { node = node; is_node = at; field = field; inner = w.0; captures = w.2; passes = are.part.only w.0 w.1 }
+
+  module _ (o : ℕ) where
+    pub ways_round : (u v : Bool) (cs : List (List Capture)) → (out-Item i).test ≡ Round → Yields (TakenOf scene (parts_of i) o 0 n) u v cs → Yields (ItemTakes scene i o n) u v cs
+    ways_round u v cs e are = yields_same (TakenOf scene (parts_of i) o 0 n) (ItemTakes scene i o n) u v cs are (λ c. (round_takes scene i o n c e).1) (λ c. (round_takes scene i o n c e).0)
+
+    pub ways_past : (w : Bool) (cs : List (List Capture)) → ((out-Item i).test ≡ Round → ⊥) → 0 < o → cs ≡ [] → Yields (ItemTakes scene i o n) w w cs
+    ways_past w cs other past e = yields_nothing (ItemTakes scene i o n) w cs e (λ c h. let x = (plain_takes scene i o n c other).0 h in omega (arith, x.0))
+
+    pub ways_plain : (u v : Bool) (cs : List (List Capture)) → ((out-Item i).test ≡ Round → ⊥) → o ≤ 0 → Yields (PlainOf scene i n) u v cs → Yields (ItemTakes scene i o n) u v cs
+    ways_plain u v cs other none are =
+        yields_same (PlainOf scene i n) (ItemTakes scene i o n) u v cs are (λ c h. (plain_takes scene i o n c other).1 (omega arith, h)) (λ c h. ((plain_takes scene i o n c other).0 h).1)
 
 -- ---- one of several items
 
 module _ (scene : Scene) (is : List Item) (n : ℕ) where
-  pub part_past : (o : ℕ) (cs : List (List Capture)) → length is ≤ o → cs ≡ [] → (c : List Capture) → Contains cs c ↔ TakenOf scene is o 0 n c
-  part_past o cs past e c = (
-    (λ h. absurd (in_none cs c e h)),
-    (λ h. let w = (taken_at scene is o 0 n c).0 h in let b = slice_get_within is o w.0 w.1 in absurd (omega arith)),
-  )
+  pub part_past : (o : ℕ) (w : Bool) (cs : List (List Capture)) → length is ≤ o → cs ≡ [] → Yields (TakenOf scene is o 0 n) w w cs
+  part_past o w cs past e = yields_nothing (TakenOf scene is o 0 n) w cs e (λ c h. let x = (taken_at scene is o 0 n c).0 h in let b = slice_get_within is o x.0 x.1 in omega arith)
 
-  pub part_are : (o : ℕ) (i : Item) (cs : List (List Capture)) → slice_get is o ≡ Some i → AreWays scene i 0 n cs → (c : List Capture) → Contains cs c ↔ TakenOf scene is o 0 n c
-  part_are o i cs at are c = (
-    (λ h. (taken_at scene is o 0 n c).1 (i, at, (are c).0 h)),
-    (λ h. let w = (taken_at scene is o 0 n c).0 h in (are c).1 (subst (λ (j : Item). ItemTakes scene j 0 n c) (same_at is o w.0 i w.1 at) w.2)),
-  )
+  pub part_are : (o : ℕ) (i : Item) (u v : Bool) (cs : List (List Capture)) → slice_get is o ≡ Some i → Yields (ItemTakes scene i 0 n) u v cs → Yields (TakenOf scene is o 0 n) u v cs
+  part_are o i u v cs at are = yields_same (ItemTakes scene i 0 n) (TakenOf scene is o 0 n) u v cs are
+      (λ c h. (taken_at scene is o 0 n c).1 (i, at, h))
+      (λ c h. let w = (taken_at scene is o 0 n c).0 h in subst (λ (j : Item). ItemTakes scene j 0 n c) (same_at is o w.0 i w.1 at) w.2)
 
-  pub choices_are : (cs : List (List Capture)) → Adds (OfSome (λ (i : Item) (c : List Capture). ItemTakes scene i 0 n c) is) [] cs
-      → (c : List Capture) → Contains cs c ↔ ((k : ℕ) × TakenOf scene is k 0 n c)
-  choices_are cs adds c =
-      let all = adds_all (OfSome (λ (i : Item) (c : List Capture). ItemTakes scene i 0 n c) is) cs adds c in (
-        (λ h. let w = all.0 h in (w.1.0, (taken_at scene is w.1.0 0 n c).1 (w.0, at_of is w.0 w.1, w.2))),
-        (λ h. let w = (taken_at scene is h.0 0 n c).0 h.1 in all.1 (w.0, there is h.0 w.0 w.1, w.2)),
-      )
-
-pub adds_ways : (scene : Scene) (i : Item) (n : ℕ) (ways a b : List (List Capture)) → AreWays scene i 0 n ways → Adds (Contains ways) a b → Adds (ItemTakes scene i 0 n) a b
-adds_ways scene i n ways a b are adds = adds_same (Contains ways) (ItemTakes scene i 0 n) a b adds (λ c. (are c).0) (λ c. (are c).1)
+  pub choices_are : (u v : Bool) (cs : List (List Capture)) → Yields (OfSome (λ (i : Item) (c : List Capture). ItemTakes scene i 0 n c) is) u v cs → Yields (AnyTakes scene is n) u v cs
+  choices_are u v cs are = yields_same (OfSome (λ (i : Item) (c : List Capture). ItemTakes scene i 0 n c) is) (AnyTakes scene is n) u v cs are
+      (λ c w. (w.1.0, (taken_at scene is w.1.0 0 n c).1 (w.0, at_of is w.0 w.1, w.2)))
+      (λ c h. let w = (taken_at scene is h.0 0 n c).0 h.1 in (w.0, there is h.0 w.0 w.1, w.2))
 
 pub before_of : (backs b2 old new : List (List Capture)) (front f2 : List Capture) → b2 ≡ backs → f2 ≡ front → old ≡ [] → Adds (Before b2 f2) old new → Adds (Before backs front) [] new
 before_of backs b2 old new front f2 eb ef eo adds =
     subst (λ (l : List (List Capture)). Adds (Before backs front) l new) eo
     (subst (λ (l : List Capture). Adds (Before backs l) old new) ef (subst (λ (l : List (List Capture)). Adds (Before l f2) old new) eb adds))
-
--- the same lists of captures, each once
-pub inside_once : (scene : Scene) (i : Item) (n : ℕ) (cs kept : List (List Capture)) → ((c : List Capture) → Contains kept c ↔ Contains cs c) → ((c : List Capture) → Contains cs c ↔ InsideOf scene i n c)
-    → (c : List Capture) → Contains kept c ↔ InsideOf scene i n c
-inside_once scene i n cs kept each are c = ((λ h. (are c).0 ((each c).0 h)), (λ h. (each c).1 ((are c).1 h)))

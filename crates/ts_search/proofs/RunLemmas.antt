@@ -58,3 +58,7 @@ covers_more takes k i first past before one p from below =
 pub not_false : (b : Bool) → mathlib.Core.Bool.not b ≡ false → b ≡ true
 not_false true e = refl
 not_false false e = absurd (no_truth (sym e))
+
+pub not_true : (b : Bool) → mathlib.Core.Bool.not b ≡ true → b ≡ false
+not_true true e = absurd (no_truth e)
+not_true false e = refl

@@ -18,12 +18,13 @@ use Rattle.spec_matches.specs.Embedding.{offset, Rounds, Covers, Placed, Embeds,
 use Rattle.spec_matches.specs.Taking.{On, Embedded}
 use Rattle.spec_matches.specs.Matches.{capture_cmp}
 use Rattle.ts_search.specs.Adding.{OfSome}
-use Rattle.ts_search.specs.Ways.{AreWays, TakenOf, slot_of}
-use Rattle.ts_search.specs.Gathering.{Gathers, HitsIn}
+use Rattle.ts_search.specs.Ways.{TakenOf, slot_of}
+use Rattle.ts_search.specs.Gathering.{Gathers, GathersSome, HitsIn}
 use Rattle.ts_search.specs.Single.{IsSingle, HitAt, HitsAt}
 use Rattle.ts_search.proofs.PlaceLemmas.{there, at_of, same_at}
 use Rattle.ts_search.proofs.ShapeLemmas.{slots_are}
 use Rattle.ts_search.proofs.GatherLemmas.{gathers_same}
+use Rattle.ts_search.proofs.LimitLemmas.{some_same}
 
 not_both : (b : Bool) → b ≡ false → b ≡ true → ⊥
 not_both b f t = let e : false ≡ true = sym f ∙ t in cc
@@ -132,8 +133,8 @@ module _ (scene : Scene) (kept : Match → Type 0) (k : ℕ) (i : Item) (single 
   abbrev Here : List ℕ → ℕ → ℕ → ℕ → List Capture → Type 0
   Here siblings = On (TakenOf scene (i ∷ [])) siblings
 
-  pub single_hits : (pattern : Pattern) (siblings : List ℕ) (a b : BTreeSet Match) → pattern.items ≡ i ∷ [] → pattern.closed ≡ false → Gathers (OfSome (HitsAt scene kept k i) siblings) a b → Gathers (HitsIn scene kept k pattern siblings) a b
-  single_hits pattern siblings a b items unclosed adds = gathers_same (OfSome (HitsAt scene kept k i) siblings) (HitsIn scene kept k pattern siblings) a b adds to from
+  pub single_hits : (pattern : Pattern) (siblings : List ℕ) (u v : Bool) (a b : BTreeSet Match) → pattern.items ≡ i ∷ [] → pattern.closed ≡ false → GathersSome (OfSome (HitsAt scene kept k i) siblings) u v a b → GathersSome (HitsIn scene kept k pattern siblings) u v a b
+  single_hits pattern siblings u v a b items unclosed adds = some_same (OfSome (HitsAt scene kept k i) siblings) (HitsIn scene kept k pattern siblings) u v a b adds to from
     where
       is_way : (f : Placing) → Embedded scene pattern.items pattern.closed siblings f ↔ At (slot_of i) is_one (Here siblings) (nameds scene.nodes siblings) f
       is_way f =
@@ -162,9 +163,6 @@ module _ (scene : Scene) (kept : Match → Type 0) (k : ℕ) (i : Item) (single 
           let at : slice_get siblings hit.comes.place ≡ Some n = subst (λ (j : ℕ). slice_get siblings j ≡ Some n) same w.takes_it.1 in
           let r : m.root ≡ n = same_at siblings hit.comes.place m.root n hit.comes.root at in
           (n, there siblings hit.comes.place n at, (f.captures, w.takes_it.2, record { pattern = hit.pattern; root = r; members = hit.comes.members; order = hit.comes.order; keeps = hit.keeps }))
-
-pub taken_hits : (scene : Scene) (kept : Match → Type 0) (k : ℕ) (i : Item) (n : ℕ) (ways : List (List Capture)) (a b : BTreeSet Match) → AreWays scene i 0 n ways → Gathers (OfSome (HitAt kept k n) ways) a b → Gathers (HitsAt scene kept k i n) a b
-taken_hits scene kept k i n ways a b are adds = gathers_same (OfSome (HitAt kept k n) ways) (HitsAt scene kept k i n) a b adds (λ m h. (h.0, (are h.0).0 h.1, h.2)) (λ m h. (h.0, (are h.0).1 h.1, h.2))
 
 pub way_hit : (kept : Match → Type 0) (k n : ℕ) (captures cs : List Capture)
     → ((xs ys : List Capture) → IsStrictlySortedBy capture_cmp xs → IsStrictlySortedBy capture_cmp ys → ((c : Capture) → Contains xs c ↔ Contains ys c) → xs ≡ ys)

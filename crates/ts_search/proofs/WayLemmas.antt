@@ -91,40 +91,38 @@ module _ (s : Siblings) (is : List Slot) (at : Stand) where
       let f : E (Some r ∷ ws) = subst (λ (o : Option Run). E (o ∷ ws)) is_same e in
       w.full.widest ws more f.1
 
-  pub none_way : (here : Bool) (tails : List Placing) → ((t : Placing) → Contains tails t ↔ Begun here at.lo (WayAfter at.lo false) t) → at.slot.optional ≡ true
-      → (f : Placing) → OfSome (NoneBefore s is at) tails f ↔ HeadNone s is at here f
-  none_way here tails are optional f = (to, from)
-    where
-      to : OfSome (NoneBefore s is at) tails f → HeadNone s is at here f
-      to (t, there, n) =
-          let begun = (are t).0 there in
-          let w = begun.0 in
-          let head : HeadWay s is at None f = record {
-            rest = w.runs;
-            full = record { embeds = (optional, w.full.embeds); widest = widest_none t w n.fixed };
-            gives = subst (λ (g : Placing). Gives T is (at.number + 1) w.runs g.captures) (sym n.is_it) w.gives;
-            first = ap (λ (g : Placing). g.first) n.is_it ∙ w.first;
-            near = ap (λ (g : Placing). g.near) n.is_it;
-          } in
-          (head, (λ h. ap (λ (g : Placing). g.first) n.is_it ∙ begun.1 h))
+  pub none_to : (here : Bool) (tails : List Placing) → ((t : Placing) → Contains tails t → Begun here at.lo (WayAfter at.lo false) t) → at.slot.optional ≡ true
+      → (f : Placing) → OfSome (NoneBefore s is at) tails f → HeadNone s is at here f
+  none_to here tails only optional f (t, there, n) =
+      let begun = only t there in
+      let w = begun.0 in
+      let head : HeadWay s is at None f = record {
+        rest = w.runs;
+        full = record { embeds = (optional, w.full.embeds); widest = widest_none t w n.fixed };
+        gives = subst (λ (g : Placing). Gives T is (at.number + 1) w.runs g.captures) (sym n.is_it) w.gives;
+        first = ap (λ (g : Placing). g.first) n.is_it ∙ w.first;
+        near = ap (λ (g : Placing). g.near) n.is_it;
+      } in
+      (head, (λ h. ap (λ (g : Placing). g.first) n.is_it ∙ begun.1 h))
 
-      from : HeadNone s is at here f → OfSome (NoneBefore s is at) tails f
-      from (h, begins) =
-          let t : Placing = record { first = first_of h.rest; near = near_of h.rest; captures = f.captures } in
-          let w : WayAfter at.lo false t = record {
-            runs = h.rest;
-            full = record { embeds = h.full.embeds.1; widest = λ ws more e. h.full.widest (None ∷ ws) (inr (refl, more)) (h.full.embeds.0, e) };
-            gives = h.gives;
-            first = refl;
-            near = refl;
-          } in (
-            t,
-            (are t).1 (w, (λ y. sym h.first ∙ begins y)),
-            record {
-              fixed = λ v. h.full.widest (Some v.run ∷ h.rest) (inl (v.quantified, v.run, refl, v.by.wider, refl)) (v.by.placed, (allowed_of at.lo false t w v.run.past).1 v.by.allowed);
-              is_it = λ k. record { first = h.first k; near = h.near k; captures = f.captures };
-            },
-          )
+  pub none_from : (here : Bool) (tails : List Placing) → ((t : Placing) → Begun here at.lo (WayAfter at.lo false) t → Contains tails t)
+      → (f : Placing) → HeadNone s is at here f → OfSome (NoneBefore s is at) tails f
+  none_from here tails all f (h, begins) =
+      let t : Placing = record { first = first_of h.rest; near = near_of h.rest; captures = f.captures } in
+      let w : WayAfter at.lo false t = record {
+        runs = h.rest;
+        full = record { embeds = h.full.embeds.1; widest = λ ws more e. h.full.widest (None ∷ ws) (inr (refl, more)) (h.full.embeds.0, e) };
+        gives = h.gives;
+        first = refl;
+        near = refl;
+      } in (
+        t,
+        all t (w, (λ y. sym h.first ∙ begins y)),
+        record {
+          fixed = λ v. h.full.widest (Some v.run ∷ h.rest) (inl (v.quantified, v.run, refl, v.by.wider, refl)) (v.by.placed, (allowed_of at.lo false t w v.run.past).1 v.by.allowed);
+          is_it = λ k. record { first = h.first k; near = h.near k; captures = f.captures };
+        },
+      )
 
   told_to : (r : Run) (wanted : Wanted) → Suits s at r.past wanted → (t : Placing) → Told wanted r.past (WayAfter r.past true) t → (Grows s is at r t → ⊥)
       → (g : Placing) × WayAfter r.past true g × (g.captures ≡ t.captures) × (Grows s is at r g → ⊥)
@@ -147,8 +145,7 @@ module _ (s : Siblings) (is : List Slot) (at : Stand) where
   abbrev pub Ahead : Run → List Placing → List Capture → Type 0
   Ahead r tails c = (t : Placing) × Contains tails t × (Grows s is at r t → ⊥) × (u : List Capture) × Along T at.number at.slot r.first (r.past - r.first) r.first u × (c ≡ u ++ t.captures)
 
-  module _ (r : Run) (wanted : Wanted) (suits : Suits s at r.past wanted) (tails : List Placing)
-      (are : (t : Placing) → Contains tails t ↔ Told wanted r.past (WayAfter r.past true) t) (placed : Placed T s.named at.slot at.number at.lo at.beside r) where
+  module _ (r : Run) (wanted : Wanted) (suits : Suits s at r.past wanted) (tails : List Placing) (placed : Placed T s.named at.slot at.number at.lo at.beside r) where
     ahead_of : (g : Placing) (w : WayAfter r.past true g) → (Grows s is at r g → ⊥) → (u c : List Capture) → Along T at.number at.slot r.first (r.past - r.first) r.first u → c ≡ u ++ g.captures → HeadTaken s is at r c
     ahead_of g w free u c along e = record {
       rest = w.runs;
@@ -161,13 +158,13 @@ module _ (s : Siblings) (is : List Slot) (at : Stand) where
       near = refl;
     }
 
-    pub ahead_to : (c : List Capture) → Ahead r tails c → HeadTaken s is at r c
-    ahead_to c (t, there, stays, u, along, e) =
-        let g = told_to r wanted suits t ((are t).0 there) stays in
+    pub ahead_to : ((t : Placing) → Contains tails t → Told wanted r.past (WayAfter r.past true) t) → (c : List Capture) → Ahead r tails c → HeadTaken s is at r c
+    ahead_to only c (t, there, stays, u, along, e) =
+        let g = told_to r wanted suits t (only t there) stays in
         ahead_of g.0 g.1 g.3 u c along (e ∙ ap (λ (v : List Capture). u ++ v) (sym g.2))
 
-    pub ahead_from : (c : List Capture) → HeadTaken s is at r c → Ahead r tails c
-    ahead_from c h =
+    pub ahead_from : ((t : Placing) → Told wanted r.past (WayAfter r.past true) t → Contains tails t) → (c : List Capture) → HeadTaken s is at r c → Ahead r tails c
+    ahead_from all c h =
         let u : List Capture = h.gives.0 in
         let v : List Capture = h.gives.1 in
         let same : c ≡ u ++ v = h.gives.2 in
@@ -182,7 +179,7 @@ module _ (s : Siblings) (is : List Slot) (at : Stand) where
         let fixed : Widens s is at (Some r) g → ⊥ =
         λ x. h.full.widest (Some x.run ∷ h.rest) (inl (x.quantified, x.run, refl, x.by.wider, refl)) (x.by.placed, (allowed_of r.past true g w x.run.past).1 x.by.allowed) in
         let t = told_from r wanted suits g w (λ x. fixed ((grows_iff s is at r g placed ((allowed_of r.past true g w r.past).0 w.full.embeds)).0 x)) in
-        (t.0, (are t.0).1 t.1, t.3, u, h.gives.3, same ∙ ap (λ (l : List Capture). u ++ l) (sym t.2))
+        (t.0, all t.0 t.1, t.3, u, h.gives.3, same ∙ ap (λ (l : List Capture). u ++ l) (sym t.2))
 
   -- the first item takes nothing or a run
   pub way_heads : (f : Placing) → IsWay T s.named s.closed (at.slot ∷ is) at.number at.lo at.beside f ↔ (HeadWay s is at None f ⊎ ((r : Run) × HeadWay s is at (Some r) f))

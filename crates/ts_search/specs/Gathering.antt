@@ -1,5 +1,5 @@
 -- Matches that are gathered, up to one more than there may be.
-use Rattle.std.specs.Prelude.{◌≡◌, ℕ, ◌<◌, ◌⊎◌, List, [], ◌∷◌, Some, slice_get}
+use Rattle.std.specs.Prelude.{◌≡◌, ℕ, ◌<◌, ◌⊎◌, Bool, false, List, [], ◌∷◌, Some, slice_get}
 use Rattle.std.specs.Bool.{IsTrue}
 use Rattle.std.specs.BTreeSet.{BTreeSet, contains, btree_set_len}
 use Rattle.ts_query_syntax.specs.declared.read_query.Pattern.{Pattern}
@@ -24,6 +24,14 @@ pub record Gathers (P : Match → Type 0) (old new : BTreeSet Match) : Type 0 wh
   pub stays : (m : Match) → Has old m → Has new m
   pub full : IsFull old → IsFull new
   pub all : (IsFull new → ⊥) → (m : Match) → P m → Has new m
+
+-- .. but for what was left out: two signs say whether anything was left out before, and by now
+pub record GathersSome (P : Match → Type 0) (was now : Bool) (old new : BTreeSet Match) : Type 0 where
+  pub only : (m : Match) → Has new m → Has old m ⊎ P m
+  pub stays : (m : Match) → Has old m → Has new m
+  pub full : IsFull old → IsFull new
+  pub earlier : now ≡ false → was ≡ false
+  pub all : now ≡ false → (IsFull new → ⊥) → (m : Match) → P m → Has new m
 
 -- the match of a pattern that an embedding gives, where it is kept
 pub record Hits (kept : Match → Type 0) (k : ℕ) (siblings : List ℕ) (f : Placing) (m : Match) : Type 0 where

@@ -1,6 +1,5 @@
 -- What is kept of a search.
-use Rattle.std.specs.Prelude.{◌≡◌, ◌↔◌, ℕ, List, drop, Option, Some, None, Bool, true, false}
-use Rattle.std.specs.List.{Contains}
+use Rattle.std.specs.Prelude.{◌≡◌, ℕ, List, drop, Option, Some, None, Bool, true, false}
 use Rattle.spec_matches.specs.declared.placing.Slot.{Slot}
 use Rattle.ts_search.specs.declared.stand.Key.{Key}
 use Rattle.ts_search.specs.declared.stand.Siblings.{Siblings}
@@ -9,6 +8,7 @@ use Rattle.ts_search.specs.declared.stand.Wanted.TheVariants.{All, Here, Capture
 use Rattle.spec_matches.specs.declared.placing.Placing.{Placing}
 use Rattle.ts_search.specs.contracts.stand.KeyPartialEq.TheImpl as derived
 use Rattle.spec_matches.specs.Embedding.{IsWay}
+use Rattle.ts_search.specs.Adding.{Finds}
 use Rattle.ts_search.specs.Table.{Takes}
 
 abbrev pub key_eq : Key → Key → Bool
@@ -32,7 +32,7 @@ Told All lo W f = W f
 Told Here lo W f = W f × (f.first ≡ Some lo)
 Told Captures lo W f = (g : Placing) × W g × IsBare g f
 
--- each list that is kept is that of the ways that its key asks for
-abbrev pub IsMemo : Siblings → List Slot → (Key → Option (List Placing)) → Type 0
-IsMemo s all look = (key : Key) (v : List Placing) → look key ≡ Some v
-    → (f : Placing) → Contains v f ↔ Told key.wanted key.lo (WaysOf s (drop key.number all) key.number key.lo key.beside) f
+-- each list that is kept has ways that its key asks for, and all of them but for what was left out
+abbrev pub IsMemo : Siblings → List Slot → Bool → (Key → Option (List Placing)) → Type 0
+IsMemo s all cut look = (key : Key) (v : List Placing) → look key ≡ Some v
+    → Finds (Told key.wanted key.lo (WaysOf s (drop key.number all) key.number key.lo key.beside)) cut cut v

@@ -153,3 +153,7 @@ Before backs front = OfSome (Joined front) backs
 -- one of some lists, and then one of others
 abbrev pub Joins : List (List Capture) → List (List Capture) → List Capture → Type 0
 Joins fronts backs = OfSome (Before backs) fronts
+
+-- captures of a sibling that an item takes, and then one of some lists
+abbrev pub TakenBefore : List (List (List (List (List Capture)))) → ℕ → ℕ → ℕ → List (List Capture) → List Capture → Type 0
+TakenBefore table k o p backs c = (u : List Capture) × Takes table k o p u × Before backs u c

@@ -1,5 +1,5 @@
 -- What an item takes, told of the item itself.
-use Rattle.std.specs.Prelude.{◌≡◌, ◌↔◌, ℕ, List, [], ◌∷◌, length, Some, slice_get}
+use Rattle.std.specs.Prelude.{◌≡◌, ◌↔◌, ℕ, Bool, List, [], ◌∷◌, length, Some, slice_get}
 use Rattle.std.specs.List.{Contains}
 use Rattle.spec_trees.specs.declared.visible.VisibleNode.{VisibleNode}
 use Rattle.ts_query_syntax.specs.declared.read_query.Test.{Test}
@@ -9,6 +9,7 @@ use Rattle.ts_query_syntax.specs.declared.read_query.Item.TheViews.{out-Item}
 use Rattle.spec_matches.specs.declared.found.Capture.{Capture}
 use Rattle.spec_matches.specs.declared.placing.Slot.{Slot}
 use Rattle.spec_matches.specs.declared.scene.Scene.{Scene}
+use Rattle.ts_search.specs.Adding.{Holds, Partly}
 use Rattle.spec_matches.specs.Taking.{Head, head_by, shape_of, shapes_of, slots_of, Taken, Inside, Passes, Plainly}
 
 -- an item but for its parts, and what it asks beside its test
@@ -49,6 +50,10 @@ InsideOf scene i = Inside scene (TakenOf scene (parts_of i)) (slots_of (shapes_o
 abbrev pub PlainOf : Scene → Item → ℕ → List Capture → Type 0
 PlainOf scene i = Plainly scene (TakenOf scene (parts_of i)) (slots_of (shapes_of (parts_of i))) (head_of i)
 
+-- one of some items takes a node
+abbrev pub AnyTakes : Scene → List Item → ℕ → List Capture → Type 0
+AnyTakes scene is n c = (k : ℕ) × TakenOf scene is k 0 n c
+
 -- a node has one of these fields
 abbrev pub HasOne : List VisibleNode → List ℕ → ℕ → Type 0
 HasOne nodes without n =
@@ -82,3 +87,26 @@ AreRowsOf scene siblings i rows = Numbered (λ o row. IsRow scene i o siblings r
 -- .. of each of some items
 abbrev pub IsTable : Scene → List ℕ → List Item → List (List (List (List (List Capture)))) → Type 0
 IsTable scene siblings is table = Pairs (AreRowsOf scene siblings) is table
+
+-- the same of some of the ways, of one at least where there are any
+abbrev pub SomeWays : Scene → Item → ℕ → ℕ → List (List Capture) → Type 0
+SomeWays scene i o n ways = Partly (ItemTakes scene i o n) ways
+
+abbrev pub SomeRow : Scene → Item → ℕ → List ℕ → List (List (List Capture)) → Type 0
+SomeRow scene i o siblings row = Pairs (SomeWays scene i o) siblings row
+
+abbrev pub SomeRows : Scene → List ℕ → Item → List (List (List (List Capture))) → Type 0
+SomeRows scene siblings i rows = Numbered (λ o row. SomeRow scene i o siblings row) (size_of i) rows
+
+abbrev pub SomeTable : Scene → List ℕ → List Item → List (List (List (List (List Capture)))) → Type 0
+SomeTable scene siblings is table = Pairs (SomeRows scene siblings) is table
+
+-- .. and of all ways but for what was left out
+abbrev pub HasRow : Scene → Item → ℕ → List ℕ → Bool → Bool → List (List (List Capture)) → Type 0
+HasRow scene i o siblings was now row = Holds (SomeRow scene i o siblings row) (IsRow scene i o siblings row) was now
+
+abbrev pub HasRows : Scene → List ℕ → Item → Bool → Bool → List (List (List (List Capture))) → Type 0
+HasRows scene siblings i was now rows = Holds (SomeRows scene siblings i rows) (AreRowsOf scene siblings i rows) was now
+
+abbrev pub HasTable : Scene → List ℕ → List Item → Bool → Bool → List (List (List (List (List Capture)))) → Type 0
+HasTable scene siblings is was now table = Holds (SomeTable scene siblings is table) (IsTable scene siblings is table) was now

@@ -14,7 +14,7 @@ use std::collections::BTreeSet;
 use ts_base::List;
 
 /// How many matches there may be.
-const MOST: usize = 100_000;
+pub(crate) const MOST: usize = 100_000;
 
 /// Captures in order, each once.
 pub(crate) fn in_order(alloc: Global, captures: &[Capture]) -> Result<List<Capture>, AllocError>

@@ -4,6 +4,7 @@
 
 mod gathering;
 mod keep;
+mod limit;
 mod listing;
 mod memo;
 mod once;

@@ -1,11 +1,12 @@
 //! The matches of patterns: patterns and a visible tree go in, and the matches come out in order.
-ghost use Rattle.std.specs.Prelude.{◌≡◌, ◌<◌, ◌≤◌, ◌^◌, length, IfOk, OnOk, IfErr};
+ghost use Rattle.std.specs.Prelude.{◌≡◌, ◌<◌, ◌≤◌, ◌^◌, length, IfOk, OnOk, IfErr, IsTrue, true};
 ghost use Rattle.spec_matches.specs.Matches.{AreAll, AreMoreThan, OfPatterns, most_matches};
 ghost use Rattle.ts_search.specs.Adding.{OfSome};
-ghost use Rattle.ts_search.specs.Gathering.{Gathers, Hits, HitsIn, HitsOf, HitsUnder, IsGathered};
+ghost use Rattle.ts_search.specs.Gathering.{Gathers, GathersSome, Hits, HitsIn, HitsOf, HitsUnder, IsGathered};
 
-use crate::gathering::{in_order, is_full, listed, put_kept};
+use crate::gathering::{MOST, in_order, is_full, listed, put_kept};
 use crate::keep::Keep;
+use crate::limit::Limit;
 use crate::sight::Sight;
 use crate::single::{add_single, single};
 use crate::taking::fully;
@@ -14,6 +15,9 @@ use std::alloc::{AllocError, Global};
 use std::collections::BTreeSet;
 use ts_base::List;
 use ts_query_syntax::Pattern;
+
+/// How long a list of ways may grow where a shorter one did not tell enough.
+const FAR: usize = 6_400_000;
 
 /// Why there is no list of matches.
 #[derive(Debug, PartialEq, Eq, Drop)]
@@ -82,7 +86,84 @@ fn add_matches<K: Keep>(
     Ok(())
 }
 
-/// Adds the matches of a pattern in some siblings.
+/// Adds matches that the embeddings of a pattern in some siblings give, where they are kept.
+fn add_embedded<K: Keep>(
+    alloc: Global,
+    limit: &mut Limit,
+    out: &mut BTreeSet<Match>,
+    keep: &K,
+    sight: &Sight,
+    number: u32,
+    pattern: &Pattern,
+    siblings: &[u32],
+) -> Result<(), AllocError>
+    ensures { OnOk result (GathersSome (HitsIn sight.now (K.kept keep.now) number pattern.now siblings.now)
+        limit.old.cut limit.new.cut out.old out.new) }
+{
+    let found = fully(
+        alloc,
+        limit,
+        sight,
+        pattern.items.as_slice(),
+        pattern.closed,
+        siblings,
+    )?;
+    add_matches(alloc, out, keep, number, siblings, found.as_slice())?;
+    Ok(())
+}
+
+/// Adds matches of a pattern in some siblings. Where a list of ways grew too long, some may be
+/// left out.
+fn add_limited<K: Keep>(
+    alloc: Global,
+    limit: &mut Limit,
+    out: &mut BTreeSet<Match>,
+    keep: &K,
+    sight: &Sight,
+    number: u32,
+    pattern: &Pattern,
+    siblings: &[u32],
+) -> Result<(), AllocError>
+    ensures { OnOk result (GathersSome (HitsIn sight.now (K.kept keep.now) number pattern.now siblings.now)
+        limit.old.cut limit.new.cut out.old out.new) }
+{
+    if let Some(item) = single(pattern) {
+        add_single(alloc, limit, out, keep, sight, number, item, siblings)?;
+        return Ok(());
+    }
+    add_embedded(alloc, limit, out, keep, sight, number, pattern, siblings)?;
+    Ok(())
+}
+
+/// Adds matches of a pattern in some siblings, and says whether no list of ways grew longer than
+/// `most`, so that they are all, or there are too many.
+fn add_up_to<K: Keep>(
+    alloc: Global,
+    most: usize,
+    out: &mut BTreeSet<Match>,
+    keep: &K,
+    sight: &Sight,
+    number: u32,
+    pattern: &Pattern,
+    siblings: &[u32],
+) -> Result<bool, AllocError>
+    ensures some { OnOk result (GathersSome (HitsIn sight.now (K.kept keep.now) number pattern.now siblings.now)
+        true true out.old out.new) }
+    ensures all { IfOk result (λ done. IsTrue done
+        → Gathers (HitsIn sight.now (K.kept keep.now) number pattern.now siblings.now) out.old out.new) }
+{
+    let mut limit = Limit { most, cut: false };
+    add_limited(
+        alloc, &mut limit, out, keep, sight, number, pattern, siblings,
+    )?;
+    if !limit.cut {
+        return Ok(true);
+    }
+    Ok(is_full(out))
+}
+
+/// Adds the matches of a pattern in some siblings. So few ways are made that they are enough to
+/// tell the matches, or that there are too many.
 fn add_siblings<K: Keep>(
     alloc: Global,
     out: &mut BTreeSet<Match>,
@@ -98,19 +179,28 @@ fn add_siblings<K: Keep>(
     if is_full(out) {
         return Ok(());
     }
-    if let Some(item) = single(pattern) {
-        add_single(alloc, out, keep, sight, number, item, siblings)?;
+    let near = add_up_to(alloc, MOST, out, keep, sight, number, pattern, siblings)?;
+    if near {
         return Ok(());
     }
-    let found = fully(
+    let far = add_up_to(alloc, FAR, out, keep, sight, number, pattern, siblings)?;
+    if far {
+        return Ok(());
+    }
+    let whole = add_up_to(
         alloc,
+        usize::MAX,
+        out,
+        keep,
         sight,
-        pattern.items.as_slice(),
-        pattern.closed,
+        number,
+        pattern,
         siblings,
     )?;
-    add_matches(alloc, out, keep, number, siblings, found.as_slice())?;
-    Ok(())
+    if whole {
+        return Ok(());
+    }
+    Err(AllocError)
 }
 
 /// Adds the matches of a pattern in the children of a node.

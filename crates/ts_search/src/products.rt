@@ -1,11 +1,12 @@
 ghost use Rattle.std.specs.Prelude.{◌≡◌, ◌++◌, ◌∷◌, ◌+◌, ◌-◌, ◌<◌, ◌≤◌, [], IfOk, IsTrue, OnOk, MatchOption, ◌↔◌, List as Values};
 ghost use Rattle.std.specs.List.{Contains};
-ghost use Rattle.ts_search.specs.Adding.{Adds, OfSome};
+ghost use Rattle.ts_search.specs.Adding.{Adds, Finds, OfSome};
 ghost use Rattle.spec_matches.specs.Embedding.{Along};
 ghost use Rattle.ts_search.specs.Table.{Takes};
-ghost use Rattle.ts_search.specs.Steps.{AreBare, Joined, JoinedTo, Before, Joins};
+ghost use Rattle.ts_search.specs.Steps.{AreBare, Joined, JoinedTo, Before, Joins, TakenBefore};
 ghost use Rattle.spec_matches.specs.declared.found.Capture.{Capture as Mark};
 
+use crate::limit::{Limit, stops};
 use crate::places::place_in_round;
 use spec_matches::{Capture, Run, Slot};
 use std::alloc::{AllocError, Global};
@@ -71,13 +72,17 @@ pub(crate) fn add_behind(
 /// Each of the lists, and then each of the others.
 pub(crate) fn product(
     alloc: Global,
+    limit: &mut Limit,
     fronts: &[List<Capture>],
     backs: &[List<Capture>],
 ) -> Result<Vec<List<Capture>>, AllocError>
-    ensures { IfOk result (λ cs. Adds (Joins fronts.now backs.now) [] cs.items) }
+    ensures { IfOk result (λ cs. Finds (Joins fronts.now backs.now) limit.old.cut limit.new.cut cs.items) }
 {
     let mut out = Vec::new(alloc);
     for front in fronts {
+        if stops(limit, out.len()) {
+            return Ok(out);
+        }
         add_front(alloc, &mut out, front.as_slice(), backs)?;
     }
     Ok(out)
@@ -110,24 +115,27 @@ fn only_empty(alloc: Global) -> Result<Vec<List<Capture>>, AllocError>
 /// The captures of one more sibling before each of the lists.
 fn longer(
     alloc: Global,
+    limit: &mut Limit,
     table: &[List<List<List<List<Capture>>>>],
     k: usize,
     at: usize,
     place: usize,
     backs: &[List<Capture>],
 ) -> Result<Vec<List<Capture>>, AllocError>
-    ensures { IfOk result (λ cs. (c : Values Mark) → Contains cs.items c ↔ ((u : Values Mark) × Takes table.now k at place u × Before backs.now u c)) }
+    ensures { IfOk result (λ cs. Finds (TakenBefore table.now k at place backs.now)
+        limit.old.cut limit.new.cut cs.items) }
 {
     let Some(fronts) = ways(table, k, at, place) else {
         return Ok(Vec::new(alloc));
     };
-    let all = product(alloc, fronts.as_slice(), backs)?;
+    let all = product(alloc, limit, fronts.as_slice(), backs)?;
     Ok(all)
 }
 
 /// The captures of one sibling of a run in each way.
 fn alone(
     alloc: Global,
+    limit: &mut Limit,
     table: &[List<List<List<List<Capture>>>>],
     k: usize,
     slot: Slot,
@@ -135,11 +143,12 @@ fn alone(
     place: usize,
 ) -> Result<Vec<List<Capture>>, AllocError>
     requires { first ≤ place }
-    ensures { IfOk result (λ cs. (c : Values Mark) → Contains cs.items c ↔ Along (Takes table.now) k slot first 1 place c) }
+    ensures { IfOk result (λ cs. Finds (Along (Takes table.now) k slot first 1 place)
+        limit.old.cut limit.new.cut cs.items) }
 {
     let empty = only_empty(alloc)?;
     let o = place_in_round(slot, first, place);
-    let cs = longer(alloc, table, k, o, place, empty.as_slice())?;
+    let cs = longer(alloc, limit, table, k, o, place, empty.as_slice())?;
     Ok(cs)
 }
 
@@ -157,6 +166,7 @@ fn middle_of(from: usize, to: usize) -> usize
 #[cycle(between)]
 fn between(
     alloc: Global,
+    limit: &mut Limit,
     table: &[List<List<List<List<Capture>>>>],
     k: usize,
     slot: Slot,
@@ -166,7 +176,8 @@ fn between(
 ) -> Result<Vec<List<Capture>>, AllocError>
     requires begun { first ≤ from }
     requires order { from ≤ to }
-    ensures { IfOk result (λ cs. (c : Values Mark) → Contains cs.items c ↔ Along (Takes table.now) k slot first (to - from) from c) }
+    ensures { IfOk result (λ cs. Finds (Along (Takes table.now) k slot first (to - from) from)
+        limit.old.cut limit.new.cut cs.items) }
 {
     let count = to - from;
     if count == 0 {
@@ -174,13 +185,13 @@ fn between(
         return Ok(none);
     }
     if count == 1 {
-        let one = alone(alloc, table, k, slot, first, from)?;
+        let one = alone(alloc, limit, table, k, slot, first, from)?;
         return Ok(one);
     }
     let middle = middle_of(from, to);
-    let fronts = between(alloc, table, k, slot, first, from, middle)?;
-    let backs = between(alloc, table, k, slot, first, middle, to)?;
-    let all = product(alloc, fronts.as_slice(), backs.as_slice())?;
+    let fronts = between(alloc, limit, table, k, slot, first, from, middle)?;
+    let backs = between(alloc, limit, table, k, slot, first, middle, to)?;
+    let all = product(alloc, limit, fronts.as_slice(), backs.as_slice())?;
     Ok(all)
 }
 
@@ -216,18 +227,20 @@ fn are_bare(table: &[List<List<List<List<Capture>>>>], k: usize, slot: Slot, run
 /// The captures of the siblings of a run, one after another, in each way.
 pub(crate) fn along(
     alloc: Global,
+    limit: &mut Limit,
     table: &[List<List<List<List<Capture>>>>],
     k: usize,
     slot: Slot,
     run: Run,
 ) -> Result<Vec<List<Capture>>, AllocError>
     requires { run.first ≤ run.past }
-    ensures { IfOk result (λ cs. (c : Values Mark) → Contains cs.items c ↔ Along (Takes table.now) k slot run.first (run.past - run.first) run.first c) }
+    ensures { IfOk result (λ cs. Finds (Along (Takes table.now) k slot run.first (run.past - run.first) run.first)
+        limit.old.cut limit.new.cut cs.items) }
 {
     if are_bare(table, k, slot, run) {
         let none = only_empty(alloc)?;
         return Ok(none);
     }
-    let all = between(alloc, table, k, slot, run.first, run.first, run.past)?;
+    let all = between(alloc, limit, table, k, slot, run.first, run.first, run.past)?;
     Ok(all)
 }

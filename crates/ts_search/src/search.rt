@@ -1,6 +1,6 @@
 ghost use Rattle.std.specs.Prelude.{◌≡◌, ℕ, ◌+◌, ◌-◌, ◌<◌, ◌^◌, ◌↔◌, ◌≤◌, ◌∷◌, [], cond, drop, length, IsTrue, IfOk, OnOk, true, false, None, List as Values};
 ghost use Rattle.std.specs.List.{Contains};
-ghost use Rattle.ts_search.specs.Adding.{Adds, OfSome};
+ghost use Rattle.ts_search.specs.Adding.{Adds, Finds, Gains, OfSome};
 ghost use Rattle.spec_matches.specs.Embedding.{Rounds, Placed, Unnamed, IsWay};
 ghost use Rattle.ts_search.specs.Table.{Takes};
 ghost use Rattle.std.specs.HashMap.{get};
@@ -9,6 +9,7 @@ ghost use Rattle.ts_search.specs.declared.stand.Wanted.TheVariants as asked;
 ghost use Rattle.ts_search.specs.Steps.{AnyStays, HeadFrom, HeadNone, HeadTaken, NoneBefore, NoneTaken, RunBefore, TakenFrom};
 ghost use Rattle.spec_matches.specs.declared.placing.Placing.{Placing as Way};
 
+use crate::limit::{Limit, stops};
 use crate::memo::{recall, remember};
 use crate::once::{add_placed, bare, once_each};
 use crate::places::{
@@ -89,6 +90,7 @@ fn add_run(
 /// Adds the captures of a run in each way, and then those of each of the tails.
 fn add_runs(
     alloc: Global,
+    limit: &mut Limit,
     out: &mut Vec<List<Capture>>,
     siblings: &Siblings,
     rest: &[Slot],
@@ -97,9 +99,13 @@ fn add_runs(
     fronts: &[List<Capture>],
     tails: &[Placing],
 ) -> Result<(), AllocError>
-    ensures { OnOk result (Adds (OfSome (RunBefore siblings.now rest.now at run fronts.now) tails.now) out.old.items out.new.items) }
+    ensures { OnOk result (Gains (OfSome (RunBefore siblings.now rest.now at run fronts.now) tails.now)
+        limit.old.cut limit.new.cut out.old.items out.new.items) }
 {
     for tail in tails {
+        if stops(limit, out.len()) {
+            return Ok(());
+        }
         add_run(alloc, out, siblings, rest, at, run, fronts, tail)?;
     }
     Ok(())
@@ -121,6 +127,7 @@ fn any_stays(siblings: &Siblings, rest: &[Slot], at: Stand, run: Run, tails: &[P
 #[cycle(ways)]
 fn add_at(
     alloc: Global,
+    limit: &mut Limit,
     memo: &mut HashMap<Key, List<Placing>>,
     out: &mut Vec<List<Capture>>,
     siblings: &Siblings,
@@ -132,13 +139,15 @@ fn add_at(
     requires place { Placed (Takes siblings.now.table) siblings.now.named at.slot at.number at.lo at.beside run }
     requires few { at.number + 1 + length rest.now < 2 ^ 64 }
     requires rest { rest.now ≡ drop (at.number + 1) all.now }
-    requires memo { IsMemo siblings.now all.now (get key_eq memo.now) }
-    ensures adds { OnOk result (Adds (HeadTaken siblings.now rest.now at run) out.old.items out.new.items) }
-    ensures memo { OnOk result (IsMemo siblings.now all.now (get key_eq memo.new)) }
+    requires memo { IsMemo siblings.now all.now limit.now.cut (get key_eq memo.now) }
+    ensures adds { OnOk result (Gains (HeadTaken siblings.now rest.now at run)
+        limit.old.cut limit.new.cut out.old.items out.new.items) }
+    ensures memo { OnOk result (IsMemo siblings.now all.now limit.new.cut (get key_eq memo.new)) }
 {
     let wanted = wanted_after(siblings, at, run.past);
     let tails = ways(
         alloc,
+        limit,
         memo,
         siblings,
         all,
@@ -151,9 +160,17 @@ fn add_at(
     if !any_stays(siblings, rest, at, run, tails.as_slice()) {
         return Ok(());
     }
-    let fronts = along(alloc, siblings.table.as_slice(), at.number, at.slot, run)?;
+    let fronts = along(
+        alloc,
+        limit,
+        siblings.table.as_slice(),
+        at.number,
+        at.slot,
+        run,
+    )?;
     add_runs(
         alloc,
+        limit,
         out,
         siblings,
         rest,
@@ -169,6 +186,7 @@ fn add_at(
 #[cycle(ways)]
 fn add_last(
     alloc: Global,
+    limit: &mut Limit,
     memo: &mut HashMap<Key, List<Placing>>,
     out: &mut Vec<List<Capture>>,
     siblings: &Siblings,
@@ -181,14 +199,15 @@ fn add_last(
     requires some { run.first < run.past }
     requires few { at.number + 1 + length rest.now < 2 ^ 64 }
     requires rest { rest.now ≡ drop (at.number + 1) all.now }
-    requires memo { IsMemo siblings.now all.now (get key_eq memo.now) }
-    ensures adds { OnOk result (Adds (HeadTaken siblings.now rest.now at run) out.old.items out.new.items) }
-    ensures memo { OnOk result (IsMemo siblings.now all.now (get key_eq memo.new)) }
+    requires memo { IsMemo siblings.now all.now limit.now.cut (get key_eq memo.now) }
+    ensures adds { OnOk result (Gains (HeadTaken siblings.now rest.now at run)
+        limit.old.cut limit.new.cut out.old.items out.new.items) }
+    ensures memo { OnOk result (IsMemo siblings.now all.now limit.new.cut (get key_eq memo.new)) }
 {
     if !are_rounds(at.slot, run.past - run.first) {
         return Ok(());
     }
-    add_at(alloc, memo, out, siblings, all, rest, at, run)?;
+    add_at(alloc, limit, memo, out, siblings, all, rest, at, run)?;
     Ok(())
 }
 
@@ -197,6 +216,7 @@ fn add_last(
 #[cycle(ways)]
 fn runs_from(
     alloc: Global,
+    limit: &mut Limit,
     memo: &mut HashMap<Key, List<Placing>>,
     siblings: &Siblings,
     all: &[Slot],
@@ -208,15 +228,20 @@ fn runs_from(
     requires anchored { at.slot.tied ≡ true → at.beside ≡ true → Unnamed siblings.now.named at.lo first }
     requires few { at.number + 1 + length rest.now < 2 ^ 64 }
     requires rest { rest.now ≡ drop (at.number + 1) all.now }
-    requires memo { IsMemo siblings.now all.now (get key_eq memo.now) }
-    ensures all { IfOk result (λ captures. Adds (TakenFrom siblings.now rest.now at first) [] captures.items) }
-    ensures memo { OnOk result (IsMemo siblings.now all.now (get key_eq memo.new)) }
+    requires memo { IsMemo siblings.now all.now limit.now.cut (get key_eq memo.now) }
+    ensures all { IfOk result (λ captures. Finds (TakenFrom siblings.now rest.now at first)
+        limit.old.cut limit.new.cut captures.items) }
+    ensures memo { OnOk result (IsMemo siblings.now all.now limit.new.cut (get key_eq memo.new)) }
 {
     let end = reach(siblings, at, first);
     let mut out = Vec::new(alloc);
     for last in first..end {
+        if stops(limit, out.len()) {
+            return Ok(out);
+        }
         add_last(
             alloc,
+            limit,
             memo,
             &mut out,
             siblings,
@@ -236,6 +261,7 @@ fn runs_from(
 #[cycle(ways)]
 fn add_first(
     alloc: Global,
+    limit: &mut Limit,
     memo: &mut HashMap<Key, List<Placing>>,
     out: &mut Vec<Placing>,
     siblings: &Siblings,
@@ -247,9 +273,10 @@ fn add_first(
     requires after { at.lo ≤ first }
     requires few { at.number + 1 + length rest.now < 2 ^ 64 }
     requires rest { rest.now ≡ drop (at.number + 1) all.now }
-    requires memo { IsMemo siblings.now all.now (get key_eq memo.now) }
-    ensures adds { OnOk result (Adds (HeadFrom siblings.now rest.now at first) out.old.items out.new.items) }
-    ensures memo { OnOk result (IsMemo siblings.now all.now (get key_eq memo.new)) }
+    requires memo { IsMemo siblings.now all.now limit.now.cut (get key_eq memo.now) }
+    ensures adds { OnOk result (Gains (HeadFrom siblings.now rest.now at first)
+        limit.old.cut limit.new.cut out.old.items out.new.items) }
+    ensures memo { OnOk result (IsMemo siblings.now all.now limit.new.cut (get key_eq memo.new)) }
 {
     if !begins(siblings, at, first) {
         return Ok(());
@@ -260,7 +287,7 @@ fn add_first(
     if !is_anchored(siblings.named.as_slice(), at.slot, at.lo, at.beside, first) {
         return Ok(());
     }
-    let captures = runs_from(alloc, memo, siblings, all, rest, at, first)?;
+    let captures = runs_from(alloc, limit, memo, siblings, all, rest, at, first)?;
     let kept = once_each(captures);
     add_placed(alloc, out, Some(first), true, kept.as_slice())?;
     Ok(())
@@ -270,6 +297,7 @@ fn add_first(
 #[cycle(ways)]
 fn add_nothing(
     alloc: Global,
+    limit: &mut Limit,
     memo: &mut HashMap<Key, List<Placing>>,
     out: &mut Vec<Placing>,
     siblings: &Siblings,
@@ -280,15 +308,17 @@ fn add_nothing(
 ) -> Result<(), AllocError>
     requires few { at.number + 1 + length rest.now < 2 ^ 64 }
     requires rest { rest.now ≡ drop (at.number + 1) all.now }
-    requires memo { IsMemo siblings.now all.now (get key_eq memo.now) }
-    ensures adds { OnOk result (Adds (HeadNone siblings.now rest.now at here) out.old.items out.new.items) }
-    ensures memo { OnOk result (IsMemo siblings.now all.now (get key_eq memo.new)) }
+    requires memo { IsMemo siblings.now all.now limit.now.cut (get key_eq memo.now) }
+    ensures adds { OnOk result (Gains (HeadNone siblings.now rest.now at here)
+        limit.old.cut limit.new.cut out.old.items out.new.items) }
+    ensures memo { OnOk result (IsMemo siblings.now all.now limit.new.cut (get key_eq memo.new)) }
 {
     if !at.slot.optional {
         return Ok(());
     }
     let tails = ways(
         alloc,
+        limit,
         memo,
         siblings,
         all,
@@ -388,6 +418,7 @@ fn starts_end(siblings: &Siblings, lo: usize, here: bool) -> usize
 #[cycle(ways)]
 fn made(
     alloc: Global,
+    limit: &mut Limit,
     memo: &mut HashMap<Key, List<Placing>>,
     siblings: &Siblings,
     all: &[Slot],
@@ -399,10 +430,10 @@ fn made(
 ) -> Result<Vec<Placing>, AllocError>
     requires few { number + length slots.now < 2 ^ 64 }
     requires slots { slots.now ≡ drop number all.now }
-    requires memo { IsMemo siblings.now all.now (get key_eq memo.now) }
-    ensures ways { IfOk result (λ v. (f : Way) → Contains v.items f
-        ↔ Begun here lo (WaysOf siblings.now slots.now number lo beside) f) }
-    ensures memo { OnOk result (IsMemo siblings.now all.now (get key_eq memo.new)) }
+    requires memo { IsMemo siblings.now all.now limit.now.cut (get key_eq memo.now) }
+    ensures ways { IfOk result (λ v. Finds (Begun here lo (WaysOf siblings.now slots.now number lo beside))
+        limit.old.cut limit.new.cut v.items) }
+    ensures memo { OnOk result (IsMemo siblings.now all.now limit.new.cut (get key_eq memo.new)) }
 {
     let Some((slot, rest)) = slots.split_first() else {
         let none = ending_begun(alloc, siblings, number, lo, beside, here)?;
@@ -415,9 +446,12 @@ fn made(
         beside,
     };
     let mut out = Vec::new(alloc);
-    add_nothing(alloc, memo, &mut out, siblings, all, rest, at, here)?;
+    add_nothing(alloc, limit, memo, &mut out, siblings, all, rest, at, here)?;
     for first in lo..starts_end(siblings, lo, here) {
-        add_first(alloc, memo, &mut out, siblings, all, rest, at, first)?;
+        if stops(limit, out.len()) {
+            return Ok(out);
+        }
+        add_first(alloc, limit, memo, &mut out, siblings, all, rest, at, first)?;
     }
     Ok(out)
 }
@@ -427,6 +461,7 @@ fn made(
 #[cycle(ways)]
 fn told(
     alloc: Global,
+    limit: &mut Limit,
     memo: &mut HashMap<Key, List<Placing>>,
     siblings: &Siblings,
     all: &[Slot],
@@ -438,22 +473,28 @@ fn told(
 ) -> Result<Vec<Placing>, AllocError>
     requires few { number + length slots.now < 2 ^ 64 }
     requires slots { slots.now ≡ drop number all.now }
-    requires memo { IsMemo siblings.now all.now (get key_eq memo.now) }
-    ensures ways { IfOk result (λ v. (f : Way) → Contains v.items f
-        ↔ Told wanted lo (WaysOf siblings.now slots.now number lo beside) f) }
-    ensures memo { OnOk result (IsMemo siblings.now all.now (get key_eq memo.new)) }
+    requires memo { IsMemo siblings.now all.now limit.now.cut (get key_eq memo.now) }
+    ensures ways { IfOk result (λ v. Finds (Told wanted lo (WaysOf siblings.now slots.now number lo beside))
+        limit.old.cut limit.new.cut v.items) }
+    ensures memo { OnOk result (IsMemo siblings.now all.now limit.new.cut (get key_eq memo.new)) }
 {
     match wanted {
         Wanted::All => {
-            let found = made(alloc, memo, siblings, all, slots, number, lo, beside, false)?;
+            let found = made(
+                alloc, limit, memo, siblings, all, slots, number, lo, beside, false,
+            )?;
             Ok(found)
         }
         Wanted::Here => {
-            let found = made(alloc, memo, siblings, all, slots, number, lo, beside, true)?;
+            let found = made(
+                alloc, limit, memo, siblings, all, slots, number, lo, beside, true,
+            )?;
             Ok(found)
         }
         Wanted::Captures => {
-            let found = made(alloc, memo, siblings, all, slots, number, lo, beside, false)?;
+            let found = made(
+                alloc, limit, memo, siblings, all, slots, number, lo, beside, false,
+            )?;
             let ways = bare(alloc, found)?;
             Ok(ways)
         }
@@ -465,6 +506,7 @@ fn told(
 #[cycle(ways)]
 fn ways(
     alloc: Global,
+    limit: &mut Limit,
     memo: &mut HashMap<Key, List<Placing>>,
     siblings: &Siblings,
     all: &[Slot],
@@ -476,10 +518,10 @@ fn ways(
 ) -> Result<Vec<Placing>, AllocError>
     requires few { number + length slots.now < 2 ^ 64 }
     requires slots { slots.now ≡ drop number all.now }
-    requires memo { IsMemo siblings.now all.now (get key_eq memo.now) }
-    ensures ways { IfOk result (λ v. (f : Way) → Contains v.items f
-        ↔ Told wanted lo (WaysOf siblings.now slots.now number lo beside) f) }
-    ensures memo { OnOk result (IsMemo siblings.now all.now (get key_eq memo.new)) }
+    requires memo { IsMemo siblings.now all.now limit.now.cut (get key_eq memo.now) }
+    ensures ways { IfOk result (λ v. Finds (Told wanted lo (WaysOf siblings.now slots.now number lo beside))
+        limit.old.cut limit.new.cut v.items) }
+    ensures memo { OnOk result (IsMemo siblings.now all.now limit.new.cut (get key_eq memo.new)) }
 {
     let key = Key {
         number,
@@ -491,7 +533,7 @@ fn ways(
         return Ok(found);
     }
     let found = told(
-        alloc, memo, siblings, all, slots, number, lo, beside, wanted,
+        alloc, limit, memo, siblings, all, slots, number, lo, beside, wanted,
     )?;
     remember(alloc, memo, key, found.as_slice())?;
     Ok(found)
@@ -505,15 +547,18 @@ fn ways(
 /// `AllocError` where memory is wanting.
 pub(crate) fn embeddings(
     alloc: Global,
+    limit: &mut Limit,
     siblings: &Siblings,
     slots: &[Slot],
 ) -> Result<Vec<Placing>, AllocError>
     requires few { length slots.now < 2 ^ 64 }
-    ensures { IfOk result (λ v. (f : Way) → Contains v.items f ↔ IsWay (Takes siblings.now.table) siblings.now.named siblings.now.closed slots.now 0 0 true f) }
+    ensures { IfOk result (λ v. Finds (WaysOf siblings.now slots.now 0 0 true)
+        limit.old.cut limit.new.cut v.items) }
 {
     let mut memo = HashMap::new(alloc);
     let found = ways(
         alloc,
+        limit,
         &mut memo,
         siblings,
         slots,

@@ -1,11 +1,12 @@
 //! The matches of a pattern of one plain item: a node that fails at its first test takes no memory.
 ghost use Rattle.std.specs.Prelude.{◌≡◌, ◌∷◌, [], IfSome, IsTrue, OnOk, false};
 ghost use Rattle.ts_search.specs.Adding.{OfSome};
-ghost use Rattle.ts_search.specs.Gathering.{Gathers};
+ghost use Rattle.ts_search.specs.Gathering.{Gathers, GathersSome};
 ghost use Rattle.ts_search.specs.Single.{HitAt, HitsAt, IsSingle};
 
 use crate::gathering::{in_order, put_kept};
 use crate::keep::Keep;
+use crate::limit::Limit;
 use crate::sight::Sight;
 use crate::taking::{item_ways, slot};
 use spec_matches::{Capture, Match, one_order};
@@ -83,6 +84,7 @@ fn add_ways<K: Keep>(
 /// Adds the matches at a node that an item takes.
 fn add_taken<K: Keep>(
     alloc: Global,
+    limit: &mut Limit,
     out: &mut BTreeSet<Match>,
     keep: &K,
     sight: &Sight,
@@ -90,10 +92,10 @@ fn add_taken<K: Keep>(
     item: &Item,
     n: u32,
 ) -> Result<(), AllocError>
-    ensures { OnOk result (Gathers (HitsAt sight.now (K.kept keep.now) pattern item.now n)
-        out.old out.new) }
+    ensures { OnOk result (GathersSome (HitsAt sight.now (K.kept keep.now) pattern item.now n)
+        limit.old.cut limit.new.cut out.old out.new) }
 {
-    let ways = item_ways(alloc, sight, item, 0, n)?;
+    let ways = item_ways(alloc, limit, sight, item, 0, n)?;
     add_ways(alloc, out, keep, pattern, n, ways.as_slice())?;
     Ok(())
 }
@@ -101,6 +103,7 @@ fn add_taken<K: Keep>(
 /// Adds the matches at each of some siblings that an item takes.
 pub(crate) fn add_single<K: Keep>(
     alloc: Global,
+    limit: &mut Limit,
     out: &mut BTreeSet<Match>,
     keep: &K,
     sight: &Sight,
@@ -108,11 +111,11 @@ pub(crate) fn add_single<K: Keep>(
     item: &Item,
     siblings: &[u32],
 ) -> Result<(), AllocError>
-    ensures { OnOk result (Gathers (OfSome (HitsAt sight.now (K.kept keep.now) pattern item.now)
-        siblings.now) out.old out.new) }
+    ensures { OnOk result (GathersSome (OfSome (HitsAt sight.now (K.kept keep.now) pattern item.now)
+        siblings.now) limit.old.cut limit.new.cut out.old out.new) }
 {
     for n in siblings {
-        add_taken(alloc, out, keep, sight, pattern, item, *n)?;
+        add_taken(alloc, limit, out, keep, sight, pattern, item, *n)?;
     }
     Ok(())
 }

@@ -1,6 +1,6 @@
 //! What items take: an item and nodes go in, and the captures of each way in which it takes them
 //! come out.
-ghost use Rattle.std.specs.Prelude.{◌≡◌, ◌↔◌, ℕ, ◌∷◌, [], ◌<◌, IsTrue, IfOk, OnOk, true, map, length, Some, slice_get, List as Values};
+ghost use Rattle.std.specs.Prelude.{◌≡◌, ◌↔◌, ◌^◌, ℕ, ◌∷◌, [], ◌<◌, IsTrue, IfOk, OnOk, true, map, length, Some, slice_get, List as Values};
 ghost use Rattle.std.specs.List.{Contains};
 ghost use Rattle.ts_query_syntax.specs.declared.read_query.Test.TheVariants as tests;
 ghost use Rattle.ts_query_syntax.specs.declared.read_query.Item.TheViews.{out-Item};
@@ -9,10 +9,12 @@ ghost use Rattle.spec_matches.specs.declared.placing.Placing.{Placing as Way};
 ghost use Rattle.spec_matches.specs.Embedding.{IsWay};
 ghost use Rattle.spec_matches.specs.Taking.{Embedded, NoneHas};
 ghost use Rattle.spec_matches.specs.Taking as of_spec;
-ghost use Rattle.ts_search.specs.Adding.{Adds, OfSome};
+ghost use Rattle.ts_search.specs.Adding.{Adds, Yields};
+ghost use Rattle.ts_search.specs.Memory.{WaysOf};
 ghost use Rattle.ts_search.specs.Rows.{seen_row};
-ghost use Rattle.ts_search.specs.Ways.{AreRowsOf, AreWays, HasOne, InsideOf, IsRow, IsTable, PassesOf, PlainOf, TakenOf, size_of, slot_of};
+ghost use Rattle.ts_search.specs.Ways.{AnyTakes, HasOne, HasRow, HasRows, HasTable, InsideOf, ItemTakes, PassesOf, PlainOf, TakenOf, size_of, slot_of};
 
+use crate::limit::Limit;
 use crate::once::{captures_of, once_each};
 use crate::products::add_front;
 use crate::row::Row;
@@ -169,25 +171,82 @@ fn is_round(test: Test) -> bool
     }
 }
 
+/// Whether there is no embedding.
+fn are_none(found: &[Placing]) -> bool
+    ensures { IsTrue result ↔ (found.now ≡ []) }
+{
+    found.is_empty()
+}
+
+/// The full embeddings of items in siblings, however many there are.
+fn all_embeddings(
+    alloc: Global,
+    siblings: &Siblings,
+    slots: &[Slot],
+) -> Result<Vec<Placing>, AllocError>
+    requires few { length slots.now < 2 ^ 64 }
+    ensures { IfOk result (λ found. (f : Way)
+        → Contains found.items f ↔ WaysOf siblings.now slots.now 0 0 true f) }
+{
+    let mut limit = Limit {
+        most: usize::MAX,
+        cut: false,
+    };
+    let found = embeddings(alloc, &mut limit, siblings, slots)?;
+    if limit.cut {
+        return Err(AllocError);
+    }
+    Ok(found)
+}
+
+/// Full embeddings of items in siblings. Where there are too many, some may be left out.
+fn embedded(
+    alloc: Global,
+    limit: &mut Limit,
+    siblings: &Siblings,
+    slots: &[Slot],
+) -> Result<Vec<Placing>, AllocError>
+    requires few { length slots.now < 2 ^ 64 }
+    ensures { IfOk result (λ found. Yields (WaysOf siblings.now slots.now 0 0 true)
+        limit.old.cut limit.new.cut found.items) }
+{
+    let mut own = Limit {
+        most: limit.most,
+        cut: false,
+    };
+    let found = embeddings(alloc, &mut own, siblings, slots)?;
+    if !own.cut {
+        return Ok(found);
+    }
+    if are_none(found.as_slice()) {
+        let all = all_embeddings(alloc, siblings, slots)?;
+        return Ok(all);
+    }
+    limit.cut = true;
+    Ok(found)
+}
+
 /// The captures of each way in which an item takes a node at a place in its round.
 #[cycle(taking)]
 pub(crate) fn item_ways(
     alloc: Global,
+    limit: &mut Limit,
     sight: &Sight,
     item: &Item,
     at: usize,
     n: u32,
 ) -> Result<Vec<List<Capture>>, AllocError>
-    ensures { IfOk result (λ ways. AreWays sight.now item.now at n ways.items) }
+    ensures { IfOk result (λ ways. Yields (ItemTakes sight.now item.now at n)
+        limit.old.cut limit.new.cut ways.items) }
 {
     if is_round(item.test) {
-        let ways = part_ways(alloc, sight, item.parts.as_slice(), at, n)?;
+        let ways = part_ways(alloc, limit, sight, item.parts.as_slice(), at, n)?;
         return Ok(ways);
     }
     if at > 0 {
         return Ok(Vec::new(alloc));
     }
-    let ways = plain_ways(alloc, sight, item, n)?;
+    let ways = plain_ways(alloc, limit, sight, item, n)?;
     Ok(ways)
 }
 
@@ -195,18 +254,19 @@ pub(crate) fn item_ways(
 #[cycle(taking)]
 fn part_ways(
     alloc: Global,
+    limit: &mut Limit,
     sight: &Sight,
     parts: &[Item],
     at: usize,
     n: u32,
 ) -> Result<Vec<List<Capture>>, AllocError>
-    ensures { IfOk result (λ ways. (c : Values Mark)
-        → Contains ways.items c ↔ TakenOf sight.now parts.now at 0 n c) }
+    ensures { IfOk result (λ ways. Yields (TakenOf sight.now parts.now at 0 n)
+        limit.old.cut limit.new.cut ways.items) }
 {
     if at >= parts.len() {
         return Ok(Vec::new(alloc));
     }
-    let ways = item_ways(alloc, sight, &parts[at], 0, n)?;
+    let ways = item_ways(alloc, limit, sight, &parts[at], 0, n)?;
     Ok(ways)
 }
 
@@ -214,12 +274,13 @@ fn part_ways(
 #[cycle(taking)]
 fn plain_ways(
     alloc: Global,
+    limit: &mut Limit,
     sight: &Sight,
     item: &Item,
     n: u32,
 ) -> Result<Vec<List<Capture>>, AllocError>
-    ensures { IfOk result (λ ways. (c : Values Mark)
-        → Contains ways.items c ↔ PlainOf sight.now item.now n c) }
+    ensures { IfOk result (λ ways. Yields (PlainOf sight.now item.now n)
+        limit.old.cut limit.new.cut ways.items) }
 {
     let Some(row) = sight.row(n) else {
         return Ok(Vec::new(alloc));
@@ -227,7 +288,7 @@ fn plain_ways(
     if !has_field(item.field, row) {
         return Ok(Vec::new(alloc));
     }
-    let inner = passing(alloc, sight, item, n, row)?;
+    let inner = passing(alloc, limit, sight, item, n, row)?;
     if is_none(inner.as_slice()) {
         return Ok(inner);
     }
@@ -241,14 +302,15 @@ fn plain_ways(
 #[cycle(taking)]
 fn passing(
     alloc: Global,
+    limit: &mut Limit,
     sight: &Sight,
     item: &Item,
     n: u32,
     row: Row,
 ) -> Result<Vec<List<Capture>>, AllocError>
     requires { slice_get sight.now.nodes n ≡ Some (seen_row row) }
-    ensures { IfOk result (λ ways. (c : Values Mark) → Contains ways.items c
-        ↔ PassesOf sight.now item.now (out-Item item.now).test n (seen_row row.entry) c) }
+    ensures { IfOk result (λ ways. Yields (PassesOf sight.now item.now (out-Item item.now).test n (seen_row row.entry))
+        limit.old.cut limit.new.cut ways.items) }
 {
     match item.test {
         Test::Any => {
@@ -259,18 +321,18 @@ fn passing(
             if !row.named {
                 return Ok(Vec::new(alloc));
             }
-            let ways = inside(alloc, sight, item, n)?;
+            let ways = inside(alloc, limit, sight, item, n)?;
             Ok(ways)
         }
         Test::Kind(kind) => {
             if !sight.is_of_kind(kind, row) {
                 return Ok(Vec::new(alloc));
             }
-            let ways = inside(alloc, sight, item, n)?;
+            let ways = inside(alloc, limit, sight, item, n)?;
             Ok(ways)
         }
         Test::Choice => {
-            let ways = choices(alloc, sight, item.parts.as_slice(), n)?;
+            let ways = choices(alloc, limit, sight, item.parts.as_slice(), n)?;
             Ok(ways)
         }
         Test::Round => Ok(Vec::new(alloc)),
@@ -281,13 +343,14 @@ fn passing(
 #[cycle(taking)]
 fn inside(
     alloc: Global,
+    limit: &mut Limit,
     sight: &Sight,
     item: &Item,
     n: u32,
 ) -> Result<Vec<List<Capture>>, AllocError>
     requires { n < length sight.now.nodes }
-    ensures { IfOk result (λ ways. (c : Values Mark)
-        → Contains ways.items c ↔ InsideOf sight.now item.now n c) }
+    ensures { IfOk result (λ ways. Yields (InsideOf sight.now item.now n)
+        limit.old.cut limit.new.cut ways.items) }
 {
     let children = sight.children(alloc, n)?;
     if !none_has(sight, item.without.as_slice(), children.as_slice()) {
@@ -295,6 +358,7 @@ fn inside(
     }
     let found = fully(
         alloc,
+        limit,
         sight,
         item.parts.as_slice(),
         item.closed,
@@ -308,16 +372,17 @@ fn inside(
 #[cycle(taking)]
 fn choices(
     alloc: Global,
+    limit: &mut Limit,
     sight: &Sight,
     branches: &[Item],
     n: u32,
 ) -> Result<Vec<List<Capture>>, AllocError>
-    ensures { IfOk result (λ ways. (c : Values Mark)
-        → Contains ways.items c ↔ ((k : ℕ) × TakenOf sight.now branches.now k 0 n c)) }
+    ensures { IfOk result (λ ways. Yields (AnyTakes sight.now branches.now n)
+        limit.old.cut limit.new.cut ways.items) }
 {
     let mut out = Vec::new(alloc);
     for branch in branches {
-        let more = item_ways(alloc, sight, branch, 0, n)?;
+        let more = item_ways(alloc, limit, sight, branch, 0, n)?;
         add_all(&mut out, more)?;
     }
     Ok(out)
@@ -327,16 +392,17 @@ fn choices(
 #[cycle(taking)]
 fn row(
     alloc: Global,
+    limit: &mut Limit,
     sight: &Sight,
     item: &Item,
     at: usize,
     siblings: &[u32],
 ) -> Result<List<List<List<Capture>>>, AllocError>
-    ensures { IfOk result (λ row. IsRow sight.now item.now at siblings.now row) }
+    ensures { IfOk result (λ row. HasRow sight.now item.now at siblings.now limit.old.cut limit.new.cut row) }
 {
     let mut out = Vec::with_capacity(alloc, siblings.len())?;
     for n in siblings {
-        let ways = item_ways(alloc, sight, item, at, *n)?;
+        let ways = item_ways(alloc, limit, sight, item, at, *n)?;
         out.push(List::from_vec(ways))?;
     }
     Ok(List::from_vec(out))
@@ -346,15 +412,16 @@ fn row(
 #[cycle(taking)]
 fn rows(
     alloc: Global,
+    limit: &mut Limit,
     sight: &Sight,
     item: &Item,
     siblings: &[u32],
 ) -> Result<List<List<List<List<Capture>>>>, AllocError>
-    ensures { IfOk result (λ rows. AreRowsOf sight.now siblings.now item.now rows) }
+    ensures { IfOk result (λ rows. HasRows sight.now siblings.now item.now limit.old.cut limit.new.cut rows) }
 {
     let mut out = Vec::new(alloc);
     for at in 0..round_size(item) {
-        let row = row(alloc, sight, item, at, siblings)?;
+        let row = row(alloc, limit, sight, item, at, siblings)?;
         out.push(row)?;
     }
     Ok(List::from_vec(out))
@@ -375,15 +442,16 @@ fn round_size(item: &Item) -> usize
 #[cycle(taking)]
 fn table(
     alloc: Global,
+    limit: &mut Limit,
     sight: &Sight,
     items: &[Item],
     siblings: &[u32],
 ) -> Result<List<List<List<List<List<Capture>>>>>, AllocError>
-    ensures { IfOk result (λ table. IsTable sight.now siblings.now items.now table) }
+    ensures { IfOk result (λ table. HasTable sight.now siblings.now items.now limit.old.cut limit.new.cut table) }
 {
     let mut out = Vec::with_capacity(alloc, items.len())?;
     for item in items {
-        let rows = rows(alloc, sight, item, siblings)?;
+        let rows = rows(alloc, limit, sight, item, siblings)?;
         out.push(rows)?;
     }
     Ok(List::from_vec(out))
@@ -393,15 +461,17 @@ fn table(
 #[cycle(taking)]
 pub(crate) fn fully(
     alloc: Global,
+    limit: &mut Limit,
     sight: &Sight,
     items: &[Item],
     closed: bool,
     siblings: &[u32],
 ) -> Result<Vec<Placing>, AllocError>
-    ensures { IfOk result (λ found. (f : Way)
-        → Contains found.items f ↔ Embedded sight.now items.now closed siblings.now f) }
+    ensures { IfOk result (λ found. Yields (Embedded sight.now items.now closed siblings.now)
+        limit.old.cut limit.new.cut found.items) }
 {
-    let table = table(alloc, sight, items, siblings)?;
+    let cut = limit.cut;
+    let table = table(alloc, limit, sight, items, siblings)?;
     let named = sight.nameds(alloc, siblings)?;
     let slots = slots(alloc, items)?;
     let all = Siblings {
@@ -409,6 +479,10 @@ pub(crate) fn fully(
         named,
         closed,
     };
-    let found = embeddings(alloc, &all, slots.as_slice())?;
+    let found = embedded(alloc, limit, &all, slots.as_slice())?;
+    if are_none(found.as_slice()) {
+        limit.cut = cut;
+        return Ok(found);
+    }
     Ok(found)
 }

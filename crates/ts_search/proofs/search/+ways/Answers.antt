@@ -1,28 +1,29 @@
-use Rattle.std.proofs.Common.{arith, sym, subst, List, ◌↔◌}
-use Rattle.std.specs.List.{Contains}
+use Rattle.std.proofs.Common.{arith, sym, [], ◌∷◌, ◌∙◌}
 use Rattle.std.specs.HashMap.{get}
-use Rattle.spec_matches.specs.declared.placing.Slot.{Slot}
 use Rattle.ts_search.specs.declared.stand.Key.{Key}
 use Rattle.ts_search.specs.declared.stand.Stand.{Stand}
-use Rattle.ts_search.specs.declared.stand.Wanted.{Wanted}
-use Rattle.ts_search.specs.Memory.{Begun, Told, WaysOf, key_eq}
-use Rattle.ts_search.proofs.HeadLemmas.{adds_first, adds_head_none, adds_head_run, adds_no_run, below_all, below_more, late_first, no_anchor, no_items, no_rounds, none_first, placed_of, told_bare, told_here, up_to_all, up_to_more}
-use Rattle.ts_search.proofs.RunLemmas.{not_false}
-use Rattle.ts_search.proofs.MemoLemmas.{exact_at, exact_of, memo_more, rest_is}
+use Rattle.ts_search.specs.declared.stand.Wanted.TheVariants.{All, Captures, Here}
+use Rattle.ts_search.specs.Memory.{Begun, WaysOf, key_eq}
+use Rattle.ts_search.specs.Steps.{HeadFrom, HeadNone, HeadTaken}
+use Rattle.ts_search.proofs.GainLemmas.{finds_exact, gains_exact, late}
+use Rattle.ts_search.proofs.HeadLemmas.{adds_first, adds_head_none, adds_head_run, adds_no_head, adds_no_run, begun_at, below_all, below_more, below_none, below_part, late_first, no_anchor, no_items, no_rounds, none_first, placed_of, told_all, told_at, told_bare, told_here, up_to_all, up_to_more, up_to_none, up_to_part}
+use Rattle.ts_search.proofs.RunLemmas.{not_false, not_true}
+use Rattle.ts_search.proofs.MemoLemmas.{exact_at, exact_of, memo_later, memo_more, rest_is}
 use Rattle.ts_search.proofs.search.+ways.Goals as goal
 
 pub add_at-returns-then-not-any_stays-clause-adds : goal.add_at-returns-then-not-any_stays-clause-adds
 add_at-returns-then-not-any_stays-clause-adds t c =
-    adds_no_run c.args.siblings.now c.args.rest.now c.args.at c.args.run c.wanted_after-wanted.result c.wanted_after-wanted.ensures c.in_ok-tails.tails.items c.in_ok-tails.ensures.ways c.requires.place _
+    adds_no_run c.args.siblings.now c.args.rest.now c.args.at c.args.run c.wanted_after-wanted.result c.wanted_after-wanted.ensures _ _ c.in_ok-tails.tails.items c.in_ok-tails.ensures.ways c.requires.place _
     (λ h. let y = (rw c.as_slice.ensures.value at c.any_stays.ensures).1 h in let f = c.if-not-any_stays.true in cc)
 
 pub add_at-returns-clause-adds : goal.add_at-returns-clause-adds
 add_at-returns-clause-adds t c =
-    adds_head_run c.args.siblings.now c.args.rest.now c.args.at c.args.run c.wanted_after-wanted.result c.wanted_after-wanted.ensures c.in_ok-tails.tails.items c.in_ok-tails.ensures.ways c.requires.place
-    c.in_ok-fronts.fronts.items _ _ (rw c.as_slice-2.ensures at c.in_ok-fronts.ensures) (rw c.as_slice-3.ensures.value at (rw c.as_slice-4.ensures.value at c.in_ok-add_runs.ensures))
+    adds_head_run c.args.siblings.now c.args.rest.now c.args.at c.args.run c.wanted_after-wanted.result c.wanted_after-wanted.ensures _ _ c.in_ok-tails.tails.items c.in_ok-tails.ensures.ways c.requires.place
+    _ _ c.in_ok-fronts.fronts.items _ _ (rw c.as_slice-2.ensures at c.in_ok-fronts.ensures) (rw c.as_slice-3.ensures.value at (rw c.as_slice-4.ensures.value at c.in_ok-add_runs.ensures))
 
 pub add_last-returns-then-not-are_rounds-clause-adds : goal.add_last-returns-then-not-are_rounds-clause-adds
-add_last-returns-then-not-are_rounds-clause-adds t c = no_rounds c.args.siblings.now c.args.rest.now c.args.at c.args.run _ (λ h. let t = c.are_rounds.ensures.1 h in let f = c.if-not-are_rounds.true in cc)
+add_last-returns-then-not-are_rounds-clause-adds t c =
+    gains_exact (HeadTaken c.args.siblings.now c.args.rest.now c.args.at c.args.run) _ _ _ (no_rounds c.args.siblings.now c.args.rest.now c.args.at c.args.run _ (λ h. let t = c.are_rounds.ensures.1 h in let f = c.if-not-are_rounds.true in cc))
 
 pub runs_from-add_last-requires : goal.runs_from-add_last-requires
 runs_from-add_last-requires t c = (
@@ -30,25 +31,29 @@ runs_from-add_last-requires t c = (
   (
     λ rounds. placed_of c.args.siblings.now c.args.rest.now c.args.at c.args.first c.loop-last.last c.reach-end.result c.requires.after c.loop-last.auto.last c.loop-last-test.true c.reach-end.ensures
         c.requires.anchored rounds,
-    (omega (arith, c.loop-last.auto.last), (c.requires.few, (c.requires.rest, c.loop-last.invariant.memo))),
+    (
+      omega (arith, c.loop-last.auto.last),
+      (c.requires.few, (c.requires.rest, memo_later c.args.siblings.now c.args.all.now _ _ _ (λ e. sym (c.stops.ensures.goes_on c.if-stops.false) ∙ e) c.loop-last.invariant.memo)),
+    ),
   ),
 )
 
 pub runs_from-loop-last-preserved : goal.runs_from-loop-last-preserved
 runs_from-loop-last-preserved t c = record {
-  adds = up_to_more c.args.siblings.now c.args.rest.now c.args.at c.args.first c.loop-last.last _ _ _ c.loop-last.invariant.adds c.in_ok-add_last.ensures.adds;
+  adds = up_to_more c.args.siblings.now c.args.rest.now c.args.at c.args.first c.loop-last.last _ _ _ _ _ _ _ (c.stops.ensures.goes_on c.if-stops.false) c.loop-last.invariant.adds c.in_ok-add_last.ensures.adds;
   memo = c.in_ok-add_last.ensures.memo;
 }
 
 pub runs_from-returns-clause-all : goal.runs_from-returns-clause-all
-runs_from-returns-clause-all t c = up_to_all c.args.siblings.now c.args.rest.now c.args.at c.args.first c.loop-last.last c.reach-end.result _ _ (omega (arith, c.loop-last-test.false)) c.reach-end.ensures c.loop-last.invariant.adds
+runs_from-returns-clause-all t c = up_to_all c.args.siblings.now c.args.rest.now c.args.at c.args.first c.loop-last.last c.reach-end.result _ _ _ (omega (arith, c.loop-last-test.false)) c.reach-end.ensures c.loop-last.invariant.adds
 
 pub add_first-returns-then-begins_late-clause-adds : goal.add_first-returns-then-begins_late-clause-adds
-add_first-returns-then-begins_late-clause-adds t c = late_first c.args.siblings.now c.args.rest.now c.args.at c.args.first _ (c.begins_late.ensures.0 c.if-begins_late.true)
+add_first-returns-then-begins_late-clause-adds t c =
+    gains_exact (HeadFrom c.args.siblings.now c.args.rest.now c.args.at c.args.first) _ _ _ (late_first c.args.siblings.now c.args.rest.now c.args.at c.args.first _ (c.begins_late.ensures.0 c.if-begins_late.true))
 
 pub add_first-returns-then-not-is_anchored-clause-adds : goal.add_first-returns-then-not-is_anchored-clause-adds
 add_first-returns-then-not-is_anchored-clause-adds t c =
-    no_anchor c.args.siblings.now c.args.rest.now c.args.at c.args.first _ (λ h. let t = (rw c.as_slice.ensures at c.is_anchored.ensures).1 h in let f = c.if-not-is_anchored.true in cc)
+    gains_exact (HeadFrom c.args.siblings.now c.args.rest.now c.args.at c.args.first) _ _ _ (no_anchor c.args.siblings.now c.args.rest.now c.args.at c.args.first _ (λ h. let t = (rw c.as_slice.ensures at c.is_anchored.ensures).1 h in let f = c.if-not-is_anchored.true in cc))
 
 pub add_first-runs_from-requires : goal.add_first-runs_from-requires
 add_first-runs_from-requires t c = (
@@ -58,31 +63,31 @@ add_first-runs_from-requires t c = (
 
 pub add_first-returns-clause-adds : goal.add_first-returns-clause-adds
 add_first-returns-clause-adds t c =
-    adds_first c.args.siblings.now c.args.rest.now c.args.at c.args.first c.in_ok-captures.captures.items c.once_each-kept.result.items _ _ c.in_ok-captures.ensures.all c.once_each-kept.ensures
+    adds_first c.args.siblings.now c.args.rest.now c.args.at c.args.first _ _ c.in_ok-captures.captures.items c.once_each-kept.result.items _ _ c.in_ok-captures.ensures.all c.once_each-kept.ensures
     (rw c.as_slice-2.ensures.value at c.in_ok-add_placed.ensures)
 
 pub add_nothing-returns-clause-adds : goal.add_nothing-returns-clause-adds
 add_nothing-returns-clause-adds t c =
-    adds_head_none c.args.siblings.now c.args.rest.now c.args.at c.args.here c.in_ok-tails.tails.items _ _ (rw c.begun.ensures at c.in_ok-tails.ensures.ways) (not_false c.args.at.slot.optional c.if-not-at.false)
+    adds_head_none c.args.siblings.now c.args.rest.now c.args.at c.args.here _ _ c.in_ok-tails.tails.items _ _ (rw c.begun.ensures at c.in_ok-tails.ensures.ways) (not_false c.args.at.slot.optional c.if-not-at.false)
     (rw c.as_slice.ensures.value at c.in_ok-add_nones.ensures)
 
 pub made-returns-in_default-clause-ways : goal.made-returns-in_default-clause-ways
-made-returns-in_default-clause-ways t c f =
-    let e = no_items c.args.slots.now c.in_default.ensures.cases in
-    subst (λ (l : List Slot). Contains c.in_ok-none.none.items f ↔ Begun c.args.here c.args.lo (WaysOf c.args.siblings.now l c.args.number c.args.lo c.args.beside) f) (sym e) (c.in_ok-none.ensures f)
+made-returns-in_default-clause-ways t c =
+    begun_at c.args.siblings.now c.args.slots.now [] c.args.number c.args.lo c.args.beside c.args.here _ _ c.in_ok-none.none.items (no_items c.args.slots.now c.in_default.ensures.cases)
+    (finds_exact (Begun c.args.here c.args.lo (WaysOf c.args.siblings.now [] c.args.number c.args.lo c.args.beside)) _ c.in_ok-none.none.items c.in_ok-none.ensures)
 
 pub made-loop-first-preserved : goal.made-loop-first-preserved
 made-loop-first-preserved t c = record {
-  adds = below_more c.args.siblings.now c.in-Some.rest.now _ c.args.here c.loop-first.first _ _ _ (c.starts_end-first-end.ensures.only c.loop-first.first c.loop-first.auto.first c.loop-first-test.true)
-      c.loop-first.invariant.adds c.in_ok-add_first.ensures.adds;
+  adds = below_more c.args.siblings.now c.in-Some.rest.now _ c.args.here c.loop-first.first _ _ _ _ _ _ _ (c.starts_end-first-end.ensures.only c.loop-first.first c.loop-first.auto.first c.loop-first-test.true)
+      (c.stops.ensures.goes_on c.if-stops.false) c.loop-first.invariant.adds c.in_ok-add_first.ensures.adds;
   memo = c.in_ok-add_first.ensures.memo;
 }
 
 pub made-returns-clause-ways : goal.made-returns-clause-ways
-made-returns-clause-ways t c f =
+made-returns-clause-ways t c =
     let at : Stand = record { slot = c.in-Some.slot.now; number = c.args.number; lo = c.args.lo; beside = c.args.beside } in
-    subst (λ (l : List Slot). Contains c.loop-first.out.items f ↔ Begun c.args.here c.args.lo (WaysOf c.args.siblings.now l c.args.number c.args.lo c.args.beside) f) (sym c.in-Some.ensures.cases.0)
-    (below_all c.args.siblings.now c.in-Some.rest.now at c.args.here c.loop-first.first c.starts_end-first-end.result c.loop-first.out.items c.loop-first-test.false c.starts_end-first-end.ensures.all c.loop-first.invariant.adds f)
+    begun_at c.args.siblings.now c.args.slots.now (c.in-Some.slot.now ∷ c.in-Some.rest.now) c.args.number c.args.lo c.args.beside c.args.here _ _ c.loop-first.out.items c.in-Some.ensures.cases.0
+    (below_all c.args.siblings.now c.in-Some.rest.now at c.args.here c.loop-first.first c.starts_end-first-end.result _ _ c.loop-first.out.items c.loop-first-test.false c.starts_end-first-end.ensures.all c.loop-first.invariant.adds)
 
 pub made-add_nothing-requires : goal.made-add_nothing-requires
 made-add_nothing-requires t c = (
@@ -97,7 +102,10 @@ made-add_first-requires t c = (
     c.loop-first.auto.first,
     (
       omega (arith, c.in-Some.ensures.cases.1, c.requires.few),
-      (rest_is c.args.all.now c.args.slots.now c.in-Some.rest.now c.in-Some.slot.now c.args.number c.requires.slots c.in-Some.ensures.cases.0, c.loop-first.invariant.memo),
+      (
+        rest_is c.args.all.now c.args.slots.now c.in-Some.rest.now c.in-Some.slot.now c.args.number c.requires.slots c.in-Some.ensures.cases.0,
+        memo_later c.args.siblings.now c.args.all.now _ _ _ (λ e. sym (c.stops.ensures.goes_on c.if-stops.false) ∙ e) c.loop-first.invariant.memo,
+      ),
     ),
   ),
 )
@@ -105,23 +113,66 @@ made-add_first-requires t c = (
 pub ways-returns-in-Some-clause-ways : goal.ways-returns-in-Some-clause-ways
 ways-returns-in-Some-clause-ways t c =
     let key : Key = record { number = c.args.number; lo = c.args.lo; beside = c.args.beside; wanted = c.args.wanted } in
-    exact_at c.args.siblings.now c.args.all.now c.args.slots.now key c.in-Some.found.items c.requires.slots (c.requires.memo key c.in-Some.found.items (rw c.in-Some.is at c.in_ok-found.ensures))
+    exact_at c.args.siblings.now c.args.all.now c.args.slots.now key _ _ c.in-Some.found.items c.requires.slots (c.requires.memo key c.in-Some.found.items (rw c.in-Some.is at c.in_ok-found.ensures))
 
 pub ways-returns-clause-memo : goal.ways-returns-clause-memo
 ways-returns-clause-memo t c =
     let key : Key = record { number = c.args.number; lo = c.args.lo; beside = c.args.beside; wanted = c.args.wanted } in
-    memo_more c.args.siblings.now c.args.all.now (get key_eq c.told.new.memo) (get key_eq c.remember.new.memo) key c.in_ok-found-2.found.items (rw c.as_slice.ensures.value at c.in_ok-remember.ensures).0
-    (exact_of c.args.siblings.now c.args.all.now c.args.slots.now key c.in_ok-found-2.found.items c.requires.slots c.in_ok-found-2.ensures.ways) c.in_ok-found-2.ensures.memo
+    memo_more c.args.siblings.now c.args.all.now c.args.limit.now.cut c.told.new.limit.cut (get key_eq c.told.new.memo) (get key_eq c.remember.new.memo) key c.in_ok-found-2.found.items (rw c.as_slice.ensures.value at c.in_ok-remember.ensures).0
+    (exact_of c.args.siblings.now c.args.all.now c.args.slots.now key c.args.limit.now.cut c.told.new.limit.cut c.in_ok-found-2.found.items c.requires.slots c.in_ok-found-2.ensures.ways) c.in_ok-found-2.ensures.memo
 
 pub told-returns-in_ok-found-in-Here-clause-ways : goal.told-returns-in_ok-found-in-Here-clause-ways
-told-returns-in_ok-found-in-Here-clause-ways t c f =
-    subst (λ (w : Wanted). Contains c.in_ok-found-in-Here.found.items f ↔ Told w c.args.lo (WaysOf c.args.siblings.now c.args.slots.now c.args.number c.args.lo c.args.beside) f) (sym c.in-Here.is)
-    (told_here c.args.lo (WaysOf c.args.siblings.now c.args.slots.now c.args.number c.args.lo c.args.beside) c.in_ok-found-in-Here.found.items c.in_ok-found-in-Here.ensures.ways f)
+told-returns-in_ok-found-in-Here-clause-ways t c =
+    told_at c.args.lo (WaysOf c.args.siblings.now c.args.slots.now c.args.number c.args.lo c.args.beside) _ _ c.in_ok-found-in-Here.found.items c.args.wanted Here c.in-Here.is
+    (told_here c.args.lo (WaysOf c.args.siblings.now c.args.slots.now c.args.number c.args.lo c.args.beside) _ _ c.in_ok-found-in-Here.found.items c.in_ok-found-in-Here.ensures.ways)
 
 pub told-returns-in_ok-ways-in-Captures-clause-ways : goal.told-returns-in_ok-ways-in-Captures-clause-ways
-told-returns-in_ok-ways-in-Captures-clause-ways t c f =
-    subst (λ (w : Wanted). Contains c.in_ok-ways-in-Captures.ways.items f ↔ Told w c.args.lo (WaysOf c.args.siblings.now c.args.slots.now c.args.number c.args.lo c.args.beside) f) (sym c.in-Captures.is)
-    (told_bare c.args.lo (WaysOf c.args.siblings.now c.args.slots.now c.args.number c.args.lo c.args.beside) c.in_ok-found-in-Captures.found.items c.in_ok-ways-in-Captures.ways.items c.in_ok-found-in-Captures.ensures.ways c.in_ok-ways-in-Captures.ensures f)
+told-returns-in_ok-ways-in-Captures-clause-ways t c =
+    told_at c.args.lo (WaysOf c.args.siblings.now c.args.slots.now c.args.number c.args.lo c.args.beside) _ _ c.in_ok-ways-in-Captures.ways.items c.args.wanted Captures c.in-Captures.is
+    (told_bare c.args.lo (WaysOf c.args.siblings.now c.args.slots.now c.args.number c.args.lo c.args.beside) _ _ c.in_ok-found-in-Captures.found.items c.in_ok-ways-in-Captures.ways.items c.in_ok-found-in-Captures.ensures.ways c.in_ok-ways-in-Captures.ensures)
 
 pub add_first-returns-then-not-begins-clause-adds : goal.add_first-returns-then-not-begins-clause-adds
-add_first-returns-then-not-begins-clause-adds t c = none_first c.args.siblings.now c.args.rest.now c.args.at c.args.first _ (λ h. let t = c.begins.ensures.1 h in let f = c.if-not-begins.true in cc)
+add_first-returns-then-not-begins-clause-adds t c =
+    gains_exact (HeadFrom c.args.siblings.now c.args.rest.now c.args.at c.args.first) _ _ _ (none_first c.args.siblings.now c.args.rest.now c.args.at c.args.first _ (λ h. let t = c.begins.ensures.1 h in let f = c.if-not-begins.true in cc))
+
+pub add_at-returns-clause-memo : goal.add_at-returns-clause-memo
+add_at-returns-clause-memo t c =
+    memo_later c.args.siblings.now c.args.all.now _ _ _ (λ e. c.in_ok-fronts.ensures.earlier (c.in_ok-add_runs.ensures.earlier e)) c.in_ok-tails.ensures.memo
+
+pub runs_from-loop-last-init : goal.runs_from-loop-last-init
+runs_from-loop-last-init t c = record {
+  adds = up_to_none c.args.siblings.now c.args.rest.now c.args.at c.args.first _ c.new-out.result.items c.new-out.ensures.items;
+  memo = c.requires.memo;
+}
+
+pub runs_from-returns-then-stops-clause-all : goal.runs_from-returns-then-stops-clause-all
+runs_from-returns-then-stops-clause-all t c = up_to_part c.args.siblings.now c.args.rest.now c.args.at c.args.first c.loop-last.last _ _ _ _ (c.stops.ensures.stops c.if-stops.true) c.loop-last.invariant.adds
+
+pub runs_from-returns-then-stops-clause-memo : goal.runs_from-returns-then-stops-clause-memo
+runs_from-returns-then-stops-clause-memo t c =
+    memo_later c.args.siblings.now c.args.all.now _ _ _ (late _ _ (c.stops.ensures.stops c.if-stops.true)) c.loop-last.invariant.memo
+
+pub add_nothing-returns-then-not-at-clause-adds : goal.add_nothing-returns-then-not-at-clause-adds
+add_nothing-returns-then-not-at-clause-adds t c =
+    gains_exact (HeadNone c.args.siblings.now c.args.rest.now c.args.at c.args.here) _ _ _ (adds_no_head c.args.siblings.now c.args.rest.now c.args.at c.args.here _ (not_true c.args.at.slot.optional c.if-not-at.true))
+
+pub made-loop-first-init : goal.made-loop-first-init
+made-loop-first-init t c = record {
+  adds = below_none c.args.siblings.now c.in-Some.rest.now _ c.args.here _ _ c.new-out.result.items _ c.new-out.ensures.items c.in_ok-add_nothing.ensures.adds;
+  memo = c.in_ok-add_nothing.ensures.memo;
+}
+
+pub made-returns-then-stops-clause-ways : goal.made-returns-then-stops-clause-ways
+made-returns-then-stops-clause-ways t c =
+    let at : Stand = record { slot = c.in-Some.slot.now; number = c.args.number; lo = c.args.lo; beside = c.args.beside } in
+    begun_at c.args.siblings.now c.args.slots.now (c.in-Some.slot.now ∷ c.in-Some.rest.now) c.args.number c.args.lo c.args.beside c.args.here _ _ c.loop-first.out.items c.in-Some.ensures.cases.0
+    (below_part c.args.siblings.now c.in-Some.rest.now at c.args.here c.loop-first.first _ _ _ c.loop-first.out.items (c.stops.ensures.stops c.if-stops.true) c.loop-first.invariant.adds)
+
+pub made-returns-then-stops-clause-memo : goal.made-returns-then-stops-clause-memo
+made-returns-then-stops-clause-memo t c =
+    memo_later c.args.siblings.now c.args.all.now _ _ _ (late _ _ (c.stops.ensures.stops c.if-stops.true)) c.loop-first.invariant.memo
+
+pub told-returns-in_ok-found-in-All-clause-ways : goal.told-returns-in_ok-found-in-All-clause-ways
+told-returns-in_ok-found-in-All-clause-ways t c =
+    told_at c.args.lo (WaysOf c.args.siblings.now c.args.slots.now c.args.number c.args.lo c.args.beside) _ _ c.in_ok-found-in-All.found.items c.args.wanted All c.in-All.is
+    (told_all c.args.lo (WaysOf c.args.siblings.now c.args.slots.now c.args.number c.args.lo c.args.beside) _ _ c.in_ok-found-in-All.found.items c.in_ok-found-in-All.ensures.ways)

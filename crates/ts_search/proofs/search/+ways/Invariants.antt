@@ -1,6 +1,6 @@
 use Rattle.std.proofs.Common.{◌*◌, ◌+◌, length, []}
 use Rattle.std.specs.HashMap.{get}
-use Rattle.ts_search.specs.Adding.{Adds}
+use Rattle.ts_search.specs.Adding.{Gains}
 use Rattle.ts_search.specs.Memory.{IsMemo, key_eq}
 use Rattle.ts_search.proofs.HeadLemmas.{HeadBelow, TakenUpTo}
 use Rattle.ts_search.proofs.search.+ways.Given as goal
@@ -30,9 +30,9 @@ abbrev pub decreases-ways : goal.decreases-ways
 decreases-ways l = 8 * length l.slots.now + 2
 
 pub record invariant-runs_from-loop-last (l : goal.Live-runs_from-loop-last) : Type 0 where
-  pub adds : Adds (TakenUpTo l.siblings l.rest l.at l.first l.last) [] l.out.items
-  pub memo : IsMemo l.siblings l.all (get key_eq l.memo)
+  pub adds : Gains (TakenUpTo l.siblings l.rest l.at l.first l.last) l.fn.limit.cut l.limit.cut [] l.out.items
+  pub memo : IsMemo l.siblings l.all l.limit.cut (get key_eq l.memo)
 
 pub record invariant-made-loop-first (l : goal.Live-made-loop-first) : Type 0 where
-  pub adds : Adds (HeadBelow l.siblings l.rest l.at l.here l.first) [] l.out.items
-  pub memo : IsMemo l.siblings l.all (get key_eq l.memo)
+  pub adds : Gains (HeadBelow l.siblings l.rest l.at l.here l.first) l.fn.limit.cut l.limit.cut [] l.out.items
+  pub memo : IsMemo l.siblings l.all l.limit.cut (get key_eq l.memo)

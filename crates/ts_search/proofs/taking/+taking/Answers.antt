@@ -2,103 +2,120 @@ use Rattle.std.proofs.Common.{arith, List, [], refl, ap, ◌∙◌, ℕ}
 use Rattle.std.proofs.lemmas.Option.{slice_get_read}
 use Rattle.spec_matches.specs.declared.found.Capture.{Capture}
 use Rattle.ts_query_syntax.specs.declared.read_query.Item.{Item}
-use Rattle.spec_matches.specs.Taking.{captured}
+use Rattle.spec_matches.specs.Taking.{Embedded, captured}
 use Rattle.ts_search.specs.Rows.{seen_row}
-use Rattle.ts_search.specs.Ways.{AreRowsOf, AreWays, IsRow, ItemTakes, size_of}
-use Rattle.ts_search.proofs.AddLemmas.{some_more, some_all, one_in, in_one}
-use Rattle.ts_search.proofs.PairLemmas.{pairs_more, pairs_more_at, pairs_all, numbered_none, numbered_more, numbered_all, fully_are}
-use Rattle.ts_search.proofs.PassLemmas.{inside_are, inside_once, not_inside, passes_any, passes_named, passes_kind, passes_choice, no_node, no_field, no_inner, plain_are, ways_round, ways_past, ways_plain, part_past, part_are, choices_are, adds_ways, before_of}
+use Rattle.ts_search.specs.Ways.{InsideOf, ItemTakes}
+use Rattle.ts_search.proofs.AddLemmas.{one_in, in_one}
+use Rattle.ts_search.proofs.PairLemmas.{fully_are, row_all, row_more, row_none, rows_all, rows_more, rows_none, table_all, table_more, table_none}
+use Rattle.ts_search.proofs.PassLemmas.{before_of, choices_are, inside_are, no_field, no_inner, no_node, not_inside, part_are, part_past, passes_any, passes_choice, passes_kind, passes_named, plain_are, ways_past, ways_plain, ways_round}
+use Rattle.ts_search.proofs.YieldLemmas.{yield_all, yield_empty, yield_more, yields_each, yields_empty}
 use Rattle.ts_search.proofs.taking.+taking.Goals as goal
 
 pub item_ways-returns-then-is_round : goal.item_ways-returns-then-is_round
-item_ways-returns-then-is_round t c = ways_round c.args.sight.now c.args.item.now c.args.n c.args.at c.in_ok-ways.ways.items (c.is_round.ensures.0 c.if-is_round.true) (rw c.as_slice.ensures at c.in_ok-ways.ensures)
+item_ways-returns-then-is_round t c = ways_round c.args.sight.now c.args.item.now c.args.n c.args.at _ _ c.in_ok-ways.ways.items (c.is_round.ensures.0 c.if-is_round.true) (rw c.as_slice.ensures at c.in_ok-ways.ensures)
 
 pub item_ways-returns-then-at-gt0 : goal.item_ways-returns-then-at-gt0
-item_ways-returns-then-at-gt0 t c = ways_past c.args.sight.now c.args.item.now c.args.n c.args.at c.new.result.items (λ h. let y = c.is_round.ensures.1 h in let f = c.if-is_round.false in cc) c.if-at-gt0.true c.new.ensures.items
+item_ways-returns-then-at-gt0 t c = ways_past c.args.sight.now c.args.item.now c.args.n c.args.at _ c.new.result.items (λ h. let y = c.is_round.ensures.1 h in let f = c.if-is_round.false in cc) c.if-at-gt0.true c.new.ensures.items
 
 pub item_ways-returns : goal.item_ways-returns
-item_ways-returns t c = ways_plain c.args.sight.now c.args.item.now c.args.n c.args.at c.in_ok-ways-2.ways.items (λ h. let y = c.is_round.ensures.1 h in let f = c.if-is_round.false in cc) (omega (arith, c.if-at-gt0.false)) c.in_ok-ways-2.ensures
+item_ways-returns t c = ways_plain c.args.sight.now c.args.item.now c.args.n c.args.at _ _ c.in_ok-ways-2.ways.items (λ h. let y = c.is_round.ensures.1 h in let f = c.if-is_round.false in cc) (omega (arith, c.if-at-gt0.false)) c.in_ok-ways-2.ensures
 
 pub part_ways-returns-then-at-parts : goal.part_ways-returns-then-at-parts
-part_ways-returns-then-at-parts t c = part_past c.args.sight.now c.args.parts.now c.args.n c.args.at c.new.result.items c.if-at-parts.true c.new.ensures.items
+part_ways-returns-then-at-parts t c = part_past c.args.sight.now c.args.parts.now c.args.n c.args.at _ c.new.result.items c.if-at-parts.true c.new.ensures.items
 
 pub part_ways-returns : goal.part_ways-returns
-part_ways-returns t c = part_are c.args.sight.now c.args.parts.now c.args.n c.args.at c.index-parts-at.result c.in_ok-ways.ways.items (slice_get_read c.args.parts.now _ c.args.at c.index-parts-at.result refl (omega (arith, c.if-at-parts.false)) c.index-parts-at.is) c.in_ok-ways.ensures
+part_ways-returns t c = part_are c.args.sight.now c.args.parts.now c.args.n c.args.at c.index-parts-at.result _ _ c.in_ok-ways.ways.items (slice_get_read c.args.parts.now _ c.args.at c.index-parts-at.result refl (omega (arith, c.if-at-parts.false)) c.index-parts-at.is) c.in_ok-ways.ensures
 
 pub plain_ways-returns-in_default : goal.plain_ways-returns-in_default
-plain_ways-returns-in_default t c = no_node c.args.sight.now c.args.item.now c.args.n c.new.result.items c.new.ensures.items c.in_default.ensures
+plain_ways-returns-in_default t c = no_node c.args.sight.now c.args.item.now c.args.n _ c.new.result.items c.new.ensures.items c.in_default.ensures
 
 pub plain_ways-returns-then-not-has_field : goal.plain_ways-returns-then-not-has_field
-plain_ways-returns-then-not-has_field t c = no_field c.args.sight.now c.args.item.now c.args.n (seen_row c.in-Some.row) c.new-then-not-has_field.result.items c.new-then-not-has_field.ensures.items c.in-Some.ensures (λ h. let y = c.has_field.ensures.1 h in let f = c.if-not-has_field.true in cc)
+plain_ways-returns-then-not-has_field t c = no_field c.args.sight.now c.args.item.now c.args.n (seen_row c.in-Some.row) _ c.new-then-not-has_field.result.items c.new-then-not-has_field.ensures.items c.in-Some.ensures (λ h. let y = c.has_field.ensures.1 h in let f = c.if-not-has_field.true in cc)
 
 pub plain_ways-returns-then-is_none : goal.plain_ways-returns-then-is_none
-plain_ways-returns-then-is_none t c = no_inner c.args.sight.now c.args.item.now c.args.n (seen_row c.in-Some.row) c.in_ok-inner.inner.items [] c.in-Some.ensures c.in_ok-inner.ensures ((rw c.as_slice.ensures.value at c.is_none.ensures).0 c.if-is_none.true)
+plain_ways-returns-then-is_none t c = no_inner c.args.sight.now c.args.item.now c.args.n (seen_row c.in-Some.row) _ _ c.in_ok-inner.inner.items c.in-Some.ensures c.in_ok-inner.ensures ((rw c.as_slice.ensures.value at c.is_none.ensures).0 c.if-is_none.true)
 
 pub plain_ways-returns : goal.plain_ways-returns
-plain_ways-returns t c = plain_are c.args.sight.now c.args.item.now c.args.n (seen_row c.in-Some.row) c.in_ok-inner.inner.items c.add_front.new.out.items c.in-Some.ensures c.in_ok-inner.ensures (c.has_field.ensures.0 c.if-not-has_field.false)
+plain_ways-returns t c = plain_are c.args.sight.now c.args.item.now c.args.n (seen_row c.in-Some.row) _ _ c.in_ok-inner.inner.items c.in-Some.ensures c.in_ok-inner.ensures c.add_front.new.out.items (c.has_field.ensures.0 c.if-not-has_field.false)
     (before_of _ _ _ _ _ _ c.as_slice-4.ensures.value (c.as_slice-3.ensures.value ∙ c.in_ok-own.ensures ∙ ap (λ (l : List ℕ). captured l c.args.n (seen_row c.in-Some.row)) c.as_slice-2.ensures) c.new-ways.ensures.items c.in_ok-add_front.ensures)
 
 pub passing-returns-in_ok-ways-in-Any : goal.passing-returns-in_ok-ways-in-Any
-passing-returns-in_ok-ways-in-Any t c = passes_any c.args.sight.now c.args.item.now c.args.n (seen_row c.args.row) c.in_ok-ways-in-Any.ways.items c.in-Any.is
+passing-returns-in_ok-ways-in-Any t c = passes_any c.args.sight.now c.args.item.now c.args.n (seen_row c.args.row) _ c.in_ok-ways-in-Any.ways.items c.in-Any.is
     (λ x. ((λ h. one_in [] x (rw c.in_ok-ways-in-Any.ensures at h)), (λ h. rw c.in_ok-ways-in-Any.ensures (in_one [] x h))))
 
 pub passing-returns-in_ok-ways-in-Named : goal.passing-returns-in_ok-ways-in-Named
-passing-returns-in_ok-ways-in-Named t c = passes_named c.args.sight.now c.args.item.now c.args.n (seen_row c.args.row) c.in_ok-ways-in-Named.ways.items c.in-Named.is c.if-not-row.false c.in_ok-ways-in-Named.ensures
+passing-returns-in_ok-ways-in-Named t c = passes_named c.args.sight.now c.args.item.now c.args.n (seen_row c.args.row) _ _ c.in_ok-ways-in-Named.ways.items c.in-Named.is c.if-not-row.false c.in_ok-ways-in-Named.ensures
 
 pub passing-returns-in_ok-ways-in-Kind : goal.passing-returns-in_ok-ways-in-Kind
-passing-returns-in_ok-ways-in-Kind t c = passes_kind c.args.sight.now c.args.item.now c.args.n (seen_row c.args.row) c.in_ok-ways-in-Kind.ways.items c.in-Kind.kind c.in-Kind.is (c.is_of_kind.ensures.0 c.if-not-is_of_kind.false) c.in_ok-ways-in-Kind.ensures
+passing-returns-in_ok-ways-in-Kind t c = passes_kind c.args.sight.now c.args.item.now c.args.n (seen_row c.args.row) _ _ c.in_ok-ways-in-Kind.ways.items c.in-Kind.kind c.in-Kind.is (c.is_of_kind.ensures.0 c.if-not-is_of_kind.false) c.in_ok-ways-in-Kind.ensures
 
 pub passing-returns-in_ok-ways-in-Choice : goal.passing-returns-in_ok-ways-in-Choice
-passing-returns-in_ok-ways-in-Choice t c = passes_choice c.args.sight.now c.args.item.now c.args.n (seen_row c.args.row) c.in_ok-ways-in-Choice.ways.items c.in-Choice.is (rw c.as_slice.ensures at c.in_ok-ways-in-Choice.ensures)
+passing-returns-in_ok-ways-in-Choice t c = passes_choice c.args.sight.now c.args.item.now c.args.n (seen_row c.args.row) _ _ c.in_ok-ways-in-Choice.ways.items c.in-Choice.is (rw c.as_slice.ensures at c.in_ok-ways-in-Choice.ensures)
 
 pub inside-returns-then-not-none_has : goal.inside-returns-then-not-none_has
 inside-returns-then-not-none_has t c =
-    not_inside c.args.sight.now c.args.item.now c.args.n c.in_ok-children.children.items c.new.result.items c.new.ensures.items c.in_ok-children.ensures
+    not_inside c.args.sight.now c.args.item.now c.args.n c.in_ok-children.children.items c.in_ok-children.ensures _ c.new.result.items c.new.ensures.items
     (λ h. let y = (rw c.as_slice.ensures at (rw c.as_slice-2.ensures.value at c.none_has.ensures)).1 h in let f = c.if-not-none_has.true in cc)
 
 pub inside-returns : goal.inside-returns
 inside-returns t c =
-    inside_once c.args.sight.now c.args.item.now c.args.n c.in_ok-ways.ways.items c.once_each.result.items c.once_each.ensures
-    (inside_are c.args.sight.now c.args.item.now c.args.n c.in_ok-children.children.items c.in_ok-found.found.items c.in_ok-ways.ways.items c.in_ok-children.ensures
+    yields_each (InsideOf c.args.sight.now c.args.item.now c.args.n) _ _ c.in_ok-ways.ways.items c.once_each.result.items
+    (inside_are c.args.sight.now c.args.item.now c.args.n c.in_ok-children.children.items c.in_ok-children.ensures _ _ c.in_ok-found.found.items c.in_ok-ways.ways.items
     ((rw c.as_slice.ensures at (rw c.as_slice-2.ensures.value at c.none_has.ensures)).0 c.if-not-none_has.false)
     (rw c.as_slice-3.ensures at (rw c.as_slice-4.ensures.value at c.in_ok-found.ensures)) c.in_ok-ways.ensures)
+    c.once_each.ensures
+
+pub choices-loop-branch-init : goal.choices-loop-branch-init
+choices-loop-branch-init t c = yield_empty (λ (i : Item) (cs : List Capture). ItemTakes c.args.sight.now i 0 c.args.n cs) _ c.new-out.result.items c.new-out.ensures.items
 
 pub choices-loop-branch-preserved : goal.choices-loop-branch-preserved
 choices-loop-branch-preserved t c =
-    some_more (λ (i : Item) (cs : List Capture). ItemTakes c.args.sight.now i 0 c.args.n cs) c.args.branches.now c.loop-branch.branch-index c.branch-item.result _ _ _ c.loop-branch-test.true c.branch-item.is c.loop-branch.invariant
-    (adds_ways c.args.sight.now c.branch-item.result c.args.n c.in_ok-more.more.items _ _ c.in_ok-more.ensures c.in_ok-add_all.ensures)
+    yield_more (λ (i : Item) (cs : List Capture). ItemTakes c.args.sight.now i 0 c.args.n cs) c.args.branches.now c.loop-branch.branch-index c.branch-item.result _ _ _ _ c.in_ok-more.more.items _ c.loop-branch-test.true c.branch-item.is c.loop-branch.invariant
+    c.in_ok-more.ensures c.in_ok-add_all.ensures
 
 pub choices-returns : goal.choices-returns
 choices-returns t c =
-    choices_are c.args.sight.now c.args.branches.now c.args.n c.loop-branch.out.items (some_all (λ (i : Item) (cs : List Capture). ItemTakes c.args.sight.now i 0 c.args.n cs) c.args.branches.now c.loop-branch.branch-index _ _ c.loop-branch-test.false
+    choices_are c.args.sight.now c.args.branches.now c.args.n _ _ c.loop-branch.out.items (yield_all (λ (i : Item) (cs : List Capture). ItemTakes c.args.sight.now i 0 c.args.n cs) c.args.branches.now c.loop-branch.branch-index _ _ _ c.loop-branch-test.false
     c.loop-branch.invariant)
+
+pub row-loop-n-init : goal.row-loop-n-init
+row-loop-n-init t c = row_none c.args.sight.now c.args.item.now c.args.at _ c.in_ok-out.out.items c.in_ok-out.ensures.items
 
 pub row-loop-n-preserved : goal.row-loop-n-preserved
 row-loop-n-preserved t c =
-    rw c.in_ok-push.ensures.items (pairs_more_at (AreWays c.args.sight.now c.args.item.now c.args.at) c.args.siblings.now c.loop-n.n-index 0 c.loop-n.out.items c.from_vec.result c.loop-n-test.true
-    c.loop-n.invariant (rw c.from_vec.ensures c.in_ok-ways.ensures))
+    rw c.in_ok-push.ensures.items (row_more c.args.sight.now c.args.item.now c.args.at c.args.siblings.now c.loop-n.n-index _ _ _ c.loop-n.out.items c.from_vec.result c.loop-n-test.true c.loop-n.invariant (rw c.from_vec.ensures c.in_ok-ways.ensures))
 
 pub row-returns : goal.row-returns
-row-returns t c = rw c.from_vec-2.ensures (pairs_all (AreWays c.args.sight.now c.args.item.now c.args.at) c.args.siblings.now c.loop-n.n-index c.loop-n.out.items c.loop-n-test.false c.loop-n.invariant)
+row-returns t c = rw c.from_vec-2.ensures (row_all c.args.sight.now c.args.item.now c.args.at c.args.siblings.now c.loop-n.n-index _ _ c.loop-n.out.items c.loop-n-test.false c.loop-n.invariant)
 
 pub rows-loop-at-init : goal.rows-loop-at-init
-rows-loop-at-init t c = numbered_none (λ o row. IsRow c.args.sight.now c.args.item.now o c.args.siblings.now row) c.new-out.result.items c.new-out.ensures.items
+rows-loop-at-init t c = rows_none c.args.sight.now c.args.siblings.now c.args.item.now _ c.new-out.result.items c.new-out.ensures.items
 
 pub rows-loop-at-preserved : goal.rows-loop-at-preserved
-rows-loop-at-preserved t c = numbered_more (λ o row. IsRow c.args.sight.now c.args.item.now o c.args.siblings.now row) c.loop-at.at c.loop-at.out.items c.push.new.self.items c.in_ok-row.row c.in_ok-push.ensures.items c.in_ok-row.ensures c.loop-at.invariant
+rows-loop-at-preserved t c = rows_more c.args.sight.now c.args.siblings.now c.args.item.now c.loop-at.at _ _ _ c.loop-at.out.items c.push.new.self.items c.in_ok-row.row c.in_ok-push.ensures.items c.in_ok-row.ensures c.loop-at.invariant
 
 pub rows-returns : goal.rows-returns
-rows-returns t c = rw c.from_vec.ensures (numbered_all (λ o row. IsRow c.args.sight.now c.args.item.now o c.args.siblings.now row) c.loop-at.at (size_of c.args.item.now) c.loop-at.out.items (omega arith) (omega arith) c.loop-at.invariant)
+rows-returns t c = rw c.from_vec.ensures (rows_all c.args.sight.now c.args.siblings.now c.args.item.now c.loop-at.at _ _ c.loop-at.out.items (omega arith) (omega arith) c.loop-at.invariant)
+
+pub table-loop-item-init : goal.table-loop-item-init
+table-loop-item-init t c = table_none c.args.sight.now c.args.siblings.now _ c.in_ok-out.out.items c.in_ok-out.ensures.items
 
 pub table-loop-item-preserved : goal.table-loop-item-preserved
 table-loop-item-preserved t c =
-    rw c.in_ok-push.ensures.items (pairs_more (AreRowsOf c.args.sight.now c.args.siblings.now) c.args.items.now c.loop-item.item-index c.item-item.result c.loop-item.out.items c.in_ok-rows.rows c.loop-item-test.true c.item-item.is c.loop-item.invariant
+    rw c.in_ok-push.ensures.items (table_more c.args.sight.now c.args.siblings.now c.args.items.now c.loop-item.item-index c.item-item.result _ _ _ c.loop-item.out.items c.in_ok-rows.rows c.loop-item-test.true c.item-item.is c.loop-item.invariant
     c.in_ok-rows.ensures)
 
 pub table-returns : goal.table-returns
-table-returns t c = rw c.from_vec.ensures (pairs_all (AreRowsOf c.args.sight.now c.args.siblings.now) c.args.items.now c.loop-item.item-index c.loop-item.out.items c.loop-item-test.false c.loop-item.invariant)
+table-returns t c = rw c.from_vec.ensures (table_all c.args.sight.now c.args.siblings.now c.args.items.now c.loop-item.item-index _ _ c.loop-item.out.items c.loop-item-test.false c.loop-item.invariant)
+
+pub fully-returns-then-are_none : goal.fully-returns-then-are_none
+fully-returns-then-are_none t c =
+    yields_empty (Embedded c.args.sight.now c.args.items.now c.args.closed c.args.siblings.now) _ _ _ c.in_ok-found.found.items
+    (fully_are c.args.sight.now c.args.items.now c.args.siblings.now c.in_ok-table.table _ _ _ c.in_ok-table.ensures c.args.closed c.in_ok-named.named c.in_ok-slots.slots.items c.in_ok-found.found.items c.in_ok-named.ensures
+    c.in_ok-slots.ensures (rw c.as_slice.ensures.value at c.in_ok-found.ensures))
+    ((rw c.as_slice-2.ensures.value at c.are_none.ensures).0 c.if-are_none.true)
 
 pub fully-returns : goal.fully-returns
 fully-returns t c =
-    fully_are c.args.sight.now c.args.items.now c.args.siblings.now c.in_ok-table.table c.in_ok-table.ensures c.args.closed c.in_ok-named.named c.in_ok-slots.slots.items c.in_ok-found.found.items c.in_ok-named.ensures
+    fully_are c.args.sight.now c.args.items.now c.args.siblings.now c.in_ok-table.table _ _ _ c.in_ok-table.ensures c.args.closed c.in_ok-named.named c.in_ok-slots.slots.items c.in_ok-found.found.items c.in_ok-named.ensures
     c.in_ok-slots.ensures (rw c.as_slice.ensures.value at c.in_ok-found.ensures)

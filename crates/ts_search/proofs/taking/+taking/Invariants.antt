@@ -1,18 +1,19 @@
-use Rattle.std.proofs.Common.{take, [], List}
+use Rattle.std.proofs.Common.{take, List}
 use Rattle.spec_matches.specs.declared.found.Capture.{Capture}
 use Rattle.ts_query_syntax.specs.declared.read_query.Item.{Item}
-use Rattle.ts_search.specs.Adding.{Adds, OfSome}
-use Rattle.ts_search.specs.Ways.{IsRow, IsTable, ItemTakes, Numbered}
+use Rattle.ts_search.specs.Adding.{OfSome, Yields}
+use Rattle.ts_search.specs.Ways.{HasRow, HasTable, ItemTakes}
+use Rattle.ts_search.proofs.PairLemmas.{HasFirst}
 use Rattle.ts_search.proofs.taking.+taking.Given as goal
 
 abbrev pub invariant-choices-loop-branch : goal.invariant-choices-loop-branch
-invariant-choices-loop-branch l = Adds (OfSome (λ (i : Item) (c : List Capture). ItemTakes l.sight i 0 l.n c) (take l.branch-index l.branches)) [] l.out.items
+invariant-choices-loop-branch l = Yields (OfSome (λ (i : Item) (c : List Capture). ItemTakes l.sight i 0 l.n c) (take l.branch-index l.branches)) l.fn.limit.cut l.limit.cut l.out.items
 
 abbrev pub invariant-row-loop-n : goal.invariant-row-loop-n
-invariant-row-loop-n l = IsRow l.sight l.item l.at (take l.n-index l.siblings) l.out.items
+invariant-row-loop-n l = HasRow l.sight l.item l.at (take l.n-index l.siblings) l.fn.limit.cut l.limit.cut l.out.items
 
 abbrev pub invariant-rows-loop-at : goal.invariant-rows-loop-at
-invariant-rows-loop-at l = Numbered (λ o row. IsRow l.sight l.item o l.siblings row) l.at l.out.items
+invariant-rows-loop-at l = HasFirst l.sight l.siblings l.item l.at l.fn.limit.cut l.limit.cut l.out.items
 
 abbrev pub invariant-table-loop-item : goal.invariant-table-loop-item
-invariant-table-loop-item l = IsTable l.sight l.siblings (take l.item-index l.items) l.out.items
+invariant-table-loop-item l = HasTable l.sight l.siblings (take l.item-index l.items) l.fn.limit.cut l.limit.cut l.out.items
