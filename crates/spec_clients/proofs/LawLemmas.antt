@@ -19,13 +19,13 @@ use Rattle.ts_docs.specs.declared.parsed.Pages.{Pages}
 use Rattle.ts_docs.specs.Versions.{IsTextOf, IsOfTable}
 use Rattle.ts_script.specs.declared.plan.ScriptStep.{ScriptStep}
 use Rattle.ts_script.specs.declared.plan.ScriptStep.TheVariants as step
-use Rattle.ts_script.specs.Rules.{most_steps}
+use Rattle.ts_script.specs.Rules.{most_script_steps}
 use Rattle.ts_replies.specs.declared.reply.ShownResult.{ShownResult}
 use Rattle.ts_replies.specs.declared.reply.Reply.{Reply}
 use Rattle.ts_replies.specs.declared.reply.Reply.TheVariants as reply
 use Rattle.spec_history.specs.Replies.{document_of, turn_told, most_looks}
 use Rattle.spec_history.specs.Histories.{JournalEntry, History, IsAnswered, asked_at, edit_in, version_text, text_after, paired, all_paired, held_after, last_turn, paired_by, accounted_in, accounted_all}
-use Rattle.spec_history.specs.Legal.{IsRight, IsRightAt, IsPublishedAs, IsEntryAt, TellsTurn, LegalSoFar, IsComplete, Legal}
+use Rattle.spec_history.specs.Legal.{IsRight, IsRightAt, IsPublishedAs, IsEntryAt, TellsTurn, LegalSoFar, IsCompleteHistory, Legal}
 use Rattle.spec_history.specs.Books.{journal_entry_of, journal_of}
 use Rattle.spec_clients.specs.Seen.{journal_seen, version_seen}
 use Rattle.spec_clients.specs.Served.{IsReplied, TellsOn, held_at, told_at, taken_until, IsOwnEntry, IsServed}
@@ -488,12 +488,12 @@ module _ (Finds : Bytes → List ℕ → List ShownResult → Type 0) (h : Histo
       let all_over = d.left.closes.reached in
       let count = d.left.closes.count in
       let taken : length d.left.first.taken ≡ length (all_taken d.left.passes) = ap length d.left.gathered.taken in
-      let few_each = few_taken (most_steps * most_looks) d.left.passes (each document d) in
+      let few_each = few_taken (most_script_steps * most_looks) d.left.passes (each document d) in
       let clients = w.bounded.clients in
       let passes : length d.left.passes ≡ length h.plan.clients = d.left.passes_are.count ∙ w.passes in
       omega (arith, over, reached, all_over, count, taken, few_each, clients, passes)
     where
-      each : (document : ℕ) (d : Document document) (c : ℕ) (k : Knowledge ParsedText Drafted) → slice_get d.left.passes c ≡ Some k → length k.taken ≤ most_steps * most_looks
+      each : (document : ℕ) (d : Document document) (c : ℕ) (k : Knowledge ParsedText Drafted) → slice_get d.left.passes c ≡ Some k → length k.taken ≤ most_script_steps * most_looks
       each document d c k is =
           let lt = slice_get_within d.left.passes c k is in
           let passes : length d.left.passes ≡ length h.plan.clients = d.left.passes_are.count ∙ w.passes in
@@ -502,7 +502,7 @@ module _ (Finds : Bytes → List ℕ → List ShownResult → Type 0) (h : Histo
           let short = w.bounded.few c client.steps client.steps_are in
           omega (arith, mine, short)
 
-  complete : IsComplete h
+  complete : IsCompleteHistory h
   complete = record {
     openings = w.openings;
     journals = ap length w.journals_are ∙ length-map books journal_of ∙ w.documents;

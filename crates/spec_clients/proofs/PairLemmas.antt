@@ -66,10 +66,6 @@ module _ (document : ℕ) (steps : List ScriptStep) (replies : List Reply) (s : 
   pub held_all : held_at document steps replies (length replies) ≡ held_after document 0 (paired steps replies)
   held_all = ap (held_after document 0) all_paired_now
 
-  pub held_next : held_after document 0 (paired steps (replies ++ r ∷ []))
-      ≡ (if document_of s == document then version_of r else held_after document 0 (paired steps replies))
-  held_next = ap (held_after document 0) (paired_push steps replies s r is) ∙ held_push document 0 (paired steps replies) (s, r)
-
   either_way : (b : Bool) (v before limit : ℕ) → (b ≡ true → v ≤ limit) → before ≤ limit → (if b then v else before) ≤ limit
   either_way true v before limit now old = now refl
   either_way false v before limit now old = old

@@ -1,6 +1,6 @@
 -- What entries told stays so when entries of later turns follow.
-use Rattle.std.proofs.Common.{◌≡◌, ◌∙◌, sym, ap, refl, subst, ℕ, zero, suc, ◌+◌, ◌<◌, ◌≤◌, nat_lt, if◌then◌else◌, true, false, List, [], ◌∷◌, ◌++◌, length, slice_get, Option, Some, None, arith}
-use Rattle.std.proofs.lemmas.Bool.{le-ltb, lt-ltb}
+use Rattle.std.proofs.Common.{◌≡◌, ◌∙◌, sym, ap, refl, subst, ℕ, zero, suc, ◌+◌, ◌≤◌, nat_lt, if◌then◌else◌, false, List, [], ◌∷◌, ◌++◌, length, slice_get, Option, Some, None, arith}
+use Rattle.std.proofs.lemmas.Bool.{le-ltb}
 use Rattle.std.proofs.lemmas.List.{take-append-le, map-append, length-map}
 use Rattle.std.proofs.lemmas.List.Recursion.{is_count_by}
 use Rattle.ts_base.specs.Bytes.{Bytes}
@@ -62,13 +62,6 @@ pub text_before : (plan : Plan) (opening : ParsedText) (seen rest : List (Entry 
 text_before plan opening seen rest number le is =
     sym (ap (λ (v : ParsedText). v.text) (same_version opening seen rest number le)) ∙ is ∙ same_seen_text plan opening.text seen rest number le
 
--- and the other way round
-pub text_after_more : (plan : Plan) (opening : ParsedText) (seen rest : List (Entry Drafted)) (number : ℕ) → number ≤ length seen
-    → (version_seen opening seen number).text ≡ version_text plan opening.text (journal_seen seen) number
-    → (version_seen opening (seen ++ rest) number).text ≡ version_text plan opening.text (journal_seen (seen ++ rest)) number
-text_after_more plan opening seen rest number le is =
-    ap (λ (v : ParsedText). v.text) (same_version opening seen rest number le) ∙ is ∙ sym (same_seen_text plan opening.text seen rest number le)
-
 -- ---- how many entries there are
 
 -- the same count, by recursion
@@ -96,19 +89,6 @@ same_early turn (x ∷ entries) more after = ap (λ (n : ℕ). (if nat_lt x.turn
 -- entries of no smaller turns are not counted
 pub same_below : (turn : ℕ) (entries more : List JournalEntry) → AreLate turn more → entries_below turn (entries ++ more) ≡ entries_below turn entries
 same_below turn entries more after = sym (is_early turn (entries ++ more)) ∙ same_early turn entries more after ∙ is_early turn entries
-
-all_early : (turn : ℕ) (entries : List JournalEntry) → ((place : ℕ) (e : JournalEntry) → slice_get entries place ≡ Some e → e.turn < turn)
-    → early turn entries ≡ length entries
-all_early turn [] below = refl
-all_early turn (e ∷ entries) below =
-    let first : nat_lt e.turn turn ≡ true = lt-ltb e.turn turn (below 0 e refl) in
-    let rest : early turn entries ≡ length entries = all_early turn entries (λ place. below (suc place)) in
-    rw first (omega (arith, rest))
-
--- where all entries have turns below this one, all are counted
-pub all_below : (turn : ℕ) (entries : List JournalEntry) → ((place : ℕ) (e : JournalEntry) → slice_get entries place ≡ Some e → e.turn < turn)
-    → entries_below turn entries ≡ length entries
-all_below turn entries below = sym (is_early turn entries) ∙ all_early turn entries below
 
 -- an entry among the accepted edits that were seen
 pub of_journal : (seen : List (Entry Drafted)) (place : ℕ) (x : JournalEntry) → slice_get (journal_seen seen) place ≡ Some x

@@ -1,4 +1,5 @@
--- What a client's replies are worth on one document, by what its pass of the document's shelf knows.
+-- What a client's replies are worth on one document, by what its pass of the document's shelf
+-- knows.
 use Rattle.std.specs.Prelude.{◌≡◌, ℕ, suc, ◌+◌, ◌*◌, ◌<◌, ◌≤◌, nat_lt, if◌then◌else◌, List, [], ◌∷◌, length, take, slice_get, Option, Some, None}
 use Rattle.ts_base.specs.Bytes.{Bytes}
 use Rattle.ts_core.specs.declared.flat.FlatGrammar.{FlatGrammar}

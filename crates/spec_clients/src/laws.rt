@@ -47,13 +47,15 @@ pub fn next_reply_is_served<F: Finder>(_finder: &F)
         → length new.taken ≤ length steps * most_looks
         → IsNextReply (F.finds _finder.now) plan g opening client (length replies) document
         (held_at document steps replies (length replies)) old new turns s r
-        → IsServed (F.finds _finder.now) plan g opening client document steps (replies ++ r ∷ []) new }
+        → IsServed (F.finds _finder.now) plan g opening client document steps (replies ++ r ∷ [])
+        new }
     ensures elsewhere { (plan : AnyPlan) (g : FlatGrammar) (opening : AnyVersion)
         (client document : ℕ) (steps : List AnyStep) (replies : List AnyReply)
         (k : Knowledge AnyVersion AnyDraft) (s : AnyStep) (r : AnyReply)
         → IsServed (F.finds _finder.now) plan g opening client document steps replies k
         → slice_get steps (length replies) ≡ Some s → (document_of s ≡ document → ⊥)
-        → IsServed (F.finds _finder.now) plan g opening client document steps (replies ++ r ∷ []) k }
+        → IsServed (F.finds _finder.now) plan g opening client document steps (replies ++ r ∷ [])
+        k }
     ensures idle { (plan : AnyPlan) (g : FlatGrammar) (opening : AnyVersion)
         (client document : ℕ) (steps : List AnyStep) (replies : List AnyReply)
         (old new : Knowledge AnyVersion AnyDraft) (turns : List ℕ)

@@ -9,7 +9,7 @@ use Rattle.spec_runs.specs.Configurations.{stack_symbols}
 use Rattle.spec_reuse.specs.Places.{IsIn, here, inside, later, lead_of}
 use Rattle.spec_reuse.specs.Offered.{IsTopmost}
 use Rattle.spec_forced.specs.Forced.{HaveSameItems, Stands, StandInTurn}
-use Rattle.spec_forced.specs.Sound.{States, IsStateAfter, StandsFor, AllSound, IsSound, IsHonest, EachHasState, StandOnStack}
+use Rattle.spec_forced.specs.Sound.{States, IsStateAfter, StandsForState, AllSound, IsSound, IsHonest, EachHasState, StandOnStack}
 use Rattle.spec_forced.proofs.ItemLemmas.{same_back}
 use Rattle.spec_forced.proofs.SeenLemmas.{agree_self}
 use Rattle.spec_forced.proofs.ForcedLemmas.{stands_again}
@@ -17,14 +17,14 @@ use Rattle.spec_forced.proofs.StackLemmas.{filling_append}
 
 -- ---- states
 
-pub stands_for : (g : FlatGrammar) (states : States) (text : Bytes) (place state : ℕ) (t : Tree) (read : List ℕ) → IsStateAfter g states state read → Stands g read (drop place text) t (node_extent t) → StandsFor g states text place state t
+pub stands_for : (g : FlatGrammar) (states : States) (text : Bytes) (place state : ℕ) (t : Tree) (read : List ℕ) → IsStateAfter g states state read → Stands g read (drop place text) t (node_extent t) → StandsForState g states text place state t
 stands_for g states text place state t read s h = record {
   way = s.way;
   at = s.at;
   stands = stands_again g read s.way (drop place text) (drop place text) t (node_extent t) (same_back g s.way read s.same) (agree_self (node_extent t) (drop place text)) h;
 }
 
-pub stands_after : (g : FlatGrammar) (states : States) (text : Bytes) (place state : ℕ) (t : Tree) (read : List ℕ) → IsStateAfter g states state read → StandsFor g states text place state t → Stands g read (drop place text) t (node_extent t)
+pub stands_after : (g : FlatGrammar) (states : States) (text : Bytes) (place state : ℕ) (t : Tree) (read : List ℕ) → IsStateAfter g states state read → StandsForState g states text place state t → Stands g read (drop place text) t (node_extent t)
 stands_after g states text place state t read s f =
     let e : ◌≡◌ {A = Option (List ℕ)} (Some f.way) (Some s.way) = sym f.at ∙ s.at in
     let same : f.way ≡ s.way = ap (λ (o : Option (List ℕ)). unwrap_or o f.way) e in
@@ -77,11 +77,11 @@ module _ (g : FlatGrammar) (states : States) (text : Bytes) where
   pub sound_none : (place : ℕ) → AllSound g states text [] place
   sound_none place u at state h = absurd (in_none [] place u at h refl)
 
-  pub sound_one : (t : Tree) (place : ℕ) → ((state : ℕ) → is_settled t ≡ true → state_of t ≡ Some state → StandsFor g states text place state t) → AllSound g states text (children_of t) place → AllSound g states text (t ∷ []) place
+  pub sound_one : (t : Tree) (place : ℕ) → ((state : ℕ) → is_settled t ≡ true → state_of t ≡ Some state → StandsForState g states text place state t) → AllSound g states text (children_of t) place → AllSound g states text (t ∷ []) place
   sound_one t place own kids u at state h settled has = ⊎_elim
       (λ w.
       let f = own state (ap is_settled (sym w.0) ∙ settled) (ap state_of (sym w.0) ∙ has) in
-      subst (λ (n : ℕ). StandsFor g states text n state u) (sym w.1) (subst (λ (y : Tree). StandsFor g states text place state y) (sym w.0) f))
+      subst (λ (n : ℕ). StandsForState g states text n state u) (sym w.1) (subst (λ (y : Tree). StandsForState g states text place state y) (sym w.0) f))
       (λ w. ⊎_elim (λ k. kids u at state k settled has) (λ k. absurd (in_none [] (place + span_of t) u at k refl)) w)
       (in_cons t [] (t ∷ []) place u at h refl)
 

@@ -28,9 +28,6 @@ pub filling_extras : (xs ts : List Tree) → AreExtras xs → filling (xs ++ ts)
 filling_extras [] ts a = refl
 filling_extras (x ∷ xs) ts a = rw a.0 (filling_extras xs ts a.1)
 
-pub filling_extra : (x : Tree) (ts : List Tree) → is_extra_node x ≡ true → filling (x ∷ ts) ≡ filling ts
-filling_extra x ts e = rw e refl
-
 pub filling_filled : (x : Tree) (ts : List Tree) → is_extra_node x ≡ false → filling (x ∷ ts) ≡ symbol_of x ∷ filling ts
 filling_filled x ts e = rw e refl
 
@@ -48,17 +45,9 @@ spans_turned (x ∷ xs) =
 
 -- ---- extras
 
-pub extras_append : (xs ys : List Tree) → AreExtras xs → AreExtras ys → AreExtras (xs ++ ys)
-extras_append [] ys a b = b
-extras_append (x ∷ xs) ys a b = (a.0, extras_append xs ys a.1 b)
-
 pub extras_left : (xs ys : List Tree) → AreExtras (xs ++ ys) → AreExtras xs
 extras_left [] ys a = tt
 extras_left (x ∷ xs) ys a = (a.0, extras_left xs ys a.1)
-
-pub extras_right : (xs ys : List Tree) → AreExtras (xs ++ ys) → AreExtras ys
-extras_right [] ys a = a
-extras_right (x ∷ xs) ys a = extras_right xs ys a.1
 
 -- extras on top of a list, seen as the first of those that stand above a node
 pub record Beside (lifted under : List Tree) (node : Tree) (below xs : List Tree) : Type 0 where

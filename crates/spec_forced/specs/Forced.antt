@@ -37,9 +37,9 @@ HasSteps g number =
     × (0 < length p.steps)
 
 -- A run above a stack with these symbols, on what is left of a text: what it has put on the stack,
--- and how many bytes it has read. Each configuration has one move alone, or an extra that is passed.
--- No step takes a tree of the stack below, and each lexing is decided by bytes among the first so
--- many.
+-- and how many bytes it has read. Each configuration has one move alone, or an extra that is
+-- passed. No step takes a tree of the stack below, and each lexing is decided by bytes among the
+-- first so many.
 pub data ForcedRun (g : FlatGrammar) (read : List ℕ) (rest : Bytes) (extent : ℕ)
     : List Tree → ℕ → Type 0 where
   run_begins : ForcedRun g read rest extent [] 0
@@ -90,8 +90,8 @@ StandInTurn g read rest (t ∷ ts) =
     × StandInTurn g (stack_symbols (t ∷ []) ++ read) (drop (span_of t) rest) ts
 
 -- A reduction by the production of this number that is no choice. Its children stand, and so do the
--- extras above them that are lifted, the last one first. On the token behind them all it is the only
--- move. So many bytes cover what was examined for all of them, the token among them.
+-- extras above them that are lifted, the last one first. On the token behind them all it is the
+-- only move. So many bytes cover what was examined for all of them, the token among them.
 pub record MakesNode (g : FlatGrammar) (read : List ℕ) (rest : Bytes) (number : ℕ)
     (children lifted : List Tree) (extent : ℕ) : Type 0 where
   pub left : ℕ

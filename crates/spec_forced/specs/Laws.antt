@@ -1,4 +1,4 @@
--- The laws of other crates that the proofs here rest on. It serves proofs alone.
+-- The laws of other crates that the laws here rest on.
 use Rattle.std.specs.Prelude.{◌≡◌, ℕ, List, ◌∷◌, ◌++◌, length, reverse, map, Option, Some, None}
 use Rattle.std.specs.List.{Contains}
 use Rattle.ts_base.specs.Bytes.{Bytes}
@@ -17,6 +17,7 @@ use Rattle.spec_runs.specs.BareTrees.{KeepsAll}
 use Rattle.spec_runs.specs.Configurations.{Configuration, NextIs, IsReduction, HasMove}
 use Rattle.spec_runs.specs.Moves.{StandsBefore, EndsWithProduction, RepeatsItself}
 
+-- laws of bare trees, of the moves that stay, of lexing and of reductions
 pub record ForcedLaws : Type 0 where
   pub keeps : (t : Tree) → KeepsAll t
   pub once : (t : Tree) → bare (bare t) ≡ bare t

@@ -23,7 +23,7 @@ pub record IsStateAfter (g : FlatGrammar) (states : States) (state : ℕ) (read 
   pub same : HaveSameItems g way read
 
 -- the node stands at a place of a text for this state, by the bytes that were examined for it
-pub record StandsFor (g : FlatGrammar) (states : States) (text : Bytes) (place state : ℕ)
+pub record StandsForState (g : FlatGrammar) (states : States) (text : Bytes) (place state : ℕ)
     (t : Tree) : Type 0 where
   pub way : List ℕ
   pub at : slice_get states state ≡ Some way
@@ -36,7 +36,7 @@ pub record StandsFor (g : FlatGrammar) (states : States) (text : Bytes) (place s
 abbrev pub AllSound : FlatGrammar → States → Bytes → List Tree → ℕ → Type 0
 AllSound g states text ts place =
     (u : Tree) (at state : ℕ) → IsIn ts place u at → is_settled u ≡ true
-    → state_of u ≡ Some state → StandsFor g states text at state u
+    → state_of u ≡ Some state → StandsForState g states text at state u
 
 -- The tree is sound for a text: it is no longer, and each settled node in it that has a state
 -- stands at its place for it. A root that no edit has reached begins with its first child.
@@ -45,7 +45,7 @@ pub record IsSound (g : FlatGrammar) (states : States) (text : Bytes) (tree : Tr
   pub short : span_of tree ≤ length text
   pub begins : is_settled tree ≡ true → lead_of tree ≡ 0
   pub nodes : (u : Tree) (at state : ℕ) → IsInTree tree u at → is_settled u ≡ true
-      → state_of u ≡ Some state → StandsFor g states text at state u
+      → state_of u ≡ Some state → StandsForState g states text at state u
 
 -- ---- honest offers
 
@@ -53,7 +53,7 @@ pub record IsSound (g : FlatGrammar) (states : States) (text : Bytes) (tree : Tr
 -- node in it at its own place for its own state.
 pub record IsHonest (g : FlatGrammar) (states : States) (text : Bytes) (place state : ℕ)
     (t : Tree) : Type 0 where
-  pub stands : StandsFor g states text place state t
+  pub stands : StandsForState g states text place state t
   pub inner : AllSound g states text (t ∷ []) place
 
 -- all that may be offered is honest

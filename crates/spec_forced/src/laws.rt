@@ -21,7 +21,7 @@ ghost use Rattle.spec_runs.specs.Runs.{Run};
 ghost use Rattle.spec_forced.specs.Forced.{HaveSameItems, IsOnlyMove, IsDecided, IsForced, Stands, StandInTurn, MakesNode};
 ghost use Rattle.spec_forced.specs.Laws.{ForcedLaws};
 ghost use Rattle.spec_forced.specs.OnlyRuns.{OnlyRun, EndAlike, FreshFrom};
-ghost use Rattle.spec_forced.specs.Sound.{States, IsStateAfter, StandsFor, AllSound, IsSound, IsHonest, EachHasState, IsWholeSoFar, StandOnStack};
+ghost use Rattle.spec_forced.specs.Sound.{States, IsStateAfter, StandsForState, AllSound, IsSound, IsHonest, EachHasState, IsWholeSoFar, StandOnStack};
 ghost use Rattle.spec_forced.specs.Taking.{Taking, FreshTaking, TakesRightly};
 
 use spec_lexing::{fewer_tokens, one_answer, seen_decides};
@@ -108,8 +108,8 @@ pub fn leaves_stand()
     laws_hold();
 }
 
-/// An extra that stands after the steps of a production stands too after its rule's symbol: what was
-/// lifted by a reduction stays good where it lies.
+/// An extra that stands after the steps of a production stands too after its rule's symbol: what
+/// was lifted by a reduction stays good where it lies.
 pub fn extras_stay()
     ensures { (g : FlatGrammar) → Fit g → (number left : ℕ) (p : Production)
         → production_at g number ≡ Some (left, p)
@@ -122,8 +122,8 @@ pub fn extras_stay()
 }
 
 /// Runs on which no choice is made: each run from where one begins goes on from its end, or has not
-/// come there yet. So of two of them one goes on from the other, and all runs end from there as from
-/// the beginning.
+/// come there yet. So of two of them one goes on from the other, and all runs end from there as
+/// from the beginning.
 pub fn only_runs_are_one_way()
     ensures run { (g : FlatGrammar) (text : Bytes) (c d : Configuration) → OnlyRun g text c d
         → Run g text c d }
@@ -178,10 +178,10 @@ pub fn states_tell()
     ensures told { (g : FlatGrammar) (states : States) (text : Bytes) (place state : ℕ) (t : Tree)
         (read : List ℕ)
         → IsStateAfter g states state read → Stands g read (drop place text) t (node_extent t)
-        → StandsFor g states text place state t }
+        → StandsForState g states text place state t }
     ensures after { (g : FlatGrammar) (states : States) (text : Bytes) (place state : ℕ) (t : Tree)
         (read : List ℕ)
-        → IsStateAfter g states state read → StandsFor g states text place state t
+        → IsStateAfter g states state read → StandsForState g states text place state t
         → Stands g read (drop place text) t (node_extent t) }
 {}
 
@@ -193,13 +193,13 @@ pub fn sound_trees_offer_honestly()
 {}
 
 /// What a parser's moves leave of a stack whose trees stand. A node without children is sound where
-/// it stands for its state. Trees that have states stand one after another. A reduction leaves such a
-/// stack, if its own node stands where it has a state. And the tree that is accepted is sound.
+/// it stands for its state. Trees that have states stand one after another. A reduction leaves such
+/// a stack, if its own node stands where it has a state. And the tree that is accepted is sound.
 pub fn stacks_stay_sound()
     ensures childless { (g : FlatGrammar) (states : States) (text : Bytes) (t : Tree) (place : ℕ)
         → children_of t ≡ []
         → ((state : ℕ) → is_settled t ≡ true → state_of t ≡ Some state
-        → StandsFor g states text place state t)
+        → StandsForState g states text place state t)
         → AllSound g states text (t ∷ []) place }
     ensures in_turn { (g : FlatGrammar) (states : States) (text : Bytes) (ts below : List Tree)
         → EachHasState ts → StandOnStack g states text (reverse ts ++ below)

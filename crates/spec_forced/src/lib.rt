@@ -1,5 +1,6 @@
-//! Forced runs, on which a parser makes no choice, the nodes that stand since such a run makes them,
-//! and trees that are sound for a text: definitions with their laws alone. No value goes in or out.
+//! Forced runs, on which a parser makes no choice, the nodes that stand since such a run makes
+//! them, and trees that are sound for a text: definitions with their laws alone. No value goes in
+//! or out.
 #![tactic(auto)]
 
 mod laws;

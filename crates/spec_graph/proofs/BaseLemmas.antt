@@ -15,7 +15,7 @@ use Rattle.spec_graph.specs.States.{LeadsTo, at_first, ShareState}
 use Rattle.spec_graph.specs.Laying.{Parsing, from_start, SeesAt, PassesAt, ReducesAt, extra_tree, node_made, Taken, some, nothing, Lays, flat, stood, shifted, passed, made, IsBegun}
 use Rattle.spec_graph.specs.Keys.{Key, LaysBefore, flat_before, stood_before, shifted_before, passed_before, made_before}
 use Rattle.spec_graph.proofs.SightLemmas.{Facts}
-use Rattle.spec_graph.proofs.EntryLemmas.{token_says, extra_says, kind_of, filling_tree, filling_one, filling_extras, shift_bytes, pass_bytes}
+use Rattle.spec_graph.proofs.EntryLemmas.{token_says, extra_says, kind_of, filling_tree, filling_one, filling_extras, shift_bytes}
 use Rattle.spec_graph.proofs.LayLemmas.{IsBase, no_middle, lays_read, lays_made, lays_spans, grows, lays_none, lays_state, Split, split, joins, extras_same, lays_run, nothing_laid}
 use Rattle.spec_graph.proofs.OrderLemmas.{node_bytes}
 use Rattle.spec_graph.proofs.GraphLemmas.{transfer}
@@ -85,21 +85,6 @@ module _ (P : Parsing) (facts : Facts P) where
           let i = lays_spans (from_start P) start_facts start_base δ p (reverse ks) end ε inner in
           let empty : all_spans (reverse ks) ≡ 0 = ap (λ (l : List Tree). all_spans (reverse l)) none in
           inr (sym low ∙ none_w, omega (arith, i, empty, h.0))
-
-  extra_bytes : (w : List Tree) (p : ℕ) (δ : List ℕ) (t : Tree) (rest : List Tree) → Lays (from_start P) [] 0 w p δ → w ≡ t ∷ rest → is_extra_node t ≡ true → 0 < span_of t
-  extra_bytes _ _ _ t rest (flat _ _) is e = absurd (let h : [] ≡ t ∷ rest = is in cc)
-  extra_bytes _ _ _ t rest (stood _ _ w p δ u above below l at place share) is e = absurd (no_middle above u below at)
-  extra_bytes _ _ _ t rest (shifted _ _ w p δ s pad size l late sees acts) is e =
-      let same : token_tree s pad size ≡ t = cc in
-      absurd (true≢false (sym e ∙ ap is_extra_node (sym same) ∙ (token_says facts.laws.runs s pad size).kind))
-  extra_bytes _ _ _ t rest (passed _ _ w p δ s pad size l late passes) is e =
-      let same : extra_tree s pad size ≡ t = cc in
-      let says = extra_says facts.laws.runs s pad size in
-      let b = pass_bytes P facts δ p s pad size (start_passes δ p s pad size passes) in
-      subst (λ (x : Tree). 0 < span_of x) same (omega (arith, b, says.size))
-  extra_bytes _ _ _ t rest (made _ _ w p δ ks end ε xs look number left pr l inner outer all late taken folds count deep) is e =
-      let same : node_made P number ks ≡ t = cc in
-      absurd (true≢false (sym e ∙ ap is_extra_node (sym same) ∙ kind_of P facts number left pr ks folds.at))
 
   -- ---- where a run came to the stack
 

@@ -18,7 +18,7 @@ use Rattle.spec_graph.specs.States.{ShareState, LeadsTo}
 use Rattle.spec_graph.specs.Laying.{Parsing, from_start, SeesAt, GoesOn, PassesAt, ReducesAt, extra_tree, node_made, Taken, some, nothing, Lays, flat, made, CanMakeNode}
 use Rattle.spec_graph.specs.Replacing.{depth_over}
 use Rattle.spec_graph.specs.Keys.{Key, Earlier, LaysBefore, flat_before, stood_before, shifted_before, passed_before, made_before}
-use Rattle.spec_graph.specs.Links.{IsWay, trees_of, depths_of, IsGraph, IsDue, way_depth}
+use Rattle.spec_graph.specs.Links.{IsWay, way_trees, depths_of, IsGraph, IsDue, way_depth}
 use Rattle.spec_graph.proofs.SightLemmas.{Facts, same_token, sees_one, clash, narrows, sees_shared}
 use Rattle.spec_graph.proofs.EntryLemmas.{node_tells, filling_turned, all_made_back, same_front}
 use Rattle.spec_graph.proofs.ReplaceLemmas.{AllDeeper, deeper_over, deeper_turned}
@@ -38,39 +38,39 @@ module _ (P : Parsing) (facts : Facts P) (heads : List Head) (links : List Link)
   abbrev Laid : List Link → List Tree → Type 0
   Laid way ts = AreLaid (from_start P) (start_facts P facts) (start_base P facts) refl refl heads way ts
 
-  many : (ts : List Tree) → filling ts ≡ filling (trees_of inner) → length (filling (reverse ts)) ≡ length p.steps
+  many : (ts : List Tree) → filling ts ≡ filling (way_trees inner) → length (filling (reverse ts)) ≡ length p.steps
   many ts same = ap (λ (l : List ℕ). length l) (filling_turned ts) ∙ length-reverse (filling ts) ∙ ap (λ (l : List ℕ). length l) same ∙ due.count
 
-  taken_so : (ts : List Tree) → SameKinds ts (trees_of inner) → Taken (reverse ts) [] now key.begins
+  taken_so : (ts : List Tree) → SameKinds ts (way_trees inner) → Taken (reverse ts) [] now key.begins
   taken_so ts kinds = by due.taken
     where
-      by : Taken (reverse (trees_of inner)) [] now key.begins → Taken (reverse ts) [] now key.begins
+      by : Taken (reverse (way_trees inner)) [] now key.begins → Taken (reverse ts) [] now key.begins
       by (some lt first last) =
-          let n = kinds_length ts (trees_of inner) kinds in
-          let x : length (reverse (trees_of inner)) ≡ length (trees_of inner) = length-reverse (trees_of inner) in
+          let n = kinds_length ts (way_trees inner) kinds in
+          let x : length (reverse (way_trees inner)) ≡ length (way_trees inner) = length-reverse (way_trees inner) in
           let y : length (reverse ts) ≡ length ts = length-reverse ts in
-          let turned : BeginsFilled (trees_of inner) = subst (λ (l : List Tree). BeginsFilled l) (reverse-reverse (trees_of inner)) last in
-          some (omega (arith, lt, n, x, y)) (kinds_begins (reverse ts) (reverse (trees_of inner)) (kinds_turned ts (trees_of inner) kinds) first)
-          (subst (λ (l : List Tree). BeginsFilled l) (sym (reverse-reverse ts)) (kinds_begins ts (trees_of inner) kinds turned))
+          let turned : BeginsFilled (way_trees inner) = subst (λ (l : List Tree). BeginsFilled l) (reverse-reverse (way_trees inner)) last in
+          some (omega (arith, lt, n, x, y)) (kinds_begins (reverse ts) (reverse (way_trees inner)) (kinds_turned ts (way_trees inner) kinds) first)
+          (subst (λ (l : List Tree). BeginsFilled l) (sym (reverse-reverse ts)) (kinds_begins ts (way_trees inner) kinds turned))
       by (nothing none low empty zero_begin) =
-          let n = kinds_length ts (trees_of inner) kinds in
-          let x : length (reverse (trees_of inner)) ≡ length (trees_of inner) = length-reverse (trees_of inner) in
-          let z : length (reverse (trees_of inner)) ≡ 0 = ap (λ (l : List Tree). length l) none in
+          let n = kinds_length ts (way_trees inner) kinds in
+          let x : length (reverse (way_trees inner)) ≡ length (way_trees inner) = length-reverse (way_trees inner) in
+          let z : length (reverse (way_trees inner)) ≡ 0 = ap (λ (l : List Tree). length l) none in
           nothing (ap (λ (l : List Tree). reverse l) (none_long ts (omega (arith, n, x, z)))) low empty zero_begin
 
   -- what lies on the way, from the lower head on
-  module _ (ts : List Tree) (laid : Laid inner ts) (kinds : SameKinds ts (trees_of inner)) (filled : filling ts ≡ filling (trees_of inner)) where
+  module _ (ts : List Tree) (laid : Laid inner ts) (kinds : SameKinds ts (way_trees inner)) (filled : filling ts ≡ filling (way_trees inner)) where
     low : WayLaid (from_start P) (start_facts P facts) (start_base P facts) refl refl heads b now key.begins ts e end
     low = ways (from_start P) (start_facts P facts) (start_base P facts) refl refl heads links b now key.begins (at_start P facts heads b now key.begins due.bottom) inner ts e end over (at_start P facts heads e over end due.middle) due.taken_off laid
 
-    high : WayLaid (from_start P) (start_facts P facts) (start_base P facts) refl refl heads e low.now end (trees_of outer) h key.look
-    high = ways (from_start P) (start_facts P facts) (start_base P facts) refl refl heads links e low.now end low.at outer (trees_of outer) h key.look over (at_start P facts heads h over key.look due.top) due.lifted (own_trees P facts heads links graph outer h e due.lifted)
+    high : WayLaid (from_start P) (start_facts P facts) (start_base P facts) refl refl heads e low.now end (way_trees outer) h key.look
+    high = ways (from_start P) (start_facts P facts) (start_base P facts) refl refl heads links e low.now end low.at outer (way_trees outer) h key.look over (at_start P facts heads h over key.look due.top) due.lifted (own_trees P facts heads links graph outer h e due.lifted)
 
     flat_read : high.now ≡ low.now
-    flat_read = extras_same (from_start P) (start_facts P facts) (start_base P facts) (trees_of outer) low.now end key.look high.now due.all_extras high.lays
+    flat_read = extras_same (from_start P) (start_facts P facts) (start_base P facts) (way_trees outer) low.now end key.look high.now due.all_extras high.lays
 
-    outer_lays : Lays (from_start P) low.now end (trees_of outer) key.look low.now
-    outer_lays = subst (λ (r : List ℕ). Lays (from_start P) low.now end (trees_of outer) key.look r) flat_read high.lays
+    outer_lays : Lays (from_start P) low.now end (way_trees outer) key.look low.now
+    outer_lays = subst (λ (r : List ℕ). Lays (from_start P) low.now end (way_trees outer) key.look r) flat_read high.lays
 
     share : ShareState P.goto over low.now
     share = subst (λ (r : List ℕ). ShareState P.goto over r) flat_read (share_head (from_start P) (start_facts P facts) heads h over high.now key.look key.look (at_start P facts heads h over key.look due.top) high.at)
@@ -111,28 +111,28 @@ module _ (P : Parsing) (facts : Facts P) (heads : List Head) (links : List Link)
     depth_is = (node_tells P facts number left p (reverse ts) make).depth ∙ ap (depth_over (form_of P.grammar left number)) (map_turned ts)
 
     node_laid : tree_depth (node_made P number (reverse ts)) ≤ most_depth → Lays (from_start P) now key.begins (node_made P number (reverse ts) ∷ []) end (left ∷ now)
-    node_laid shallow = made now key.begins [] key.begins now (reverse ts) end low.now (trees_of outer) key.look number left p (flat now key.begins) inner_lays outer_lays due.all_extras (omega arith) (taken_so ts kinds) folds (many ts filled) shallow
+    node_laid shallow = made now key.begins [] key.begins now (reverse ts) end low.now (way_trees outer) key.look number left p (flat now key.begins) inner_lays outer_lays due.all_extras (omega arith) (taken_so ts kinds) folds (many ts filled) shallow
 
     -- the extras above are passed over the node too
-    extras_laid : tree_depth (node_made P number (reverse ts)) ≤ most_depth → Lays (from_start P) (left ∷ now) end (trees_of outer) key.look (left ∷ now)
+    extras_laid : tree_depth (node_made P number (reverse ts)) ≤ most_depth → Lays (from_start P) (left ∷ now) end (way_trees outer) key.look (left ∷ now)
     extras_laid shallow =
         let bottom = at_start P facts heads b now key.begins due.bottom in
         let state = lays_state (from_start P) (start_facts P facts) (start_base P facts) now key.begins (node_made P number (reverse ts) ∷ []) end (left ∷ now) bottom.head.state bottom.state (node_laid shallow) in
-        passes_on (from_start P) (start_facts P facts) (start_base P facts) low.now (left ∷ now) (narrows (from_start P) (start_facts P facts) low.now key.look number left p now folds) state.0 state.1 (trees_of outer) end key.look due.all_extras (omega arith) outer_lays
+        passes_on (from_start P) (start_facts P facts) (start_base P facts) low.now (left ∷ now) (narrows (from_start P) (start_facts P facts) low.now key.look number left p now folds) state.0 state.1 (way_trees outer) end key.look due.all_extras (omega arith) outer_lays
 
-  no_deeper : (way : List Link) (h b : ℕ) → IsWay links h way b → AllDeeper (depths_of way) (map tree_depth (trees_of way))
+  no_deeper : (way : List Link) (h b : ℕ) → IsWay links h way b → AllDeeper (depths_of way) (map tree_depth (way_trees way))
   no_deeper [] h b is = tt
   no_deeper (l ∷ way) h b is = ((graph.linked l is.0).shallow, no_deeper way l.below b is.2)
 
   -- the node over the way's own trees
-  pub due_depth : tree_depth (node_made P number (reverse (trees_of inner))) ≤ way_depth P number left inner
+  pub due_depth : tree_depth (node_made P number (reverse (way_trees inner))) ≤ way_depth P number left inner
   due_depth =
-      let d = depth_is (trees_of inner) (own_trees P facts heads links graph inner e b due.taken_off) (same_kinds (trees_of inner)) refl in
-      let less = deeper_over (form_of P.grammar left number) (reverse (depths_of inner)) (reverse (map tree_depth (trees_of inner))) (deeper_turned (depths_of inner) (map tree_depth (trees_of inner)) (no_deeper inner e b due.taken_off)) in
+      let d = depth_is (way_trees inner) (own_trees P facts heads links graph inner e b due.taken_off) (same_kinds (way_trees inner)) refl in
+      let less = deeper_over (form_of P.grammar left number) (reverse (depths_of inner)) (reverse (map tree_depth (way_trees inner))) (deeper_turned (depths_of inner) (map tree_depth (way_trees inner)) (no_deeper inner e b due.taken_off)) in
       omega (arith, d, less)
 
-  pub due_laid : way_depth P number left inner ≤ most_depth → Lays (from_start P) now key.begins (node_made P number (reverse (trees_of inner)) ∷ []) end (left ∷ now)
-  due_laid low_depth = node_laid (trees_of inner) (own_trees P facts heads links graph inner e b due.taken_off) (same_kinds (trees_of inner)) refl (let d = due_depth in omega (arith, d, low_depth))
+  pub due_laid : way_depth P number left inner ≤ most_depth → Lays (from_start P) now key.begins (node_made P number (reverse (way_trees inner)) ∷ []) end (left ∷ now)
+  due_laid low_depth = node_laid (way_trees inner) (own_trees P facts heads links graph inner e b due.taken_off) (same_kinds (way_trees inner)) refl (let d = due_depth in omega (arith, d, low_depth))
 
   -- and one over trees of the way's depths
   pub due_deepest : way_depth P number left inner ≤ most_depth → (t : Tree) × Lays (from_start P) now key.begins (t ∷ []) end (left ∷ now) × (tree_depth t ≡ way_depth P number left inner)
@@ -143,10 +143,10 @@ module _ (P : Parsing) (facts : Facts P) (heads : List Head) (links : List Link)
       (node_made P number (reverse w.trees), node_laid w.trees w.laid w.kinds w.filled (omega (arith, d, low_depth)), d)
 
   -- each extra above is passed over the node
-  pub due_extras_over : way_depth P number left inner ≤ most_depth → (above below : List Tree) (x : Tree) → trees_of outer ≡ above ++ x ∷ below
+  pub due_extras_over : way_depth P number left inner ≤ most_depth → (above below : List Tree) (x : Tree) → way_trees outer ≡ above ++ x ∷ below
       → Lays (from_start P) (left ∷ now) (end + all_spans below) (x ∷ []) ((end + all_spans below) + span_of x) (left ∷ now)
   due_extras_over low_depth above below x is =
-      let all = extras_laid (trees_of inner) (own_trees P facts heads links graph inner e b due.taken_off) (same_kinds (trees_of inner)) refl (let d = due_depth in omega (arith, d, low_depth)) in
+      let all = extras_laid (way_trees inner) (own_trees P facts heads links graph inner e b due.taken_off) (same_kinds (way_trees inner)) refl (let d = due_depth in omega (arith, d, low_depth)) in
       let cut = split (from_start P) (start_facts P facts) (start_base P facts) above (x ∷ below) (left ∷ now) end key.look (left ∷ now) (subst (λ (l : List Tree). Lays (from_start P) (left ∷ now) end l key.look (left ∷ now)) is all) in
       let one = split (from_start P) (start_facts P facts) (start_base P facts) (x ∷ []) below (left ∷ now) end cut.place cut.between cut.low in
       let parts = extras_parts above x below (subst (λ (l : List Tree). AreExtras l) is due.all_extras) in

@@ -132,12 +132,6 @@ same_front (x ∷ xs) (y ∷ ys) a b e h =
     let first : x ≡ y = cc in
     let rest : xs ≡ ys = same_front xs ys a b (omega (arith, e)) t in cc
 
-pub same_rest : (xs ys a b : List ℕ) → length xs ≡ length ys → xs ++ a ≡ ys ++ b → a ≡ b
-same_rest [] [] a b e h = h
-same_rest [] (y ∷ ys) a b e h = absurd (omega (arith, e))
-same_rest (x ∷ xs) [] a b e h = absurd (omega (arith, e))
-same_rest (x ∷ xs) (y ∷ ys) a b e h = same_rest xs ys a b (omega (arith, e)) (let t : xs ++ a ≡ ys ++ b = cc in t)
-
 -- ---- tokens and extras
 
 -- what a tree over a token is

@@ -19,7 +19,7 @@ use Rattle.spec_graph.specs.States.{LeadsTo, at_first, ShareState, AreStates, Ar
 use Rattle.spec_graph.specs.Laying.{Parsing, from_start, SeesAt, GoesOn, PassesAt, ReducesAt, extra_tree, node_made, Taken, some, nothing, Lays, flat, stood, shifted, passed, made, ComesOver}
 use Rattle.spec_graph.specs.Replacing.{AreAlike}
 use Rattle.spec_graph.specs.Keys.{Key, LaysBefore, flat_before, stood_before, shifted_before, passed_before, made_before}
-use Rattle.spec_graph.specs.Links.{IsAt, IsWay, trees_of, StandsFor, AllStandFor, HasWay, HasLink, IsLinked, IsGraph, IsWholeTo}
+use Rattle.spec_graph.specs.Links.{IsAt, IsWay, way_trees, StandsForTree, AllStandFor, HasWay, HasLink, IsLinked, IsGraph, IsWholeTo}
 use Rattle.spec_graph.proofs.SightLemmas.{Facts, lead_once, share_back, share_on, same_token, sees_one, clash, move_shared, sees_shared, passes_shared}
 use Rattle.spec_graph.proofs.EntryLemmas.{LeafSays, token_says, extra_says, node_tells, kind_of, symbol_is, filling_tree, filling_extra, filling_turned, filling_none, spans_turned, children_fill, pass_bytes}
 use Rattle.spec_graph.proofs.LayLemmas.{IsBase, HasBottom, bottom_turned, order_cases, lays_read, can_make, begins_taken, lays_spans, grows, lays_none, lays_state, joins, extras_same, Peeled, bare_place, one_more, peel, starts, sound, nothing_laid}

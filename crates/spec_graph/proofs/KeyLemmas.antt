@@ -18,7 +18,7 @@ use Rattle.spec_graph.specs.States.{LeadsTo, AreRanks}
 use Rattle.spec_graph.specs.Laying.{Parsing, SeesAt, PassesAt, ReducesAt, extra_tree, node_made, Taken, some, nothing, Lays, CanMakeNode}
 use Rattle.spec_graph.specs.Replacing.{Replaces, AllReplace, depth_over}
 use Rattle.spec_graph.specs.Keys.{Key, Earlier, IsKey, IsNextKey, LaysBefore, flat_before, stood_before, shifted_before, passed_before, made_before}
-use Rattle.spec_graph.specs.Links.{IsAt, IsWay, trees_of, depths_of, StandsFor, AllStandFor, HasWay, HasLink, IsWholeTo, IsDue, HasNoneDue, way_depth, AreDone, HasGrown, AreAdded, IsOpened, HasStood}
+use Rattle.spec_graph.specs.Links.{IsAt, IsWay, way_trees, depths_of, StandsForTree, AllStandFor, HasWay, HasLink, IsWholeTo, IsDue, HasNoneDue, way_depth, AreDone, HasGrown, AreAdded, IsOpened, HasStood}
 use Rattle.spec_graph.proofs.SightLemmas.{Facts}
 use Rattle.spec_graph.proofs.EntryLemmas.{node_tells, lawful_at, filling_turned, all_made_turned}
 use Rattle.spec_graph.proofs.ReplaceLemmas.{replaces_chain, replaces_bare, all_turned, same_symbols, same_extras, same_begins, same_length, AllDeeper, deeper_over, deeper_turned}
@@ -29,7 +29,7 @@ use Rattle.spec_graph.proofs.GraphLemmas.{has_way, at_place}
 
 -- ---- what stands for trees
 
-pub stand_replace : (way : List Link) (ts : List Tree) → AllStandFor way ts → AllReplace (trees_of way) ts
+pub stand_replace : (way : List Link) (ts : List Tree) → AllStandFor way ts → AllReplace (way_trees way) ts
 stand_replace [] [] a = tt
 stand_replace [] (t ∷ ts) a = absurd a
 stand_replace (l ∷ way) [] a = absurd a
@@ -42,7 +42,7 @@ stand_deeper (l ∷ way) [] a = absurd a
 stand_deeper (l ∷ way) (t ∷ ts) a = (a.0.depth, stand_deeper way ts a.1)
 
 -- the trees of a way are made well where those of all links are
-pub way_all_made : (P : Parsing) (links : List Link) → ((l : Link) → Contains links l → IsMade P.grammar l.tree) → (way : List Link) (h b : ℕ) → IsWay links h way b → AllMade P.grammar (trees_of way)
+pub way_all_made : (P : Parsing) (links : List Link) → ((l : Link) → Contains links l → IsMade P.grammar l.tree) → (way : List Link) (h b : ℕ) → IsWay links h way b → AllMade P.grammar (way_trees way)
 way_all_made P links sound [] h b is = tt
 way_all_made P links sound (l ∷ way) h b is = (sound l is.0, way_all_made P links sound way l.below b is.2)
 
@@ -58,10 +58,10 @@ map_turned (t ∷ ts) =
 
 module _ (P : Parsing) (facts : Facts P) (base : IsBase P) (rank : ℕ → ℕ) (most : ℕ) (ranked : AreRanks P.grammar rank most) where
   -- a node over a way may replace the node over what the way stands for
-  pub node_replaces : (number left : ℕ) (p : Production) (way : List Link) (ks : List Tree) → CanMake P.grammar number left p (reverse (trees_of way)) → CanMake P.grammar number left p ks → AllStandFor way (reverse ks) → Replaces (node_made P number (reverse (trees_of way))) (node_made P number ks)
+  pub node_replaces : (number left : ℕ) (p : Production) (way : List Link) (ks : List Tree) → CanMake P.grammar number left p (reverse (way_trees way)) → CanMake P.grammar number left p ks → AllStandFor way (reverse ks) → Replaces (node_made P number (reverse (way_trees way))) (node_made P number ks)
   node_replaces number left p way ks c d a =
-      let ts : List Tree = reverse (trees_of way) in
-      let turned : AllReplace ts ks = subst (λ (l : List Tree). AllReplace ts l) (reverse-reverse ks) (all_turned (trees_of way) (reverse ks) (stand_replace way (reverse ks) a)) in
+      let ts : List Tree = reverse (way_trees way) in
+      let turned : AllReplace ts ks = subst (λ (l : List Tree). AllReplace ts l) (reverse-reverse ks) (all_turned (way_trees way) (reverse ks) (stand_replace way (reverse ks) a)) in
       replaces_bare (reduced P.grammar number 0 None ts) (reduced P.grammar number 0 None ks) (facts.laws.runs.keeps (reduced P.grammar number 0 None ts)) (facts.laws.runs.keeps (reduced P.grammar number 0 None ks))
       (replaces_reduced P.grammar number left p (lawful_at P facts number left p d.at) ts ks c d turned)
 
@@ -76,23 +76,23 @@ module _ (P : Parsing) (facts : Facts P) (base : IsBase P) (rank : ℕ → ℕ) 
 
   -- ---- one key after the other
 
-  taken_same : (way : List Link) (ks : List Tree) (δ : List ℕ) (p : ℕ) → AllReplace (trees_of way) (reverse ks) → Taken ks [] δ p → Taken (reverse (trees_of way)) [] δ p
+  taken_same : (way : List Link) (ks : List Tree) (δ : List ℕ) (p : ℕ) → AllReplace (way_trees way) (reverse ks) → Taken ks [] δ p → Taken (reverse (way_trees way)) [] δ p
   taken_same way ks δ p a (nothing none low read place) =
-      let n : length (trees_of way) ≡ 0 = same_length (trees_of way) (reverse ks) a ∙ ap (λ (l : List Tree). length (reverse l)) none in
-      nothing (ap (λ (l : List Tree). reverse l) (empty (trees_of way) n)) low read place
+      let n : length (way_trees way) ≡ 0 = same_length (way_trees way) (reverse ks) a ∙ ap (λ (l : List Tree). length (reverse l)) none in
+      nothing (ap (λ (l : List Tree). reverse l) (empty (way_trees way) n)) low read place
     where
       empty : (ts : List Tree) → length ts ≡ 0 → ts ≡ []
       empty [] e = refl
       empty (t ∷ ts) e = absurd (omega (arith, e))
   taken_same way ks δ p a (some lt begins ends) =
-      let turned : AllReplace (reverse (trees_of way)) ks = subst (λ (l : List Tree). AllReplace (reverse (trees_of way)) l) (reverse-reverse ks) (all_turned (trees_of way) (reverse ks) a) in
-      let n : length (reverse (trees_of way)) ≡ length ks = same_length (reverse (trees_of way)) ks turned in
-      some (omega (arith, lt, n)) (same_begins (reverse (trees_of way)) ks turned begins)
-      (subst (λ (l : List Tree). BeginsFilled l) (sym (reverse-reverse (trees_of way))) (same_begins (trees_of way) (reverse ks) a ends))
+      let turned : AllReplace (reverse (way_trees way)) ks = subst (λ (l : List Tree). AllReplace (reverse (way_trees way)) l) (reverse-reverse ks) (all_turned (way_trees way) (reverse ks) a) in
+      let n : length (reverse (way_trees way)) ≡ length ks = same_length (reverse (way_trees way)) ks turned in
+      some (omega (arith, lt, n)) (same_begins (reverse (way_trees way)) ks turned begins)
+      (subst (λ (l : List Tree). BeginsFilled l) (sym (reverse-reverse (way_trees way))) (same_begins (way_trees way) (reverse ks) a ends))
 
   module _ (heads : List Head) (links : List Link) (heads' : List Head) (links' : List Link) (k m : Key) (whole : IsWholeTo P rank heads links k) (done : AreDone P rank heads links heads' links' k)
       (sound : (l : Link) → Contains links l → IsMade P.grammar l.tree) where
-    way_made : (way : List Link) (h b : ℕ) → IsWay links h way b → AllMade P.grammar (trees_of way)
+    way_made : (way : List Link) (h b : ℕ) → IsWay links h way b → AllMade P.grammar (way_trees way)
     way_made way h b is = way_all_made P links sound way h b is
 
     -- what a node of this key is in the graph: its depth, and its link
@@ -109,26 +109,26 @@ module _ (P : Parsing) (facts : Facts P) (base : IsBase P) (rank : ℕ → ℕ) 
         let high = has_way P facts base rank most ranked heads links j whole_j low.head ε end xs look ε low.at (order_outer P facts base rank most ranked δ p ks end ε xs look number left pr c) in
         let replace = stand_replace low.way (reverse ks) low.stands in
         let make = can_make P facts base δ p ks end ε look number left pr c.inner (begins_taken P facts ks [] δ p c.taken) c.reduces c.count in
-        let count : length (filling (trees_of low.way)) ≡ length pr.steps = ap (λ (l : List ℕ). length l) (same_symbols (trees_of low.way) (reverse ks) replace) ∙ filled_turned ks ∙ c.count in
+        let count : length (filling (way_trees low.way)) ≡ length pr.steps = ap (λ (l : List ℕ). length l) (same_symbols (way_trees low.way) (reverse ks) replace) ∙ filled_turned ks ∙ c.count in
         let d = (subst (λ (i : Key). AreDone P rank heads links heads' links' i) (sym key) done) number left pr high.head low.head b high.way low.way ε δ end (record {
           top = high.at;
           middle = low.at;
           bottom = at;
           lifted = high.is;
           taken_off = low.is;
-          all_extras = same_extras (trees_of high.way) xs (stand_replace high.way xs high.stands) c.all_extras;
+          all_extras = same_extras (way_trees high.way) xs (stand_replace high.way xs high.stands) c.all_extras;
           taken = taken_same low.way ks δ p replace c.taken;
           reduces = c.reduces;
           count = count;
           ranked = refl;
         }) in
         let less = node_shallower number left pr low.way ks make low.stands in
-        let turned : AllReplace (reverse (trees_of low.way)) ks = subst (λ (l : List Tree). AllReplace (reverse (trees_of low.way)) l) (reverse-reverse ks) (all_turned (trees_of low.way) (reverse ks) replace) in
-        let made_way : CanMake P.grammar number left pr (reverse (trees_of low.way)) = record {
+        let turned : AllReplace (reverse (way_trees low.way)) ks = subst (λ (l : List Tree). AllReplace (reverse (way_trees low.way)) l) (reverse-reverse ks) (all_turned (way_trees low.way) (reverse ks) replace) in
+        let made_way : CanMake P.grammar number left pr (reverse (way_trees low.way)) = record {
           at = c.reduces.at;
-          filled = same_symbols (reverse (trees_of low.way)) ks turned ∙ make.filled;
-          begins = same_begins (reverse (trees_of low.way)) ks turned make.begins;
-          made = all_made_turned P.grammar (trees_of low.way) (way_made low.way low.head b low.is);
+          filled = same_symbols (reverse (way_trees low.way)) ks turned ∙ make.filled;
+          begins = same_begins (reverse (way_trees low.way)) ks turned make.begins;
+          made = all_made_turned P.grammar (way_trees low.way) (way_made low.way low.head b low.is);
         } in
         let deep = d.0 in
         let enough = d.6 in
@@ -140,7 +140,7 @@ module _ (P : Parsing) (facts : Facts P) (base : IsBase P) (rank : ℕ → ℕ) 
             below = d.3;
             above = d.4;
             stands = record {
-              tree = replaces_chain d.1.tree (node_made P number (reverse (trees_of low.way))) (node_made P number ks) d.5 (node_replaces number left pr low.way ks made_way make low.stands);
+              tree = replaces_chain d.1.tree (node_made P number (reverse (way_trees low.way))) (node_made P number ks) d.5 (node_replaces number left pr low.way ks made_way make low.stands);
               depth = omega (arith, less, enough);
             };
           };

@@ -19,7 +19,7 @@ use Rattle.spec_packing.proofs.MadeLemmas.{IsMade, AllMade, CanMake, first_some,
 use Rattle.spec_graph.specs.States.{LeadsTo, at_first, by_goto, ShareState}
 use Rattle.spec_graph.specs.Laying.{Parsing, SeesAt, GoesOn, PassesAt, ReducesAt, extra_tree, node_made, Taken, some, nothing, Lays, flat, stood, shifted, passed, made, CanMakeNode, ComesOver}
 use Rattle.spec_graph.proofs.SightLemmas.{Facts, same_token, sees_one, clash, stands_before, IsNarrower, narrows, passes_still, lead_once, lead_from}
-use Rattle.spec_graph.proofs.EntryLemmas.{LeafSays, token_says, extra_says, NodeSays, node_kind, filling_tree, filling_extra, filling_one, filling_append, filling_turned, filling_none, filling_extras, spans_turned, all_made_append, all_made_back, same_front, same_rest, children_fill, shift_bytes, pass_bytes, shift_made, pass_made, node_is_made, node_tells}
+use Rattle.spec_graph.proofs.EntryLemmas.{LeafSays, token_says, extra_says, NodeSays, node_kind, filling_tree, filling_extra, filling_one, filling_append, filling_turned, filling_none, filling_extras, spans_turned, all_made_append, all_made_back, same_front, children_fill, shift_bytes, pass_bytes, shift_made, pass_made, node_is_made, node_tells}
 
 -- ---- lists
 
@@ -46,10 +46,6 @@ none_filled (x ∷ xs) b e = absurd (let h : symbol_of x ∷ filling xs ≡ [] =
 none_long : {X : Type 0} (xs : List X) → 0 ≡ length xs → xs ≡ []
 none_long [] e = refl
 none_long (x ∷ xs) e = absurd (omega (arith, e))
-
-extras_back : (xs ys : List Tree) → AreExtras (xs ++ ys) → AreExtras xs × AreExtras ys
-extras_back [] ys a = (tt, a)
-extras_back (x ∷ xs) ys a = let w = extras_back xs ys a.1 in ((a.0, w.0), w.1)
 
 pub extras_append : (xs ys : List Tree) → AreExtras xs → AreExtras ys → AreExtras (xs ++ ys)
 extras_append [] ys a b = b

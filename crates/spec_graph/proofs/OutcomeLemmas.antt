@@ -25,7 +25,7 @@ use Rattle.spec_graph.specs.States.{LeadsTo, at_first, ShareState, AreRanks}
 use Rattle.spec_graph.specs.Laying.{Parsing, from_start, SeesAt, GoesOn, PassesAt, ReducesAt, node_made, Taken, some, nothing, Lays, IsBegun}
 use Rattle.spec_graph.specs.Replacing.{Replaces, AllReplace, depth_over}
 use Rattle.spec_graph.specs.Keys.{Key, Earlier}
-use Rattle.spec_graph.specs.Links.{IsAt, IsWay, trees_of, depths_of, AllStandFor, HasWay, IsGraph, IsWholeTo, IsDue, way_depth}
+use Rattle.spec_graph.specs.Links.{IsAt, IsWay, way_trees, depths_of, AllStandFor, HasWay, IsGraph, IsWholeTo, IsDue, way_depth}
 use Rattle.spec_graph.specs.Outcomes.{GraphAccepts, GraphStopsAt, GraphIsDeep, IsBestOfGraph, IsLastOfGraph}
 use Rattle.spec_graph.proofs.SightLemmas.{Facts, lead_once, share_back, sees_one, clash, sees_shared, move_shared}
 use Rattle.spec_graph.proofs.EntryLemmas.{node_tells, lawful_at, filling_tree, filling_append, filling_turned, filling_none, filling_extras, all_made_back, all_made_turned, same_front}
@@ -138,7 +138,7 @@ module _ (P : Parsing) (facts : Facts P) where
 
     -- ---- what the graph says is so
 
-    pub own_trees : (way : List Link) (h b : ℕ) → IsWay links h way b → AreLaid (from_start P) (start_facts P facts) (start_base P facts) refl refl heads way (trees_of way)
+    pub own_trees : (way : List Link) (h b : ℕ) → IsWay links h way b → AreLaid (from_start P) (start_facts P facts) (start_base P facts) refl refl heads way (way_trees way)
     own_trees [] h b is = tt
     own_trees (l ∷ way) h b is =
         let k = graph.linked l is.0 in (
@@ -159,8 +159,8 @@ module _ (P : Parsing) (facts : Facts P) where
       pub trees : List Tree
       pub laid : AreLaid (from_start P) (start_facts P facts) (start_base P facts) refl refl heads way trees
       pub depths : map tree_depth trees ≡ depths_of way
-      pub filled : filling trees ≡ filling (trees_of way)
-      pub kinds : SameKinds trees (trees_of way)
+      pub filled : filling trees ≡ filling (way_trees way)
+      pub kinds : SameKinds trees (way_trees way)
 
     pub deepest : (way : List Link) (h b : ℕ) → IsWay links h way b → Deepest way
     deepest [] h b is = record { trees = []; laid = tt; depths = refl; filled = refl; kinds = tt }
@@ -184,7 +184,7 @@ module _ (P : Parsing) (facts : Facts P) where
           trees = t ∷ rest.trees;
           laid = (here, rest.laid);
           depths = both (tree_depth t) l.depth (map tree_depth rest.trees) (depths_of way) k.deepest.2 rest.depths;
-          filled = fill t l.tree rest.trees (trees_of way) same.extra same.symbol rest.filled;
+          filled = fill t l.tree rest.trees (way_trees way) same.extra same.symbol rest.filled;
           kinds = (same.extra, rest.kinds);
         }
       where
@@ -217,7 +217,7 @@ module _ (P : Parsing) (facts : Facts P) where
 
     pub accepts_sound : (t : Tree) → GraphAccepts P heads links t → SomeAccepts P.grammar P.text t
     accepts_sound t a =
-        let ts = trees_of a.way in
+        let ts = way_trees a.way in
         let w = way_down ts a.way a.head a.place a.read a.at a.is (own_trees a.way a.head 0 a.is) in
         let share = down_share ts a.head a.place a.read a.at w in
         let sees = sees_shared P facts a.read w.now share a.place (token a.symbol a.pad a.size) a.sees in
@@ -248,7 +248,7 @@ module _ (P : Parsing) (facts : Facts P) where
     pub stops_sound : (stop : ℕ) → GraphStopsAt P heads stop → SomeStopsAt P.grammar P.text stop
     stops_sound stop a =
         let down = graph.down a.head a.at.head a.at.is in
-        let ts = trees_of down.0 in
+        let ts = way_trees down.0 in
         let w = way_down ts down.0 a.head a.place a.read a.at down.1 (own_trees down.0 a.head 0 down.1) in
         let share = down_share ts a.head a.place a.read a.at w in
         let sees = sees_shared P facts a.read w.now share a.place (absent a.far) a.sees in
@@ -273,15 +273,15 @@ module _ (P : Parsing) (facts : Facts P) where
       deep = deepest inner e b due.taken_off
 
       abbrev low : List Tree
-      low = trees_of below.0
+      low = way_trees below.0
 
       abbrev all : List Tree
-      all = trees_of outer ++ (deep.trees ++ low)
+      all = way_trees outer ++ (deep.trees ++ low)
 
       down : Down all h key.look
       down = way_down all (outer ++ (inner ++ below.0)) h key.look over due.top
           (way_append links h e 0 outer (inner ++ below.0) due.lifted (way_append links e b 0 inner below.0 due.taken_off below.1))
-          (laid_append outer (inner ++ below.0) (trees_of outer) (deep.trees ++ low) (own_trees outer h e due.lifted)
+          (laid_append outer (inner ++ below.0) (way_trees outer) (deep.trees ++ low) (own_trees outer h e due.lifted)
           (laid_append inner below.0 deep.trees low deep.laid (own_trees below.0 b 0 below.1)))
 
       share : ShareState P.goto over down.now
@@ -318,9 +318,9 @@ module _ (P : Parsing) (facts : Facts P) where
       begins : BeginsFilled (reverse deep.trees)
       begins = by due.taken
         where
-          by : Taken (reverse (trees_of inner)) [] now key.begins → BeginsFilled (reverse deep.trees)
-          by (some lt first last) = kinds_begins (reverse deep.trees) (reverse (trees_of inner)) (kinds_turned deep.trees (trees_of inner) deep.kinds) first
-          by (nothing none none_w _ _) = kinds_begins (reverse deep.trees) (reverse (trees_of inner)) (kinds_turned deep.trees (trees_of inner) deep.kinds) (subst (λ (l : List Tree). BeginsFilled l) (sym none) tt)
+          by : Taken (reverse (way_trees inner)) [] now key.begins → BeginsFilled (reverse deep.trees)
+          by (some lt first last) = kinds_begins (reverse deep.trees) (reverse (way_trees inner)) (kinds_turned deep.trees (way_trees inner) deep.kinds) first
+          by (nothing none none_w _ _) = kinds_begins (reverse deep.trees) (reverse (way_trees inner)) (kinds_turned deep.trees (way_trees inner) deep.kinds) (subst (λ (l : List Tree). BeginsFilled l) (sym none) tt)
 
       under : Down low b key.begins
       under = way_down low below.0 b key.begins now due.bottom below.1 (own_trees below.0 b 0 below.1)
@@ -336,28 +336,28 @@ module _ (P : Parsing) (facts : Facts P) where
       all_begins : BeginsFilled (deep.trees ++ low)
       all_begins = by due.taken
         where
-          by : Taken (reverse (trees_of inner)) [] now key.begins → BeginsFilled (deep.trees ++ low)
+          by : Taken (reverse (way_trees inner)) [] now key.begins → BeginsFilled (deep.trees ++ low)
           by (some lt first last) =
-              let turned : BeginsFilled (trees_of inner) = subst (λ (l : List Tree). BeginsFilled l) (reverse-reverse (trees_of inner)) last in
-              let n = kinds_length deep.trees (trees_of inner) deep.kinds in
-              let m : length (reverse (trees_of inner)) ≡ length (trees_of inner) = length-reverse (trees_of inner) in
-              begins_more deep.trees low (omega (arith, lt, n, m)) (kinds_begins deep.trees (trees_of inner) deep.kinds turned)
+              let turned : BeginsFilled (way_trees inner) = subst (λ (l : List Tree). BeginsFilled l) (reverse-reverse (way_trees inner)) last in
+              let n = kinds_length deep.trees (way_trees inner) deep.kinds in
+              let m : length (reverse (way_trees inner)) ≡ length (way_trees inner) = length-reverse (way_trees inner) in
+              begins_more deep.trees low (omega (arith, lt, n, m)) (kinds_begins deep.trees (way_trees inner) deep.kinds turned)
           by (nothing none none_w empty zero_begin) =
-              let n = kinds_length deep.trees (trees_of inner) deep.kinds in
-              let m : length (reverse (trees_of inner)) ≡ length (trees_of inner) = length-reverse (trees_of inner) in
-              let z : length (reverse (trees_of inner)) ≡ 0 = ap (λ (l : List Tree). length l) none in
+              let n = kinds_length deep.trees (way_trees inner) deep.kinds in
+              let m : length (reverse (way_trees inner)) ≡ length (way_trees inner) = length-reverse (way_trees inner) in
+              let z : length (reverse (way_trees inner)) ≡ 0 = ap (λ (l : List Tree). length l) none in
               let gone : deep.trees ≡ [] = none_long deep.trees (omega (arith, n, m, z)) in
               subst (λ (l : List Tree). BeginsFilled l) (sym (ap (λ (l : List Tree). l ++ low) gone ∙ none_below empty zero_begin)) tt
 
-      reduction : IsReduction P.grammar number all (node_made P number (reverse deep.trees)) (trees_of outer ++ node_made P number (reverse deep.trees) ∷ low)
+      reduction : IsReduction P.grammar number all (node_made P number (reverse deep.trees)) (way_trees outer ++ node_made P number (reverse deep.trees) ∷ low)
       reduction = record {
         left = left;
         production = p;
         at = due.reduces.at;
-        lifted = trees_of outer;
+        lifted = way_trees outer;
         children = reverse deep.trees;
         below = low;
-        stack_is = ap (λ (l : List Tree). trees_of outer ++ (l ++ low)) (sym (reverse-reverse deep.trees));
+        stack_is = ap (λ (l : List Tree). way_trees outer ++ (l ++ low)) (sym (reverse-reverse deep.trees));
         extras = due.all_extras;
         all_lifted = subst (λ (l : List Tree). BeginsFilled (l ++ low)) (sym (reverse-reverse deep.trees)) all_begins;
         count = ap (λ (l : List ℕ). length l) (filling_turned deep.trees) ∙ length-reverse (filling deep.trees) ∙ many;
@@ -372,12 +372,12 @@ module _ (P : Parsing) (facts : Facts P) where
           let both : ◌≡◌ {A = Option (ℕ × Production)} (Some (ends.left, ends.production)) (Some (left, p)) = sym ends.at ∙ due.reduces.at in
           let pair : ◌≡◌ {A = ℕ × Production} (ends.left, ends.production) (left, p) = cc in
           let same : ends.production ≡ p = ap (λ (q : ℕ × Production). q.1) pair in
-          let first : down.now ≡ filling deep.trees ++ filling low = read ∙ filling_extras (trees_of outer) (deep.trees ++ low) due.all_extras ∙ filling_append deep.trees low in
+          let first : down.now ≡ filling deep.trees ++ filling low = read ∙ filling_extras (way_trees outer) (deep.trees ++ low) due.all_extras ∙ filling_append deep.trees low in
           let other : down.now ≡ reverse (step_symbols p) ++ ends.earlier = ends.read_is ∙ ap (λ (q : Production). reverse (step_symbols q) ++ ends.earlier) same in
           let count : length (filling deep.trees) ≡ length (reverse (step_symbols p)) = many ∙ sym (length-map p.steps (λ (step : Step). step.symbol.0)) ∙ sym (length-reverse (step_symbols p)) in
           let front = same_front (filling deep.trees) (reverse (step_symbols p)) (filling low) ends.earlier count (sym first ∙ other) in
           let laid = lays_made (from_start P) (start_facts P facts) (start_base P facts) [] 0 all key.look down.now down.lays in
-          let part : AllMade P.grammar deep.trees = all_made_left P.grammar deep.trees low (all_made_right P.grammar (trees_of outer) (deep.trees ++ low) laid) in
+          let part : AllMade P.grammar deep.trees = all_made_left P.grammar deep.trees low (all_made_right P.grammar (way_trees outer) (deep.trees ++ low) laid) in
           record {
             at = due.reduces.at;
             filled = filling_turned deep.trees ∙ ap (λ (l : List ℕ). reverse l) front ∙ reverse-reverse (step_symbols p);
@@ -398,7 +398,7 @@ module _ (P : Parsing) (facts : Facts P) where
           number = number;
           move = move;
           node = node_made P number (reverse deep.trees);
-          after = trees_of outer ++ node_made P number (reverse deep.trees) ∷ low;
+          after = way_trees outer ++ node_made P number (reverse deep.trees) ∷ low;
           reduction = reduction;
           deep = omega (arith, lt, node_depth);
         },
@@ -427,7 +427,7 @@ module _ (P : Parsing) (facts : Facts P) where
         pub accepts_whole : (c : Configuration) (u : Tree) → Run P.grammar P.text d c → AcceptsTree P.grammar P.text c u → (t : Tree) × GraphAccepts P heads links t × (Better u t → ⊥)
         accepts_whole c u run x =
             let h = covered c run in
-            let ts = trees_of h.way in
+            let ts = way_trees h.way in
             let laid = (run_laid P facts d reached begun c run).0 in
             let replace = stand_replace h.way c.stack h.stands in
             let p = split ts (reverse x.after) (x.root ∷ reverse x.before) (subst (λ (l : List Tree). AllReplace ts l) x.stack_is replace) in

@@ -37,10 +37,6 @@ replaces_bare t u k l s = record {
   no_better = λ b. s.no_better (unbared t u k l b);
 }
 
-pub all_same : (ts : List Tree) → AllReplace ts ts
-all_same [] = tt
-all_same (t ∷ ts) = (replaces_itself t, all_same ts)
-
 -- ---- pieces of such lists
 
 pub all_append : (ts us vs ws : List Tree) → AllReplace ts us → AllReplace vs ws → AllReplace (ts ++ vs) (us ++ ws)

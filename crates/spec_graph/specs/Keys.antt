@@ -34,8 +34,8 @@ IsKey most k = (k.begins ≤ k.look) × (k.rank < most)
 abbrev pub IsNextKey : ℕ → Key → Key → Type 0
 IsNextKey most k m = (j : Key) → IsKey most j → Earlier j m → Earlier j k ⊎ (j ≡ k)
 
--- Trees and extras that are laid as said, each before the key: it stood on the stack from which runs
--- go on, or is a token that stands before the key's, or a node with an earlier key.
+-- Trees and extras that are laid as said, each before the key: it stood on the stack from which
+-- runs go on, or is a token that stands before the key's, or a node with an earlier key.
 pub data LaysBefore (P : Parsing) (rank : ℕ → ℕ) (k : Key)
     : List ℕ → ℕ → List Tree → ℕ → List ℕ → Type 0 where
   flat_before : (read : List ℕ) (from : ℕ) → LaysBefore P rank k read from [] from read

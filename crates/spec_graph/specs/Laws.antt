@@ -1,4 +1,4 @@
--- The laws of other crates that the proofs here rest on. It serves proofs alone.
+-- The laws of other crates that the laws here rest on.
 use Rattle.std.specs.Prelude.{◌≡◌, ℕ, ◌+◌, ◌≤◌, List, [], ◌∷◌, ◌++◌, length, reverse, Some}
 use Rattle.std.specs.List.{Contains}
 use Rattle.ts_base.specs.Bytes.{Bytes}
@@ -14,6 +14,7 @@ use Rattle.spec_trees.specs.Made.{step_symbols}
 use Rattle.spec_runs.specs.Configurations.{HasMove}
 use Rattle.spec_packing.specs.Laws.{RunLaws}
 
+-- the laws of runs, and laws of lexing, of reductions over nothing and of moves on a token
 pub record GraphLaws : Type 0 where
   pub runs : RunLaws
   pub nothing : (g : FlatGrammar) → Fit g → (read : List ℕ) (t number left : ℕ) (p : Production)

@@ -113,8 +113,8 @@ pub data Lays (P : Parsing) : List ℕ → ℕ → List Tree → ℕ → List �
       → tree_depth (node_made P number children) ≤ most_depth
       → Lays P read from (node_made P number children ∷ w) end (left ∷ now)
 
--- What a node is made of, at its lookahead, whatever its depth. It can be laid where it is no deeper
--- than a node may be.
+-- What a node is made of, at its lookahead, whatever its depth. It can be laid where it is no
+-- deeper than a node may be.
 pub record CanMakeNode (P : Parsing) (now : List ℕ) (place : ℕ) (children : List Tree) (end : ℕ)
     (over : List ℕ) (extras : List Tree) (look number left : ℕ) (p : Production) : Type 0 where
   pub inner : Lays P now place (reverse children) end over

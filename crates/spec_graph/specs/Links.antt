@@ -32,8 +32,8 @@ IsWay links h [] b = h ≡ b
 IsWay links h (l ∷ way) b = Contains links l × (l.above ≡ h) × IsWay links l.below way b
 
 -- the trees of a way
-abbrev pub trees_of : List Link → List Tree
-trees_of way = map (λ l. l.tree) way
+abbrev pub way_trees : List Link → List Tree
+way_trees way = map (λ l. l.tree) way
 
 -- the depths of a way
 abbrev pub depths_of : List Link → List ℕ
@@ -42,7 +42,7 @@ depths_of way = map (λ l. l.depth) way
 -- ---- what a link stands for
 
 -- The link may stand for the tree: its own tree may take its place, and its depth is no less.
-pub record StandsFor (l : Link) (t : Tree) : Type 0 where
+pub record StandsForTree (l : Link) (t : Tree) : Type 0 where
   pub tree : Replaces l.tree t
   pub depth : tree_depth t ≤ l.depth
 
@@ -51,7 +51,7 @@ abbrev pub AllStandFor : List Link → List Tree → Type 0
 AllStandFor [] [] = Unit {0}
 AllStandFor [] (t ∷ ts) = ⊥
 AllStandFor (l ∷ way) [] = ⊥
-AllStandFor (l ∷ way) (t ∷ ts) = StandsFor l t × AllStandFor way ts
+AllStandFor (l ∷ way) (t ∷ ts) = StandsForTree l t × AllStandFor way ts
 
 -- a head and a way down from it that stands for these trees and extras
 pub record HasWay (P : Parsing) (heads : List Head) (links : List Link) (b : ℕ) (w : List Tree)
@@ -69,10 +69,10 @@ pub record HasLink (P : Parsing) (heads : List Head) (links : List Link) (b : �
   pub there : Contains links link
   pub below : link.below ≡ b
   pub above : IsAt P heads link.above now place
-  pub stands : StandsFor link t
+  pub stands : StandsForTree link t
 
--- Sound: the link's tree can be laid between its heads, and is no deeper than the link says; and some
--- tree of the link's depth can be laid there.
+-- Sound: the link's tree can be laid between its heads, and is no deeper than the link says; and
+-- some tree of the link's depth can be laid there.
 pub record IsLinked (P : Parsing) (heads : List Head) (l : Link) : Type 0 where
   pub under : List ℕ
   pub over : List ℕ
@@ -118,10 +118,10 @@ pub record IsDue (P : Parsing) (rank : ℕ → ℕ) (heads : List Head) (links :
   pub bottom : IsAt P heads b now k.begins
   pub lifted : IsWay links h outer e
   pub taken_off : IsWay links e inner b
-  pub all_extras : AreExtras (trees_of outer)
-  pub taken : Taken (reverse (trees_of inner)) [] now k.begins
+  pub all_extras : AreExtras (way_trees outer)
+  pub taken : Taken (reverse (way_trees inner)) [] now k.begins
   pub reduces : ReducesAt P over k.look number left p now
-  pub count : length (filling (trees_of inner)) ≡ length p.steps
+  pub count : length (filling (way_trees inner)) ≡ length p.steps
   pub ranked : k.rank ≡ rank left
 
 -- no reduction in the graph has this key
@@ -143,7 +143,7 @@ AreDone P rank heads links heads' links' k =
     (end : ℕ) → IsDue P rank heads links k number left p h e b outer inner over now end
     → (way_depth P number left inner ≤ most_depth)
     × (l : Link) × Contains links' l × (l.below ≡ b) × IsAt P heads' l.above (left ∷ now) end
-    × Replaces l.tree (node_made P number (reverse (trees_of inner)))
+    × Replaces l.tree (node_made P number (reverse (way_trees inner)))
     × (way_depth P number left inner ≤ l.depth)
 
 -- heads were added, and links were added or changed, and each stands for all that it stood for
@@ -153,7 +153,7 @@ pub record HasGrown (P : Parsing) (heads : List Head) (links : List Link) (heads
       → IsAt P heads' h read place
   pub links_stay : (l : Link) → Contains links l
       → (n : Link) × Contains links' n × (n.above ≡ l.above) × (n.below ≡ l.below)
-      × ((t : Tree) → StandsFor l t → StandsFor n t)
+      × ((t : Tree) → StandsForTree l t → StandsForTree n t)
 
 -- Each head was there, or has a link for all that is laid on it and comes before the key, and makes
 -- no node before it.

@@ -13,10 +13,10 @@ use Rattle.spec_graph.specs.declared.graph.Head.{Head}
 use Rattle.spec_graph.specs.declared.graph.Link.{Link}
 use Rattle.spec_graph.specs.Laying.{Parsing, SeesAt}
 use Rattle.spec_graph.specs.Keys.{Key}
-use Rattle.spec_graph.specs.Links.{IsAt, IsWay, trees_of, IsDue, way_depth}
+use Rattle.spec_graph.specs.Links.{IsAt, IsWay, way_trees, IsDue, way_depth}
 
--- A head accepts the tree: a token is seen there on which acceptance stays, and on a way down to the
--- empty stack lies the root with the extras before and after it.
+-- A head accepts the tree: a token is seen there on which acceptance stays, and on a way down to
+-- the empty stack lies the root with the extras before and after it.
 pub record GraphAccepts (P : Parsing) (heads : List Head) (links : List Link) (t : Tree)
     : Type 0 where
   pub head : ℕ
@@ -33,7 +33,7 @@ pub record GraphAccepts (P : Parsing) (heads : List Head) (links : List Link) (t
   pub before : List Tree
   pub root : Tree
   pub after : List Tree
-  pub trees_are : trees_of way ≡ reverse after ++ root ∷ reverse before
+  pub trees_are : way_trees way ≡ reverse after ++ root ∷ reverse before
   pub before_extras : AreExtras before
   pub root_fills : is_extra_node root ≡ false
   pub after_extras : AreExtras after

@@ -27,8 +27,8 @@ AllReplace [] (u ∷ us) = ⊥
 AllReplace (t ∷ ts) [] = ⊥
 AllReplace (t ∷ ts) (u ∷ us) = Replaces t u × AllReplace ts us
 
--- The depth of the node of this form over children of these depths: one more than the deepest, where
--- a repetition that is lengthened counts by its own children.
+-- The depth of the node of this form over children of these depths: one more than the deepest,
+-- where a repetition that is lengthened counts by its own children.
 abbrev pub depth_over : Form → List ℕ → ℕ
 depth_over of_rule ds = suc (maximum ds)
 depth_over (of_first alternative) ds = suc (maximum ds)

@@ -17,7 +17,7 @@ ghost use Rattle.spec_graph.specs.States.{LeadsTo, AreStates, AreRanks};
 ghost use Rattle.spec_graph.specs.Laying.{Parsing, from_start, PassesAt, ReducesAt, extra_tree, node_made, Lays, CanMakeNode, IsBegun, ComesOver};
 ghost use Rattle.spec_graph.specs.Replacing.{AreAlike, Replaces, AllReplace, depth_over};
 ghost use Rattle.spec_graph.specs.Keys.{Key, Earlier, IsNextKey, LaysBefore};
-ghost use Rattle.spec_graph.specs.Links.{IsAt, trees_of, HasWay, IsGraph, IsWholeTo, IsDue, way_depth, AreDone, HasNoneDue, HasGrown, AreAdded, IsOpened, HasStood};
+ghost use Rattle.spec_graph.specs.Links.{IsAt, way_trees, HasWay, IsGraph, IsWholeTo, IsDue, way_depth, AreDone, HasNoneDue, HasGrown, AreAdded, IsOpened, HasStood};
 ghost use Rattle.spec_graph.specs.Outcomes.{GraphAccepts, GraphStopsAt, GraphIsDeep, IsBestOfGraph, IsLastOfGraph};
 ghost use Rattle.spec_graph.specs.Laws.{GraphLaws};
 
@@ -44,8 +44,8 @@ fn laws_hold()
     some_move_stays();
 }
 
-/// What runs reach is laid, from the start and over the stack from which runs go on; and what is laid
-/// is reached, once the extras behind it are passed.
+/// What runs reach is laid, from the start and over the stack from which runs go on; and what is
+/// laid is reached, once the extras behind it are passed.
 pub fn runs_lay()
     ensures start { (P : Parsing) → Fit P.grammar → AreStates P.grammar P.goto → (c : Configuration)
         → IsReached P.grammar P.text c
@@ -64,8 +64,8 @@ pub fn runs_lay()
     laws_hold();
 }
 
-/// A tree may take its own place, and that of what a tree may whose place it may take. In every node
-/// trees may be replaced so; and the depth of a node is told by those of its children.
+/// A tree may take its own place, and that of what a tree may whose place it may take. In every
+/// node trees may be replaced so; and the depth of a node is told by those of its children.
 pub fn trees_replace()
     ensures same { (t : Tree) → Replaces t t }
     ensures through { (t u v : Tree) → Replaces t u → Replaces u v → Replaces t v }
@@ -123,8 +123,8 @@ pub fn links_pack()
     laws_hold();
 }
 
-/// A graph is whole up to the first key where all that stood has links. From there it is whole up to
-/// each next key once all reductions of a key are done.
+/// A graph is whole up to the first key where all that stood has links. From there it is whole up
+/// to each next key once all reductions of a key are done.
 pub fn whole_to_the_next()
     ensures begins { (P : Parsing) → Fit P.grammar → AreStates P.grammar P.goto
         → (c : Configuration) → IsReached P.grammar P.text c → IsBegun P c
@@ -167,8 +167,8 @@ pub fn keys_follow()
         (record { look = suc look; begins = suc look; rank = most }) }
 {}
 
-/// A graph in which nothing is due at some keys is whole up to the key behind them: lower ranks at one
-/// start, and earlier starts.
+/// A graph in which nothing is due at some keys is whole up to the key behind them: lower ranks at
+/// one start, and earlier starts.
 pub fn keys_pass()
     ensures ranks { (P : Parsing) → Fit P.grammar → AreStates P.grammar P.goto
         → (c : Configuration) → IsReached P.grammar P.text c → IsBegun P c
@@ -194,8 +194,8 @@ pub fn keys_pass()
 }
 
 /// What a reduction in a sound graph makes can be laid from its lower head to that of its rule: the
-/// node over the trees of its way, which is no deeper than the way says, and some tree of that depth.
-/// Each extra above is passed over it too.
+/// node over the trees of its way, which is no deeper than the way says, and some tree of that
+/// depth. Each extra above is passed over it too.
 pub fn reductions_are_laid()
     ensures node { (P : Parsing) → Fit P.grammar → AreStates P.grammar P.goto
         → (rank : ℕ → ℕ) (heads : List AnyHead) (links : List AnyLink) → IsGraph P heads links
@@ -204,13 +204,13 @@ pub fn reductions_are_laid()
         → IsDue P rank heads links k number left p h e b outer inner over now end
         → way_depth P number left inner ≤ most_depth
         → Lays (from_start P) now k.begins
-        (node_made P number (reverse (trees_of inner)) ∷ []) end (left ∷ now) }
+        (node_made P number (reverse (way_trees inner)) ∷ []) end (left ∷ now) }
     ensures depth { (P : Parsing) → Fit P.grammar → AreStates P.grammar P.goto
         → (rank : ℕ → ℕ) (heads : List AnyHead) (links : List AnyLink) → IsGraph P heads links
         → (k : Key) (number left : ℕ) (p : Production) (h e b : ℕ) (outer inner : List AnyLink)
         (over now : List ℕ) (end : ℕ)
         → IsDue P rank heads links k number left p h e b outer inner over now end
-        → tree_depth (node_made P number (reverse (trees_of inner)))
+        → tree_depth (node_made P number (reverse (way_trees inner)))
         ≤ way_depth P number left inner }
     ensures deepest { (P : Parsing) → Fit P.grammar → AreStates P.grammar P.goto
         → (rank : ℕ → ℕ) (heads : List AnyHead) (links : List AnyLink) → IsGraph P heads links
@@ -226,16 +226,16 @@ pub fn reductions_are_laid()
         (over now : List ℕ) (end : ℕ)
         → IsDue P rank heads links k number left p h e b outer inner over now end
         → way_depth P number left inner ≤ most_depth
-        → (above below : List Tree) (x : Tree) → trees_of outer ≡ above ++ x ∷ below
+        → (above below : List Tree) (x : Tree) → way_trees outer ≡ above ++ x ∷ below
         → Lays (from_start P) (left ∷ now) (end + all_spans below) (x ∷ [])
         ((end + all_spans below) + span_of x) (left ∷ now) }
 {
     laws_hold();
 }
 
-/// On a head at which an extra is passed nothing else is laid, and no node begins there. On one that
-/// stands no earlier than a key's token nothing is laid before the key, and no node begins there
-/// before it. Head 0 is left out.
+/// On a head at which an extra is passed nothing else is laid, and no node begins there. On one
+/// that stands no earlier than a key's token nothing is laid before the key, and no node begins
+/// there before it. Head 0 is left out.
 pub fn new_heads_have_little()
     ensures extra { (P : Parsing) → Fit P.grammar → AreStates P.grammar P.goto
         → (c : Configuration) → IsReached P.grammar P.text c → IsBegun P c
@@ -269,9 +269,9 @@ pub fn new_heads_have_little()
     laws_hold();
 }
 
-/// All that runs reach from the stack from which they go on has a way in a graph that is whole, which
-/// stands for it; no run comes to a node that is too deep; and what runs end with there, the graph
-/// has, with a tree that is no worse.
+/// All that runs reach from the stack from which they go on has a way in a graph that is whole,
+/// which stands for it; no run comes to a node that is too deep; and what runs end with there, the
+/// graph has, with a tree that is no worse.
 pub fn whole_graphs_have_all()
     ensures way { (P : Parsing) → Fit P.grammar → AreStates P.grammar P.goto
         → (c : Configuration) → IsReached P.grammar P.text c → IsBegun P c

@@ -1,6 +1,6 @@
 //! Stacks of a parser as one graph: a head for each state at a place, and links between heads, each
-//! with the best of the trees that it stands for. Definitions with their laws alone: no value goes in
-//! or out.
+//! with the best of the trees that it stands for. Definitions with their laws alone: no value goes
+//! in or out.
 #![tactic(auto)]
 
 mod graph;

@@ -115,7 +115,8 @@ module _ (Finds : Bytes → List ℕ → List ShownResult → Type 0) where
     pub opening_is : slice_get h.openings (document_of s) ≡ Some opening
     pub entries : List JournalEntry
     pub entries_are : slice_get h.journals (document_of s) ≡ Some entries
-    pub right : IsRight h.plan h.grammar opening entries (held_before h client number (document_of s))
+    pub right : IsRight h.plan h.grammar opening entries
+        (held_before h client number (document_of s))
         (last_told h client number (document_of s)) s r
 
 -- ---- all replies
@@ -169,7 +170,7 @@ pub record LegalSoFar (Finds : Bytes → List ℕ → List ShownResult → Type 
       → accounted_all document turn (all_paired h.plan.clients h.replies) ≤ suc turn
 
 -- each step has a reply, and each document a journal
-pub record IsComplete (h : History) : Type 0 where
+pub record IsCompleteHistory (h : History) : Type 0 where
   pub openings : length h.openings ≡ length h.plan.documents
   pub journals : length h.journals ≡ length h.plan.documents
   pub clients : length h.replies ≡ length h.plan.clients
@@ -180,5 +181,5 @@ pub record IsComplete (h : History) : Type 0 where
 -- the journals and replies are lawful for the script
 pub record Legal (Finds : Bytes → List ℕ → List ShownResult → Type 0) (h : History)
     : Type 0 where
-  pub whole : IsComplete h
+  pub whole : IsCompleteHistory h
   pub lawful : LegalSoFar Finds h

@@ -66,8 +66,8 @@ pub record AreResults (g : FlatGrammar) (queries : List ReadQuery) (host : ℕ �
       → slice_get results place ≡ Some result
       → IsResultOf g queries host text t number result
 
--- What queries of these numbers find in a text: what they come to in the tree that parsing the whole
--- text from its start comes to.
+-- What queries of these numbers find in a text: what they come to in the tree that parsing the
+-- whole text from its start comes to.
 pub record Finds (g : FlatGrammar) (queries : List ReadQuery) (host : ℕ → Bytes → Type 0)
     (text : Bytes) (numbers : List ℕ) (results : List ShownResult) : Type 0 where
   pub tree : ParseTree

@@ -1,8 +1,7 @@
 -- What begins a text, and how much of it is looked at.
-use Rattle.std.proofs.Common.{◌≡◌, ◌∙◌, sym, ap, subst, refl, ℕ, zero, suc, ◌+◌, ◌≤◌, ◌<◌, Bool, List, [], ◌∷◌, ◌++◌, length, drop, slice_get, Some, append_assoc, length-append, arith}
+use Rattle.std.proofs.Common.{◌≡◌, ◌∙◌, sym, ap, subst, refl, ℕ, zero, suc, ◌+◌, ◌≤◌, ◌<◌, Bool, List, [], ◌∷◌, ◌++◌, length, drop, slice_get, Some, length-append, arith}
 use Rattle.std.proofs.Math.Utf8.{encodes}
 use Rattle.std.proofs.Math.Seq.{drop-append_seam}
-use Rattle.std.proofs.lemmas.List.Elements.{Contains-append_left}
 use Rattle.ts_base.specs.Bytes.{Bytes}
 use Rattle.ts_core.specs.declared.flat.FlatGrammar.{FlatGrammar}
 use Rattle.ts_core.specs.declared.flat.TokenDef.{TokenDef}
@@ -13,7 +12,6 @@ use Rattle.spec_lexing.specs.Lexing.{Candidate}
 use Rattle.spec_lexing.specs.Seen.{CanBegin, a_token, the_word, a_separator, HasFront, one_character, Agree}
 use Rattle.spec_lexing.proofs.WordLemmas.{word_front}
 use Rattle.spec_lexing.proofs.FrontLemmas.{front_prefix}
-use Rattle.spec_lexing.proofs.CharacterLemmas.{encodes_append}
 
 pub begins_within : (rest : Bytes) (w : List ℕ) (n : ℕ) → BeginsSpelled rest w n → n ≤ length rest
 begins_within rest w n b =
@@ -29,15 +27,6 @@ begins_nothing rest = record { scalar = λ c h. (let lt = h.1 in absurd (omega a
 pub tail_is : (rest : Bytes) (w : List ℕ) (n : ℕ) → (b : BeginsSpelled rest w n) → drop n rest ≡ b.tail
 tail_is rest w n b =
     ap (λ (m : ℕ). drop m rest) b.size ∙ ap (λ (l : List ℕ). drop (length (encodes w)) l) b.is ∙ drop-append_seam (encodes w) b.tail
-
--- the beginning of a beginning
-pub begins_before : (rest : Bytes) (u v : List ℕ) (n : ℕ) → BeginsSpelled rest (u ++ v) n → BeginsSpelled rest u (length (encodes u))
-begins_before rest u v n b = record {
-  scalar = λ c h. b.scalar c (Contains-append_left u v c h);
-  tail = encodes v ++ b.tail;
-  is = b.is ∙ ap (λ (l : List ℕ). l ++ b.tail) (encodes_append u v) ∙ append_assoc (encodes u) (encodes v) b.tail;
-  size = refl;
-}
 
 -- ---- texts that agree
 
@@ -91,10 +80,6 @@ pub candidate_front : (g : FlatGrammar) (valid : List Symbol) (first : Bool) (re
 candidate_front g valid first rest t s n x =
     let m = re_of g t rest n x.matches in
     record { characters = m.characters; begins = m.begins; front = a_token s t x.is_valid x.is_token (word_front (regular_of t.re) m.characters m.word) }
-
-pub separator_front : (g : FlatGrammar) (valid : List Symbol) (rest : Bytes) (n : ℕ) → MatchesSeparator g rest n → HasFront g valid rest n
-separator_front g valid rest n x =
-    record { characters = x.matches.characters; begins = x.matches.begins; front = a_separator x.place x.separator x.at (word_front (regular_of x.separator) x.matches.characters x.matches.word) }
 
 pub candidate_within : (g : FlatGrammar) (valid : List Symbol) (first : Bool) (rest : Bytes) (t : TokenDef) (s : Symbol) (n : ℕ) → Candidate g valid first rest t s n → (0 < n) × (n ≤ length rest)
 candidate_within g valid first rest t s n x = let m = re_of g t rest n x.matches in (m.some, begins_within rest m.characters n m.begins)

@@ -8,7 +8,7 @@ use Rattle.ts_core.specs.declared.flat.FlatGrammar.{FlatGrammar}
 use Rattle.ts_core.specs.declared.flat.TokenDef.{TokenDef}
 use Rattle.ts_core.specs.declared.symbol.Symbol.{Symbol}
 use Rattle.spec_lexing.specs.Words.{Regular, regular_of}
-use Rattle.spec_lexing.specs.Matching.{MatchesRe, MatchesToken, plainly, as_keyword, MatchesSeparator}
+use Rattle.spec_lexing.specs.Matching.{MatchesRe, MatchesToken, plainly, as_keyword}
 use Rattle.spec_lexing.specs.Lexing.{Precedes, Beats, IsBest, NoneMatches, Passes, Found, token, behind, Lexes, takes, ends, passes, stops}
 use Rattle.spec_lexing.specs.Seen.{HasFront, one_character, IsReach, IsSeen, last, more}
 
@@ -43,9 +43,6 @@ empty_matches p n x =
 empty_token : (g : FlatGrammar) (a : TokenDef) (n : ℕ) → MatchesToken g a [] n → ⊥
 empty_token g a n (plainly is m) = empty_matches (regular_of a.re) n m
 empty_token g a n (as_keyword is word is_word longest m) = empty_matches (regular_of a.re) n m
-
-empty_separator : (g : FlatGrammar) (n : ℕ) → MatchesSeparator g [] n → ⊥
-empty_separator g n x = empty_matches (regular_of x.separator) n x.matches
 
 module _ (g : FlatGrammar) (valid : List Symbol) where
   pub one_best : (first : Bool) (rest : Bytes) (s t : Symbol) (m n : ℕ) → IsBest g valid first rest s m → IsBest g valid first rest t n → (s ≡ t) × (m ≡ n)

@@ -40,8 +40,8 @@ abbrev pub regular_of : Re → Regular
 regular_of = fold-Re Regular regular_step
 
 -- the character is in one of the ranges, whose ends belong to them
-abbrev pub IsIn : List (ℕ × ℕ) → ℕ → Type 0
-IsIn ranges c = Any (λ range. (range.0 ≤ c) × (c ≤ range.1)) ranges
+abbrev pub IsInRanges : List (ℕ × ℕ) → ℕ → Type 0
+IsInRanges ranges c = Any (λ range. (range.0 ≤ c) × (c ≤ range.1)) ranges
 
 -- so many lists with the property, one after another
 abbrev pub Times : (List ℕ → Type 0) → ℕ → List ℕ → Type 0
@@ -62,7 +62,7 @@ Below k (Some most) = k < most
 abbrev pub Word : Regular → List ℕ → Type 0
 Word empty w = w ≡ []
 Word never w = ⊥
-Word (one_of ranges) w = (c : ℕ) × (w ≡ c ∷ []) × IsIn ranges c
+Word (one_of ranges) w = (c : ℕ) × (w ≡ c ∷ []) × IsInRanges ranges c
 Word (both p q) w = (u : List ℕ) × (v : List ℕ) × (w ≡ u ++ v) × Word p u × Word q v
 Word (either p q) w = Word p w ⊎ Word q w
 Word (repeat p least most) w = (k : ℕ) × (least ≤ k) × AtMost k most × Times (Word p) k w
@@ -73,7 +73,7 @@ Word (repeat p least most) w = (k : ℕ) × (least ≤ k) × AtMost k most × Ti
 abbrev pub Front : Regular → List ℕ → Type 0
 Front empty w = w ≡ []
 Front never w = w ≡ []
-Front (one_of ranges) w = (w ≡ []) ⊎ ((c : ℕ) × (w ≡ c ∷ []) × IsIn ranges c)
+Front (one_of ranges) w = (w ≡ []) ⊎ ((c : ℕ) × (w ≡ c ∷ []) × IsInRanges ranges c)
 Front (both p q) w =
     Front p w ⊎ ((u : List ℕ) × (v : List ℕ) × (w ≡ u ++ v) × Word p u × Front q v)
 Front (either p q) w = Front p w ⊎ Front q w

@@ -25,10 +25,11 @@ capture_cmp = (of_captures.cmp-value).it
 abbrev pub match_cmp : Match → Match → Ordering
 match_cmp = (of_matches.cmp-value).it
 
--- whether two captures, and two matches, are equal
+-- whether two captures are equal
 abbrev pub capture_eq : Capture → Capture → Bool
 capture_eq = (equal_captures.eq-value).it
 
+-- whether two matches are equal
 abbrev pub match_eq : Match → Match → Bool
 match_eq = (equal_matches.eq-value).it
 

@@ -16,17 +16,19 @@ use Rattle.spec_matches.specs.declared.placing.Slot.{Slot}
 use Rattle.spec_matches.specs.declared.placing.Run.{Run}
 use Rattle.spec_matches.specs.declared.placing.Placing.{Placing}
 use Rattle.spec_matches.specs.declared.scene.Scene.{Scene}
-use Rattle.spec_matches.specs.Embedding.{Full, Gives, IsWay}
+use Rattle.spec_matches.specs.Embedding.{Full, GivesCaptures, IsWayFrom}
 use Rattle.spec_matches.specs.Siblings.{AreChildren, nameds}
 
 -- ---- what an item asks beside its test
 
+-- an item of this quantity may take nothing
 abbrev pub is_optional : Quantity → Bool
 is_optional One = false
 is_optional Optional = true
 is_optional Many = true
 is_optional Several = false
 
+-- an item of this quantity may take more than one round
 abbrev pub is_many : Quantity → Bool
 is_many One = false
 is_many Optional = false
@@ -56,6 +58,7 @@ pub data Shape : Type 0 where
   more : Shape → Shape → Shape
   item : Head → Shape → Shape
 
+-- some shapes as a list of items
 abbrev pub all_of : List Shape → Shape
 all_of [] = end
 all_of (s ∷ ss) = more s (all_of ss)
@@ -76,12 +79,15 @@ head_by x = record {
   closed = x.closed;
 }
 
+-- the shape of an item, from those of its parts
 abbrev pub shape_step : Item-F Shape → Shape
 shape_step x = item (head_by x) (all_of x.parts)
 
+-- the shape of an item
 abbrev pub shape_of : Item → Shape
 shape_of = fold-Item Shape shape_step
 
+-- the shape of a list of items
 abbrev pub shapes_of : List Item → Shape
 shapes_of is = all_of (map shape_of is)
 
@@ -125,35 +131,39 @@ abbrev pub On : Taking → List ℕ → Taking
 On takes siblings k o p c = (n : ℕ) × (slice_get siblings p ≡ Some n) × takes k o n c
 
 -- a full embedding of items in siblings, with its captures
-pub record Fully (takes : Taking) (slots : List Slot) (closed : Bool) (nodes : List VisibleNode) (siblings : List ℕ) (c : List Capture) : Type 0 where
+pub record Fully (takes : Taking) (slots : List Slot) (closed : Bool) (nodes : List VisibleNode)
+    (siblings : List ℕ) (c : List Capture) : Type 0 where
   pub runs : List (Option Run)
   pub full : Full (On takes siblings) (nameds nodes siblings) closed slots 0 0 true runs
-  pub gives : Gives (On takes siblings) slots 0 runs c
+  pub gives : GivesCaptures (On takes siblings) slots 0 runs c
 
 -- the parts of an item embed in a node's children
-pub record Inside (scene : Scene) (takes : Taking) (slots : List Slot) (h : Head) (n : ℕ) (c : List Capture) : Type 0 where
+pub record Inside (scene : Scene) (takes : Taking) (slots : List Slot) (h : Head) (n : ℕ)
+    (c : List Capture) : Type 0 where
   pub children : List ℕ
   pub are_children : AreChildren scene.nodes n children
   pub none_has : NoneHas scene.nodes h.without children
   pub fully : Fully takes slots h.closed scene.nodes children c
 
 -- a node is as the test of an item asks, and these are the captures inside
-abbrev pub Passes : Scene → Taking → List Slot → Head → Test → ℕ → VisibleNode → List Capture → Type 0
-Passes scene takes slots h Any n node c = c ≡ []
-Passes scene takes slots h Named n node c = (node.named ≡ true) × Inside scene takes slots h n c
-Passes scene takes slots h (Kind kind) n node c =
+abbrev pub PassesTest : Scene → Taking → List Slot → Head → Test → ℕ → VisibleNode → List Capture
+    → Type 0
+PassesTest scene takes slots h Any n node c = c ≡ []
+PassesTest scene takes slots h Named n node c = (node.named ≡ true) × Inside scene takes slots h n c
+PassesTest scene takes slots h (Kind kind) n node c =
     IsOfKind scene.kinds kind node × Inside scene takes slots h n c
-Passes scene takes slots h Choice n node c = (k : ℕ) × takes k 0 n c
-Passes scene takes slots h Round n node c = ⊥
+PassesTest scene takes slots h Choice n node c = (k : ℕ) × takes k 0 n c
+PassesTest scene takes slots h Round n node c = ⊥
 
 -- an item that is no group takes a node
-pub record Plainly (scene : Scene) (takes : Taking) (slots : List Slot) (h : Head) (n : ℕ) (c : List Capture) : Type 0 where
+pub record Plainly (scene : Scene) (takes : Taking) (slots : List Slot) (h : Head) (n : ℕ)
+    (c : List Capture) : Type 0 where
   pub node : VisibleNode
   pub is_node : slice_get scene.nodes n ≡ Some node
   pub field : IsField h.field node
   pub inner : List Capture
   pub captures : c ≡ captured h.captures n node ++ inner
-  pub passes : Passes scene takes slots h h.test n node inner
+  pub passes : PassesTest scene takes slots h h.test n node inner
 
 -- an item takes a node at a place in its round: a group by the part of that place
 abbrev pub InRound : Scene → Taking → List Slot → Head → Test → Taking
@@ -164,15 +174,15 @@ InRound scene takes slots h (Kind kind) k o n c = (o ≡ 0) × Plainly scene tak
 InRound scene takes slots h Choice k o n c = (o ≡ 0) × Plainly scene takes slots h n c
 
 -- what a list of items takes
-abbrev pub Taken : Scene → Shape → Taking
-Taken scene end k o n c = ⊥
-Taken scene (more i is) zero o n c = Taken scene i 0 o n c
-Taken scene (more i is) (suc k) o n c = Taken scene is k o n c
-Taken scene (item h parts) k o n c =
-    InRound scene (Taken scene parts) (slots_of parts) h h.test k o n c
+abbrev pub TakenByItems : Scene → Shape → Taking
+TakenByItems scene end k o n c = ⊥
+TakenByItems scene (more i is) zero o n c = TakenByItems scene i 0 o n c
+TakenByItems scene (more i is) (suc k) o n c = TakenByItems scene is k o n c
+TakenByItems scene (item h parts) k o n c =
+    InRound scene (TakenByItems scene parts) (slots_of parts) h h.test k o n c
 
 -- a way in which some items fully embed in some siblings
 abbrev pub Embedded : Scene → List Item → Bool → List ℕ → Placing → Type 0
 Embedded scene is closed siblings f =
-    IsWay (On (Taken scene (shapes_of is)) siblings) (nameds scene.nodes siblings) closed
+    IsWayFrom (On (TakenByItems scene (shapes_of is)) siblings) (nameds scene.nodes siblings) closed
     (slots_of (shapes_of is)) 0 0 true f

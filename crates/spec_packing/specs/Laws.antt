@@ -1,4 +1,4 @@
--- The laws of other crates that the proofs here rest on. It serves proofs alone.
+-- The laws of other crates that the laws here rest on.
 use Rattle.std.specs.Prelude.{◌≡◌, ℕ, false, List, [], ◌∷◌, Some}
 use Rattle.ts_core.specs.declared.flat.FlatGrammar.{FlatGrammar}
 use Rattle.ts_core.specs.declared.flat.Production.{Production}
@@ -12,6 +12,7 @@ use Rattle.spec_trees.specs.Made.{as_extra, form_of, of_next}
 use Rattle.spec_runs.specs.BareTrees.{KeepsAll}
 use Rattle.spec_runs.specs.Moves.{StandsBefore, EndsWithProduction, RepeatsItself, IsUnused}
 
+-- laws of bare trees, of the moves that stay, of empty productions and of repetitions
 pub record RunLaws : Type 0 where
   pub keeps : (t : Tree) → KeepsAll t
   pub extra : (t : Tree) → bare (as_extra t) ≡ as_extra (bare t)

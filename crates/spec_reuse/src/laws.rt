@@ -36,8 +36,8 @@ pub fn no_new_tokens()
     empty_rules_are_unused();
 }
 
-/// After a reduction on a token the same token is seen again, if it is still valid there: the tokens
-/// that are valid after it were valid before it.
+/// After a reduction on a token the same token is seen again, if it is still valid there: the
+/// tokens that are valid after it were valid before it.
 pub fn same_token_again()
     ensures { (g : FlatGrammar) → Fit g → (text : Bytes) (c : Configuration) (s : Symbol)
         (pad size number : ℕ) (node : Tree) (after : List Tree) (valid : List Symbol)

@@ -106,9 +106,6 @@ codes_same (t ∷ ts) e = let h = e.0 in let k = codes_same ts e.1 in cc
 code_is : (t : Tree) → code_of t ≡ symbol_of t ∷ unwrap_or (production_of t) 0 ∷ pad_of t ∷ size_of t ∷ inner_code (elements_of t) (map code_of (children_of t))
 code_is t = fold_out-Tree (List ℕ) code_step t
 
-code_by : ℕ → Option ℕ → ℕ → ℕ → List Element → List Tree → List ℕ
-code_by symbol production pad size elements children = symbol ∷ unwrap_or production 0 ∷ pad ∷ size ∷ inner_code elements (map code_of children)
-
 same_code : (s s' : ℕ) (p p' : Option ℕ) (d d' z z' : ℕ) (es es' : List Element) (cs cs' : List (List ℕ)) → s ≡ s' → p ≡ p' → d ≡ d' → z ≡ z' → es ≡ es' → cs ≡ cs'
     → s ∷ unwrap_or p 0 ∷ d ∷ z ∷ inner_code es cs ≡ s' ∷ unwrap_or p' 0 ∷ d' ∷ z' ∷ inner_code es' cs'
 same_code s s' p p' d d' z z' es es' cs cs' a b c e f h = cc

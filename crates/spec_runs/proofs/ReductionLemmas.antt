@@ -8,10 +8,6 @@ use Rattle.spec_trees.specs.Trees.{is_extra_node, bare}
 use Rattle.spec_trees.specs.Made.{filling, BeginsFilled, reduced}
 use Rattle.spec_runs.specs.Configurations.{AreExtras, IsReduction}
 
--- what the first of the extras says, and the others
-head_extra : (t : Tree) (ts : List Tree) → AreExtras (t ∷ ts) → is_extra_node t ≡ true
-head_extra t ts h = h.0
-
 apart : (t : Tree) → is_extra_node t ≡ true → is_extra_node t ≡ false → ⊥
 apart t a b = true≢false (sym a ∙ b)
 

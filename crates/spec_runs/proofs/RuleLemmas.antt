@@ -144,9 +144,6 @@ second_half true count place a e = (refl, by (nat_lt place count) refl e)
     by true t h = absurd (let k : of_first place ≡ of_next a = h in cc)
     by false t h = grind arith
 
-step_names : (p : Production) → p.steps ≡ [] → step_symbols p ≡ []
-step_names p e = ap (λ (l : List Step). map (λ (step : Step). step.symbol.0) l) e
-
 some_steps : (steps : List Step) → (steps ≡ [] → ⊥) → (x : ℕ) × (xs : List ℕ) × (map (λ (step : Step). step.symbol.0) steps ≡ x ∷ xs)
 some_steps [] h = absurd (h refl)
 some_steps (s ∷ steps) h = (s.symbol.0, map (λ (step : Step). step.symbol.0) steps, refl)

@@ -1,4 +1,4 @@
--- What a bare tree keeps of a tree. It serves proofs alone.
+-- What a bare tree keeps of a tree. It serves private clauses and proofs alone.
 use Rattle.std.specs.Prelude.{◌≡◌, map}
 use Rattle.spec_trees.specs.declared.tree.Tree.{Tree}
 use Rattle.spec_trees.specs.Trees.{symbol_of, production_of, pad_of, size_of, elements_of, children_of, total_of, is_extra_node, tree_depth, bare}

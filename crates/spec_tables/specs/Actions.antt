@@ -19,10 +19,11 @@ abbrev pub step_before : FlatGrammar → Line → ℕ → Option Step
 step_before g line zero = None
 step_before g line (suc dot) = slice_get (line_steps g line) dot
 
--- that step's precedence, and its associativity
+-- that step's precedence
 abbrev pub item_prec : FlatGrammar → Item → Prec
 item_prec g i = unwrap_or (option_map (λ step. step.prec) (step_before g i.line i.dot)) prec.Absent
 
+-- that step's associativity
 abbrev pub item_assoc : FlatGrammar → Item → Assoc
 item_assoc g i =
     unwrap_or (option_map (λ step. step.assoc) (step_before g i.line i.dot)) assoc.Absent

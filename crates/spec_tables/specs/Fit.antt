@@ -17,18 +17,21 @@ use Rattle.ts_core.specs.declared.symbol.Kind.{Kind}
 use Rattle.ts_core.specs.declared.symbol.Symbol.{Symbol}
 use Rattle.spec_lexing.specs.Words.{Regular, empty, never, one_of, both, either, repeat, Word, regular_of}
 
+-- it does not hold
 abbrev pub Never : Type 0 → Type 0
 Never P = P → ⊥
 
 -- ---- limits
 
--- symbols, the end among them; field names; precedence names
+-- symbols, the end among them
 abbrev pub most_symbols : ℕ
 most_symbols = 16384
 
+-- field names, and as many precedence names
 abbrev pub most_names : ℕ
 most_names = 16384
 
+-- productions, of all rules together
 abbrev pub most_productions : ℕ
 most_productions = 65535
 
@@ -64,6 +67,7 @@ positions_step (Re-F.Cat parts) = sum parts
 positions_step (Re-F.Alt parts) = sum parts
 positions_step (Re-F.Repeat inner least most) = times least most * inner
 
+-- how many positions an expression has
 abbrev pub positions : Re → ℕ
 positions = fold-Re ℕ positions_step
 
@@ -82,6 +86,7 @@ AreApartRanges [] = Unit {0}
 AreApartRanges (a ∷ []) = Unit {0}
 AreApartRanges (a ∷ b ∷ ranges) = (suc a.1 < b.0) × AreApartRanges (b ∷ ranges)
 
+-- a set in form: fewer than 2 ^ 32 ranges, which rise and neither meet nor touch
 abbrev pub IsSet : List (ℕ × ℕ) → Type 0
 IsSet ranges = IsShort ranges × All IsRange ranges × AreApartRanges ranges
 
@@ -107,9 +112,11 @@ lengths_step (Re-F.Cat parts) = length parts ∷ flat_map (λ (part : List ℕ).
 lengths_step (Re-F.Alt parts) = length parts ∷ flat_map (λ (part : List ℕ). part) parts
 lengths_step (Re-F.Repeat inner least most) = inner
 
+-- how many parts each list of parts in an expression has, at all levels
 abbrev pub lengths : Re → List ℕ
 lengths = fold-Re (List ℕ) lengths_step
 
+-- the sets and repeats are in form, and each list of parts has fewer than 2 ^ 32
 abbrev pub IsFitRe : Re → Type 0
 IsFitRe re = IsFormed (regular_of re) × All (λ (n : ℕ). n < 2 ^ 32) (lengths re)
 
@@ -119,9 +126,11 @@ IsFitRe re = IsFormed (regular_of re) × All (λ (n : ℕ). n < 2 ^ 32) (lengths
 abbrev pub symbols_of : FlatGrammar → ℕ
 symbols_of f = suc (length f.tokens + length f.rules)
 
+-- the symbol is there
 abbrev pub IsSymbol : FlatGrammar → Symbol → Type 0
 IsSymbol f s = s.0 < symbols_of f
 
+-- the symbol is that of a token
 abbrev pub IsToken : FlatGrammar → Symbol → Type 0
 IsToken f s = (0 < s.0) × (s.0 ≤ length f.tokens)
 
@@ -133,11 +142,13 @@ rule_symbol f k = record { 0 = suc (length f.tokens + k) }
 abbrev pub HasRule : FlatGrammar → Symbol → FlatRule → Type 0
 HasRule f s r = (k : ℕ) × (slice_get f.rules k ≡ Some r) × (s ≡ rule_symbol f k)
 
+-- the precedence names nothing, or a name that is there
 abbrev pub IsPrec : FlatGrammar → Prec → Type 0
 IsPrec f Prec.Absent = Unit {0}
 IsPrec f (Prec.Number value) = Unit {0}
 IsPrec f (Prec.Name name) = name < length f.precs
 
+-- it holds of the value where there is one
 abbrev pub IfThere : {X : Type 0} → (X → Type 0) → Option X → Type 0
 IfThere P None = Unit {0}
 IfThere P (Some x) = P x
@@ -150,6 +161,7 @@ pub record IsFitStep (f : FlatGrammar) (step : Step) : Type 0 where
   pub field : IfThere (λ (field : ℕ). field < length f.fields) step.field
   pub alias : IfThere (λ (alias : Alias). IsShort alias.name) step.alias
 
+-- a production has at most so many steps, each of them fit
 pub record IsFitProduction (f : FlatGrammar) (p : Production) : Type 0 where
   pub few : length p.steps ≤ most_steps
   pub steps : All (IsFitStep f) p.steps
@@ -165,6 +177,7 @@ pub record IsFitToken (f : FlatGrammar) (d : TokenDef) : Type 0 where
   pub literal : d.keyword ≡ true → d.literal ≡ true
   pub word : d.keyword ≡ true → Never (f.word ≡ None)
 
+-- how many positions all tokens and separators have together
 abbrev pub all_positions : FlatGrammar → ℕ
 all_positions f = sum (map (λ (d : TokenDef). positions d.re) f.tokens)
     + sum (map positions f.separators)
@@ -209,6 +222,7 @@ IsUsed f s = (r : FlatRule) × (p : Production) × (step : Step) × Contains f.r
     × Contains r.productions p
     × Contains p.steps step × (step.symbol ≡ s)
 
+-- the rule has an empty production
 abbrev pub HasEmpty : FlatRule → Type 0
 HasEmpty r = (p : Production) × Contains r.productions p × (p.steps ≡ [])
 
@@ -232,11 +246,13 @@ pub data Derives (f : FlatGrammar) : Symbol → Symbol → Type 0 where
   at_once : (a b : Symbol) → Alone f a b → Derives f a b
   through : (a b c : Symbol) → Alone f a b → Derives f b c → Derives f a c
 
+-- the rule at this place derives itself alone
 abbrev pub IsCyclic : FlatGrammar → ℕ → Type 0
 IsCyclic f k = Derives f (rule_symbol f k) (rule_symbol f k)
 
 -- ---- rules
 
+-- the rule at this place is fit, and neither empty where it may not be nor cyclic
 pub record IsFitRule (f : FlatGrammar) (k : ℕ) (r : FlatRule) : Type 0 where
   pub name : IsShort r.name
   pub owner : IsSymbol f r.owner
@@ -245,11 +261,13 @@ pub record IsFitRule (f : FlatGrammar) (k : ℕ) (r : FlatRule) : Type 0 where
   pub filled : Never (IsEmptyRule f k)
   pub straight : Never (IsCyclic f k)
 
+-- how many productions there are
 abbrev pub productions_of : FlatGrammar → ℕ
 productions_of f = sum (map (λ (r : FlatRule). length r.productions) f.rules)
 
 -- ---- lists of symbols
 
+-- an entry of an ordering names a precedence or a symbol that is there
 abbrev pub IsFitEntry : FlatGrammar → Entry → Type 0
 IsFitEntry f (Entry.Name name) = name < length f.precs
 IsFitEntry f (Entry.Rule s) = IsSymbol f s
@@ -266,11 +284,13 @@ IsHiddenSymbol f s = ((d : TokenDef) × (k : ℕ) × (slice_get f.tokens k ≡ S
     × (s.0 ≡ suc k) × (d.kind ≡ Kind.Hidden))
     ⊎ ((r : FlatRule) × HasRule f s r × (r.kind ≡ Kind.Hidden))
 
+-- the list is short, and so is each list in it
 abbrev pub AreShort : {X : Type 0} → List (List X) → Type 0
 AreShort lists = IsShort lists × All (λ xs. IsShort xs) lists
 
 -- ---- the whole
 
+-- the limits are kept, what is named is there, and all tokens, rules and lists are fit
 pub record Fit (f : FlatGrammar) : Type 0 where
   pub name : IsShort f.name
   pub some_rule : Never (f.rules ≡ [])

@@ -13,6 +13,8 @@ pub(crate) enum RowFault {
     Rules,
     #[error("`most` is 0, so no write takes a byte")]
     Most,
+    #[error("a client that the gate held was not met by the other")]
+    Unmet,
     #[error("out of memory")]
     Memory,
 }

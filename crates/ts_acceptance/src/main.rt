@@ -6,12 +6,14 @@
 
 mod content;
 mod fault;
+mod holding;
 mod notation;
 mod row;
 mod rules;
 mod shown;
 mod tally;
 mod trial;
+mod turns;
 
 use crate::fault::DataFault;
 use crate::row::rows_in;

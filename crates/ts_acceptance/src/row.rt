@@ -2,6 +2,7 @@
 //! is wanted.
 use crate::content::Content;
 use crate::fault::DataFault;
+use crate::holding::Hold;
 use crate::rules::Held;
 use serde::Deserialize;
 use serde_json::Value;
@@ -33,6 +34,12 @@ pub(crate) struct Row {
     /// The numbers of the regular expressions whose build fails, from 0.
     #[serde(default)]
     pub failing_builds: Vec<u64>,
+    /// Where a gate holds clients, and until when.
+    #[serde(default)]
+    pub holds: Vec<Hold>,
+    /// Whether any turns will do, since clients look until something comes.
+    #[serde(default)]
+    pub turns_are_free: bool,
     /// The most bytes that a write takes.
     pub most: Option<usize>,
     /// The status that is wanted.

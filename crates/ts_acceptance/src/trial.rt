@@ -1,6 +1,8 @@
 //! One row in; the answer that it wants and the answer that its run gives out.
 use crate::fault::RowFault;
+use crate::holding::Holding;
 use crate::row::Row;
+use crate::turns::without_turns;
 use serde_json::Value;
 use std::alloc::Global;
 use std::sync::Wait;
@@ -25,18 +27,23 @@ pub(crate) struct Trial {
 }
 
 impl Trial {
-    /// Makes the run of a row, over files and a sink in memory, with the host of the program.
+    /// Makes the run of a row, over files and a sink in memory, with the host of the program and a
+    /// gate that holds the row's clients.
     pub(crate) fn of<R: AllocGlobal + Threads + Wait + Sync>(
         rt: &R,
         row: Value,
     ) -> Result<Trial, RowFault> {
         let alloc = rt.alloc();
         let row: Row = serde_json::from_value(alloc, row).map_err(RowFault::Json)?;
-        let given = answer_of(rt, &row)?;
-        let wanted = Answer {
+        let mut given = answer_of(rt, &row)?;
+        let mut wanted = Answer {
             status: row.status,
             bytes: row.output.bytes(alloc)?,
         };
+        if row.turns_are_free {
+            given.bytes = without_turns(alloc, given.bytes.as_slice())?;
+            wanted.bytes = without_turns(alloc, wanted.bytes.as_slice())?;
+        }
         Ok(Trial {
             name: row.name.clone()?,
             wanted,
@@ -66,7 +73,19 @@ fn answer_of<R: AllocGlobal + Threads + Wait + Sync>(
     let hosts = AsciiHost::new(alloc)?;
     let mut patterns = patterns_of(alloc, row)?;
     let words = row.words.as_slice();
-    let status = ts_top::run(rt, words, &mut folder, &mut sink, &hosts, &mut patterns);
+    let gate = Holding::new(alloc, row.holds.as_slice())?;
+    let status = ts_top::run(
+        rt,
+        words,
+        &mut folder,
+        &mut sink,
+        &gate,
+        &hosts,
+        &mut patterns,
+    );
+    if gate.overran() {
+        return Err(RowFault::Unmet);
+    }
     let bytes = Vec::from_slice(alloc, sink.bytes())?;
     Ok(Answer { status, bytes })
 }

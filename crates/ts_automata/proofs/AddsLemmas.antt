@@ -14,9 +14,6 @@ module _ {X : Type 0} where
   pub one_in : (x y : X) → Contains (x ∷ []) y → y ≡ x
   one_in x y h = ⊎_elim (λ n. absurd (none_in_nil y n)) (λ e. sym e) (Contains-push_cases [] x y h)
 
-  pub in_one : (x y : X) → y ≡ x → Contains (x ∷ []) y
-  in_one x y e = subst (Contains (x ∷ [])) (sym e) (Contains-push [] x)
-
   pub adds_none : (P : X → Type 0) (xs : List X) → ((i : X) → P i → ⊥) → Adds P xs xs
   adds_none P xs none = record { more = []; is = sym (append-nil xs); only = λ i h. absurd (none_in_nil i h); added = λ i p. absurd (none i p) }
 
@@ -68,9 +65,6 @@ adds_push x a b is = record {
   only = λ i h. one_in x i h;
   added = λ i p. subst (λ (l : List ℕ). Contains l i) (sym is) (subst (Contains (a ++ x ∷ [])) (sym p) (Contains-push a x));
 }
-
-none_in : (x : ℕ) → Contains [] x → ⊥
-none_in x (k, below, _) = omega arith
 
 -- what was added to nothing is all
 pub adds_all : (P : ℕ → Type 0) (xs : List ℕ) → Adds P [] xs → (i : ℕ) → (Contains xs i → P i) × (P i → Contains xs i)

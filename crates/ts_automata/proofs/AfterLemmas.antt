@@ -4,7 +4,7 @@ use Rattle.std.specs.List.{Contains}
 use Rattle.ts_automata.specs.declared.node.Node.{Node}
 use Rattle.ts_automata.specs.Reads.{Takes, Splits, ReadsOver, here, goes, takes, LeadsOver}
 use Rattle.ts_automata.specs.Sets.{given, asked, Closure, IsFirst, IsNextSet}
-use Rattle.ts_automata.specs.After.{Comes, After, Alike}
+use Rattle.ts_automata.specs.After.{LeadsToNode, After, Alike}
 
 module _ (T : List Node) where
   -- a step at the end
@@ -24,10 +24,10 @@ module _ (T : List Node) where
   closed_reads kernel _ _ _ _ (goes n s a t w split r) e h = closed_reads kernel n a w t r e (asked s a h split)
   closed_reads kernel _ _ _ _ (takes n s c a t w take r) e h = cc
 
-  pub closed_comes : (kernel : List ℕ) (t : ℕ) → Closure T kernel t ↔ Comes T kernel [] t
+  pub closed_comes : (kernel : List ℕ) (t : ℕ) → Closure T kernel t ↔ LeadsToNode T kernel [] t
   closed_comes kernel t = ((λ h. from t h), (λ h. closed_reads kernel h.2.0 h.0 [] t h.2.1 refl (given h.0 h.1)))
     where
-      from : (t : ℕ) → Closure T kernel t → Comes T kernel [] t
+      from : (t : ℕ) → Closure T kernel t → LeadsToNode T kernel [] t
       from t (given _ h) = (t, h, (0, here 0 t))
       from t (asked s _ h split) = let r = from s h in (r.0, r.1, (suc r.2.0, then_splits r.2.0 r.0 [] s t r.2.1 split))
 
@@ -58,7 +58,7 @@ module _ (T : List Node) where
       let l = last_of n a v t r w c rest in
       record { from = l.from; to = l.to; before = (suc l.before.0, takes l.before.0 s x a l.from w (subst (λ (y : ℕ). Takes T s y a) same take) l.before.1); takes = l.takes; after = l.after }
 
-  pub none_holds : (kernel : List ℕ) (sets : List (List ℕ)) (n : ℕ) → (first : IsFirst T sets kernel n) → (t : ℕ) → Contains first.set t ↔ Comes T kernel [] t
+  pub none_holds : (kernel : List ℕ) (sets : List (List ℕ)) (n : ℕ) → (first : IsFirst T sets kernel n) → (t : ℕ) → Contains first.set t ↔ LeadsToNode T kernel [] t
   none_holds kernel sets n first t = ((λ h. (closed_comes kernel t).0 ((first.closed t).0 h)), (λ h. (first.closed t).1 ((closed_comes kernel t).1 h)))
 
   abbrev pub after_none : (kernel : List ℕ) (sets : List (List ℕ)) (n : ℕ) → IsFirst T sets kernel n → After T kernel sets [] n
@@ -68,20 +68,20 @@ module _ (T : List Node) where
     holds = none_holds kernel sets n first;
   }
 
-  pub more_holds : (first : List ℕ) (sets : List (List ℕ)) (w : List ℕ) (n c d m : ℕ) → (before : After T first sets w n) → Alike T c d → (next : IsNextSet T sets before.set d m) → (t : ℕ) → Contains next.set t ↔ Comes T first (w ++ c ∷ []) t
+  pub more_holds : (first : List ℕ) (sets : List (List ℕ)) (w : List ℕ) (n c d m : ℕ) → (before : After T first sets w n) → Alike T c d → (next : IsNextSet T sets before.set d m) → (t : ℕ) → Contains next.set t ↔ LeadsToNode T first (w ++ c ∷ []) t
   more_holds first sets w n c d m before same next t = (from t, to t)
     where
-      moved : (t : ℕ) → Closure T next.kernel t → Comes T first (w ++ c ∷ []) t
+      moved : (t : ℕ) → Closure T next.kernel t → LeadsToNode T first (w ++ c ∷ []) t
       moved t (given _ h) =
           let m = (next.moves t).0 h in
           let r = (before.holds m.from).0 m.there in
           (r.0, r.1, (suc r.2.0, then_takes r.2.0 r.0 w m.from c t r.2.1 ((same m.from t).1 m.takes)))
       moved t (asked s _ h split) = let r = moved s h in (r.0, r.1, (suc r.2.0, then_splits r.2.0 r.0 (w ++ c ∷ []) s t r.2.1 split))
 
-      from : (t : ℕ) → Contains next.set t → Comes T first (w ++ c ∷ []) t
+      from : (t : ℕ) → Contains next.set t → LeadsToNode T first (w ++ c ∷ []) t
       from t h = moved t ((next.closed t).0 h)
 
-      to : (t : ℕ) → Comes T first (w ++ c ∷ []) t → Contains next.set t
+      to : (t : ℕ) → LeadsToNode T first (w ++ c ∷ []) t → Contains next.set t
       to t (e, there, (k, r)) =
           let l = last_of k e (w ++ c ∷ []) t r w c refl in
           let has = (before.holds l.from).1 (e, there, l.before) in

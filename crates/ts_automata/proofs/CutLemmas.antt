@@ -5,7 +5,7 @@ use Rattle.std.proofs.lemmas.Option.{slice_get_within, slice_get-get_or, get_or_
 use Rattle.std.proofs.lemmas.Map.Keys.{below_from_sorted}
 use Rattle.ts_automata.specs.declared.node.Node.{Node}
 use Rattle.ts_automata.specs.declared.node.Node.TheVariants.{Take}
-use Rattle.spec_lexing.specs.Words.{IsIn}
+use Rattle.spec_lexing.specs.Words.{IsInRanges}
 use Rattle.ts_automata.specs.After.{Alike}
 use Rattle.ts_automata.specs.Classes.{IsClassOf, IsCut}
 
@@ -43,11 +43,11 @@ module _ (T : List Node) (bounds : List ℕ) (cut : IsCut T bounds) where
         later h = ⊎_elim (λ less. let w = below_from_sorted bounds j k b cut.sorted less (slice_get_within bounds k class.bound class.at) in let e = here in omega arith)
             (λ same. let f : j ≡ k = omega arith in let g = ap (λ (n : ℕ). get_or bounds n b) f in let e = here in omega arith) (cases_lt j k)
 
-    to_bound : (s a : ℕ) (ranges : List (ℕ × ℕ)) → slice_get T s ≡ Some (Take ranges a) → IsIn ranges c → IsIn ranges class.bound
+    to_bound : (s a : ℕ) (ranges : List (ℕ × ℕ)) → slice_get T s ≡ Some (Take ranges a) → IsInRanges ranges c → IsInRanges ranges class.bound
     to_bound s a ranges at (n, range, lt, is, (low, high)) =
         (n, range, lt, is, (bound_le range.0 (cut.low s a ranges range at (n, lt, is)) low, (let e = class.low in omega arith)))
 
-    from_bound : (s a : ℕ) (ranges : List (ℕ × ℕ)) → slice_get T s ≡ Some (Take ranges a) → IsIn ranges class.bound → IsIn ranges c
+    from_bound : (s a : ℕ) (ranges : List (ℕ × ℕ)) → slice_get T s ≡ Some (Take ranges a) → IsInRanges ranges class.bound → IsInRanges ranges c
     from_bound s a ranges at (n, range, lt, is, (low, high)) = (
       n,
       range,

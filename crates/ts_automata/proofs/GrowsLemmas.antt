@@ -5,7 +5,7 @@ use Rattle.std.proofs.lemmas.List.{length-set}
 use Rattle.ts_automata.specs.declared.node.Node.{Node}
 use Rattle.ts_automata.specs.declared.node.Node.TheVariants.{Take, Split, End}
 use Rattle.spec_lexing.specs.Words.{Regular, empty, never, one_of, both, either, repeat}
-use Rattle.ts_automata.specs.Grows.{IsInnerNode, Stands, Agrees, Grows, more}
+use Rattle.ts_automata.specs.Grows.{IsInnerNode, ReadsWords, Agrees, Grows, more}
 use Rattle.ts_automata.proofs.RepeatLemmas.{Alike, none_is_empty, too_few_is_never, or_none}
 use Rattle.ts_automata.proofs.StandsLemmas.{alike, stands_empty, stands_set, stands_never, stands_both, stands_either, stands_star, stands_more, stands_wider}
 use Rattle.ts_base.proofs.PlaceLemmas.{in_prefix, at_end}
@@ -50,10 +50,10 @@ keeps_self a = record { longer = omega arith; kept = λ j h. refl }
 wider : (T : List Node) (low high : ℕ) (lower higher t : ℕ) → lower ≤ low → high ≤ higher → IsInnerNode T low high t → IsInnerNode T lower higher t
 wider T low high lower higher t le ge i = record { from = (let f = i.from in omega arith); below = (let b = i.below in omega arith); goes_on = i.goes_on }
 
-within : (T a b c d : List Node) (p : Regular) (s next : ℕ) → Keeps a b → Keeps c d → Stands T (IsInnerNode T (length b) (length c)) p s next → Stands T (IsInnerNode T (length a) (length d)) p s next
+within : (T a b c d : List Node) (p : Regular) (s next : ℕ) → Keeps a b → Keeps c d → ReadsWords T (IsInnerNode T (length b) (length c)) p s next → ReadsWords T (IsInnerNode T (length a) (length d)) p s next
 within T a b c d p s next k l st = stands_wider T (IsInnerNode T (length b) (length c)) (IsInnerNode T (length a) (length d)) p s next (λ t i. wider T (length b) (length c) (length a) (length d) t k.longer l.longer i) st
 
-grows : (p : Regular) (next : ℕ) (a b : List Node) (s : ℕ) → Keeps a b → ((T : List Node) → Agrees (length a) b T → Stands T (IsInnerNode T (length a) (length b)) p s next) → Grows p next a b s
+grows : (p : Regular) (next : ℕ) (a b : List Node) (s : ℕ) → Keeps a b → ((T : List Node) → Agrees (length a) b T → ReadsWords T (IsInnerNode T (length a) (length b)) p s next) → Grows p next a b s
 grows p next a b s k h = record { longer = k.longer; kept = k.kept; stands = h }
 
 pub grows_none : (next : ℕ) (a : List Node) → Grows empty next a a next
@@ -151,8 +151,8 @@ module _ (p : Regular) (a c : List Node) (next body : ℕ) where
       }
 
   star_stands : Grows p (length a) (a ++ Split next next ∷ []) c body → (T : List Node) → Agrees (length a) (set c (length a) (Split body next)) T
-      → Stands T (IsInnerNode T (length a) (length (set c (length a) (Split body next)))) (repeat p 0 None) (length a) next
-      × Stands T (IsInnerNode T (length a) (length (set c (length a) (Split body next)))) p body (length a)
+      → ReadsWords T (IsInnerNode T (length a) (length (set c (length a) (Split body next)))) (repeat p 0 None) (length a) next
+      × ReadsWords T (IsInnerNode T (length a) (length (set c (length a) (Split body next)))) p body (length a)
   star_stands one T h =
       let low = one.longer in
       let size = length-append a (Split next next ∷ []) in

@@ -1,9 +1,9 @@
 -- Marks of nodes, and the list of those that are marked.
-use Rattle.std.proofs.Common.{◌≡◌, ◌∙◌, sym, ap, refl, subst, ℕ, zero, suc, ◌+◌, ◌<◌, ◌≤◌, ◌≢◌, ◌⊎◌, inl, inr, ⊎_elim, Bool, true, false, List, [], ◌∷◌, ◌++◌, length, length-append, slice_get, Some, arith, ◌↔◌, take, get_or, nat_eq}
+use Rattle.std.proofs.Common.{◌≡◌, ◌∙◌, sym, ap, refl, subst, ℕ, zero, suc, ◌<◌, ◌≢◌, ◌⊎◌, inl, inr, ⊎_elim, Bool, true, false, List, [], ◌∷◌, ◌++◌, length, length-append, slice_get, Some, arith, ◌↔◌, take, nat_eq}
 use Rattle.std.proofs.Common.{Result, Ok, Err, OnErr, is_ok}
 use Rattle.std.proofs.Math.ListN.{set, replicate}
 use Rattle.std.specs.List.{Contains, IsDistinct, list_any}
-use Rattle.std.proofs.lemmas.List.{length-set, take_more, append-nil, get_or-replicate, length-replicate}
+use Rattle.std.proofs.lemmas.List.{length-set, append-nil, get_or-replicate, length-replicate}
 use Rattle.std.proofs.lemmas.List.Elements.{Contains-append_left, Contains-push, Contains-push_cases}
 use Rattle.std.proofs.lemmas.Option.{slice_get_within, get_or_from_slice_get}
 use Rattle.std.proofs.lemmas.Map.Keys.{IsDistinct-push}
@@ -140,35 +140,6 @@ pub record Unmarked (old new : List Bool) (done : List ℕ) : Type 0 where
 
 pub unmarked_none : (old : List Bool) (members : List ℕ) → Unmarked old old (take 0 members)
 unmarked_none old members = record { count = refl; left = λ k h. (h, (λ w. none_in k w)) }
-
-pub unmarked_more : (old new : List Bool) (members : List ℕ) (k d : ℕ) → k < length members → Unmarked old new (take k members) → Unmarked old (set new (get_or members k d) false) (take (k + 1) members)
-unmarked_more old new members k d below before =
-    let x : ℕ = get_or members k d in
-    rw (take_more members k d below) (record {
-      count = length-set new x false ∙ before.count;
-      left = λ j h. left j h;
-    })
-  where
-    left : (j : ℕ) → slice_get (set new (get_or members k d) false) j ≡ Some true → (slice_get old j ≡ Some true) × (Contains (take k members ++ get_or members k d ∷ []) j → ⊥)
-    left j h = ⊎_elim
-        (λ e. let f : slice_get (set new (get_or members k d) false) (get_or members k d) ≡ Some true = subst (λ (i : ℕ). slice_get (set new (get_or members k d) false) i ≡ Some true) e h in
-        let lt = slice_get_within (set new (get_or members k d) false) (get_or members k d) true f in
-        let size = length-set new (get_or members k d) false in
-        false_or_true (sym (at_set new (get_or members k d) false (omega arith)) ∙ f))
-        (λ n. let b = before.left j (sym (at_other new (get_or members k d) j false n) ∙ h) in
-        (b.0, (λ w. ⊎_elim (λ v. b.1 v) (λ e. n (sym e)) (Contains-push_cases (take k members) (get_or members k d) j w))))
-        (same_or_not j (get_or members k d))
-
--- a place past the end has no mark to take away
-pub unmarked_past : (old new : List Bool) (members : List ℕ) (k d : ℕ) → k < length members → length new ≤ get_or members k d → Unmarked old new (take k members) → Unmarked old new (take (k + 1) members)
-unmarked_past old new members k d below past before =
-    rw (take_more members k d below) (record {
-      count = before.count;
-      left = λ j h.
-          let b = before.left j h in
-          let lt = slice_get_within new j true h in
-          (b.0, (λ w. ⊎_elim (λ v. b.1 v) (λ e. (omega arith)) (Contains-push_cases (take k members) (get_or members k d) j w)));
-    })
 
 pub unmarked_all : (old new : List Bool) (members : List ℕ) → AreMarked old members → Unmarked old new members → AreMarked new []
 unmarked_all old new members is all = record {

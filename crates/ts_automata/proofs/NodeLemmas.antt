@@ -3,7 +3,7 @@ use Rattle.std.proofs.Common.{◌≡◌, ◌∙◌, sym, ap, subst, ℕ, ◌≤�
 use Rattle.std.proofs.lemmas.Option.{slice_get_past}
 use Rattle.ts_automata.specs.declared.node.Node.{Node}
 use Rattle.ts_automata.specs.declared.node.Node.TheVariants.{Take, Split, End}
-use Rattle.spec_lexing.specs.Words.{IsIn}
+use Rattle.spec_lexing.specs.Words.{IsInRanges}
 use Rattle.ts_automata.specs.Reads.{Takes, Splits}
 use Rattle.ts_automata.specs.Sets.{Adds}
 use Rattle.ts_automata.proofs.AddsLemmas.{adds_none, adds_same}
@@ -41,14 +41,14 @@ module _ (T : List Node) (s : ℕ) where
   pub end_takes : (c : ℕ) (xs : List ℕ) → slice_get T s ≡ Some End → Adds (Takes T s c) xs xs
   end_takes c xs is = adds_none (Takes T s c) xs (λ i h. let at = h.at in let f : Some End ≡ Some (Take h.ranges i) = sym is ∙ at in cc)
 
-  pub other_takes : (c : ℕ) (xs : List ℕ) (ranges : List (ℕ × ℕ)) (a : ℕ) → slice_get T s ≡ Some (Take ranges a) → (IsIn ranges c → ⊥) → Adds (Takes T s c) xs xs
+  pub other_takes : (c : ℕ) (xs : List ℕ) (ranges : List (ℕ × ℕ)) (a : ℕ) → slice_get T s ≡ Some (Take ranges a) → (IsInRanges ranges c → ⊥) → Adds (Takes T s c) xs xs
   other_takes c xs ranges a is out = adds_none (Takes T s c) xs (λ i h.
       let at = h.at in
       let f : Some (Take h.ranges i) ≡ Some (Take ranges a) = sym at ∙ is in
       let same : h.ranges ≡ ranges = cc in
-      out (subst (λ (l : List (ℕ × ℕ)). IsIn l c) same h.member))
+      out (subst (λ (l : List (ℕ × ℕ)). IsInRanges l c) same h.member))
 
-  pub one_takes : (c : ℕ) (xs ys : List ℕ) (ranges : List (ℕ × ℕ)) (a : ℕ) → slice_get T s ≡ Some (Take ranges a) → IsIn ranges c → Adds (λ i. i ≡ a) xs ys → Adds (Takes T s c) xs ys
+  pub one_takes : (c : ℕ) (xs ys : List ℕ) (ranges : List (ℕ × ℕ)) (a : ℕ) → slice_get T s ≡ Some (Take ranges a) → IsInRanges ranges c → Adds (λ i. i ≡ a) xs ys → Adds (Takes T s c) xs ys
   one_takes c xs ys ranges a is member adds = adds_same (λ i. i ≡ a) (Takes T s c) xs ys adds
       (λ i h. record { ranges = ranges; at = is ∙ ap (λ (m : ℕ). Some (Take ranges m)) (sym h); member = member })
       (λ i h.

@@ -8,7 +8,7 @@ use Rattle.spec_lexing.specs.Words.{Regular, Word, Front}
 use Rattle.ts_automata.specs.declared.node.Node.{Node}
 use Rattle.ts_automata.specs.declared.node.Node.TheVariants.{Take, Split, End}
 use Rattle.ts_automata.specs.Reads.{ReadsOver, here, goes, takes, IsEnd}
-use Rattle.ts_automata.specs.Grows.{IsInnerNode, Back, leaves, inside, Stands, Agrees, Grows}
+use Rattle.ts_automata.specs.Grows.{IsInnerNode, Back, leaves, inside, ReadsWords, Agrees, Grows}
 use Rattle.ts_automata.specs.Parts.{IsPart, HasPart, HaveParts, AreParts, Fills}
 use Rattle.ts_automata.specs.declared.automaton.Automaton.{Automaton}
 use Rattle.ts_automata.specs.Automata.{Holds, Gains}
@@ -24,7 +24,7 @@ module _ (T : List Node) (low high : ℕ) (p : Regular) (e a : ℕ) where
   whole : (w u v : List ℕ) → w ≡ u ++ v → v ≡ [] → w ≡ u
   whole w u v is none = is ∙ ap (λ (l : List ℕ). u ++ l) none ∙ append-nil u
 
-  pub is_part : IsEnd T a → low ≤ a → a < high → Stands T (IsInnerNode T low high) p e a → IsPart T (λ t. (low ≤ t) × (t < high)) p e
+  pub is_part : IsEnd T a → low ≤ a → a < high → ReadsWords T (IsInnerNode T low high) p e a → IsPart T (λ t. (low ≤ t) × (t < high)) p e
   is_part at from below st = record {
     word = λ w h. let r = st.word 0 w [] a h (here 0 a) in (a, (r.0, subst (λ (l : List ℕ). ReadsOver T r.0 e l a) (append-nil w) r.1), at);
     ends = λ w t r has. ends r.0 w t (st.back r.0 w t r.1) has;
@@ -63,7 +63,7 @@ has_part p a b c end e end_is is g = record {
     size : length b ≡ length a + 1
     size = ap (λ (l : List Node). length l) is ∙ length-append a (End ∷ [])
 
-    widen : (T : List Node) → Stands T (IsInnerNode T (length b) (length c)) p e end → Stands T (IsInnerNode T (length a) (length c)) p e end
+    widen : (T : List Node) → ReadsWords T (IsInnerNode T (length b) (length c)) p e end → ReadsWords T (IsInnerNode T (length a) (length c)) p e end
     widen T st = record { word = st.word; front = st.front; back = λ n w t r. turn n w t (st.back n w t r) }
       where
         turn : (n : ℕ) (w : List ℕ) (t : ℕ) → Back T (IsInnerNode T (length b) (length c)) p end n w t → Back T (IsInnerNode T (length a) (length c)) p end n w t

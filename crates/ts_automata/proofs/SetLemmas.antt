@@ -2,13 +2,13 @@
 use Rattle.std.proofs.Common.{◌≡◌, ◌∙◌, sym, ap, refl, subst, ℕ, zero, suc, ◌+◌, ◌<◌, ◌≤◌, ◌⊎◌, inl, inr, ⊎_elim, List, [], ◌∷◌, ◌++◌, length, take, get_or, slice_get, Some, append_assoc, length-append, arith}
 use Rattle.std.specs.Global.{Vec}
 use Rattle.std.specs.List.{Contains}
-use Rattle.std.proofs.lemmas.List.{append-nil, take_more}
+use Rattle.std.proofs.lemmas.List.{take_more}
 use Rattle.std.proofs.lemmas.List.Elements.{Contains-append_left, Contains-push, Contains-push_cases}
 use Rattle.std.proofs.lemmas.Option.{slice_get_within, slice_get-map, slice_get_read, slice_get-get_or}
 use Rattle.std.specs.Option.{option_map}
 use Rattle.ts_automata.specs.declared.node.Node.{Node}
 use Rattle.ts_automata.specs.Reads.{Takes}
-use Rattle.ts_automata.specs.Sets.{Adds, Moves, NumbersSet, Grew, IsNextSet, IsFirst, IsRow, IsSubset, EachAt, sets_of}
+use Rattle.ts_automata.specs.Sets.{Adds, Moves, Grew, IsNextSet, IsFirst, IsRow, IsSubset, EachAt, sets_of}
 use Rattle.ts_automata.proofs.AddsLemmas.{adds_none, adds_both}
 use Rattle.ts_base.proofs.PlaceLemmas.{in_prefix}
 
@@ -50,12 +50,6 @@ each_more {X} P xs x all one k y at =
     (λ past. let r = at_last xs x y k past at in subst (λ (j : ℕ). P j y) (sym r.0) (subst (λ (z : X). P (length xs) z) (sym r.1) one))
     (cases_lt k (length xs))
 
-pub each_none : {X : Type 0} (P : ℕ → X → Type 0) → EachAt P []
-each_none P k x at = absurd (let w = slice_get_within [] k x at in omega arith)
-
-pub grew_self : (a : List (List ℕ)) → Grew a a
-grew_self a = ([], sym (append-nil a))
-
 pub grew_both : (a b c : List (List ℕ)) → Grew a b → Grew b c → Grew a c
 grew_both a b c (m, e) (n, f) = (m ++ n, f ∙ ap (λ (l : List (List ℕ)). l ++ n) e ∙ append_assoc a m n)
 
@@ -67,9 +61,6 @@ at_shrunk a b k s (m, e) lt at = sym (in_prefix a m k lt) ∙ ap (λ (l : List (
 
 pub grown_longer : (a b : List (List ℕ)) → Grew a b → length a ≤ length b
 grown_longer a b (m, e) = omega (arith, ap (λ (l : List (List ℕ)). length l) e, length-append a m)
-
-pub grew_number : (a b : List (List ℕ)) (s : List ℕ) (n : ℕ) → NumbersSet a b s n → Grew a b
-grew_number a b s n h = (h.more, h.is)
 
 pub first_grows : (T : List Node) (a b : List (List ℕ)) (kernel : List ℕ) (n : ℕ) → Grew a b → IsFirst T a kernel n → IsFirst T b kernel n
 first_grows T a b kernel n g f = record { set = f.set; at = at_grown a b n f.set g f.at; closed = f.closed }
@@ -83,9 +74,6 @@ pub record Begun (T : List Node) (kernels : List (List ℕ)) (start sets : List 
   pub grows : Grew start sets
   pub size : length numbers ≡ k
   pub first : EachAt (λ v n. (kernel : List ℕ) → slice_get kernels v ≡ Some kernel → IsFirst T sets kernel n) numbers
-
-pub begun_none : (T : List Node) (kernels : List (List ℕ)) (start : List (List ℕ)) → Begun T kernels start start [] 0
-begun_none T kernels start = record { grows = grew_self start; size = refl; first = each_none (λ v n. (kernel : List ℕ) → slice_get kernels v ≡ Some kernel → IsFirst T start kernel n) }
 
 pub begun_more : (T : List Node) (kernels : List (Vec ℕ)) (start a b : List (List ℕ)) (numbers : List ℕ) (k m : ℕ) (kernel : Vec ℕ) → k < length kernels → kernel ≡ get_or kernels k kernel
     → Begun T (sets_of kernels) start a numbers k → Grew a b → IsFirst T b kernel.items m → Begun T (sets_of kernels) start b (numbers ++ m ∷ []) (k + 1)
@@ -108,9 +96,6 @@ pub record Rowing (T : List Node) (bounds : List ℕ) (start sets : List (List �
   pub size : length row ≡ k
   pub next : (s : List ℕ) → slice_get start at ≡ Some s → EachAt (λ j m. (c : ℕ) → slice_get bounds j ≡ Some c → IsNextSet T sets s c m) row
 
-pub rowing_none : (T : List Node) (bounds : List ℕ) (start : List (List ℕ)) (at : ℕ) → Rowing T bounds start start [] at 0
-rowing_none T bounds start at = record { grows = grew_self start; size = refl; next = λ s is. each_none (λ j m. (c : ℕ) → slice_get bounds j ≡ Some c → IsNextSet T start s c m) }
-
 pub rowing_more : (T : List Node) (bounds : List ℕ) (start a b : List (List ℕ)) (row : List ℕ) (at k m d : ℕ) → k < length bounds → Rowing T bounds start a row at k → Grew a b
     → ((s : List ℕ) → slice_get a at ≡ Some s → IsNextSet T b s (get_or bounds k d) m) → Rowing T bounds start b (row ++ m ∷ []) at (k + 1)
 rowing_more T bounds start a b row at k m d below before g one = record {
@@ -126,10 +111,6 @@ rowing_more T bounds start a b row at k m d below before g one = record {
       subst (λ (y : ℕ). IsNextSet T b s y m) e (one s (at_grown start a at s before.grows is)));
 }
 
-pub row_done : (T : List Node) (bounds : List ℕ) (start sets : List (List ℕ)) (row : List ℕ) (at k : ℕ) → length bounds ≤ k → k ≤ length bounds → Rowing T bounds start sets row at k
-    → (s : List ℕ) → slice_get start at ≡ Some s → IsRow T sets s bounds row
-row_done T bounds start sets row at k past within h s is = record { size = omega (arith, h.size); next = h.next s is }
-
 row_grows : (T : List Node) (a b : List (List ℕ)) (s bounds row : List ℕ) → Grew a b → IsRow T a s bounds row → IsRow T b s bounds row
 row_grows T a b s bounds row g r = record { size = r.size; next = λ k m at c has. next_grows T a b s c m g (r.next k m at c has) }
 
@@ -141,16 +122,6 @@ pub record Collecting (T : List Node) (kernels : List (List ℕ)) (bounds begins
   pub rows : EachAt (λ n row. (s : List ℕ) → slice_get sets n ≡ Some s → IsRow T sets s bounds row) table
   pub count : length table ≡ next
   pub within : next ≤ length sets
-
-pub collecting_begins : (T : List Node) (kernels : List (List ℕ)) (bounds begins : List ℕ) (sets : List (List ℕ)) → length begins ≡ length kernels
-    → EachAt (λ v n. (kernel : List ℕ) → slice_get kernels v ≡ Some kernel → IsFirst T sets kernel n) begins → Collecting T kernels bounds begins sets [] 0
-collecting_begins T kernels bounds begins sets size first = record {
-  first = first;
-  each = size;
-  rows = each_none (λ n row. (s : List ℕ) → slice_get sets n ≡ Some s → IsRow T sets s bounds row);
-  count = refl;
-  within = omega arith;
-}
 
 pub collecting_more : (T : List Node) (kernels : List (List ℕ)) (bounds begins : List ℕ) (a b table : List (List ℕ)) (next : ℕ) (row : List ℕ) → next < length a → Grew a b
     → ((s : List ℕ) → slice_get a next ≡ Some s → IsRow T b s bounds row) → Collecting T kernels bounds begins a table next → Collecting T kernels bounds begins b (table ++ row ∷ []) (next + 1)

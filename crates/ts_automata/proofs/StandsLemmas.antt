@@ -3,9 +3,9 @@ use Rattle.std.proofs.Common.{◌≡◌, ◌∙◌, sym, ap, subst, refl, ℕ, z
 use Rattle.std.proofs.lemmas.List.{append-nil}
 use Rattle.ts_automata.specs.declared.node.Node.{Node}
 use Rattle.ts_automata.specs.declared.node.Node.TheVariants.{Take, Split}
-use Rattle.spec_lexing.specs.Words.{Regular, empty, never, one_of, both, either, repeat, IsIn, Times, Word, Front}
+use Rattle.spec_lexing.specs.Words.{Regular, empty, never, one_of, both, either, repeat, IsInRanges, Times, Word, Front}
 use Rattle.ts_automata.specs.Reads.{Splits, ReadsOver, here, goes, takes, LeadsOver}
-use Rattle.ts_automata.specs.Grows.{Back, leaves, inside, Stands, more}
+use Rattle.ts_automata.specs.Grows.{Back, leaves, inside, ReadsWords, more}
 use Rattle.ts_automata.proofs.RepeatLemmas.{front_empty, Alike, once_more}
 
 module _ (T : List Node) (I : ℕ → Type 0) where
@@ -14,14 +14,14 @@ module _ (T : List Node) (I : ℕ → Type 0) where
   more_steps _ _ _ _ (goes n s a t w split r) = goes (suc n) s a t w split (more_steps n a w t r)
   more_steps _ _ _ _ (takes n s c a t w take r) = takes (suc n) s c a t w take (more_steps n a w t r)
 
-  pub stands_empty : (next : ℕ) → Stands T I empty next next
+  pub stands_empty : (next : ℕ) → ReadsWords T I empty next next
   stands_empty next = record {
     word = λ n u v t e r. (n, subst (λ (l : List ℕ). ReadsOver T n next (l ++ v) t) (sym e) r);
     front = λ w e. (next, (0, subst (λ (l : List ℕ). ReadsOver T 0 next l next) (sym e) (here 0 next)));
     back = λ n w t r. leaves [] w refl refl r;
   }
 
-  pub alike : (p q : Regular) (s next : ℕ) → Alike p q → Stands T I p s next → Stands T I q s next
+  pub alike : (p q : Regular) (s next : ℕ) → Alike p q → ReadsWords T I p s next → ReadsWords T I q s next
   alike p q s next same st = record {
     word = λ n u v t word r. st.word n u v t ((same.words u).1 word) r;
     front = λ w f. st.front w ((same.fronts w).1 f);
@@ -32,7 +32,7 @@ module _ (T : List Node) (I : ℕ → Type 0) where
       turn n w t (leaves u v is word r) = leaves u v is ((same.words u).0 word) r
       turn n w t (inside f inner) = inside ((same.fronts w).0 f) inner
 
-  pub stands_set : (s : ℕ) (ranges : List (ℕ × ℕ)) (next : ℕ) → I s → slice_get T s ≡ Some (Take ranges next) → Stands T I (one_of ranges) s next
+  pub stands_set : (s : ℕ) (ranges : List (ℕ × ℕ)) (next : ℕ) → I s → slice_get T s ≡ Some (Take ranges next) → ReadsWords T I (one_of ranges) s next
   stands_set s ranges next own at = record { word = forth; front = fronts; back = λ n w t r. backs n s w t r own at }
     where
       forth : (n : ℕ) (u v : List ℕ) (t : ℕ) → Word (one_of ranges) u → ReadsOver T n next v t → LeadsOver T s (u ++ v) t
@@ -51,11 +51,11 @@ module _ (T : List Node) (I : ℕ → Type 0) where
           let e : Some (Take take.ranges a) ≡ Some (Take ranges next) = sym take.at ∙ at in
           let same : take.ranges ≡ ranges = cc in
           let to : a ≡ next = cc in
-          leaves (c ∷ []) w refl (c, refl, subst (λ (l : List (ℕ × ℕ)). IsIn l c) same take.member)
+          leaves (c ∷ []) w refl (c, refl, subst (λ (l : List (ℕ × ℕ)). IsInRanges l c) same take.member)
           (more_steps n next w t (subst (λ (m : ℕ). ReadsOver T n m w t) to r))
 
   -- a node that takes nothing at all
-  pub stands_never : (s next : ℕ) (to : ℕ) → I s → slice_get T s ≡ Some (Take [] to) → Stands T I never s next
+  pub stands_never : (s next : ℕ) (to : ℕ) → I s → slice_get T s ≡ Some (Take [] to) → ReadsWords T I never s next
   stands_never s next to own at = record {
     word = λ n u v t word r. absurd word;
     front = λ w e. (s, (0, subst (λ (l : List ℕ). ReadsOver T 0 s l s) (sym e) (here 0 s)));
@@ -68,12 +68,12 @@ module _ (T : List Node) (I : ℕ → Type 0) where
       backs _ _ _ _ (takes n x c a t w take r) own at =
           let e : Some (Take take.ranges a) ≡ Some (Take [] to) = sym take.at ∙ at in
           let same : take.ranges ≡ [] = cc in
-          absurd (none c (subst (λ (l : List (ℕ × ℕ)). IsIn l c) same take.member))
+          absurd (none c (subst (λ (l : List (ℕ × ℕ)). IsInRanges l c) same take.member))
         where
-          none : (c : ℕ) → IsIn [] c → ⊥
+          none : (c : ℕ) → IsInRanges [] c → ⊥
           none c h = let lt = h.2 in omega arith
 
-  pub stands_both : (p q : Regular) (s mid next : ℕ) → Stands T I p s mid → Stands T I q mid next → Stands T I (both p q) s next
+  pub stands_both : (p q : Regular) (s mid next : ℕ) → ReadsWords T I p s mid → ReadsWords T I q mid next → ReadsWords T I (both p q) s next
   stands_both p q s mid next first second = record { word = forth; front = fronts; back = λ n w t r. backs n w t (first.back n w t r) }
     where
       forth : (n : ℕ) (u v : List ℕ) (t : ℕ) → Word (both p q) u → ReadsOver T n next v t → LeadsOver T s (u ++ v) t
@@ -98,7 +98,7 @@ module _ (T : List Node) (I : ℕ → Type 0) where
       backs n w t (leaves u v is one r) = ends n w u v t is one (second.back n v t r)
       backs n w t (inside f inner) = inside (inl f) inner
 
-  pub stands_either : (p q : Regular) (s l r next : ℕ) → I s → slice_get T s ≡ Some (Split l r) → Stands T I p l next → Stands T I q r next → Stands T I (either p q) s next
+  pub stands_either : (p q : Regular) (s l r next : ℕ) → I s → slice_get T s ≡ Some (Split l r) → ReadsWords T I p l next → ReadsWords T I q r next → ReadsWords T I (either p q) s next
   stands_either p q s l r next own at one two = record { word = forth; front = fronts; back = λ n w t h. backs n s w t h own at }
     where
       to_left : Splits T s l
@@ -140,7 +140,7 @@ module _ (T : List Node) (I : ℕ → Type 0) where
           turn n a w t (which a split.left split.right split.way left right) h
       backs _ _ _ _ (takes n x c a t w take h) own at = let f : Some (Take take.ranges a) ≡ Some (Split l r) = sym take.at ∙ at in cc
 
-  pub stands_star : (p : Regular) (s body next : ℕ) → I s → slice_get T s ≡ Some (Split body next) → Stands T I p body s → Stands T I (repeat p 0 None) s next
+  pub stands_star : (p : Regular) (s body next : ℕ) → I s → slice_get T s ≡ Some (Split body next) → ReadsWords T I p body s → ReadsWords T I (repeat p 0 None) s next
   stands_star p s body next own at one = record { word = forth; front = fronts; back = backs }
     where
       to_body : Splits T s body
@@ -214,12 +214,12 @@ module _ (T : List Node) (I : ℕ → Type 0) where
       backs zero w t h = start 0 s w t h refl refl
       backs (suc n) w t h = step n (suc n) s w t (λ v r. backs n v t r) h refl refl
 
-  pub stands_more : (p : Regular) (s mid next least : ℕ) (most : Option ℕ) → Stands T I p s mid → Stands T I (repeat p least most) mid next → Stands T I (repeat p (suc least) (more most)) s next
+  pub stands_more : (p : Regular) (s mid next least : ℕ) (most : Option ℕ) → ReadsWords T I p s mid → ReadsWords T I (repeat p least most) mid next → ReadsWords T I (repeat p (suc least) (more most)) s next
   stands_more p s mid next least most one rest =
       alike (both p (repeat p least most)) (repeat p (suc least) (more most)) s next (once_more p least most) (stands_both p (repeat p least most) s mid next one rest)
 
 -- more nodes inside
-pub stands_wider : (T : List Node) (I J : ℕ → Type 0) (p : Regular) (s next : ℕ) → ((t : ℕ) → I t → J t) → Stands T I p s next → Stands T J p s next
+pub stands_wider : (T : List Node) (I J : ℕ → Type 0) (p : Regular) (s next : ℕ) → ((t : ℕ) → I t → J t) → ReadsWords T I p s next → ReadsWords T J p s next
 stands_wider T I J p s next wider st = record { word = st.word; front = st.front; back = λ n w t r. turn n w t (st.back n w t r) }
   where
     turn : (n : ℕ) (w : List ℕ) (t : ℕ) → Back T I p next n w t → Back T J p next n w t

@@ -6,11 +6,11 @@ use Rattle.std.proofs.lemmas.List.Elements.{Contains-append_left, Contains-push,
 use Rattle.std.proofs.lemmas.Option.{slice_get_within}
 use Rattle.ts_automata.specs.declared.node.Node.{Node}
 use Rattle.ts_automata.specs.declared.node.Node.TheVariants.{Take, Split}
-use Rattle.spec_lexing.specs.Words.{IsIn}
+use Rattle.spec_lexing.specs.Words.{IsInRanges}
 use Rattle.ts_automata.specs.Reads.{Takes, Splits, ReadsOver, here, goes, takes}
 use Rattle.ts_automata.specs.Sets.{Adds, Least, given, asked, Moves}
 use Rattle.ts_automata.specs.Marked.{InRoom, Onwards}
-use Rattle.ts_automata.specs.After.{Comes}
+use Rattle.ts_automata.specs.After.{LeadsToNode}
 use Rattle.ts_automata.proofs.AddsLemmas.{adds_none, adds_both, adds_same}
 use Rattle.ts_automata.proofs.LeastLemmas.{Closing}
 use Rattle.ts_automata.proofs.AfterLemmas.{then_splits, then_takes, last_of}
@@ -37,7 +37,7 @@ room_split T n s l r a b c is p q = adds_both (InRoom n (λ i. i ≡ l)) (InRoom
         let right : h.right ≡ r = cc in
         ⊎_elim (λ e. inl (e ∙ left, lt)) (λ e. inr (e ∙ right, lt)) h.way
 
-pub room_take : (T : List Node) (n s c : ℕ) (xs ys : List ℕ) (ranges : List (ℕ × ℕ)) (a : ℕ) → slice_get T s ≡ Some (Take ranges a) → IsIn ranges c → Adds (InRoom n (λ i. i ≡ a)) xs ys
+pub room_take : (T : List Node) (n s c : ℕ) (xs ys : List ℕ) (ranges : List (ℕ × ℕ)) (a : ℕ) → slice_get T s ≡ Some (Take ranges a) → IsInRanges ranges c → Adds (InRoom n (λ i. i ≡ a)) xs ys
     → Adds (InRoom n (Takes T s c)) xs ys
 room_take T n s c xs ys ranges a is member adds = adds_same (InRoom n (λ i. i ≡ a)) (InRoom n (Takes T s c)) xs ys adds
     (λ i h. (record { ranges = ranges; at = is ∙ ap (λ (m : ℕ). Some (Take ranges m)) (sym h.0); member = member }, h.1))
@@ -96,21 +96,21 @@ module _ (T : List Node) (n : ℕ) (size : n ≡ length T) where
   onwards_reads kernel _ _ _ _ (takes k s c a t w take r) e lt h = cc
 
   pub come_none : (entries kernel found : List ℕ) → Adds (InRoom n (Contains entries)) [] kernel → ((i : ℕ) → Contains found i ↔ Least (Onwards T n) kernel i)
-      → (t : ℕ) → Contains found t ↔ (Comes T entries [] t × (t < length T))
+      → (t : ℕ) → Contains found t ↔ (LeadsToNode T entries [] t × (t < length T))
   come_none entries kernel found kept closed t = ((λ h. from t ((closed t).0 h)), (λ h. (closed t).1 (to t h.0 (let lt = h.1 in omega arith))))
     where
-      from : (t : ℕ) → Least (Onwards T n) kernel t → Comes T entries [] t × (t < length T)
+      from : (t : ℕ) → Least (Onwards T n) kernel t → LeadsToNode T entries [] t × (t < length T)
       from t (given _ h) = let k = kept.only t (subst (λ (l : List ℕ). Contains l t) kept.is h) in ((t, k.0, (0, here 0 t)), (let lt = k.1 in omega arith))
       from t (asked s _ h split) = let r = from s h in ((r.0.0, r.0.1, (suc r.0.2.0, then_splits T r.0.2.0 r.0.0 [] s t r.0.2.1 split.0)), (let lt = split.1 in omega arith))
 
-      to : (t : ℕ) → Comes T entries [] t → t < n → Least (Onwards T n) kernel t
+      to : (t : ℕ) → LeadsToNode T entries [] t → t < n → Least (Onwards T n) kernel t
       to t (e, there, (k, r)) lt = onwards_reads kernel k e [] t r refl lt (λ below. given e (kept.added e (there, below)))
 
-  pub come_more : (first set kernel found : List ℕ) (w : List ℕ) (c : ℕ) → ((t : ℕ) → Contains set t ↔ (Comes T first w t × (t < length T))) → Adds (InRoom n (Moves T set c)) [] kernel
-      → ((i : ℕ) → Contains found i ↔ Least (Onwards T n) kernel i) → (t : ℕ) → Contains found t ↔ (Comes T first (w ++ c ∷ []) t × (t < length T))
+  pub come_more : (first set kernel found : List ℕ) (w : List ℕ) (c : ℕ) → ((t : ℕ) → Contains set t ↔ (LeadsToNode T first w t × (t < length T))) → Adds (InRoom n (Moves T set c)) [] kernel
+      → ((i : ℕ) → Contains found i ↔ Least (Onwards T n) kernel i) → (t : ℕ) → Contains found t ↔ (LeadsToNode T first (w ++ c ∷ []) t × (t < length T))
   come_more first set kernel found w c before kept closed t = ((λ h. from t ((closed t).0 h)), (λ h. (closed t).1 (to t h.0 (let lt = h.1 in omega arith))))
     where
-      from : (t : ℕ) → Least (Onwards T n) kernel t → Comes T first (w ++ c ∷ []) t × (t < length T)
+      from : (t : ℕ) → Least (Onwards T n) kernel t → LeadsToNode T first (w ++ c ∷ []) t × (t < length T)
       from t (given _ h) =
           let k = kept.only t (subst (λ (l : List ℕ). Contains l t) kept.is h) in
           let m = k.0 in
@@ -118,7 +118,7 @@ module _ (T : List Node) (n : ℕ) (size : n ≡ length T) where
           ((r.0.0, r.0.1, (suc r.0.2.0, then_takes T r.0.2.0 r.0.0 w m.from c t r.0.2.1 m.takes)), (let lt = k.1 in omega arith))
       from t (asked s _ h split) = let r = from s h in ((r.0.0, r.0.1, (suc r.0.2.0, then_splits T r.0.2.0 r.0.0 (w ++ c ∷ []) s t r.0.2.1 split.0)), (let lt = split.1 in omega arith))
 
-      to : (t : ℕ) → Comes T first (w ++ c ∷ []) t → t < n → Least (Onwards T n) kernel t
+      to : (t : ℕ) → LeadsToNode T first (w ++ c ∷ []) t → t < n → Least (Onwards T n) kernel t
       to t (e, there, (k, r)) lt =
           let l = last_of T k e (w ++ c ∷ []) t r w c refl in
           let low = takes_below l.from c l.to l.takes in

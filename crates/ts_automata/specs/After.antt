@@ -5,15 +5,15 @@ use Rattle.ts_automata.specs.declared.node.Node.{Node}
 use Rattle.ts_automata.specs.Reads.{Takes, LeadsOver}
 
 -- the characters lead from one of the first nodes to the node
-abbrev pub Comes : List Node → List ℕ → List ℕ → ℕ → Type 0
-Comes T kernel w t = (e : ℕ) × Contains kernel e × LeadsOver T e w t
+abbrev pub LeadsToNode : List Node → List ℕ → List ℕ → ℕ → Type 0
+LeadsToNode T kernel w t = (e : ℕ) × Contains kernel e × LeadsOver T e w t
 
 -- after these characters the automaton is in the set of this number
 pub record After (T : List Node) (kernel : List ℕ) (sets : List (List ℕ)) (w : List ℕ)
     (n : ℕ) : Type 0 where
   pub set : List ℕ
   pub at : slice_get sets n ≡ Some set
-  pub holds : (t : ℕ) → Contains set t ↔ Comes T kernel w t
+  pub holds : (t : ℕ) → Contains set t ↔ LeadsToNode T kernel w t
 
 -- the characters of a class lead wherever its first one leads
 abbrev pub Alike : List Node → ℕ → ℕ → Type 0

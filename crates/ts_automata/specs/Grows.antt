@@ -20,7 +20,7 @@ pub data Back (T : List Node) (I : ℕ → Type 0) (p : Regular) (next n : ℕ) 
 
 -- from the node a word of the expression is read and then what the next node reads, and nothing
 -- else
-pub record Stands (T : List Node) (I : ℕ → Type 0) (p : Regular) (s next : ℕ) : Type 0 where
+pub record ReadsWords (T : List Node) (I : ℕ → Type 0) (p : Regular) (s next : ℕ) : Type 0 where
   pub word : (n : ℕ) (u v : List ℕ) (t : ℕ) → Word p u → ReadsOver T n next v t
       → LeadsOver T s (u ++ v) t
   pub front : (w : List ℕ) → Front p w → (t : ℕ) × LeadsOver T s w t
@@ -35,7 +35,7 @@ pub record Grows (p : Regular) (next : ℕ) (old new : List Node) (s : ℕ) : Ty
   pub longer : length old ≤ length new
   pub kept : (j : ℕ) → j < length old → slice_get new j ≡ slice_get old j
   pub stands : (T : List Node) → Agrees (length old) new T
-      → Stands T (IsInnerNode T (length old) (length new)) p s next
+      → ReadsWords T (IsInnerNode T (length old) (length new)) p s next
 
 -- one node was put at the end, and this is its place
 abbrev pub Put : List Node → List Node → Node → ℕ → Type 0

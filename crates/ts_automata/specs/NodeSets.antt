@@ -3,8 +3,8 @@ use Rattle.std.specs.Prelude.{ℕ, List, length}
 use Rattle.ts_automata.specs.declared.node_set.NodeSet.{NodeSet}
 
 -- the number below which nodes have room
-abbrev pub room_of : NodeSet → ℕ
-room_of set = length set.marks.items
+abbrev pub node_room : NodeSet → ℕ
+node_room set = length set.marks.items
 
 -- the nodes, in the order in which they came
 abbrev pub nodes_of : NodeSet → List ℕ

@@ -2,13 +2,13 @@
 use Rattle.std.specs.Prelude.{◌≡◌, ℕ, suc, ◌⊎◌, List, [], ◌∷◌, slice_get, Some}
 use Rattle.ts_automata.specs.declared.node.Node.{Node}
 use Rattle.ts_automata.specs.declared.node.Node.TheVariants.{Take, Split, End}
-use Rattle.spec_lexing.specs.Words.{IsIn}
+use Rattle.spec_lexing.specs.Words.{IsInRanges}
 
 -- from the first node the character leads to the other
 pub record Takes (T : List Node) (s c a : ℕ) : Type 0 where
   pub ranges : List (ℕ × ℕ)
   pub at : slice_get T s ≡ Some (Take ranges a)
-  pub member : IsIn ranges c
+  pub member : IsInRanges ranges c
 
 -- the first node goes on to the other, and takes nothing
 pub record Splits (T : List Node) (s a : ℕ) : Type 0 where

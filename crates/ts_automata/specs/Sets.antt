@@ -21,9 +21,11 @@ pub record Adds {X : Type 0} (P : X → Type 0) (old new : List X) : Type 0 wher
 abbrev pub EachAt : {X : Type 0} → (ℕ → X → Type 0) → List X → Type 0
 EachAt {X} P xs = (k : ℕ) (x : X) → slice_get xs k ≡ Some x → P k x
 
+-- both hold of the same numbers
 abbrev pub Same : (ℕ → Type 0) → (ℕ → Type 0) → Type 0
 Same P Q = (i : ℕ) → P i ↔ Q i
 
+-- vectors of numbers as lists
 abbrev pub sets_of : List (Vec ℕ) → List (List ℕ)
 sets_of vs = map (λ v. v.items) vs
 
@@ -43,6 +45,7 @@ pub record NumbersSet (old new : List (List ℕ)) (set : List ℕ) (n : ℕ) : T
   pub is : new ≡ old ++ more
   pub at : slice_get new n ≡ Some set
 
+-- the sets are those that were there, and then perhaps more
 abbrev pub Grew : List (List ℕ) → List (List ℕ) → Type 0
 Grew old new = (more : List (List ℕ)) × (new ≡ old ++ more)
 
@@ -66,6 +69,7 @@ pub record IsFirst (T : List Node) (sets : List (List ℕ)) (kernel : List ℕ) 
   pub at : slice_get sets n ≡ Some set
   pub closed : Same (Contains set) (Closure T kernel)
 
+-- the rows of a table as lists
 abbrev pub rows_of : List (Vec ℕ) → List (List ℕ)
 rows_of = sets_of
 

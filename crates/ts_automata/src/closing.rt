@@ -2,7 +2,7 @@
 //! character comes out, or those to which a character leads.
 ghost use Rattle.std.specs.Prelude.{◌≡◌, ℕ, ◌<◌, ◌⊎◌, length, IfOk, OnOk, IsTrue, slice_get, Some, ◌↔◌};
 ghost use Rattle.std.specs.List.{Contains};
-ghost use Rattle.spec_lexing.specs.Words.{IsIn};
+ghost use Rattle.spec_lexing.specs.Words.{IsInRanges};
 ghost use Rattle.ts_automata.specs.Reads.{Takes, Splits};
 ghost use Rattle.ts_automata.specs.Sets.{Adds, Closure, Moves};
 
@@ -99,7 +99,7 @@ pub(crate) fn set_of(
 
 /// Whether a character is in one of the ranges.
 pub(crate) fn is_in(ranges: &[(u32, u32)], c: u32) -> bool
-    ensures { IsTrue result ↔ IsIn ranges.now c }
+    ensures { IsTrue result ↔ IsInRanges ranges.now c }
 {
     ranges.iter().any(|range| range.0 <= c && c <= range.1)
 }

@@ -13,8 +13,6 @@ mod node_set;
 mod numbering;
 mod part;
 mod room;
-#[cfg(test)]
-mod tests;
 mod walk;
 
 pub use automaton::{Automaton, build};

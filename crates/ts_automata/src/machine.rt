@@ -27,7 +27,8 @@ pub struct Machine {
     pub first: usize,
 }
 
-/// What reads an automaton's texts: its tables, or its nodes where its sets are too many for tables.
+/// What reads an automaton's texts: its tables, or its nodes where its sets are too many for
+/// tables.
 #[derive(Drop)]
 pub enum Reader {
     Tables(Machine),

@@ -1,4 +1,5 @@
-//! Sets of nodes with room taken ahead: nodes go in, each of them kept once, and no memory is taken.
+//! Sets of nodes with room taken ahead: nodes go in, each of them kept once, and no memory is
+//! taken.
 ghost use Rattle.std.specs.Prelude.{◌≡◌, ◌≤◌, ◌<◌, ◌↔◌, [], true, false, Some, IsTrue, IfOk, length, slice_get, vec_capacity};
 ghost use Rattle.ts_automata.specs.Sets.{Adds};
 ghost use Rattle.std.specs.Prelude.{nat_eq};
@@ -42,11 +43,11 @@ fn unmark(marks: &mut Vec<bool>, members: &[usize])
 }
 
 impl NodeSet {
-    ghost use Rattle.ts_automata.specs.NodeSets.{room_of, nodes_of};
+    ghost use Rattle.ts_automata.specs.NodeSets.{node_room, nodes_of};
 
     /// The empty set, with room for the nodes below a number.
     pub(crate) fn new(alloc: Global, room: usize) -> Result<NodeSet, AllocError>
-        ensures room { IfOk result (λ set. room_of set ≡ room) }
+        ensures room { IfOk result (λ set. node_room set ≡ room) }
         ensures none { IfOk result (λ set. nodes_of set ≡ []) }
     {
         let marks = vec![in alloc; false; room]?;
@@ -56,7 +57,7 @@ impl NodeSet {
 
     /// Takes all nodes out.
     pub(crate) fn clear(&mut self)
-        ensures room { room_of self.new ≡ room_of self.old }
+        ensures room { node_room self.new ≡ node_room self.old }
         ensures none { nodes_of self.new ≡ [] }
     {
         unmark(&mut self.marks, self.members.as_slice());
@@ -65,8 +66,8 @@ impl NodeSet {
 
     /// Adds a node at the end, where it is new and there is room for it.
     pub(crate) fn insert(&mut self, node: usize)
-        ensures room { room_of self.new ≡ room_of self.old }
-        ensures adds { Adds (InRoom (room_of self.old) (λ i. i ≡ node)) (nodes_of self.old)
+        ensures room { node_room self.new ≡ node_room self.old }
+        ensures adds { Adds (InRoom (node_room self.old) (λ i. i ≡ node)) (nodes_of self.old)
             (nodes_of self.new) }
     {
         if !is_new(self.marks.as_slice(), node) {

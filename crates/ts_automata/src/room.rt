@@ -26,8 +26,8 @@ pub(crate) enum Unnumbered {
 }
 
 impl Room {
-    /// Room for a machine that is made ahead, by the classes of its characters: each set has a place
-    /// for each class.
+    /// Room for a machine that is made ahead, by the classes of its characters: each set has a
+    /// place for each class.
     pub(crate) fn ahead(classes: usize) -> Room {
         Room {
             sets: MOST_SETS.min(MOST_PLACES / classes.max(1)),

@@ -1,11 +1,11 @@
-//! The way of an automaton through a text, without tables: characters go in one by one, and the nodes
-//! in which the automaton is come out. No memory is taken on the way.
+//! The way of an automaton through a text, without tables: characters go in one by one, and the
+//! nodes in which the automaton is come out. No memory is taken on the way.
 ghost use Rattle.std.specs.Prelude.{◌≡◌, ◌∷◌, ◌++◌, ◌↔◌, ◌<◌, [], ℕ, List, IfOk, length, Some, slice_get};
 ghost use Rattle.std.specs.List.{Contains};
 ghost use Rattle.ts_automata.specs.Reads.{Takes, Splits};
 ghost use Rattle.ts_automata.specs.Sets.{Adds, Least, Moves};
 ghost use Rattle.ts_automata.specs.Marked.{InRoom, Onwards};
-ghost use Rattle.ts_automata.specs.NodeSets.{room_of, nodes_of};
+ghost use Rattle.ts_automata.specs.NodeSets.{node_room, nodes_of};
 
 use crate::automaton::Automaton;
 use crate::closing::is_in;
@@ -18,13 +18,13 @@ use std::alloc::{AllocError, Global};
 pub struct Walk {
     here: NodeSet,
     next: NodeSet,
-    ghost same: { room_of next ≡ room_of here },
+    ghost same: { node_room next ≡ node_room here },
 }
 
 /// Adds some nodes.
 fn enter(set: &mut NodeSet, entries: &[usize])
-    ensures room { room_of set.new ≡ room_of set.old }
-    ensures adds { Adds (InRoom (room_of set.old) (Contains entries.now)) (nodes_of set.old)
+    ensures room { node_room set.new ≡ node_room set.old }
+    ensures adds { Adds (InRoom (node_room set.old) (Contains entries.now)) (nodes_of set.old)
         (nodes_of set.new) }
 {
     for entry in entries {
@@ -34,8 +34,8 @@ fn enter(set: &mut NodeSet, entries: &[usize])
 
 /// Adds the nodes to which one goes on.
 fn expand(set: &mut NodeSet, nodes: &[Node], from: usize)
-    ensures room { room_of set.new ≡ room_of set.old }
-    ensures adds { Adds (InRoom (room_of set.old) (Splits nodes.now from)) (nodes_of set.old)
+    ensures room { node_room set.new ≡ node_room set.old }
+    ensures adds { Adds (InRoom (node_room set.old) (Splits nodes.now from)) (nodes_of set.old)
         (nodes_of set.new) }
 {
     if from >= nodes.len() {
@@ -53,9 +53,9 @@ fn expand(set: &mut NodeSet, nodes: &[Node], from: usize)
 
 /// Adds all nodes to which its nodes go on.
 fn close(set: &mut NodeSet, nodes: &[Node])
-    ensures room { room_of set.new ≡ room_of set.old }
+    ensures room { node_room set.new ≡ node_room set.old }
     ensures closed { (i : ℕ) → Contains (nodes_of set.new) i
-        ↔ Least (Onwards nodes.now (room_of set.old)) (nodes_of set.old) i }
+        ↔ Least (Onwards nodes.now (node_room set.old)) (nodes_of set.old) i }
 {
     let mut next = 0;
     while next < set.nodes().len() {
@@ -67,8 +67,8 @@ fn close(set: &mut NodeSet, nodes: &[Node])
 
 /// Adds the node to which a character leads from another.
 fn take(set: &mut NodeSet, nodes: &[Node], from: usize, c: u32)
-    ensures room { room_of set.new ≡ room_of set.old }
-    ensures adds { Adds (InRoom (room_of set.old) (Takes nodes.now from c)) (nodes_of set.old)
+    ensures room { node_room set.new ≡ node_room set.old }
+    ensures adds { Adds (InRoom (node_room set.old) (Takes nodes.now from c)) (nodes_of set.old)
         (nodes_of set.new) }
 {
     if from >= nodes.len() {
@@ -87,8 +87,8 @@ fn take(set: &mut NodeSet, nodes: &[Node], from: usize, c: u32)
 
 /// Adds the nodes to which a character leads from some others.
 fn take_all(set: &mut NodeSet, nodes: &[Node], members: &[usize], c: u32)
-    ensures room { room_of set.new ≡ room_of set.old }
-    ensures adds { Adds (InRoom (room_of set.old) (Moves nodes.now members.now c))
+    ensures room { node_room set.new ≡ node_room set.old }
+    ensures adds { Adds (InRoom (node_room set.old) (Moves nodes.now members.now c))
         (nodes_of set.old) (nodes_of set.new) }
 {
     for from in members {
@@ -98,11 +98,11 @@ fn take_all(set: &mut NodeSet, nodes: &[Node], members: &[usize], c: u32)
 
 /// Makes a set that of the nodes to which a character leads from some others.
 fn go_on(set: &mut NodeSet, nodes: &[Node], members: &[usize], c: u32)
-    ensures room { room_of set.new ≡ room_of set.old }
+    ensures room { node_room set.new ≡ node_room set.old }
     ensures goes { (kernel : List ℕ)
-        × Adds (InRoom (room_of set.old) (Moves nodes.now members.now c)) [] kernel
+        × Adds (InRoom (node_room set.old) (Moves nodes.now members.now c)) [] kernel
         × ((i : ℕ) → Contains (nodes_of set.new) i
-        ↔ Least (Onwards nodes.now (room_of set.old)) kernel i) }
+        ↔ Least (Onwards nodes.now (node_room set.old)) kernel i) }
 {
     set.clear();
     take_all(set, nodes, members, c);
@@ -110,7 +110,7 @@ fn go_on(set: &mut NodeSet, nodes: &[Node], members: &[usize], c: u32)
 }
 
 impl Walk {
-    ghost use Rattle.ts_automata.specs.Walks.{HasCome, walk_room, members_of};
+    ghost use Rattle.ts_automata.specs.Walks.{HasCome, walk_room, walk_nodes};
 
     /// Room for the way of an automaton with so many nodes.
     ///
@@ -154,7 +154,7 @@ impl Walk {
 
     /// The nodes in which the automaton is.
     pub fn members(&self) -> &[usize]
-        ensures { result.now ≡ members_of self.now }
+        ensures { result.now ≡ walk_nodes self.now }
     {
         self.here.nodes()
     }

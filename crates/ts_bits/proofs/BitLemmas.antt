@@ -96,10 +96,6 @@ joined_all old other new at same past j t = rw (word (t / 64)) (or_one (get_or o
     word k = ⊎_elim (λ lt. j.below k (omega (arith, lt, past)))
         (λ ge. rw (get_or_past new k 0 (omega (arith, ge, j.count)), get_or_past old k 0 ge, get_or_past other k 0 (omega (arith, ge, same))) refl) (cases_lt k (length old))
 
--- an empty set
-pub none_marked : (ws : List ℕ) → ((k : ℕ) → get_or ws k 0 ≡ 0) → (t : ℕ) → Marked ws t → ⊥
-none_marked ws zero t h = let z = ap (λ (x : ℕ). bit_at x (t % 64)) (zero (t / 64)) ∙ bit_at-zero (t % 64) in omega (arith, h, z)
-
 -- two sets of the same width with the same numbers have the same words
 pub same_words : (n : ℕ) (a b : BitSet) → IsWide n a → IsWide n b → ((t : ℕ) → Has a t ↔ Has b t) → a.words.items ≡ b.words.items
 same_words n a b wa wb same = same_number_lists a.words.items b.words.items (wa.words ∙ sym wb.words) (λ k below. same_from_bits_below 64 (get_or a.words.items k 0) (get_or b.words.items k 0)
@@ -167,46 +163,6 @@ pub record Searched (ws : List ℕ) (from at place : ℕ) : Type 0 where
   pub begun : from / 64 ≤ at
   pub none : (u : ℕ) → from ≤ u → u / 64 < at → Marked ws u → ⊥
   pub bit : ((at ≡ from / 64) × (place ≡ from % 64)) ⊎ ((from / 64 < at) × (place ≡ 0))
-
-pub search_begins : (ws : List ℕ) (from : ℕ) → Searched ws from (from / 64) (from % 64)
-search_begins ws from = record { begun = omega arith; none = λ u le lt h. omega (arith, le, lt); bit = inl (refl, refl) }
-
-from_bit : (from at place u : ℕ) → from ≤ u → u / 64 ≡ at → ((at ≡ from / 64) × (place ≡ from % 64)) ⊎ ((from / 64 < at) × (place ≡ 0)) → place ≤ u % 64
-from_bit from at place u le e p = ⊎_elim (λ q. let a = q.0 in let b = q.1 in omega (arith, le, e, a, b)) (λ q. let b = q.1 in omega (arith, b)) p
-
-pub search_more : (ws : List ℕ) (from at place w : ℕ) → w ≡ get_or ws at 0 → Searched ws from at place → ((j : ℕ) → place ≤ j → bit_at w j ≡ 1 → ⊥) → Searched ws from (at + 1) 0
-search_more ws from at place w is s none = record {
-  begun = let b = s.begun in omega arith;
-  none = λ u le lt h. ⊎_elim (λ below. s.none u le below h) (λ ge. here u le (omega (arith, lt, ge)) h) (cases_lt (u / 64) at);
-  bit = inr (let b = s.begun in omega arith, refl);
-}
-  where
-    here : (u : ℕ) → from ≤ u → u / 64 ≡ at → Marked ws u → ⊥
-    here u le e h = none (u % 64) (from_bit from at place u le e s.bit) (ap (λ (x : ℕ). bit_at x (u % 64)) (is ∙ ap (λ (k : ℕ). get_or ws k 0) (sym e)) ∙ h)
-
-pub search_ends : (ws : List ℕ) (from at place : ℕ) → length ws ≤ at → Searched ws from at place → (u : ℕ) → from ≤ u → Marked ws u → ⊥
-search_ends ws from at place past s u le h = ⊎_elim (λ lt. s.none u le lt h)
-    (λ ge. let z = ap (λ (x : ℕ). bit_at x (u % 64)) (get_or_past ws (u / 64) 0 (omega (arith, past, ge))) ∙ bit_at-zero (u % 64) in omega (arith, h, z)) (cases_lt (u / 64) at)
-
-pub search_found : (ws : List ℕ) (from at place w i : ℕ) → w ≡ get_or ws at 0 → Searched ws from at place → place ≤ i → i < 64 → bit_at w i ≡ 1 → ((j : ℕ) → place ≤ j → j < i → bit_at w j ≡ 1 → ⊥)
-    → (from ≤ at * 64 + i) × Marked ws (at * 64 + i) × ((u : ℕ) → from ≤ u → u < at * 64 + i → Marked ws u → ⊥)
-search_found ws from at place w i is s le lt bit none = (after s.bit, rw (div_at, mod_at, sym is) bit, λ u lu su h. ⊎_elim (λ below. s.none u lu below h) (λ ge. here u lu su (omega (arith, su, ge, lt)) h) (cases_lt (u / 64) at))
-  where
-    div_at : (at * 64 + i) / 64 ≡ at
-    div_at = omega (arith, lt)
-
-    mod_at : (at * 64 + i) % 64 ≡ i
-    mod_at = omega (arith, lt)
-
-    after : ((at ≡ from / 64) × (place ≡ from % 64)) ⊎ ((from / 64 < at) × (place ≡ 0)) → from ≤ at * 64 + i
-    after p = ⊎_elim (λ q. let a = q.0 in let b = q.1 in omega (arith, le, a, b)) (λ q. let a = q.0 in omega (arith, a)) p
-
-    here : (u : ℕ) → from ≤ u → u < at * 64 + i → u / 64 ≡ at → Marked ws u → ⊥
-    here u lu su e h = none (u % 64) (from_bit from at place u lu e s.bit) (omega (arith, su, e)) (ap (λ (x : ℕ). bit_at x (u % 64)) (is ∙ ap (λ (k : ℕ). get_or ws k 0) (sym e)) ∙ h)
-
--- the changes of one word keep the width
-pub wide_or : (n : ℕ) (s r : BitSet) (k v : ℕ) → k < length s.words.items → v < 2 ^ 64 → r.words.items ≡ set s.words.items k (bit_or (get_or s.words.items k 0) v) → IsWide n s → IsWide n r
-wide_or n s r k v inside small is w = wide_set n s k (bit_or (get_or s.words.items k 0) v) (or_lt 64 (get_or s.words.items k 0) v (w.small k 0 inside) small) r is w
 
 pub joined_at : (old other new : List ℕ) (at a b : ℕ) → at < length old → length old ≡ length other → a ≡ get_or new at a → b ≡ get_or other at b → Joined old other new at → Joined old other (set new at (bit_or a b)) (at + 1)
 joined_at old other new at a b inside same ea eb j =

@@ -22,7 +22,7 @@ use std::rt::Env;
 use std::sync::Wait;
 use std::thread::Threads;
 use trouble::tell;
-use ts_io::{Folder, OsFolder, OutSink, Sink};
+use ts_io::{Folder, FreeGate, OsFolder, OutSink, Sink};
 use ts_lines::number;
 use ts_query_syntax::Builder;
 use ts_top::AsciiHost;
@@ -61,7 +61,8 @@ fn main(rt: HostRuntime) -> ExitCode {
     ExitCode::from(status)
 }
 
-/// Runs the words with a host that has the predicate `ascii?`, and answers the number of a status.
+/// Runs the words with a host that has the predicate `ascii?`, and with clients that no gate holds,
+/// and answers the number of a status.
 fn command<R: AllocGlobal + Threads + Wait + Sync, F: Folder, S: Sink>(
     rt: &R,
     words: &[String],
@@ -70,7 +71,7 @@ fn command<R: AllocGlobal + Threads + Wait + Sync, F: Folder, S: Sink>(
 ) -> u8 {
     let mut patterns = Builder::new(rt.alloc(), Vec::new(rt.alloc()));
     match AsciiHost::new(rt.alloc()) {
-        Ok(hosts) => ts_top::run(rt, words, folder, sink, &hosts, &mut patterns),
+        Ok(hosts) => ts_top::run(rt, words, folder, sink, &FreeGate, &hosts, &mut patterns),
         Err(AllocError) => number(Status::OutOfMemory),
     }
 }

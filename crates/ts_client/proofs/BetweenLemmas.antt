@@ -35,9 +35,9 @@ use Rattle.ts_client.specs.declared.working.Client.{Client}
 use Rattle.ts_client.specs.Between.{IsAtDesk, AreAtDesks, MayServeNext, ChangesDesk, ServesNext, StopsNext}
 use Rattle.ts_client.specs.Nexts.{HoldsSeen, IsServedNext}
 use Rattle.ts_client.specs.Serving.{MayServe, offers_of}
-use Rattle.ts_client.specs.Steps.{standing_at, Serves, Stops}
+use Rattle.ts_client.specs.Steps.{standing_at, Serves, StopsEarly}
 use Rattle.ts_client.specs.Turns.{SamePass}
-use Rattle.ts_client.specs.Working.{IsFirstDesk, Begins, HasServed, HasWorked}
+use Rattle.ts_client.specs.Working.{IsFirstDesk, IsNewClient, HasServed, HasWorked}
 use Rattle.ts_client.proofs.DeskLemmas.{same_self}
 use Rattle.ts_client.proofs.HeldLemmas.{paired_none, held_here, held_elsewhere}
 use Rattle.ts_client.proofs.ServeLemmas.{held_serves_next}
@@ -211,7 +211,7 @@ module _ (Finds : Bytes → List ℕ → List ShownResult → Type 0) (plan : Pl
                 omega (arith, e, f, l)
 
         -- all turns were over
-        stopped_desk : IdleLaw Finds → Stops (standing_at d) (standing_at after) → HasServed Finds plan table.grammar client document steps replies first after
+        stopped_desk : IdleLaw Finds → StopsEarly (standing_at d) (standing_at after) → HasServed Finds plan table.grammar client document steps replies first after
         stopped_desk law stops = record {
           shelf_is = may.shelf_is ∙ sym at.first_at;
           is_pass = may.is_pass;
@@ -233,7 +233,7 @@ module _ (Finds : Bytes → List ℕ → List ShownResult → Type 0) (plan : Pl
   -- ---- at all desks
 
   module _ (shelves : List TableId) where
-    pub begins_client : (c : Client) → Begins table shelves steps c → AreAtDesks Finds plan table client steps shelves c.desks.items c
+    pub begins_client : (c : Client) → IsNewClient table shelves steps c → AreAtDesks Finds plan table client steps shelves c.desks.items c
     begins_client c b = record {
       room = b.room;
       few = let h : length c.replies.items ≡ 0 = ap length b.none_replied in omega (arith, h);
@@ -452,7 +452,7 @@ module _ (table : ParseTable) (shelves : List TableId) (steps : List ScriptStep)
       room = room;
     }
 
-    pub stops_here : Stops (standing_at desk) (standing_at after) → new.replies.items ≡ old.replies.items → StopsNext table shelves steps old new
+    pub stops_here : StopsEarly (standing_at desk) (standing_at after) → new.replies.items ≡ old.replies.items → StopsNext table shelves steps old new
     stops_here stops replies_are = record { at = change; stops = stops; replies_are = replies_are }
 
     pub serves_here : (Finds : Bytes → List ℕ → List ShownResult → Type 0) (client m : ℕ) (r : Reply) → m ≡ length old.replies.items

@@ -1,5 +1,5 @@
 -- A desk after a look, an offer, or a refusal of them.
-use Rattle.std.proofs.Common.{◌≡◌, ◌∙◌, sym, ap, refl, subst, ℕ, ◌+◌, ◌<◌, ◌≤◌, nat_lt, Bool, true, false, inl, inr, ⊎_elim, List, [], ◌∷◌, ◌++◌, length, Option, Some, None, All, IfSome, IfNone, IsNone, arith}
+use Rattle.std.proofs.Common.{◌≡◌, ◌∙◌, sym, ap, refl, subst, ℕ, ◌+◌, ◌<◌, ◌≤◌, nat_lt, Bool, true, false, ⊎_elim, List, [], ◌∷◌, ◌++◌, length, Option, Some, None, All, IfSome, IfNone, IsNone, arith}
 use Rattle.std.proofs.lemmas.Bool.{ltb-true, ltb-false}
 use Rattle.std.proofs.lemmas.List.{length-append}
 use Rattle.std.proofs.lemmas.List.Elements.{All-head, All-tail}
@@ -12,9 +12,7 @@ use Rattle.ts_shelf.specs.Entries.{most_turns}
 use Rattle.ts_shelf.specs.Latest.{latest_of}
 use Rattle.ts_shelf.specs.Passes.{Known, IsPass}
 use Rattle.ts_shelf.specs.declared.shelf.Seen.{Seen}
-use Rattle.ts_shelf.specs.declared.shelf.Denied.{Denied}
-use Rattle.ts_shelf.specs.declared.shelf.Denied.TheVariants as denied
-use Rattle.ts_shelf.specs.Calls.{TakesNoTurn, Looked, Publishes, IsNewer}
+use Rattle.ts_shelf.specs.Calls.{Looked, Publishes, IsNewer}
 use Rattle.ts_text.specs.declared.edit.Edit.{Edit as TextEdit}
 use Rattle.spec_output.specs.declared.outcome.ShownOutcome.{ShownOutcome}
 use Rattle.ts_docs.specs.declared.parsed.ParsedText.{ParsedText}
@@ -26,11 +24,11 @@ use Rattle.ts_replies.specs.declared.reply.Reply.TheVariants as reply
 use Rattle.spec_history.specs.Replies.{most_looks}
 use Rattle.spec_history.specs.Legal.{CanEdit, IsShown}
 use Rattle.ts_client.specs.declared.desk.Desk.{Desk}
-use Rattle.ts_client.specs.Looks.{IsLatest, SawLast, Watched, IsRefused}
+use Rattle.ts_client.specs.Looks.{IsLatest, SawLast, Watched}
 use Rattle.ts_client.specs.Serving.{MayServe}
-use Rattle.ts_client.specs.Steps.{Standing, standing, ServesStep, Stops, publishes, is_behind, waits, gives_up, shows}
+use Rattle.ts_client.specs.Steps.{Standing, standing, ServesStep, StopsEarly, publishes, is_behind, waits, gives_up, shows}
 use Rattle.ts_client.specs.Turns.{TakesIdle, SamePass}
-use Rattle.ts_client.proofs.LookLemmas.{none_idle, idle_chain, looked_once, newer_once, look_more}
+use Rattle.ts_client.proofs.LookLemmas.{looked_once, newer_once, look_more}
 
 pub same_self : {S I : Type 0} (k : Knowledge S I) → SamePass k k
 same_self k = record { first = refl; out = refl; opening = refl }
@@ -102,7 +100,7 @@ if_spent None Q E spent so = so (spent refl)
 if_spent (Some r) Q E spent so = tt
 
 pub stops_at : (old new : Knowledge ParsedText Drafted) (number : ℕ) (version : ParsedText) (turns : List ℕ) → TakesIdle old new turns → length turns ≤ most_looks
-    → new.reached ≡ most_turns → Stops (standing old number version) (standing new number version)
+    → new.reached ≡ most_turns → StopsEarly (standing old number version) (standing new number version)
 stops_at old new number version turns idle few over = record { turns = turns; out = record { idle = idle; over = over }; few = few }
 
 pub offer_publishes : (client number at : ℕ) (edit : TextEdit) (old : Standing) (k : Knowledge ParsedText Drafted) (draft : Drafted) (turn version : ℕ) (made : ParsedText)
@@ -160,25 +158,4 @@ next_look a b c looks before seen w l latest = record {
   turns = w.turns ++ seen.turn ∷ [];
   saw = record { looks = look_more a b c w.turns seen.turn seen.number w.saw.looks.idle (looked_once b c seen.turn seen.number l); latest = latest };
   count = length-append w.turns (seen.turn ∷ []) ∙ ap (λ (n : ℕ). n + 1) w.count;
-}
-
--- the last look showed what was wanted
-pub watched_there : (old new : Knowledge ParsedText Drafted) (looks wanted : ℕ) (seen : Seen ParsedText) → SawLast old new looks seen → looks ≤ most_looks → wanted ≤ seen.number
-    → Watched old new wanted seen
-watched_there old new looks wanted seen w few there = record { turns = w.turns; saw = w.saw; few = (let n = w.count in omega (arith, n, few)); ends = inl there }
-
-pub watched_all : (old new : Knowledge ParsedText Drafted) (looks wanted : ℕ) (seen : Seen ParsedText) → SawLast old new looks seen → looks ≡ most_looks → Watched old new wanted seen
-watched_all old new looks wanted seen w all = record { turns = w.turns; saw = w.saw; few = (let n = w.count in omega (arith, n, all)); ends = inr (w.count ∙ all) }
-
--- a look was refused, at first or after others
-pub refused_first : (old new : Knowledge ParsedText Drafted) (e : Denied) → TakesNoTurn old new → (e ≡ denied.Spent → new.reached ≡ most_turns) → IsRefused old new e
-refused_first old new e n over = record { turns = []; idle = none_idle old new n; few = omega arith; over = over }
-
-pub refused_later : (a b c : Knowledge ParsedText Drafted) (looks : ℕ) (before : Seen ParsedText) (e : Denied) → SawLast a b looks before → looks ≤ most_looks → TakesNoTurn b c
-    → (e ≡ denied.Spent → c.reached ≡ most_turns) → IsRefused a c e
-refused_later a b c looks before e w few n over = record {
-  turns = w.turns ++ [];
-  idle = idle_chain a b c w.turns [] w.saw.looks.idle (none_idle b c n);
-  few = (let l = length-append w.turns [] in let k = w.count in omega (arith, l, k, few));
-  over = over;
 }

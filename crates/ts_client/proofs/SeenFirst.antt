@@ -19,15 +19,6 @@ module _ {I : Type 0} where
       subst (λ (y : Entry I). y.turn < high) same rises.1
   entries_early low high (x ∷ es) rises (suc place) e is = entries_early (x.turn + 1) high es rises.2 place e is
 
-  -- of two neighbours the second has the greater turn
-  pub neighbours_rise : (low high : ℕ) (es : List (Entry I)) → RisesWithin low high es → (place : ℕ) (e f : Entry I)
-      → slice_get es place ≡ Some e → slice_get es (suc place) ≡ Some f → e.turn < f.turn
-  neighbours_rise low high [] rises place e f a b = absurd (let x : None ≡ Some e = a in cc)
-  neighbours_rise low high (x ∷ es) rises zero e f a b =
-      let same : x ≡ e = (let h : Some x ≡ Some e = a in cc) in
-      subst (λ (y : Entry I). y.turn < f.turn) same (let h = entries_late (x.turn + 1) high es rises.2 0 f b in omega (arith, h))
-  neighbours_rise low high (x ∷ es) rises (suc place) e f a b = neighbours_rise (x.turn + 1) high es rises.2 place e f a b
-
   -- an entry was seen, or it has a later turn
   pub seen_or_late : (seen rest : List (Entry I)) (low high : ℕ) → RisesWithin low high rest → (place : ℕ) (e : Entry I)
       → slice_get (seen ++ rest) place ≡ Some e → (slice_get seen place ≡ Some e) ⊎ (low ≤ e.turn)

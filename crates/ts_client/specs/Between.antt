@@ -1,4 +1,4 @@
--- A client between two steps, and one step more. It serves proofs alone.
+-- A client between two steps, and one step more. It serves private clauses and proofs alone.
 use Rattle.std.specs.Prelude.{◌≡◌, ℕ, ◌+◌, ◌*◌, ◌<◌, ◌≤◌, ◌^◌, List, [], ◌∷◌, ◌++◌, length, drop, slice_get, slice_set, Some, vec_capacity}
 use Rattle.atomic_table.specs.Seated.{TableId}
 use Rattle.ts_base.specs.Bytes.{Bytes}
@@ -15,7 +15,7 @@ use Rattle.ts_replay.specs.Runs.{weight_of, edits_on}
 use Rattle.ts_client.specs.declared.desk.Desk.{Desk}
 use Rattle.ts_client.specs.declared.working.Client.{Client}
 use Rattle.ts_client.specs.Serving.{MayServe, offers_of}
-use Rattle.ts_client.specs.Steps.{standing_at, Serves, Stops}
+use Rattle.ts_client.specs.Steps.{standing_at, Serves, StopsEarly}
 use Rattle.ts_client.specs.Turns.{SamePass}
 
 -- ---- between two steps
@@ -98,5 +98,5 @@ pub record ServesNext (Finds : Bytes → List ℕ → List ShownResult → Type 
 pub record StopsNext (table : ParseTable) (shelves : List TableId) (steps : List ScriptStep)
     (old new : Client) : Type 0 where
   pub at : ChangesDesk table shelves steps old new
-  pub stops : Stops (standing_at at.desk) (standing_at at.after)
+  pub stops : StopsEarly (standing_at at.desk) (standing_at at.after)
   pub replies_are : new.replies.items ≡ old.replies.items

@@ -27,6 +27,7 @@ pub record Standing : Type 0 where
   pub number : ℕ
   pub version : ParsedText
 
+-- what a client has, by what its pass knows, the number and the version
 abbrev pub standing : Knowledge ParsedText Drafted → ℕ → ParsedText → Standing
 standing knows number version =
     record { knows = knows; number = number; version = version }
@@ -113,7 +114,7 @@ pub data TellsNoTree (old : Standing) : Reply → Type 0 where
   tells_nothing : TellsNoTree old (reply.Memory old.number)
 
 -- all turns of the document were over before the step was done
-pub record Stops (old new : Standing) : Type 0 where
+pub record StopsEarly (old new : Standing) : Type 0 where
   pub turns : List ℕ
   pub out : RunsOut old.knows new.knows turns
   pub few : length turns ≤ most_looks

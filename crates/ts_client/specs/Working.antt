@@ -34,7 +34,7 @@ pub record IsFirstDesk (table : ParseTable) (shelf : TableId) (document : ℕ)
   pub offers : weight_of (edits_on document) steps ≤ d.pass.knows.offers
 
 -- a client with these steps before all of them, with a desk at each of the shelves
-pub record Begins (table : ParseTable) (shelves : List TableId) (steps : List ScriptStep)
+pub record IsNewClient (table : ParseTable) (shelves : List TableId) (steps : List ScriptStep)
     (c : Client) : Type 0 where
   pub none_replied : c.replies.items ≡ []
   -- there is room for a reply to each step

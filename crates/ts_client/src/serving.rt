@@ -10,7 +10,7 @@ ghost use Rattle.ts_script.specs.declared.plan.ScriptStep.TheVariants as script_
 ghost use Rattle.ts_replies.specs.declared.reply.Reply.TheVariants as reply;
 ghost use Rattle.spec_history.specs.Legal.{CanEdit};
 ghost use Rattle.ts_replay.specs.Replays.{AsksAmong};
-ghost use Rattle.ts_client.specs.Steps.{standing_at, ServesStep, Serves, Stops};
+ghost use Rattle.ts_client.specs.Steps.{standing_at, ServesStep, Serves, StopsEarly};
 ghost use Rattle.ts_client.specs.Serving.{MayServe, offers_of};
 ghost use Rattle.ts_client.specs.Turns.{SamePass};
 
@@ -61,7 +61,7 @@ pub fn serve<R: Wait, F: Finder>(
     ensures offers { desk.old.pass.knows.offers ≤ desk.new.pass.knows.offers + offers_of step.now }
     ensures serves { IfSome result (λ reply. Serves (F.finds finder.now) asker.client asker.number
         (standing_at desk.old) step.now reply (standing_at desk.new)) }
-    ensures stops { IfNone result (Stops (standing_at desk.old) (standing_at desk.new)) }
+    ensures stops { IfNone result (StopsEarly (standing_at desk.old) (standing_at desk.new)) }
 {
     match step {
         ScriptStep::Edit { document: _, edit } => {
@@ -100,7 +100,7 @@ fn change<R: Wait>(
     ensures offers { desk.old.pass.knows.offers ≤ desk.new.pass.knows.offers + 1 }
     ensures serves { IfSome result (λ reply. (document : ℕ) → ServesStep asker.client asker.number
         (standing_at desk.old) (script_step.Edit document edit.now) reply (standing_at desk.new)) }
-    ensures stops { IfNone result (Stops (standing_at desk.old) (standing_at desk.new)) }
+    ensures stops { IfNone result (StopsEarly (standing_at desk.old) (standing_at desk.new)) }
 {
     let version = desk.number;
     match drafted(alloc, table, lexer, desk.version.get(), asker, edit) {
@@ -148,7 +148,7 @@ fn offer<R: Wait>(rt: &R, shelf: &Shelf<Book>, desk: &mut Desk, draft: Draft) ->
         → Drafts desk.old.version client number edit draft → CanEdit desk.old.version.text edit
         → ServesStep client number (standing_at desk.old) (script_step.Edit document edit) reply
         (standing_at desk.new)) }
-    ensures stops { IfNone result (Stops (standing_at desk.old) (standing_at desk.new)) }
+    ensures stops { IfNone result (StopsEarly (standing_at desk.old) (standing_at desk.new)) }
 {
     let Ok(made) = draft.version().try_clone() else {
         return Some(Reply::Memory {
@@ -192,7 +192,7 @@ fn look<R: Wait>(rt: &R, shelf: &Shelf<Book>, desk: &mut Desk) -> Option<Reply>
     ensures serves { IfSome result (λ reply. (client number document : ℕ)
         → ServesStep client number (standing_at desk.old) (script_step.Look document) reply
         (standing_at desk.new)) }
-    ensures stops { IfNone result (Stops (standing_at desk.old) (standing_at desk.new)) }
+    ensures stops { IfNone result (StopsEarly (standing_at desk.old) (standing_at desk.new)) }
 {
     match shelf.look(rt, &mut desk.pass) {
         Ok(seen) => {
@@ -217,7 +217,7 @@ fn wait<R: Wait>(rt: &R, shelf: &Shelf<Book>, desk: &mut Desk, wanted: u32) -> O
     ensures serves { IfSome result (λ reply. (client number document : ℕ)
         → ServesStep client number (standing_at desk.old) (script_step.Await document wanted) reply
         (standing_at desk.new)) }
-    ensures stops { IfNone result (Stops (standing_at desk.old) (standing_at desk.new)) }
+    ensures stops { IfNone result (StopsEarly (standing_at desk.old) (standing_at desk.new)) }
 {
     match watch(rt, shelf, &mut desk.pass, wanted) {
         Ok(seen) => {

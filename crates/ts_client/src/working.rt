@@ -7,7 +7,7 @@ ghost use Rattle.spec_history.specs.Replies as histories;
 ghost use Rattle.ts_replay.specs.Replays.{MayReplay};
 ghost use Rattle.ts_client.specs.declared.desk.Desk.{Desk as AnyDesk};
 ghost use Rattle.ts_client.specs.Between.{AreAtDesks, MayServeNext, ServesNext, StopsNext};
-ghost use Rattle.ts_client.specs.Working.{Begins, HasWorked};
+ghost use Rattle.ts_client.specs.Working.{IsNewClient, HasWorked};
 
 use crate::desk::Desk;
 use crate::serving::{Asker, serve};
@@ -16,6 +16,7 @@ use spec_history::Finder;
 use std::alloc::Global;
 use std::sync::Wait;
 use ts_docs::Book;
+use ts_io::Gate;
 use ts_lexer::Lexer;
 use ts_replies::Reply;
 use ts_script::{Plan, ScriptStep};
@@ -32,7 +33,7 @@ pub struct Client {
 }
 
 /// Does all steps of the client of this number, one after the other, while others may work at the
-/// same shelves.
+/// same shelves. Before each step it passes the gate, and holds nothing meanwhile.
 ///
 /// An edit is made in the version that the client holds of the document, and is published where
 /// that is still the newest one; else the client then holds the newest. A look takes the newest
@@ -41,9 +42,10 @@ pub struct Client {
 ///
 /// A step that finds no memory for itself is answered so, and the replies take none. The steps end
 /// early only where all turns of a document are over.
-pub fn work<R: Wait, F: Finder>(
+pub fn work<R: Wait, G: Gate, F: Finder>(
     rt: &R,
     alloc: Global,
+    gate: &G,
     table: &Table,
     finder: &F,
     lexer: &mut Lexer,
@@ -59,7 +61,7 @@ pub fn work<R: Wait, F: Finder>(
     requires number { number < length plan.now.clients }
     requires shelves { length shelves.now ≡ length plan.now.documents }
     requires begins { (steps : AnyList AnyStep) → slice_get plan.now.clients number ≡ Some steps
-        → Begins table.now shelves.now steps client }
+        → IsNewClient table.now shelves.now steps client }
     ensures lexer { IsLexerOf lexer.new table.now }
     ensures works { (steps : AnyList AnyStep) → slice_get plan.now.clients number ≡ Some steps
         → HasWorked (F.finds finder.now) plan.now table.now.grammar number steps
@@ -70,6 +72,7 @@ pub fn work<R: Wait, F: Finder>(
         if !go_on(
             rt,
             alloc,
+            gate,
             table,
             finder,
             lexer,
@@ -86,9 +89,10 @@ pub fn work<R: Wait, F: Finder>(
 }
 
 /// Does the next step, and tells whether there was a turn for it.
-fn go_on<R: Wait, F: Finder>(
+fn go_on<R: Wait, G: Gate, F: Finder>(
     rt: &R,
     alloc: Global,
+    gate: &G,
     table: &Table,
     finder: &F,
     lexer: &mut Lexer,
@@ -120,14 +124,15 @@ fn go_on<R: Wait, F: Finder>(
 {
     next_reply_is_served(finder);
     serve_next(
-        rt, alloc, table, finder, lexer, shelves, steps, number, client,
+        rt, alloc, gate, table, finder, lexer, shelves, steps, number, client,
     )
 }
 
 /// The same, without what holds of all replies.
-fn serve_next<R: Wait, F: Finder>(
+fn serve_next<R: Wait, G: Gate, F: Finder>(
     rt: &R,
     alloc: Global,
+    gate: &G,
     table: &Table,
     finder: &F,
     lexer: &mut Lexer,
@@ -151,6 +156,7 @@ fn serve_next<R: Wait, F: Finder>(
         client: number,
         number: client.replies.len() as u32,
     };
+    gate.pass(asker.client, asker.number);
     let Some(reply) = serve(
         rt,
         alloc,

@@ -1,6 +1,6 @@
 -- The steps of all productions one after another, and where those of a rule begin.
 use Rattle.std.proofs.Common.{◌≡◌, ℕ, suc, ◌+◌, ◌-◌, ◌<◌, ◌≤◌, ◌⊎◌, inl, inr, sym, ap, ◌∙◌, refl, arith, List, [], ◌∷◌, ◌++◌, length, map, take, slice_get, get_or, Option, Some, length-append}
-use Rattle.std.specs.Prelude.{option_map, unwrap_or}
+use Rattle.std.specs.Prelude.{unwrap_or}
 use Rattle.std.specs.List.{flat_map}
 use Rattle.std.proofs.lemmas.List.{length-map, take_all, flat_map_more}
 use Rattle.std.proofs.Math.Seq.{take-suc}
@@ -35,9 +35,6 @@ steps_from symbol [] = refl
 steps_from symbol (x ∷ rules) =
     steps_map symbol x.productions (productions_from (suc symbol) rules)
     ∙ ap (λ (xs : List (List Step)). rule_steps x ++ xs) (steps_from (suc symbol) rules)
-
-opened : (o : Option (ℕ × Production)) → unwrap_or (option_map (λ (q : ℕ × Production). q.1.steps) o) [] ≡ unwrap_or (option_map (λ (p : ℕ × Production). p.1.steps) o) []
-opened o = refl
 
 pub steps_are : (g : FlatGrammar) (number : ℕ) → steps_at g number ≡ unwrap_or (slice_get (flat_map rule_steps g.rules) number) []
 steps_are g number =

@@ -1,7 +1,7 @@
 -- What a tree comes to, by its parts and by parts of its list of children.
 use Rattle.std.proofs.Common.{◌≡◌, ℕ, zero, suc, ◌+◌, ◌-◌, ◌<◌, ◌≤◌, sym, ap, ◌∙◌, refl, subst, arith, Bool, true, false, List, [], ◌∷◌, ◌++◌, length, map, take, drop, slice_get, get_or, Option, Some, None, length-append, append_assoc}
 use Rattle.std.specs.Prelude.{if◌then◌else◌}
-use Rattle.std.proofs.lemmas.List.{length-map, take-append-drop, take_all, drop-drop, drop_all, append-nil, map-append}
+use Rattle.std.proofs.lemmas.List.{length-map, take-append-drop, drop-drop, map-append}
 use Rattle.std.proofs.lemmas.Option.{slice_get_within}
 use Rattle.ts_core.specs.declared.flat.Alias.{Alias}
 use Rattle.ts_core.specs.declared.flat.Step.{Step}
@@ -13,7 +13,7 @@ use Rattle.spec_trees.specs.declared.tree.Tree.TheFolds.{para-roll-Tree, fold_ou
 use Rattle.spec_trees.specs.declared.visible.VisibleNode.{VisibleNode}
 use Rattle.spec_grammar.specs.Symbols.{first_production, node_name}
 use Rattle.spec_trees.specs.Trees.{symbol_of, production_of, pad_of, size_of, elements_of, children_of, is_extra_node, span_of, all_spans, tree_depth, depth_step, greatest_depth, node_count, nodes_step, all_nodes}
-use Rattle.spec_trees.specs.Made.{fills_from, children_count, AreCounted}
+use Rattle.spec_trees.specs.Made.{fills_from, children_count}
 use Rattle.spec_trees.specs.VisibleNodes.{Marks, no_marks, marks_at, steps_at, element_marks, elements_marks, children_marks, first_marks, showing, showing_step, Showing, is_shown, shown_name, shown_named, with_field, visible_node, visible_nodes, root_marks}
 use Rattle.ts_base.specs.Bytes.{Bytes}
 use Rattle.ts_core.specs.declared.shown.Shown.{Shown}
@@ -78,14 +78,6 @@ window_at : (ts : List Tree) (k to : ℕ) (t : Tree) → slice_get ts k ≡ Some
 window_at ts k to t e h =
     let n : to - k ≡ suc (to - suc k) = omega (arith, h) in
     ap (λ (us : List Tree). take (to - k) us) (drop_at ts k t e) ∙ ap (λ (m : ℕ). take m (t ∷ drop (suc k) ts)) n
-
-pub window_end : (ts : List Tree) (k : ℕ) → window ts k k ≡ []
-window_end ts k = let n : k - k ≡ 0 = omega arith in ap (λ (m : ℕ). take m (drop k ts)) n
-
-pub window_all : (ts : List Tree) → window ts 0 (length ts) ≡ ts
-window_all ts =
-    let n : length ts - 0 ≡ length ts = omega arith in
-    ap (λ (m : ℕ). take m ts) n ∙ take_all (length ts) ts (omega arith)
 
 -- ---- the children of one production
 
@@ -233,11 +225,6 @@ put_hidden g t depth place fields m old new e within adds =
       lie = lie_more _ _ _ (omega (arith, within)) adds.lie;
     })
 
--- the nodes of a production are one part
-pub inner_rule : (g : FlatGrammar) (t : Tree) (number depth place : ℕ) (fields : List ℕ) → Some number ≡ production_of t → inner_nodes g t depth place fields ≡ part_nodes g (steps_at g number) 0 (children_of t) depth place fields
-inner_rule g t number depth place fields e =
-    ap (λ (o : Option ℕ). among g (children_of t) (children_marks g (symbol_of t) o (elements_of t) (children_of t)) depth place fields) (sym e)
-
 pub inner_none : (g : FlatGrammar) (t : Tree) (depth place : ℕ) (fields : List ℕ) → None ≡ production_of t → elements_of t ≡ [] → inner_nodes g t depth place fields ≡ part_nodes g [] 0 (children_of t) depth place fields
 inner_none g t depth place fields e none =
     ap (λ (o : Option ℕ). among g (children_of t) (children_marks g (symbol_of t) o (elements_of t) (children_of t)) depth place fields) (sym e)
@@ -254,9 +241,6 @@ pub record Parted (g : FlatGrammar) (steps : List Step) (ts : List Tree) (from t
   pub lie :
       LieWithin (place + all_spans (window ts from to)) (part_nodes g steps filled (window ts k to) depth at fields)
       → LieWithin (place + all_spans (window ts from to)) (part_nodes g steps 0 (window ts from to) depth place fields)
-
-pub parted_start : (g : FlatGrammar) (steps : List Step) (ts : List Tree) (from to depth place : ℕ) (fields : List ℕ) (old : List VisibleNode) → Parted g steps ts from to depth place fields old from 0 place old
-parted_start g steps ts from to depth place fields old = record { few = omega arith; spans = refl; nodes = refl; lie = λ h. h }
 
 after_few : (n : ℕ) (b : Bool) → filled_after n b ≤ suc n
 after_few n true = omega arith
@@ -299,20 +283,6 @@ pub parted_fits : (g : FlatGrammar) (steps : List Step) (ts : List Tree) (from t
     → at + span_of t ≤ place + all_spans (window ts from to)
 parted_fits g steps ts from to depth place fields old k filled at found t p e h = omega (arith, spans_at ts k to t e h, p.spans)
 
-pub parted_end : (g : FlatGrammar) (steps : List Step) (ts : List Tree) (from to depth place : ℕ) (fields : List ℕ) (old : List VisibleNode) (k filled at : ℕ) (found : List VisibleNode)
-    → Parted g steps ts from to depth place fields old k filled at found → k ≡ to
-    → AppendsNodes (place + all_spans (window ts from to)) (part_nodes g steps 0 (window ts from to) depth place fields) old found × (at ≡ place + all_spans (window ts from to))
-parted_end g steps ts from to depth place fields old k filled at found p e =
-    let w : window ts k to ≡ [] = ap (λ (j : ℕ). window ts j to) e ∙ window_end ts to in
-    let none : part_nodes g steps filled (window ts k to) depth at fields ≡ [] = ap (λ (us : List Tree). part_nodes g steps filled us depth at fields) w in
-    let sp : all_spans (window ts k to) ≡ 0 = ap all_spans w in (
-      record {
-        nodes = sym (append-nil found) ∙ ap (λ (vs : List VisibleNode). found ++ vs) (sym none) ∙ p.nodes;
-        lie = p.lie (subst (λ (vs : List VisibleNode). LieWithin (place + all_spans (window ts from to)) vs) (sym none) tt);
-      },
-      omega (arith, sp, p.spans),
-    )
-
 -- ---- the loop over the elements of a repetition
 
 spans_append : (xs ys : List Tree) → all_spans (xs ++ ys) ≡ all_spans xs + all_spans ys
@@ -340,10 +310,6 @@ pub record Elemented (g : FlatGrammar) (symbol : ℕ) (es : List Element) (ts : 
       LieWithin (place + all_spans ts) (among g (drop from ts) (elements_marks g symbol (drop e es) (drop from ts)) depth at fields)
       → LieWithin (place + all_spans ts) (among g ts (elements_marks g symbol es ts) depth place fields)
 
-pub elemented_start : (g : FlatGrammar) (symbol : ℕ) (es : List Element) (ts : List Tree) (depth place : ℕ) (fields : List ℕ) (old : List VisibleNode) → 0 < length es → AreCounted es ts → Elemented g symbol es ts depth place fields old 0 0 place old
-elemented_start g symbol [] ts depth place fields old h counted = absurd (omega (arith, h))
-elemented_start g symbol (e ∷ es) ts depth place fields old h counted = record { own = omega (arith, counted); spans = refl; nodes = refl; lie = λ l. l }
-
 -- what the next element has
 pub element_fits : (g : FlatGrammar) (symbol : ℕ) (es : List Element) (ts : List Tree) (depth place : ℕ) (fields : List ℕ) (old : List VisibleNode) (e from at : ℕ) (found : List VisibleNode) (el : Element)
     → Elemented g symbol es ts depth place fields old e from at found → slice_get es e ≡ Some el
@@ -369,22 +335,6 @@ elemented_step g symbol es ts depth place fields old e from at found more el s a
       spans = omega (arith, s.spans, spans_split ts from el.children);
       nodes = ap (λ (vs : List VisibleNode). vs ++ rest) adds.nodes ∙ append_assoc found here rest ∙ ap (λ (vs : List VisibleNode). found ++ vs) (sym w) ∙ s.nodes;
       lie = λ l. s.lie (subst (λ (vs : List VisibleNode). LieWithin (place + all_spans ts) vs) (sym w) (lie_append (place + all_spans ts) here rest (lie_more next (place + all_spans ts) here fits.1 adds.lie) l));
-    })
-
-pub elemented_end : (g : FlatGrammar) (t : Tree) (depth place : ℕ) (fields : List ℕ) (old : List VisibleNode) (e from at : ℕ) (found : List VisibleNode) → production_of t ≡ None
-    → Elemented g (symbol_of t) (elements_of t) (children_of t) depth place fields old e from at found → length (elements_of t) ≤ e
-    → AppendsNodes (place + all_spans (children_of t)) (inner_nodes g t depth place fields) old found
-elemented_end g t depth place fields old e from at found no_rule s h =
-    let es : List Element = elements_of t in
-    let ts : List Tree = children_of t in
-    let d : drop e es ≡ [] = drop_all e es h in
-    let c : children_count (drop e es) ≡ 0 = ap children_count d in
-    let r : drop from ts ≡ [] = drop_all from ts (omega (arith, s.own, c)) in
-    let none : among g (drop from ts) (elements_marks g (symbol_of t) (drop e es) (drop from ts)) depth at fields ≡ [] = ap (λ (us : List Tree). among g us (elements_marks g (symbol_of t) (drop e es) us) depth at fields) r in
-    let all : inner_nodes g t depth place fields ≡ among g ts (elements_marks g (symbol_of t) es ts) depth place fields = ap (λ (o : Option ℕ). among g ts (children_marks g (symbol_of t) o es ts) depth place fields) no_rule in
-    subst (λ (vs : List VisibleNode). AppendsNodes (place + all_spans ts) vs old found) (sym all) (record {
-      nodes = sym (append-nil found) ∙ ap (λ (vs : List VisibleNode). found ++ vs) (sym none) ∙ s.nodes;
-      lie = s.lie (subst (λ (vs : List VisibleNode). LieWithin (place + all_spans ts) vs) (sym none) tt);
     })
 
 pub nil_of : (es : List Element) (n : ℕ) → n ≡ length es → n ≤ 0 → es ≡ []

@@ -10,8 +10,6 @@ mod moves;
 mod nodes;
 mod printed;
 mod steps;
-#[cfg(test)]
-mod tests;
 
 pub use cursor::Cursor;
 pub use laws::{

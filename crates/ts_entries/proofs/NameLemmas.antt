@@ -1,12 +1,12 @@
 -- Extras that are SYMBOLs.
-use Rattle.std.proofs.Common.{◌≡◌, ◌∙◌, sym, ap, refl, [], ◌∷◌, inl, inr, Option, Some, None}
+use Rattle.std.proofs.Common.{◌≡◌, ◌∙◌, sym, ap, refl, [], ◌∷◌, inl, Option, Some}
 use Rattle.std.specs.Borrow.{Bor}
 use Rattle.ts_base.specs.Bytes.{Bytes}
 use Rattle.ts_core.specs.declared.rule.Rule.{Rule}
 use Rattle.ts_core.specs.declared.rule.Rule.TheOpen.{Rule-F}
 use Rattle.ts_core.specs.declared.rule.Rule.TheVariants as rule
 use Rattle.ts_core.specs.declared.rule.Rule.TheVariants.{rolls-Symbol}
-use Rattle.ts_core.specs.declared.rule.Rule.TheViews.{roll-Rule, out-Rule, roll-out-Rule, out-roll-Rule}
+use Rattle.ts_core.specs.declared.rule.Rule.TheViews.{roll-Rule, out-Rule, roll-out-Rule}
 use Rattle.ts_core.specs.declared.symbol.Symbol.{Symbol}
 use Rattle.ts_rules.specs.Names.{told_option}
 use Rattle.ts_rules.specs.Normal.{IsExtra}
@@ -15,9 +15,6 @@ use Rattle.ts_rules.specs.Productions.{symbol}
 use Rattle.ts_rules.specs.Sights.{symbol_layer}
 
 -- ---- extras
-
-out_symbol : (name : Bytes) → out-Rule (rule.Symbol name) ≡ Rule-F.Symbol name
-out_symbol name = ap out-Rule (sym (rolls-Symbol name)) ∙ out-roll-Rule (Rule-F.Symbol name)
 
 symbol_from : (tree : Rule) (name : Bytes) → symbol_layer (out-Rule tree) ≡ name ∷ [] → tree ≡ rule.Symbol name
 symbol_from tree name h = by (out-Rule tree) refl h
@@ -45,10 +42,3 @@ symbol_from tree name h = by (out-Rule tree) refl h
 pub extra_named : (n : Numbers) (tree : Rule) (found : Option (Bor Bytes)) (name : Bor Bytes) (s : Symbol) → told_option found ≡ symbol_layer (out-Rule tree) → found ≡ Some name
     → s ≡ symbol (n.rule name.now) → IsExtra n tree s
 extra_named n tree found name s is some made = inl (name.now, symbol_from tree name.now (sym is ∙ ap told_option some), made)
-
-pub extra_token : (n : Numbers) (tree : Rule) (found : Option (Bor Bytes)) (s : Symbol) → told_option found ≡ symbol_layer (out-Rule tree) → found ≡ None
-    → s ≡ symbol (n.token tree) → IsExtra n tree s
-extra_token n tree found s is none made = inr (
-  λ name e. let f : [] ≡ name ∷ [] = sym (ap told_option none) ∙ is ∙ ap (λ (z : Rule-F Rule). symbol_layer z) (ap out-Rule e ∙ out_symbol name) in cc,
-  made,
-)

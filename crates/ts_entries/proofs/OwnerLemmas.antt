@@ -14,26 +14,16 @@ use Rattle.ts_numbering.specs.Keys.{trees, is_repeated, repeated_at, repeated_in
 use Rattle.ts_rules.specs.FirstSights.{Not, First, Clear, Each}
 use Rattle.ts_rules.specs.Numbers.{Numbers, Lists, AreLists, AreNumbers, IsRepeated, first_repetition, start_of}
 use Rattle.ts_rules.specs.Sights.{NamedRule, Sight, sights, rule_sights, contents_in, content_at}
-use Rattle.ts_entries.specs.Owners.{IsOwnerSymbol, HoldsContent, IsChosenSymbol, content_place, places_in, AreOwners, AreMarked}
+use Rattle.ts_entries.specs.Owners.{IsOwnerSymbol, HoldsContent, IsChosenSymbol, content_place, places_in, AreOwners, AreOwned}
 use Rattle.ts_entries.proofs.MemberLemmas.{there, at_of, none_in, head_in, tail_in, member_cases, map_in, in_map, flat_in, in_flat, one_more, picked, picks_all, each_from}
 
 -- ---- marks
-
-nothing_taken : {X : Type 0} (xs : List X) → take 0 xs ≡ []
-nothing_taken [] = refl
-nothing_taken (x ∷ xs) = refl
-
-pub marked_begin : (places : List ℕ) (owner : Symbol) (old : List Symbol) → AreMarked (take 0 places) owner old old
-marked_begin places owner old = record {
-  count = refl;
-  each = λ k s e. inr (λ w. none_in k (subst (λ (xs : List ℕ). Contains xs k) (nothing_taken places) w), e);
-}
 
 equal_or_not : (j k : ℕ) → (j ≡ k) ⊎ (j ≡ k → ⊥)
 equal_or_not j k = ⊎_elim (λ lt. inr (λ e. omega (arith, e))) (λ ge. ⊎_elim (λ lt. inr (λ e. omega (arith, e))) (λ le. inl (omega arith)) (cases_lt k j)) (cases_lt j k)
 
 pub marked_more : (places : List ℕ) (owner : Symbol) (old new : List Symbol) (i place : ℕ) → i < length places → place ≡ get_or places i place → place < length old
-    → AreMarked (take i places) owner old new → AreMarked (take (i + 1) places) owner old (set new place owner)
+    → AreOwned (take i places) owner old new → AreOwned (take (i + 1) places) owner old (set new place owner)
 marked_more places owner old new i place lt at within before = record {
   count = length_set new place owner ∙ before.count;
   each = λ k s e. by k s e (equal_or_not k place);
@@ -60,9 +50,6 @@ marked_more places owner old new i place lt at within before = record {
           not_done.1,
         ))
         (before.each k s (sym (set_there new place k owner apart) ∙ e))
-
-pub marked_all : (places : List ℕ) (owner : Symbol) (old new : List Symbol) (i : ℕ) → length places ≤ i → AreMarked (take i places) owner old new → AreMarked places owner old new
-marked_all places owner old new i past before = subst (λ (xs : List ℕ). AreMarked xs owner old new) (take_all i places past) before
 
 -- ---- repeated contents
 
@@ -207,7 +194,7 @@ module _ (g : Grammar) (n : Numbers) (x : Lists) (lists : AreLists g x) (numbers
           by (b ∷ bs) e = let d : [] ≡ b ∷ (bs ++ rule ∷ f.after) = e in cc
 
   pub owners_more : (rules : List NamedRule) (old new : List Symbol) (i : ℕ) (rule : NamedRule) (owner : Symbol) → i < length rules → rule ≡ get_or rules i rule → Contains g.rules rule
-      → IsChosenSymbol g n rule.0 owner → AreMarked (places_in n x rule.1) owner old new → AreOwners g n x (drop (i + 1) rules) old → AreOwners g n x (drop i rules) new
+      → IsChosenSymbol g n rule.0 owner → AreOwned (places_in n x rule.1) owner old new → AreOwners g n x (drop (i + 1) rules) old → AreOwners g n x (drop i rules) new
   owners_more rules old new i rule owner lt at w chosen marked before = record {
     count = marked.count ∙ before.count;
     each = λ k c r is f. found k c r is (subst (λ (rs : List NamedRule). First (HoldsContent c) rs r) longer f);

@@ -1,5 +1,5 @@
 -- The numbers of supertypes in a set, and their symbols in order.
-use Rattle.std.proofs.Common.{◌≡◌, ◌∙◌, sym, ap, subst, refl, ℕ, zero, suc, ◌+◌, ◌<◌, ◌≤◌, ⊎_elim, List, [], ◌∷◌, map, length, get_or, take, slice_get, Some, None, IsTrue, ◌↔◌, true, false, cond, arith, Ordering, Less, Equal, Greater}
+use Rattle.std.proofs.Common.{◌≡◌, ◌∙◌, sym, ap, subst, refl, ℕ, zero, suc, ◌+◌, ◌<◌, ◌≤◌, ⊎_elim, List, [], ◌∷◌, map, length, get_or, take, slice_get, Some, None, IsTrue, ◌↔◌, true, cond, arith, Ordering, Less, Equal, Greater}
 use Rattle.std.specs.Ordering.{nat_cmp, is_eq, MatchOrdering}
 use Rattle.std.specs.List.{AllByRecursion}
 use Rattle.std.specs.Cmp.{ranks}
@@ -18,7 +18,7 @@ use Rattle.ts_rules.specs.Normal.{IsSupertype, Rising}
 use Rattle.ts_rules.specs.Numbers.{Numbers, IsInlined}
 use Rattle.ts_rules.specs.Productions.{symbol}
 use Rattle.ts_entries.specs.Supertypes.{IsNumberAmong, AreSupertypes}
-use Rattle.ts_entries.proofs.MemberLemmas.{none_in, one_more, map_in, in_map}
+use Rattle.ts_entries.proofs.MemberLemmas.{one_more, map_in, in_map}
 
 -- ---- the set
 
@@ -26,16 +26,6 @@ rank_by : (j k : ℕ) (r : Ordering) → nat_cmp j k ≡ r → MatchOrdering r (
 rank_by j k r e = subst (λ (o : Ordering). MatchOrdering o (j < k) (j ≡ k) (k < j)) e (ranks j k)
 
 module _ (g : Grammar) (n : Numbers) where
-  pub numbers_begin : (s : BTreeSet ℕ) (names : List Bytes) → ((q : ℕ) → contains nat_cmp s q ≡ false) → AreSupertypes g n (take 0 names) s
-  numbers_begin s names empty q = (
-    λ t. let e : true ≡ false = sym t ∙ empty q in cc,
-    λ h. absurd (none_in h.0 (subst (λ (xs : List Bytes). Contains xs h.0) (nothing names) h.1)),
-  )
-    where
-      nothing : (xs : List Bytes) → take 0 xs ≡ []
-      nothing [] = refl
-      nothing (x ∷ xs) = refl
-
   pub numbers_left : (s : BTreeSet ℕ) (names : List Bytes) (i : ℕ) (name : Bytes) → i < length names → name ≡ get_or names i name → IsInlined g name
       → AreSupertypes g n (take i names) s → AreSupertypes g n (take (i + 1) names) s
   numbers_left s names i name lt at inlined before = λ q. (λ t. wider q ((before q).0 t), λ h. (before q).1 (narrower q h))

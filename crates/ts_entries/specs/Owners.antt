@@ -17,7 +17,7 @@ abbrev pub IsOwnerSymbol : Grammar → Numbers → Rule → Symbol → Type 0
 IsOwnerSymbol g n content s =
     (name : Bytes) × IsOwner g content name × (s ≡ symbol (n.rule name))
 
--- ---- serves proofs alone
+-- ---- serves private clauses and proofs alone
 
 -- the content stands in the rule
 abbrev pub HoldsContent : Rule → NamedRule → Type 0
@@ -28,14 +28,16 @@ abbrev pub IsChosen : Grammar → Bytes → Bytes → Type 0
 IsChosen g name owner = (Not (IsInlined g name) × (owner ≡ name))
     ⊎ (IsInlined g name × (start_of g.rules ≡ Some owner))
 
+-- the symbol of the rule to which a rule's repetitions belong
 abbrev pub IsChosenSymbol : Grammar → Numbers → Bytes → Symbol → Type 0
 IsChosenSymbol g n name s =
     (owner : Bytes) × IsChosen g name owner × (s ≡ symbol (n.rule owner))
 
--- a content's place, and the places of the repeated contents of a tree
+-- a content's place
 abbrev pub content_place : Numbers → Lists → Rule → ℕ
 content_place n x content = n.repetition content - first_repetition x
 
+-- the places of the repeated contents of a tree
 abbrev pub places_in : Numbers → Lists → Rule → List ℕ
 places_in n x tree = map (content_place n x) (repeated_in (sights tree))
 
@@ -48,7 +50,7 @@ pub record AreOwners (g : Grammar) (n : Numbers) (x : Lists) (rules : List Named
       → (s : Symbol) × (slice_get owners k ≡ Some s) × IsChosenSymbol g n rule.0 s
 
 -- the owner is put at the places, and all else stays
-pub record AreMarked (places : List ℕ) (owner : Symbol) (old new : List Symbol) : Type 0 where
+pub record AreOwned (places : List ℕ) (owner : Symbol) (old new : List Symbol) : Type 0 where
   pub count : length new ≡ length old
   pub each : (k : ℕ) (s : Symbol) → slice_get new k ≡ Some s
       → (Contains places k × (s ≡ owner)) ⊎ (Not (Contains places k) × (slice_get old k ≡ Some s))

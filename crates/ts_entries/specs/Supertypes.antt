@@ -1,4 +1,4 @@
--- The numbers of supertypes, as the code has them. Serves proofs alone.
+-- The numbers of supertypes, as the code has them. Serves private clauses and proofs alone.
 use Rattle.std.specs.Prelude.{◌≡◌, ◌↔◌, ℕ, List, IsTrue}
 use Rattle.std.specs.Ordering.{nat_cmp}
 use Rattle.std.specs.BTreeSet.{BTreeSet, contains}

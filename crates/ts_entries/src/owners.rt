@@ -10,7 +10,7 @@ ghost use Rattle.ts_rules.specs.FileGrammar.{IsFileGrammar};
 ghost use Rattle.ts_rules.specs.FirstSights.{Each};
 ghost use Rattle.ts_rules.specs.Numbers.{AreLists, AreNumbers, first_repetition};
 ghost use Rattle.ts_rules.specs.Sights as sights;
-ghost use Rattle.ts_entries.specs.Owners.{IsOwnerSymbol, IsChosenSymbol, AreMarked, content_place, places_in};
+ghost use Rattle.ts_entries.specs.Owners.{IsOwnerSymbol, IsChosenSymbol, AreOwned, content_place, places_in};
 
 use crate::contents::repeated_at;
 use crate::names::rule_symbol;
@@ -81,7 +81,7 @@ fn places_of(alloc: Global, numbering: &Numbering, tree: &Rule) -> Result<Vec<us
 /// Puts an owner at places.
 fn mark(owners: &mut [Symbol], places: &[usize], owner: Symbol)
     requires { All (λ k. k < length owners.old) places.now }
-    ensures { AreMarked places.now owner owners.old owners.new }
+    ensures { AreOwned places.now owner owners.old owners.new }
 {
     for place in places {
         owners[*place] = owner;

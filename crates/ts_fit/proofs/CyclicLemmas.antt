@@ -50,12 +50,6 @@ adds_not_led f p old none = adds_none (LeadsTo f p) old none
 abbrev pub LedBy : FlatGrammar → List Production → ℕ → Type 0
 LedBy f ps to = (p : Production) × Contains ps p × LeadsTo f p to
 
-pub led_begins : (f : FlatGrammar) (ps : List Production) (old : List ℕ) → Adds (LedBy f (take 0 ps)) old old
-led_begins f ps old = adds_none (LedBy f (take 0 ps)) old (λ i h. nothing h.0 h.1)
-  where
-    nothing : (p : Production) → Contains (take 0 ps) p → ⊥
-    nothing p (k, below, _) = omega arith
-
 pub led_more : (f : FlatGrammar) (ps : List Production) (k : ℕ) (d : Production) (old mid new : List ℕ) → k < length ps → Adds (LedBy f (take k ps)) old mid → Adds (LeadsTo f (get_or ps k d)) mid new
     → Adds (LedBy f (take (k + 1) ps)) old new
 led_more f ps k d old mid new below before one =

@@ -3,7 +3,7 @@ use Rattle.std.proofs.Common.{◌≡◌, ◌∙◌, sym, ap, refl, ℕ, zero, su
 use Rattle.std.specs.List.{Contains}
 use Rattle.std.proofs.lemmas.Bool.{cases_lt}
 use Rattle.std.proofs.lemmas.Option.{slice_get_within, slice_get-get_or, get_or_from_slice_get}
-use Rattle.ts_fit.specs.Misfits.{Finds}
+use Rattle.ts_fit.specs.Misfits.{FindsFirst}
 
 pub cases_lt_or_eq : (m n : ℕ) → m < n + 1 → (m < n) ⊎ (m ≡ n)
 cases_lt_or_eq m n h = ⊎_elim (λ lt. inl lt) (λ ge. inr (omega arith)) (cases_lt m n)
@@ -35,20 +35,17 @@ untrue : (b : Bool) (P : Type 0) → b ≡ false → IsTrue b ↔ P → P → �
 untrue b P wrong h p = let right : b ≡ true = h.1 p in let e : true ≡ false = sym right ∙ wrong in cc
 
 module _ (P : ℕ → Type 0) where
-  pub first_begins : NoneBefore P 0
-  first_begins other lt p = absurd (omega arith)
-
   pub first_more : (place : ℕ) (b : Bool) → b ≡ false → IsTrue b ↔ P place → NoneBefore P place → NoneBefore P (place + 1)
   first_more place b wrong test before other lt p =
       ⊎_elim (λ h. before other h p) (λ e. untrue b (P place) wrong test (subst P e p)) (cases_lt_or_eq other place lt)
 
-  pub first_found : (place : ℕ) (b : Bool) → b ≡ true → IsTrue b ↔ P place → NoneBefore P place → Finds P (Some place)
+  pub first_found : (place : ℕ) (b : Bool) → b ≡ true → IsTrue b ↔ P place → NoneBefore P place → FindsFirst P (Some place)
   first_found place b right test before = record {
     holds = test.0 right;
     least = λ other p. ⊎_elim (λ h. absurd (before other h p)) (λ h. h) (cases_lt other place);
   }
 
-  pub first_none : (place count : ℕ) → count ≤ place → ((other : ℕ) → P other → other < count) → NoneBefore P place → Finds P None
+  pub first_none : (place count : ℕ) → count ≤ place → ((other : ℕ) → P other → other < count) → NoneBefore P place → FindsFirst P None
   first_none place count past within before other p = before other (let lt = within other p in omega arith) p
 
 -- a test of the element at a place

@@ -1,11 +1,11 @@
 -- When the empty list is a word of a regular expression.
-use Rattle.std.proofs.Common.{◌≡◌, ◌∙◌, sym, ap, refl, arith, subst, ℕ, zero, suc, ◌+◌, ◌<◌, ◌≤◌, ◌⊎◌, Bool, true, false, IsTrue, ◌↔◌, List, [], ◌∷◌, map, ◌++◌, length, get_or, drop, Option, Some, None}
+use Rattle.std.proofs.Common.{◌≡◌, ◌∙◌, sym, ap, refl, arith, subst, ℕ, zero, suc, ◌+◌, ◌<◌, ◌≤◌, Bool, true, false, IsTrue, ◌↔◌, List, [], ◌∷◌, map, ◌++◌, length, get_or, drop, Option}
 use Rattle.std.proofs.lemmas.List.{drop_more}
 use Rattle.ts_core.specs.declared.re.Re.{Re}
 use Rattle.ts_core.specs.declared.re.Re.TheOpen.{Re-F}
 use Rattle.ts_core.specs.declared.re.Re.TheFolds.{fold-roll-Re}
 use Rattle.ts_core.specs.declared.re.Re.TheVariants.{Repeat, rolls-Repeat}
-use Rattle.spec_lexing.specs.Words.{Regular, both, repeat, all_of, any_of, regular_step, regular_of, Times, AtMost, Word}
+use Rattle.spec_lexing.specs.Words.{Regular, both, repeat, all_of, regular_step, regular_of, Times, AtMost, Word}
 
 nothing_parts : (u v : List ℕ) → [] ≡ u ++ v → (u ≡ []) × (v ≡ [])
 nothing_parts [] v e = (refl, sym e)
@@ -28,19 +28,9 @@ times_nothing p (suc k) w = ([], [], refl, w, times_nothing p k w)
 first_nothing : (p : Regular) (k : ℕ) → Times (Word p) (suc k) [] → Word p []
 first_nothing p k w = let parts = nothing_parts w.0 w.1 w.2 in subst (λ (u : List ℕ). Word p u) parts.0 w.3
 
-at_most_less : (least k : ℕ) (most : Option ℕ) → least ≤ k → AtMost k most → AtMost least most
-at_most_less least k None h a = tt
-at_most_less least k (Some most) h a = omega arith
-
 some_time : (p : Regular) (least k : ℕ) → 0 < least → least ≤ k → Times (Word p) k [] → Word p []
 some_time p least zero low h w = absurd (omega arith)
 some_time p least (suc k) low h w = first_nothing p k w
-
-pub open_least : (p : Regular) (least : ℕ) (most : Option ℕ) → Word (repeat p least most) [] → AtMost least most
-open_least p least most w = at_most_less least w.0 most w.1 w.2
-
-pub repeat_none : (p : Regular) (most : Option ℕ) → AtMost 0 most → Word (repeat p 0 most) []
-repeat_none p most a = (0, omega arith, a, refl)
 
 pub repeat_some : (p : Regular) (least : ℕ) (most : Option ℕ) → AtMost least most → 0 < least → Word (repeat p least most) [] ↔ Word p []
 repeat_some p least most a low = (λ w. some_time p least w.0 low w.1 w.3, λ w. (least, omega arith, a, times_nothing p least w))
@@ -64,13 +54,6 @@ all_more parts i part lt is =
     let e : drop i parts ≡ part ∷ drop (i + 1) parts = drop_more parts i part lt ∙ ap (λ (y : Re). y ∷ drop (i + 1) parts) (sym is) in
     subst (λ (ps : List Re). Word (all_of (map regular_of ps)) [] ↔ (Word (regular_of part) [] × Word (all_of (map regular_of (drop (i + 1) parts))) [])) (sym e)
     (both_nothing (regular_of part) (all_of (map regular_of (drop (i + 1) parts))))
-
-pub any_more : (parts : List Re) (i : ℕ) (part : Re) → i < length parts → part ≡ get_or parts i part
-    → Word (any_of (map regular_of (drop i parts))) [] ↔ (Word (regular_of part) [] ⊎ Word (any_of (map regular_of (drop (i + 1) parts))) [])
-any_more parts i part lt is =
-    let e : drop i parts ≡ part ∷ drop (i + 1) parts = drop_more parts i part lt ∙ ap (λ (y : Re). y ∷ drop (i + 1) parts) (sym is) in
-    subst (λ (ps : List Re). Word (any_of (map regular_of ps)) [] ↔ (Word (regular_of part) [] ⊎ Word (any_of (map regular_of (drop (i + 1) parts))) [])) (sym e)
-    (λ w. w, λ w. w)
 
 -- ---- a test that failed or held
 

@@ -15,8 +15,5 @@ rule_there f s place below is =
 number_of : (f : FlatGrammar) (s : Symbol) (place : ℕ) → s ≡ rule_symbol f place → s.0 ≡ suc (length f.tokens + place)
 number_of f s place e = ap (λ (t : Symbol). t.0) e
 
-pub no_rule_below : (f : FlatGrammar) (s : Symbol) → s.0 ≤ length f.tokens → IsRuleAt f s None
-no_rule_below f s low r h = let e = number_of f s h.0 h.2 in absurd (omega arith)
-
 pub no_rule_above : (f : FlatGrammar) (s : Symbol) → suc (length f.tokens + length f.rules) ≤ s.0 → IsRuleAt f s None
 no_rule_above f s high r h = let e = number_of f s h.0 h.2 in let lt = slice_get_within f.rules h.0 r h.1 in absurd (omega arith)

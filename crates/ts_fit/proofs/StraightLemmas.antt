@@ -2,7 +2,6 @@
 use Rattle.std.proofs.Common.{◌≡◌, ◌∙◌, sym, ap, refl, subst, ℕ, zero, suc, ◌+◌, ◌-◌, ◌<◌, ◌≤◌, ◌⊎◌, inl, inr, ⊎_elim, List, [], ◌∷◌, ◌++◌, length, get_or, slice_get, Some, None, arith}
 use Rattle.std.specs.List.{Contains}
 use Rattle.std.proofs.lemmas.Bool.{cases_lt}
-use Rattle.std.proofs.lemmas.List.{append-nil}
 use Rattle.std.proofs.lemmas.List.Elements.{Contains-append_left, Contains-push, Contains-push_cases}
 use Rattle.std.proofs.lemmas.Option.{slice_get_read, slice_get_within}
 use Rattle.ts_base.proofs.PlaceLemmas.{in_prefix}
@@ -11,7 +10,7 @@ use Rattle.ts_core.specs.declared.flat.FlatRule.{FlatRule}
 use Rattle.ts_core.specs.declared.flat.Production.{Production}
 use Rattle.ts_core.specs.declared.symbol.Symbol.{Symbol}
 use Rattle.spec_tables.specs.Fit.{Alone, Derives, IsCyclic, at_once, rule_symbol, through}
-use Rattle.ts_fit.specs.Misfits.{Finds}
+use Rattle.ts_fit.specs.Misfits.{FindsFirst}
 use Rattle.ts_fit.specs.Searches.{Adds, LeadsAlone, LeadsTo}
 use Rattle.ts_fit.specs.Straight.{AreInOrder, IsSettled, IsWaiting, Pushed, GoesThrough}
 use Rattle.ts_fit.specs.declared.straight.Frame.{Frame}
@@ -45,23 +44,7 @@ settled_all f done from number r ps at is past' before to h =
     let len = ap (λ (l : List Production). length l) is in
     before n.0 to (let lt = n.1 in omega arith) (r, w.0, at, at_of r.productions w.0 n, w.2)
 
-pub leads_there : (f : FlatGrammar) (p : Production) (to : ℕ) → LeadsTo f p to → to < length f.rules
-leads_there f p to h = slice_get_within f.rules to h.1 h.3
-
 -- ---- frames
-
-pub running_begins : (f : FlatGrammar) → GoesThrough f 0 [] []
-running_begins f = record {
-  order = λ k from to at h. nothing_at k from at;
-  frames = λ frame h. no_frame frame h;
-  covered = λ place lt. absurd (omega arith);
-}
-  where
-    nothing_at : {P : Type 0} (k from : ℕ) → slice_get [] k ≡ Some from → P
-    nothing_at k from at = absurd (let lt = slice_get_within [] k from at in omega arith)
-
-    no_frame : {P : Type 0} (frame : Frame) → Contains [] frame → P
-    no_frame frame (k, below, _) = absurd (omega arith)
 
 pub running_more : (f : FlatGrammar) (place : ℕ) (stack new : List Frame) → place < length f.rules → new ≡ stack ++ record { place = place; next = 0 } ∷ [] → GoesThrough f place [] stack → GoesThrough f (place + 1) [] new
 running_more f place stack new below is before = rw is (record {
@@ -72,9 +55,6 @@ running_more f place stack new below is before = rw is (record {
       (λ e. inr (record { place = place; next = 0 }, Contains-push stack (record { place = place; next = 0 }), sym e))
       (cases_lt_or_eq other place lt);
 })
-
-pub running_still : (f : FlatGrammar) (count : ℕ) (done : List ℕ) (old new : List Frame) → old ≡ new ++ [] → GoesThrough f count done old → GoesThrough f count done new
-running_still f count done old new is before = subst (GoesThrough f count done) (is ∙ append-nil new) before
 
 pub running_frame : (f : FlatGrammar) (count : ℕ) (done : List ℕ) (old rest : List Frame) (frame : Frame) → old ≡ rest ++ frame ∷ [] → GoesThrough f count done old → (frame.place < length f.rules) × IsSettled f done frame.place frame.next
 running_frame f count done old rest frame is before = before.frames frame (subst (λ (l : List Frame). Contains l frame) (sym is) (Contains-push rest frame))
@@ -162,7 +142,7 @@ no_circle f done order (suc bound) k place lt at h =
     let w = earlier f done order k place place (rule_symbol f place) (rule_symbol f place) at refl refl (cyclic_within f place h) h in
     no_circle f done order bound w.0 place (let le = w.1 in omega arith) w.2 h
 
-pub straight : (f : FlatGrammar) (done : List ℕ) (stack : List Frame) → stack ≡ [] → GoesThrough f (length f.rules) done stack → Finds (IsCyclic f) None
+pub straight : (f : FlatGrammar) (done : List ℕ) (stack : List Frame) → stack ≡ [] → GoesThrough f (length f.rules) done stack → FindsFirst (IsCyclic f) None
 straight f done stack is running place h = ⊎_elim (λ w. no_circle f done running.order (suc w.0) w.0 place (omega arith) (at_of done place w) h) (λ v. no_frame v.0 (subst (λ (l : List Frame). Contains l v.0) is v.1))
     (running.covered place (cyclic_within f place h))
   where

@@ -17,9 +17,9 @@ pub record IsFirstPlace (P : ℕ → Type 0) (place : ℕ) : Type 0 where
   pub least : (other : ℕ) → P other → place ≤ other
 
 -- the first place where it is so, or nothing where it is so nowhere
-abbrev pub Finds : (ℕ → Type 0) → Option ℕ → Type 0
-Finds P None = (place : ℕ) → Never (P place)
-Finds P (Some place) = IsFirstPlace P place
+abbrev pub FindsFirst : (ℕ → Type 0) → Option ℕ → Type 0
+FindsFirst P None = (place : ℕ) → Never (P place)
+FindsFirst P (Some place) = IsFirstPlace P place
 
 -- ---- causes
 
@@ -54,27 +54,27 @@ pub record HasFewPositions (f : FlatGrammar) : Type 0 where
 -- The one cause that is told: of the kinds in this order the first that stands, with its first
 -- symbol.
 pub data Misfits (f : FlatGrammar) : Unfit → Type 0 where
-  repetition : (place : ℕ) → Finds (IsBadRepetition f) (Some place)
+  repetition : (place : ℕ) → FindsFirst (IsBadRepetition f) (Some place)
       → Misfits f (Unfit.Repetition (rule_symbol f place))
   empty_token : (place : ℕ) → AreFitRepetitions f
-      → Finds (IsEmptyToken f) (Some place)
+      → FindsFirst (IsEmptyToken f) (Some place)
       → Misfits f (Unfit.EmptyToken (symbol_of_token place))
-  empty_rule : (place : ℕ) → AreFitRepetitions f → Finds (IsEmptyToken f) None
-      → Finds (IsEmptyRule f) (Some place)
+  empty_rule : (place : ℕ) → AreFitRepetitions f → FindsFirst (IsEmptyToken f) None
+      → FindsFirst (IsEmptyRule f) (Some place)
       → Misfits f (Unfit.EmptyRule (rule_symbol f place))
-  cyclic : (place : ℕ) → AreFitRepetitions f → Finds (IsEmptyToken f) None
-      → Finds (IsEmptyRule f) None → Finds (IsCyclic f) (Some place)
+  cyclic : (place : ℕ) → AreFitRepetitions f → FindsFirst (IsEmptyToken f) None
+      → FindsFirst (IsEmptyRule f) None → FindsFirst (IsCyclic f) (Some place)
       → Misfits f (Unfit.Cyclic (rule_symbol f place))
-  too_many : AreFitRepetitions f → Finds (IsEmptyToken f) None
-      → Finds (IsEmptyRule f) None → Finds (IsCyclic f) None → Never (HasFewPositions f)
+  too_many : AreFitRepetitions f → FindsFirst (IsEmptyToken f) None
+      → FindsFirst (IsEmptyRule f) None → FindsFirst (IsCyclic f) None → Never (HasFewPositions f)
       → Misfits f Unfit.Positions
 
 -- none of the causes stands
 pub record HasNoMisfit (f : FlatGrammar) : Type 0 where
   pub repetitions : AreFitRepetitions f
-  pub tokens : Finds (IsEmptyToken f) None
-  pub rules : Finds (IsEmptyRule f) None
-  pub straight : Finds (IsCyclic f) None
+  pub tokens : FindsFirst (IsEmptyToken f) None
+  pub rules : FindsFirst (IsEmptyRule f) None
+  pub straight : FindsFirst (IsCyclic f) None
   pub few_positions : HasFewPositions f
 
 -- ---- what else it takes to be fit
@@ -86,6 +86,7 @@ pub record IsFormedToken (f : FlatGrammar) (d : TokenDef) : Type 0 where
   pub literal : d.keyword ≡ true → d.literal ≡ true
   pub word : d.keyword ≡ true → Never (f.word ≡ None)
 
+-- a rule's name is short, its owner is there, and its productions are fit
 pub record IsFormedRule (f : FlatGrammar) (r : FlatRule) : Type 0 where
   pub name : IsShort r.name
   pub owner : IsSymbol f r.owner

@@ -12,6 +12,7 @@ use Rattle.spec_tables.specs.Fit.{Alone, HasRule, Never, again_after, rule_symbo
 abbrev pub HasStep : Symbol → List Step → Type 0
 HasStep s steps = Any (λ (step : Step). step.symbol ≡ s) steps
 
+-- some step of some production is the symbol
 abbrev pub HasStepAmong : Symbol → List Production → Type 0
 HasStepAmong s productions = Any (λ (p : Production). HasStep s p.steps) productions
 

@@ -3,7 +3,7 @@
 
 ghost use Rattle.std.specs.Prelude.{◌≡◌, ℕ, ◌<◌, ◌↔◌, IfOk, IsTrue, OnOk, Some, length, slice_get};
 ghost use Rattle.spec_tables.specs.Fit.{IsCyclic};
-ghost use Rattle.ts_fit.specs.Misfits.{Finds};
+ghost use Rattle.ts_fit.specs.Misfits.{FindsFirst};
 ghost use Rattle.ts_fit.specs.Searches.{Adds, LeadsAlone, LeadsTo};
 
 use crate::leading::{add, has, led_to};
@@ -67,7 +67,7 @@ fn leads_back(alloc: Global, grammar: &FlatGrammar, start: usize) -> Result<bool
 
 /// The place of the first rule that derives itself alone, by a search from each rule.
 fn search(alloc: Global, grammar: &FlatGrammar) -> Result<Option<usize>, AllocError>
-    ensures { IfOk result (λ found. Finds (IsCyclic grammar.now) found) }
+    ensures { IfOk result (λ found. FindsFirst (IsCyclic grammar.now) found) }
 {
     for place in 0..grammar.rules.len() {
         if leads_back(alloc, grammar, place)? {
@@ -84,7 +84,7 @@ fn search(alloc: Global, grammar: &FlatGrammar) -> Result<Option<usize>, AllocEr
 ///
 /// `AllocError` where memory runs out.
 pub fn first_cyclic(alloc: Global, grammar: &FlatGrammar) -> Result<Option<usize>, AllocError>
-    ensures { IfOk result (λ found. Finds (IsCyclic grammar.now) found) }
+    ensures { IfOk result (λ found. FindsFirst (IsCyclic grammar.now) found) }
 {
     if is_straight(alloc, grammar)? {
         return Ok(None);

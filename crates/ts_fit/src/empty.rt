@@ -4,7 +4,7 @@
 
 ghost use Rattle.std.specs.Prelude.{◌<◌, ◌≤◌, ◌↔◌, IsTrue, length};
 ghost use Rattle.spec_tables.specs.Fit.{HasEmpty, IsEmptyRule, IsUsed, most_symbols, symbols_of};
-ghost use Rattle.ts_fit.specs.Misfits.{Finds, IsEmptyToken};
+ghost use Rattle.ts_fit.specs.Misfits.{FindsFirst, IsEmptyToken};
 ghost use Rattle.ts_fit.specs.Searches.{HasStep, HasStepAmong};
 
 use crate::places::rule_at;
@@ -21,7 +21,7 @@ fn is_empty_token(grammar: &FlatGrammar, place: usize) -> bool
 
 /// The place of the first token that matches the empty text, counted from 0.
 pub fn first_empty_token(grammar: &FlatGrammar) -> Option<usize>
-    ensures { Finds (IsEmptyToken grammar.now) result }
+    ensures { FindsFirst (IsEmptyToken grammar.now) result }
 {
     for place in 0..grammar.tokens.len() {
         if is_empty_token(grammar, place) {
@@ -79,7 +79,7 @@ fn is_empty_rule(grammar: &FlatGrammar, place: usize) -> bool
 /// production uses. Places count from 0.
 pub fn first_empty_rule(grammar: &FlatGrammar) -> Option<usize>
     requires few_symbols { symbols_of grammar.now ≤ most_symbols }
-    ensures { Finds (IsEmptyRule grammar.now) result }
+    ensures { FindsFirst (IsEmptyRule grammar.now) result }
 {
     for place in 0..grammar.rules.len() {
         if is_empty_rule(grammar, place) {

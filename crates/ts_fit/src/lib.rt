@@ -12,8 +12,6 @@ mod limits;
 mod places;
 mod repetitions;
 mod straight;
-#[cfg(test)]
-mod tests;
 mod words;
 
 pub use causes::misfit;

@@ -4,7 +4,7 @@
 ghost use Rattle.std.specs.Prelude.{◌≡◌, ℕ, ◌<◌, ◌↔◌, [], IfNone, IfOk, IfSome, IsTrue, None, OnOk, length};
 ghost use Rattle.std.specs.List.{Contains};
 ghost use Rattle.spec_tables.specs.Fit.{IsCyclic};
-ghost use Rattle.ts_fit.specs.Misfits.{Finds};
+ghost use Rattle.ts_fit.specs.Misfits.{FindsFirst};
 ghost use Rattle.ts_fit.specs.Searches.{LeadsAlone, LeadsTo};
 ghost use Rattle.ts_fit.specs.Straight.{IsSettled, Pushed, GoesThrough};
 
@@ -116,7 +116,7 @@ fn is_empty(stack: &[Frame]) -> bool
 /// is done after those to which it leads. Where no rule derives itself, each comes onto the stack
 /// at most twice, and goes on at most once for each, so that three turns a rule do.
 pub(crate) fn is_straight(alloc: Global, grammar: &FlatGrammar) -> Result<bool, AllocError>
-    ensures { IfOk result (λ b. IsTrue b → Finds (IsCyclic grammar.now) None) }
+    ensures { IfOk result (λ b. IsTrue b → FindsFirst (IsCyclic grammar.now) None) }
 {
     let mut done = IndexSet::new(alloc);
     let mut stack = all_frames(alloc, grammar)?;

@@ -9,7 +9,6 @@ use Rattle.ts_core.specs.declared.rule.Rule.{Rule}
 use Rattle.ts_numbering.specs.Keys.{rules_told, trees}
 use Rattle.ts_productions.specs.declared.fault.ProductionFault.{ProductionFault}
 use Rattle.ts_rules.specs.FirstSights.{Each, end, both}
-use Rattle.ts_rules.specs.Sights.{NamedRule}
 
 same_head : {X : Type 0} (x y : X) (ys : List X) → Some x ≡ Some y → x ∷ ys ≡ y ∷ ys
 same_head x y ys e = cc
@@ -36,10 +35,6 @@ map_append f [] ys = refl
 map_append {Y = Y} f (x ∷ xs) ys = ap (λ (zs : List Y). f x ∷ zs) (map_append f xs ys)
 
 module _ {X Y : Type 0} (f : X → Y) where
-  pub mapped_begin : (all : List X) → [] ≡ map f (take 0 all)
-  mapped_begin [] = refl
-  mapped_begin (x ∷ all) = refl
-
   -- one more value
   pub mapped_next : (all : List X) (ys new : List Y) (i : ℕ) (y : Y) → i < length all → ((x : X) → slice_get all i ≡ Some x → f x ≡ y) → new ≡ ys ++ y ∷ []
       → ys ≡ map f (take i all) → new ≡ map f (take (i + 1) all)
@@ -100,17 +95,6 @@ tree_there (u ∷ us) zero t x a b = at u a b
     at : (u : Bor Rule) → Some u ≡ Some t → Some u.now ≡ Some x → x ≡ t.now
     at u a b = cc
 tree_there (u ∷ us) (suc i) t x a b = tree_there us i t x a b
-
-pub rule_there : (es : List (Bor Bytes × Bor Rule)) (i : ℕ) (e : Bor Bytes × Bor Rule) (r : NamedRule) → slice_get es i ≡ Some e → slice_get (rules_told es) i ≡ Some r → (r.0 ≡ e.0.now) × (r.1 ≡ e.1.now)
-rule_there [] i e r a b = absurd cc
-rule_there (u ∷ us) zero e r a b = at u a b
-  where
-    at : (u : Bor Bytes × Bor Rule) → Some u ≡ Some e → Some (u.0.now, u.1.now) ≡ Some r → (r.0 ≡ e.0.now) × (r.1 ≡ e.1.now)
-    at u a b =
-        let p : u ≡ e = cc in
-        let q : (u.0.now, u.1.now) ≡ r = cc in
-        (sym (ap (λ (z : NamedRule). z.0) q) ∙ ap (λ (z : Bor Bytes × Bor Rule). z.0.now) p, sym (ap (λ (z : NamedRule). z.1) q) ∙ ap (λ (z : Bor Bytes × Bor Rule). z.1.now) p)
-rule_there (u ∷ us) (suc i) e r a b = rule_there us i e r a b
 
 -- what is made of a lent tree is made of the tree of its place
 pub content_gives : {T : Type 0} (f : Rule → T) (ts : List (Bor Rule)) (i : ℕ) (r : Bor Rule) (t : T) → i < length ts → r ≡ get_or ts i r → t ≡ f r.now → (x : Rule) → slice_get (trees ts) i ≡ Some x → f x ≡ t

@@ -1,5 +1,5 @@
-//! The rules of a grammar in normal form: what comes in are a grammar file and its numbers, and what
-//! goes out are the rules with their productions, where these are within the limits.
+//! The rules of a grammar in normal form: what comes in are a grammar file and its numbers, and
+//! what goes out are the rules with their productions, where these are within the limits.
 #![tactic(auto)]
 
 mod rules;

@@ -42,7 +42,8 @@ fn sources_of<'a>(numbering: &Numbering, trees: &'a RuleTrees, order: &'a [usize
     requires { AreTreesOf (numbers_of numbering.now) (lists_of numbering.now)
         (aliases_told numbering.now.aliases.keys) trees.now }
     ensures order { result.order.now ≡ order.now }
-    ensures sources { (g : AnyGrammar) → AreNumbers g (numbers_of numbering.now) (lists_of numbering.now)
+    ensures sources { (g : AnyGrammar)
+        → AreNumbers g (numbers_of numbering.now) (lists_of numbering.now)
         → AreSourcesOf (numbers_of numbering.now) (lists_of numbering.now) result }
 {
     let survey = &numbering.survey;
@@ -92,7 +93,8 @@ fn own_rule(
     requires ordered { AreOrderedSources sources.now }
     requires inlined { AreInlined sources.now inlined.now }
     requires fits { AreFewSources sources.now × AllAreShort sources.now }
-    requires sources { AreSourcesOf (numbers_of numbering.now) (lists_of numbering.now) sources.now }
+    requires sources { AreSourcesOf (numbers_of numbering.now) (lists_of numbering.now)
+        sources.now }
     requires place { at < length numbering.now.survey.rules.entries }
     ensures { (g : AnyGrammar) (rule : NamedRule) → HaveSame (told supertypes.now.keys) g.supertypes
         → slice_get (lists_of numbering.now).rules at ≡ Some rule
@@ -120,7 +122,8 @@ fn own_rules(
     requires ordered { AreOrderedSources sources.now }
     requires inlined { AreInlined sources.now inlined.now }
     requires fits { AreFewSources sources.now × AllAreShort sources.now }
-    requires sources { AreSourcesOf (numbers_of numbering.now) (lists_of numbering.now) sources.now }
+    requires sources { AreSourcesOf (numbers_of numbering.now) (lists_of numbering.now)
+        sources.now }
     ensures { IfOk result (Each (IsOwnRule grammar.now (numbers_of numbering.now)
         (lists_of numbering.now)) (lists_of numbering.now).rules) }
 {
@@ -147,7 +150,8 @@ fn repetition(
     requires ordered { AreOrderedSources sources.now }
     requires inlined { AreInlined sources.now inlined.now }
     requires fits { AreFewSources sources.now × AllAreShort sources.now }
-    requires sources { AreSourcesOf (numbers_of numbering.now) (lists_of numbering.now) sources.now }
+    requires sources { AreSourcesOf (numbers_of numbering.now) (lists_of numbering.now)
+        sources.now }
     requires place { at < length (lists_of numbering.now).contents }
     ensures { (g : AnyGrammar) (content : Rule)
         → slice_get (lists_of numbering.now).contents at ≡ Some content
@@ -183,7 +187,8 @@ fn repetitions(
     requires ordered { AreOrderedSources sources.now }
     requires inlined { AreInlined sources.now inlined.now }
     requires fits { AreFewSources sources.now × AllAreShort sources.now }
-    requires sources { AreSourcesOf (numbers_of numbering.now) (lists_of numbering.now) sources.now }
+    requires sources { AreSourcesOf (numbers_of numbering.now) (lists_of numbering.now)
+        sources.now }
     requires owners { length owners.now ≡ length (lists_of numbering.now).contents }
     ensures { (g : AnyGrammar) → Each (IsOwnerSymbol g (numbers_of numbering.now))
         (lists_of numbering.now).contents owners.now
@@ -226,7 +231,8 @@ fn rules_by(
     requires ordered { AreOrderedSources sources.now }
     requires inlined { AreInlined sources.now inlined.now }
     requires fits { AreFewSources sources.now × AllAreShort sources.now }
-    requires sources { AreSourcesOf (numbers_of numbering.now) (lists_of numbering.now) sources.now }
+    requires sources { AreSourcesOf (numbers_of numbering.now) (lists_of numbering.now)
+        sources.now }
     ensures { IfOk result (AreFlatRules grammar.now (numbers_of numbering.now)
         (lists_of numbering.now)) }
 {
@@ -243,9 +249,9 @@ fn rules_by(
 ///
 /// # Errors
 ///
-/// `Productions` exactly where there are more than 65,535 productions before or after inlining; else
-/// `Steps` exactly where one has more than 255 steps; both before any is built. `Memory` where memory
-/// runs out.
+/// `Productions` exactly where there are more than 65,535 productions before or after inlining;
+/// else `Steps` exactly where one has more than 255 steps; both before any is built. `Memory` where
+/// memory runs out.
 pub fn flat_rules(
     alloc: Global,
     grammar: &Grammar,

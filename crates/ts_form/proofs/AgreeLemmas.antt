@@ -11,7 +11,7 @@ use Rattle.ts_core.specs.declared.rule.Rule.TheOpen.{Rule-F}
 use Rattle.ts_core.specs.declared.rule.Rule.TheVariants as rule
 use Rattle.ts_core.specs.declared.rule.Rule.TheVariants.{rolls-Literal, rolls-Pattern, rolls-Token, rolls-ImmediateToken}
 use Rattle.ts_core.specs.declared.rule.Rule.TheViews.{roll-Rule, out-Rule, roll-out-Rule}
-use Rattle.ts_rules.specs.Causes.{IsUndefined, names_used, listed, joined}
+use Rattle.ts_rules.specs.Causes.{IsUndefined, names_used, listed, merged}
 use Rattle.ts_rules.specs.FirstSights.{Not, Clear, Once}
 use Rattle.ts_rules.specs.Numbers.{Numbers, Lists, AreLists, AreNumbers, IsRule, IsInlined, NamesSome, HasSymbol, IsRepeated, has_steps, tree_of, unnumbered, prec_of, alts}
 use Rattle.ts_rules.specs.Sights.{NamedRule, Sight, rule_sights, extra_sights, walk, tokens_in, token_at, if_token, is_token, is_token_layer, contents_in, content_at, content_layer, symbols_in, symbol_layer, fields_in, field_layer, aliases_in, alias_layer, alias, precs_in, prec_layer, ranked_names, ranked_rules}
@@ -32,31 +32,31 @@ used_in_rules g = symbols_in (walk g) ++ listed g.word
 
 pub symbol_used : (g : Grammar) (name : Bytes) → Contains (symbols_in (walk g)) name → Contains (names_used g) name
 symbol_used g name w =
-    Contains-append_left (used_in_rules g ++ joined g.conflicts ++ ranked_rules g) g.supertypes name
-    (Contains-append_left (used_in_rules g ++ joined g.conflicts) (ranked_rules g) name
-    (Contains-append_left (used_in_rules g) (joined g.conflicts) name
+    Contains-append_left (used_in_rules g ++ merged g.conflicts ++ ranked_rules g) g.supertypes name
+    (Contains-append_left (used_in_rules g ++ merged g.conflicts) (ranked_rules g) name
+    (Contains-append_left (used_in_rules g) (merged g.conflicts) name
     (Contains-append_left (symbols_in (walk g)) (listed g.word) name w)))
 
 pub word_used : (g : Grammar) (name : Bytes) → Contains (listed g.word) name → Contains (names_used g) name
 word_used g name w =
-    Contains-append_left (used_in_rules g ++ joined g.conflicts ++ ranked_rules g) g.supertypes name
-    (Contains-append_left (used_in_rules g ++ joined g.conflicts) (ranked_rules g) name
-    (Contains-append_left (used_in_rules g) (joined g.conflicts) name
+    Contains-append_left (used_in_rules g ++ merged g.conflicts ++ ranked_rules g) g.supertypes name
+    (Contains-append_left (used_in_rules g ++ merged g.conflicts) (ranked_rules g) name
+    (Contains-append_left (used_in_rules g) (merged g.conflicts) name
     (Contains-append_right (symbols_in (walk g)) (listed g.word) name w)))
 
-pub conflict_used : (g : Grammar) (name : Bytes) → Contains (joined g.conflicts) name → Contains (names_used g) name
+pub conflict_used : (g : Grammar) (name : Bytes) → Contains (merged g.conflicts) name → Contains (names_used g) name
 conflict_used g name w =
-    Contains-append_left (used_in_rules g ++ joined g.conflicts ++ ranked_rules g) g.supertypes name
-    (Contains-append_left (used_in_rules g ++ joined g.conflicts) (ranked_rules g) name
-    (Contains-append_right (used_in_rules g) (joined g.conflicts) name w))
+    Contains-append_left (used_in_rules g ++ merged g.conflicts ++ ranked_rules g) g.supertypes name
+    (Contains-append_left (used_in_rules g ++ merged g.conflicts) (ranked_rules g) name
+    (Contains-append_right (used_in_rules g) (merged g.conflicts) name w))
 
 pub ranked_used : (g : Grammar) (name : Bytes) → Contains (ranked_rules g) name → Contains (names_used g) name
 ranked_used g name w =
-    Contains-append_left (used_in_rules g ++ joined g.conflicts ++ ranked_rules g) g.supertypes name
-    (Contains-append_right (used_in_rules g ++ joined g.conflicts) (ranked_rules g) name w)
+    Contains-append_left (used_in_rules g ++ merged g.conflicts ++ ranked_rules g) g.supertypes name
+    (Contains-append_right (used_in_rules g ++ merged g.conflicts) (ranked_rules g) name w)
 
 pub supertype_used : (g : Grammar) (name : Bytes) → Contains g.supertypes name → Contains (names_used g) name
-supertype_used g name w = Contains-append_right (used_in_rules g ++ joined g.conflicts ++ ranked_rules g) g.supertypes name w
+supertype_used g name w = Contains-append_right (used_in_rules g ++ merged g.conflicts ++ ranked_rules g) g.supertypes name w
 
 module _ (g : Grammar) (x : Lists) (n m : Numbers) (lists : AreLists g x) (first : AreNumbers g n x) (second : AreNumbers g m x)
     (defined : Clear (IsUndefined g) (names_used g)) where

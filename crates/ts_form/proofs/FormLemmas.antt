@@ -92,6 +92,3 @@ few_enough g f one few many =
 pub positions_refused : (g : Grammar) (e : FormFault) → Not (HasManySymbols g) × Not (HasManyNames g) → Not (HasManyProductions g) × Not (HasManySteps g)
     → (e ≡ fault.Limit Limited.Positions) × HasManyPositions g → IsFormFault g e
 positions_refused g e numbers rules w = subst (λ (f : FormFault). IsFormFault g f) (sym w.0) (numbers.0, numbers.1, rules.0, rules.1, w.1)
-
-pub memory_refused : (g : Grammar) (e : FormFault) → e ≡ fault.Memory → IsFormFault g e
-memory_refused g e is = subst (λ (f : FormFault). IsFormFault g f) (sym is) tt

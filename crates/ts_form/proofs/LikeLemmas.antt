@@ -19,7 +19,7 @@ use Rattle.ts_rules.specs.declared.tree.Around.{Around}
 use Rattle.ts_rules.specs.declared.tree.NumberedStep.{NumberedStep}
 use Rattle.ts_rules.specs.declared.tree.Tree.{Tree}
 use Rattle.ts_rules.specs.declared.tree.Tree.TheVariants as tree
-use Rattle.ts_rules.specs.Alternatives.{Alternatives, alternatives_of, blank, single, step_at, followed, joins, sequence, choice_of, members_of, stronger, in_field, in_alias, in_dynamic, in_group, in_sequence, inner_assoc, is_last, left, left_by, last_left, group}
+use Rattle.ts_rules.specs.Alternatives.{Alternatives, alternatives_of, blank, single, step_at, followed, joins, sequence, choice_of, alternatives_each, stronger, in_field, in_alias, in_dynamic, in_group, in_sequence, inner_assoc, is_last, left, left_by, last_left, group}
 use Rattle.ts_rules.specs.FirstSights.{Each, end, both}
 use Rattle.ts_rules.specs.Numbers.{Numbers, Numbered, inner_trees, tree_of, tree_step, outermost, is_blank, has_blank, has_steps, where_so, any_times, many_times, prec_of, alts}
 use Rattle.ts_rules.specs.Productions.{symbol, flat_step}
@@ -247,17 +247,17 @@ module _ (strict : Type 0) (n m : Numbers) where
       (group_like a b (alternatives_of t (in_group p assoc a)) (alternatives_of u (in_group q assoc b)) r (h (in_group p assoc a) (in_group q assoc b) (group_round p q assoc a b e r)))
 
   seq_tree : (ts us : List Tree) → Each Trees ts us → Trees (tree.Seq ts) (tree.Seq us)
-  seq_tree ts us all a b r = carried (sequence (members_of ts a)) (sequence (members_of us b)) (alternatives_of (tree.Seq ts) a) (alternatives_of (tree.Seq us) b) (at_seq ts a) (at_seq us b)
-      (sequence_like (members_of ts a) (members_of us b) (members_like ts us all))
+  seq_tree ts us all a b r = carried (sequence (alternatives_each ts a)) (sequence (alternatives_each us b)) (alternatives_of (tree.Seq ts) a) (alternatives_of (tree.Seq us) b) (at_seq ts a) (at_seq us b)
+      (sequence_like (alternatives_each ts a) (alternatives_each us b) (members_like ts us all))
     where
       last_same : (ts us : List Tree) → Each Trees ts us → is_last ts ≡ is_last us
       last_same _ _ end = refl
       last_same _ _ (both t u ts us h rest) = refl
 
-      members_like : (ts us : List Tree) → Each Trees ts us → Each (Each Alts) (members_of ts a) (members_of us b)
+      members_like : (ts us : List Tree) → Each Trees ts us → Each (Each Alts) (alternatives_each ts a) (alternatives_each us b)
       members_like _ _ end = end
       members_like _ _ (both t u ts us h rest) =
-          both (alternatives_of t (in_sequence (is_last ts) a)) (alternatives_of u (in_sequence (is_last us) b)) (members_of ts a) (members_of us b)
+          both (alternatives_of t (in_sequence (is_last ts) a)) (alternatives_of u (in_sequence (is_last us) b)) (alternatives_each ts a) (alternatives_each us b)
           (h (in_sequence (is_last ts) a) (in_sequence (is_last us) b) (sequence_round (is_last ts) (is_last us) a b (last_same ts us rest) r))
           (members_like ts us rest)
 

@@ -22,7 +22,7 @@ use Rattle.ts_rules.specs.Normal.{IsNormal, ArePatterns, IsOwnRule, IsOwner, IsR
 use Rattle.ts_rules.specs.Numbers.{Numbers, Lists, AreLists, AreNumbers, IsRule, IsInlined, HasSymbol, IsRepeated, alts, start_of}
 use Rattle.ts_rules.specs.Productions.{symbol}
 use Rattle.ts_rules.specs.Sights.{NamedRule, Sight, sights, below, rule_sights, extra_sights, walk, tokens_in, contents_in, symbol_layer, fields_in, patterns_in, pattern_layer, ranked_name, ranked_rule, ranked_names, precs_in}
-use Rattle.ts_rules.specs.Tokens.{Patterns, IsTokenDef, re_of}
+use Rattle.ts_rules.specs.Tokens.{Patterns, IsTokenDef, tree_re}
 use Rattle.ts_form.proofs.ListLemmas.{head_in, flat_in, one_pick, picked, one_first, one_order, one_sights}
 use Rattle.ts_form.proofs.PatternLemmas.{ReadAlike, same_re}
 use Rattle.ts_form.proofs.RecordLemmas.{same_rule, same_lists, same_flat}
@@ -150,11 +150,11 @@ module _ (g : Grammar) (x : Lists) (n m : Numbers) (lists : AreLists g x) (first
   abbrev IsSeparator : Rule → Type 0
   IsSeparator t = Not (IsTokenExtra g t)
 
-  separators_same : (fs hs : List Re) → ((trees : List Rule) × AreSeparators g trees × (fs ≡ map (re_of p) trees)) → ((trees : List Rule) × AreSeparators g trees × (hs ≡ map (re_of q) trees)) → fs ≡ hs
+  separators_same : (fs hs : List Re) → ((trees : List Rule) × AreSeparators g trees × (fs ≡ map (tree_re p) trees)) → ((trees : List Rule) × AreSeparators g trees × (hs ≡ map (tree_re q) trees)) → fs ≡ hs
   separators_same fs hs a b =
       a.2
-      ∙ map_same (re_of p) (re_of q) a.0 (λ t w. same_re p q t (λ s v. alike s (extra_seen g t (picked IsSeparator g.extras a.0 t a.1 w).0 s v)))
-      ∙ ap (map (re_of q)) (one_pick IsSeparator g.extras a.0 b.0 a.1 b.1)
+      ∙ map_same (tree_re p) (tree_re q) a.0 (λ t w. same_re p q t (λ s v. alike s (extra_seen g t (picked IsSeparator g.extras a.0 t a.1 w).0 s v)))
+      ∙ ap (map (tree_re q)) (one_pick IsSeparator g.extras a.0 b.0 a.1 b.1)
       ∙ sym b.2
 
   extra_same : (t : Rule) (s z : Symbol) → Contains g.extras t → IsTokenExtra g t → IsExtra n t s → IsExtra m t z → s ≡ z

@@ -11,7 +11,7 @@ use Rattle.ts_core.specs.declared.rule.Rule.TheFolds.{ind-Rule, map-Rule, claims
 use Rattle.ts_core.specs.declared.rule.Rule.TheOpen.{Rule-F}
 use Rattle.ts_core.specs.declared.rule.Rule.TheViews.{roll-Rule, out-Rule, out-roll-Rule}
 use Rattle.ts_rules.specs.Sights.{Sight, Source, SeenBelow, seen_all, below, below_step, sights, sights_within, pattern_layer}
-use Rattle.ts_rules.specs.Tokens.{Patterns, cat_of, alt_of, re_of, re_step}
+use Rattle.ts_rules.specs.Tokens.{Patterns, cat_of, alt_of, tree_re, re_step}
 use Rattle.ts_form.proofs.ListLemmas.{head_in, tail_in}
 use denote.Hole.Holds.{Such}
 
@@ -21,7 +21,7 @@ module _ (p q : Patterns) where
   ReadAlike all = (s : Sight) → Contains all s → (source : Source) → Contains (pattern_layer (out-Rule s.tree)) source → p source.0 source.1 ≡ q source.0 source.1
 
   abbrev IsSame : Rule → Type 0
-  IsSame t = (inside : Bool) → ReadAlike (sights_within t inside) → re_of p t ≡ re_of q t
+  IsSame t = (inside : Bool) → ReadAlike (sights_within t inside) → tree_re p t ≡ tree_re q t
 
   abbrev Child : Type 0
   Child = Such the_family (claims IsSame) member-Rule
@@ -32,18 +32,18 @@ module _ (p q : Patterns) where
   abbrev seen_below : Rule → SeenBelow
   seen_below r = (r, below r)
 
-  same : (e : Child) (inside : Bool) → ReadAlike (sights_within (inner e) inside) → re_of p (inner e) ≡ re_of q (inner e)
+  same : (e : Child) (inside : Bool) → ReadAlike (sights_within (inner e) inside) → tree_re p (inner e) ≡ tree_re q (inner e)
   same e inside h = let k : IsSame e.0 = e.1 in k inside h
 
-  all_same : (es : List Child) (inside : Bool) → ReadAlike (seen_all (map seen_below (map inner es)) inside) → map (re_of p) (map inner es) ≡ map (re_of q) (map inner es)
+  all_same : (es : List Child) (inside : Bool) → ReadAlike (seen_all (map seen_below (map inner es)) inside) → map (tree_re p) (map inner es) ≡ map (tree_re q) (map inner es)
   all_same [] inside h = refl
   all_same (e ∷ es) inside h =
-      ap (λ (r : Re). r ∷ map (re_of p) (map inner es)) (same e inside (λ s w. h s (Contains-append_left (sights_within (inner e) inside) (seen_all (map seen_below (map inner es)) inside) s w)))
-      ∙ ap (λ (rs : List Re). re_of q (inner e) ∷ rs) (all_same es inside (λ s w. h s (Contains-append_right (sights_within (inner e) inside) (seen_all (map seen_below (map inner es)) inside) s w)))
+      ap (λ (r : Re). r ∷ map (tree_re p) (map inner es)) (same e inside (λ s w. h s (Contains-append_left (sights_within (inner e) inside) (seen_all (map seen_below (map inner es)) inside) s w)))
+      ∙ ap (λ (rs : List Re). tree_re q (inner e) ∷ rs) (all_same es inside (λ s w. h s (Contains-append_right (sights_within (inner e) inside) (seen_all (map seen_below (map inner es)) inside) s w)))
 
   layer_same : (y : Rule-F Child) (inside : Bool) → ((source : Source) → Contains (pattern_layer (map-Rule Child Rule inner y)) source → p source.0 source.1 ≡ q source.0 source.1)
       → ReadAlike (below_step (map-Rule Rule SeenBelow seen_below (map-Rule Child Rule inner y)) inside)
-      → re_step p (map-Rule Rule Re (re_of p) (map-Rule Child Rule inner y)) ≡ re_step q (map-Rule Rule Re (re_of q) (map-Rule Child Rule inner y))
+      → re_step p (map-Rule Rule Re (tree_re p) (map-Rule Child Rule inner y)) ≡ re_step q (map-Rule Rule Re (tree_re q) (map-Rule Child Rule inner y))
   layer_same Rule-F.Blank inside h k = refl
   layer_same (Rule-F.Literal text) inside h k = refl
   layer_same (Rule-F.Pattern value ignore_case) inside h k = h (value, ignore_case) (head_in (value, ignore_case) [])
@@ -73,5 +73,5 @@ module _ (p q : Patterns) where
       = λ s w. h s (tail_in top s (below (roll-Rule x) inside) (subst (λ (all : List Sight). Contains all s) (sym seen) w)) in
       fold-roll-Rule Re (re_step p) x ∙ layer_same y inside here rest ∙ sym (fold-roll-Rule Re (re_step q) x)
 
-  pub same_re : (t : Rule) → ReadAlike (sights t) → re_of p t ≡ re_of q t
+  pub same_re : (t : Rule) → ReadAlike (sights t) → tree_re p t ≡ tree_re q t
   same_re t h = ind-Rule IsSame (λ x y e. subst (λ (z : Rule-F Rule). IsSame (roll-Rule z)) e (rolled_same y)) t false h

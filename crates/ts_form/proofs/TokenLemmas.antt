@@ -53,9 +53,6 @@ record Twice (all : List Rule) (t : Rule) : Type 0 where
   in_first : Contains first t
   in_second : Contains second t
 
-tokens_of : NamedRule → List NamedRule → List Rule
-tokens_of rule rules = tokens_in (seen_rules (rule ∷ rules))
-
 split_tokens : (rule : NamedRule) (rules : List NamedRule) → tokens_in (seen_rules (rule ∷ rules)) ≡ tokens_in (sights rule.1) ++ tokens_in (seen_rules rules)
 split_tokens rule rules = flat_map-append (λ (v : Sight). token_at v.tree v.inside) (sights rule.1) (seen_rules rules)
 

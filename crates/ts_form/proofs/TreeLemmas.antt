@@ -2,7 +2,7 @@
 use Rattle.std.proofs.Common.{◌≡◌, ◌∙◌, sym, ap, refl, ℕ, ℤ, Bool, List, [], ◌∷◌, ◌++◌, map}
 use Rattle.ts_core.specs.declared.flat.Assoc.{Assoc}
 use Rattle.ts_core.specs.declared.flat.Prec.{Prec}
-use Rattle.ts_rules.specs.Alternatives.{Alternatives, layer, alternatives_of, sequence, choice, members, branches, members_of, choice_of, is_last, in_sequence, in_field, in_alias, in_dynamic, group, in_group, blank, single}
+use Rattle.ts_rules.specs.Alternatives.{Alternatives, layer, alternatives_of, sequence, choice, members, branches, alternatives_each, choice_of, is_last, in_sequence, in_field, in_alias, in_dynamic, group, in_group, blank, single}
 use Rattle.ts_rules.specs.declared.tree.Around.{Around}
 use Rattle.ts_rules.specs.declared.tree.Tree.{Tree}
 use Rattle.ts_rules.specs.declared.tree.Tree.TheOpen.{Tree-F}
@@ -32,7 +32,7 @@ last_map : (ts : List Tree) → is_last (map alternatives_of ts) ≡ is_last ts
 last_map [] = refl
 last_map (t ∷ ts) = refl
 
-members_map : (ts : List Tree) (a : Around) → members (map alternatives_of ts) a ≡ members_of ts a
+members_map : (ts : List Tree) (a : Around) → members (map alternatives_of ts) a ≡ alternatives_each ts a
 members_map [] a = refl
 members_map (t ∷ ts) a =
     ap (λ (b : Bool). alternatives_of t (in_sequence b a) ∷ members (map alternatives_of ts) a) (last_map ts)
@@ -42,7 +42,7 @@ choice_map : (ts : List Tree) (a : Around) → choice (branches (map alternative
 choice_map [] a = refl
 choice_map (t ∷ ts) a = ap (λ (xs : Alternatives). alternatives_of t a ++ xs) (choice_map ts a)
 
-pub at_seq : (ts : List Tree) (a : Around) → alternatives_of (tree.Seq ts) a ≡ sequence (members_of ts a)
+pub at_seq : (ts : List Tree) (a : Around) → alternatives_of (tree.Seq ts) a ≡ sequence (alternatives_each ts a)
 at_seq ts a = ap (λ (f : Around → Alternatives). f a) (ap {B = Around → Alternatives} alternatives_of (sym (tree_rolls-Seq ts)) ∙ fold-roll-Tree (Around → Alternatives) layer (Tree-F.Seq ts)) ∙ ap sequence (members_map ts a)
 
 pub at_choice : (ts : List Tree) (a : Around) → alternatives_of (tree.Choice ts) a ≡ choice_of ts a

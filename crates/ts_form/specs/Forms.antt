@@ -33,21 +33,25 @@ AreExtraSymbols g n symbols =
 
 -- ---- faults of what is called
 
+-- the fault of the numbering as a fault of the normal form
 abbrev pub of_numbers : NumberFault → FormFault
 of_numbers NumberFault.Symbols = fault.Limit Limited.Symbols
 of_numbers NumberFault.Names = fault.Limit Limited.Fields
 of_numbers NumberFault.Memory = fault.Memory
 
+-- the fault of the productions as a fault of the normal form
 abbrev pub of_productions : ProductionFault → FormFault
 of_productions ProductionFault.Productions = fault.Limit Limited.Productions
 of_productions ProductionFault.Steps = fault.Limit Limited.Steps
 of_productions ProductionFault.Memory = fault.Memory
 
--- ---- while tokens are named; these serve proofs alone
+-- ---- while tokens are named; these serve private clauses and proofs alone
 
+-- the names of the tokens, in order
 abbrev pub names_in : List NamedToken → List (Option (Bor Bytes))
 names_in = map (λ (token : NamedToken). token.name)
 
+-- there is no name
 abbrev pub IsNothing : Option (Bor Bytes) → Type 0
 IsNothing name = name ≡ None
 

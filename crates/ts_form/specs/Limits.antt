@@ -28,6 +28,7 @@ pub record Counts (g : Grammar) (all : Alternatives) : Type 0 where
   pub are_numbers : AreNumbers g numbers lists
   pub is_counted : IsCounted numbers lists all
 
+-- more productions than a grammar in normal form may have
 abbrev pub HasManyProductions : Grammar → Type 0
 HasManyProductions g = (all : Alternatives) × Counts g all × (fit.most_productions < length all)
 

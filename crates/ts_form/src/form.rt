@@ -1,5 +1,5 @@
-//! The normal form of a grammar: what comes in is a grammar with what is known of its rules, and what
-//! goes out is its normal form, or the first limit that it passes.
+//! The normal form of a grammar: what comes in is a grammar with what is known of its rules, and
+//! what goes out is its normal form, or the first limit that it passes.
 
 ghost use Rattle.std.specs.Prelude.{◌≡◌, Some, IfOk, IfErr};
 ghost use Rattle.ts_base.specs.Bytes.{Bytes};
@@ -90,15 +90,15 @@ fn within_positions(form: FlatGrammar) -> Result<FlatGrammar, FormFault>
     }
 }
 
-/// The normal form of a grammar, from its walk, from what its rules have, from the ranks of its rules
-/// along inlining and from its patterns.
+/// The normal form of a grammar, from its walk, from what its rules have, from the ranks of its
+/// rules along inlining and from its patterns.
 ///
 /// # Errors
 ///
-/// `Limit` with the first of these limits that is passed: 16,384 symbols, the end among them; 16,384
-/// field names, and as many precedence names; 65,535 productions, counted before and after inlining;
-/// 255 steps of one of them; 8,192 positions of one token, and 65,536 of all tokens and separators.
-/// `Memory` may come at any time.
+/// `Limit` with the first of these limits that is passed: 16,384 symbols, the end among them;
+/// 16,384 field names, and as many precedence names; 65,535 productions, counted before and after
+/// inlining; 255 steps of one of them; 8,192 positions of one token, and 65,536 of all tokens and
+/// separators. `Memory` may come at any time.
 pub fn normal_form<'a>(
     alloc: Global,
     grammar: &'a Grammar,

@@ -1,5 +1,5 @@
-//! Laws of the definitions: a grammar has one normal form, and what is counted of it does not depend
-//! on its numbers.
+//! Laws of the definitions: a grammar has one normal form, and what is counted of it does not
+//! depend on its numbers.
 ghost use Rattle.std.specs.Prelude.{◌≡◌};
 ghost use Rattle.ts_core.specs.declared.flat.FlatGrammar.{FlatGrammar as AnyForm};
 ghost use Rattle.ts_core.specs.declared.rule.Grammar.{Grammar as AnyGrammar};

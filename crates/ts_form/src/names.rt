@@ -1,5 +1,5 @@
-//! Names of tokens: what comes in is a numbering, and what goes out are its tokens, each with the rule
-//! that names it, and the token that the word names.
+//! Names of tokens: what comes in is a numbering, and what goes out are its tokens, each with the
+//! rule that names it, and the token that the word names.
 
 ghost use Rattle.std.specs.Prelude.{◌≡◌, ◌<◌, ◌-◌, Some, IfOk, length, slice_get, All};
 ghost use Rattle.ts_base.specs.Bytes.{Bytes};

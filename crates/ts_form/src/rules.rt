@@ -1,5 +1,5 @@
-//! The rules of a normal form: what comes in is a grammar with its numbers, and what goes out are its
-//! rules with their productions, or the limit that these pass.
+//! The rules of a normal form: what comes in is a grammar with its numbers, and what goes out are
+//! its rules with their productions, or the limit that these pass.
 
 ghost use Rattle.std.specs.Prelude.{◌≡◌, IfOk, IfErr};
 ghost use Rattle.ts_flat.specs.Rules.{AreFlatRules};

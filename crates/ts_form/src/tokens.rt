@@ -1,6 +1,6 @@
-//! Tokens, separators and extras of a normal form: what comes in is a grammar with its numbers and its
-//! patterns, and what goes out are its definitions of tokens, the expressions of its separators and
-//! the symbols of its extras; and copies of its names.
+//! Tokens, separators and extras of a normal form: what comes in is a grammar with its numbers and
+//! its patterns, and what goes out are its definitions of tokens, the expressions of its separators
+//! and the symbols of its extras; and copies of its names.
 
 ghost use Rattle.std.specs.Prelude.{◌≡◌, Some, IfOk};
 ghost use Rattle.ts_base.specs.Bytes.{Bytes};

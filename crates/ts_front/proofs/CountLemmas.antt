@@ -12,7 +12,7 @@ use Rattle.ts_core.specs.declared.re.Re.TheVariants.{rolls-Empty, rolls-Set, rol
 use Rattle.ts_core.specs.declared.re.Re.TheFolds.{fold-roll-Re}
 use Rattle.ts_pattern.specs.Limits.{most_nested, most_counted, most_positions}
 use Rattle.ts_pattern.specs.Reads.{Reads}
-use Rattle.ts_pattern.specs.Trees.{Pattern, only, or, Branch, more, Piece, once, times, Atom, set, group, joined, chosen, branches_of, pieces_of, piece_re, atom_re, nesting, positions, greatest as greatest_in, branch_greatest, piece_greatest, atom_greatest, limit_passed}
+use Rattle.ts_pattern.specs.Trees.{Pattern, only, or, Branch, more, Piece, once, times, Atom, set, group, joined_parts, chosen, branches_of, pieces_of, piece_re, atom_re, nesting, positions, greatest as greatest_in, branch_greatest, piece_greatest, atom_greatest, limit_passed}
 use Rattle.ts_pattern.specs.Trees.{empty as nothing}
 use Rattle.ts_rules.specs.Tokens.{cat_of, alt_of, one_char}
 use Rattle.ts_front.specs.Nesting.{greatest, levels, levels_step}
@@ -105,7 +105,7 @@ module _ (n : ℕ) where
 
   -- ---- patterns
 
-  joined_to : (parts : List Re) → AllByRecursion (CountsTo n) parts → CountsTo n (joined parts)
+  joined_to : (parts : List Re) → AllByRecursion (CountsTo n) parts → CountsTo n (joined_parts parts)
   joined_to [] all = empty_to
   joined_to (r ∷ []) all = all.0
   joined_to (r ∷ s ∷ rs) all = cat_to (r ∷ s ∷ rs) all
@@ -124,7 +124,7 @@ module _ (n : ℕ) where
     branches_to (only b) h = (joined_to (pieces_of b) (pieces_to b h), tt)
     branches_to (or p b) h =
         let both = max_parts (greatest_in p) (branch_greatest b) n h in
-        one_after (branches_of p) (joined (pieces_of b)) (branches_to p both.0) (joined_to (pieces_of b) (pieces_to b both.1))
+        one_after (branches_of p) (joined_parts (pieces_of b)) (branches_to p both.0) (joined_to (pieces_of b) (pieces_to b both.1))
 
     pieces_to : (b : Branch) → branch_greatest b ≤ n → AllByRecursion (CountsTo n) (pieces_of b)
     pieces_to nothing h = tt

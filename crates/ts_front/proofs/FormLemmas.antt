@@ -27,7 +27,7 @@ use Rattle.ts_rules.specs.FirstSights.{Not}
 use Rattle.ts_rules.specs.Numbers.{Numbers, Lists, IsInlined, HasSymbol, IsRepeated, alts, outermost}
 use Rattle.ts_rules.specs.Productions.{IsInner, AreProductions, alias_of, flat_step, production, filled, again}
 use Rattle.ts_rules.specs.Sights.{NamedRule, Sight, sights, rule_sights, extra_sights, walk, contents_in, alias_layer, pattern_layer, field_layer, prec_layer, precs_in, name_in, ranked_names}
-use Rattle.ts_rules.specs.Tokens.{IsTokenDef, re_of}
+use Rattle.ts_rules.specs.Tokens.{IsTokenDef, tree_re}
 use Rattle.ts_front.specs.Typed.{IsNumber, IsTypedValue, IsTypedLayer, HasShortCounts, IsTypedStep, IsTypedProduction, IsTypedRule, IsTypedToken, IsTyped, IsTypedGrammar}
 use Rattle.ts_front.proofs.CountLemmas.{reads_counts}
 use Rattle.ts_front.proofs.InsideLemmas.{token_seen, content_seen, rule_seen}
@@ -203,7 +203,7 @@ module _ (g : Grammar) (f : FlatGrammar) (normal : IsNormal Reads g f) (typed : 
   separator_typed : (re : Re) → Contains f.separators re → HasShortCounts re
   separator_typed re w =
       let all = normal.separators in
-      let m = mapped_in (re_of normal.pattern) all.0 re (subst (λ (rs : List Re). Contains rs re) all.2 w) in
+      let m = mapped_in (tree_re normal.pattern) all.0 re (subst (λ (rs : List Re). Contains rs re) all.2 w) in
       let p = picked (λ (tree : Rule). Not (IsTokenExtra g tree)) g.extras all.0 m.0 all.1 m.1 in
       let few = (extra_comes m.0 p.0).counts in
       subst HasShortCounts m.2 (omega (arith, few))

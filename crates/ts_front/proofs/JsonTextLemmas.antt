@@ -309,9 +309,6 @@ past_low : (s r : Bytes) → AllByRecursion (λ (b : ℕ). b < 128) s → IsUtf8
 past_low [] r h t = t
 past_low (b ∷ s) r h t = past_low s r h.1 (past b (s ++ r) h.0 t)
 
-past_to : (w r : Bytes) → IsLowTo w r → IsUtf8 w → IsUtf8 r
-past_to w r h t = past_low h.0 r h.2 (subst IsUtf8 h.1 t)
-
 number_text : (s w r : Bytes) → w ≡ s ++ r → Number s [] → IsUtf8 w → IsUtf8 r
 number_text s w r e h t =
     let low = low_number s [] h in

@@ -17,7 +17,7 @@ use Rattle.ts_normalise.specs.Refusals.{IsRefused}
 use Rattle.ts_normalise.specs.declared.fault.NFault.{NFault}
 use Rattle.ts_normalise.specs.declared.fault.NFault.TheVariants as normal
 use Rattle.ts_fit.specs.Misfits.{Misfits}
-use Rattle.ts_langfile.specs.Verdict.{verdict, Answers}
+use Rattle.ts_langfile.specs.Verdict.{verdict, ReturnsVerdict}
 use Rattle.ts_langfile.specs.Faults as language_file
 use Rattle.ts_langfile.specs.declared.fault.LangFault.{LangFault}
 use Rattle.ts_langfile.specs.declared.fault.LangFault.TheVariants as language
@@ -70,7 +70,7 @@ fields_refuse w (language.Field p) s m f = inr (wrong_file (language.Field p) s 
 fields_refuse w (language.Misfit cause) s m f = absurd (m cause refl)
 
 -- the cause that is found for the grammar of a file is the file's
-pub is_misfit : (w : Bytes) (f : FlatGrammar) (cause : Unfit) → Answers (Ok f) (verdict w) → Misfits f cause → language_file.IsFault (language.Misfit cause) w
+pub is_misfit : (w : Bytes) (f : FlatGrammar) (cause : Unfit) → ReturnsVerdict (Ok f) (verdict w) → Misfits f cause → language_file.IsFault (language.Misfit cause) w
 is_misfit w f cause (inl says) found = (f, sym says, found)
 is_misfit w f cause (inr says) found = absurd cc
 

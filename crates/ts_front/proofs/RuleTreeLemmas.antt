@@ -19,7 +19,7 @@ use Rattle.ts_rules.specs.declared.tree.Tree.{Tree}
 use Rattle.ts_rules.specs.declared.tree.Tree.TheVariants as tree
 use Rattle.ts_rules.specs.Numbers.{Numbers, Numbered, inner_trees, tree_of, tree_step, has_blank, has_steps, where_so, any_times, many_times, prec_of}
 use Rattle.ts_rules.specs.Sights.{Sight, Source, SeenBelow, seen_all, below, below_step, sights_within, alias, alias_layer, pattern_layer}
-use Rattle.ts_rules.specs.Tokens.{Patterns, Core, core, core_step, core_name, number_of, under, under_step, lexical_layer, lexical_precedence, re_of, re_step}
+use Rattle.ts_rules.specs.Tokens.{Patterns, Core, core, core_step, core_name, number_of, under, under_step, lexical_layer, lexical_precedence, tree_re, re_step}
 use Rattle.ts_front.specs.Typed.{IsNumber, IsTypedPrec, IsTypedValue, IsTypedLayer}
 use Rattle.ts_front.proofs.CountLemmas.{CountsTo, empty_to, cat_of_to, alt_of_to, repeat_to, text_to}
 use Rattle.ts_front.proofs.MemberLemmas.{head_in, tail_in}
@@ -47,7 +47,7 @@ module _ (n : Numbers) (pattern : Patterns) where
     pub name : IsUtf8 (core_name (core t))
     pub number : IsNumber (under t)
     pub lexical : IsNumber (lexical_precedence t)
-    pub counts : CountsTo most (re_of pattern t)
+    pub counts : CountsTo most (tree_re pattern t)
     pub tree : IsTypedTree n (tree_of n t)
 
   abbrev IsTold : Rule → Type 0
@@ -75,7 +75,7 @@ module _ (n : Numbers) (pattern : Patterns) where
     all_told es inside (λ s w. h s (Contains-append_right (sights_within (inner e) inside) (seen_all (map seen_below (map inner es)) inside) s w)),
   )
 
-  all_counts : (ts : List Rule) → AllByRecursion Comes ts → AllByRecursion (CountsTo most) (map (re_of pattern) ts)
+  all_counts : (ts : List Rule) → AllByRecursion Comes ts → AllByRecursion (CountsTo most) (map (tree_re pattern) ts)
   all_counts [] h = tt
   all_counts (t ∷ ts) h = (h.0.counts, all_counts ts h.1)
 
@@ -112,7 +112,7 @@ module _ (n : Numbers) (pattern : Patterns) where
     name : IsUtf8 (core_name (core_step (map-Rule Rule Core core x)))
     number : IsNumber (under_step (map-Rule Rule ℤ under x))
     lexical : IsNumber (lexical_layer x)
-    counts : CountsTo most (re_step pattern (map-Rule Rule Re (re_of pattern) x))
+    counts : CountsTo most (re_step pattern (map-Rule Rule Re (tree_re pattern) x))
     tree : IsTypedTree n (tree_step n (map-Rule Rule Numbered numbered x))
 
   alias_text : (value : List ℕ) (named : Bool) → n.alias_at (n.alias (alias value named)) ≡ alias value named → IsUtf8 value → IsUtf8 (n.alias_at (n.alias (alias value named))).name
@@ -136,7 +136,7 @@ module _ (n : Numbers) (pattern : Patterns) where
         name = IsUtf8-nil;
         number = zero_number;
         lexical = zero_number;
-        counts = cat_of_to most (map (re_of pattern) (map inner es)) (all_counts (map inner es) all);
+        counts = cat_of_to most (map (tree_re pattern) (map inner es)) (all_counts (map inner es) all);
         tree = seq_typed n (inner_trees (map numbered (map inner es))) (all_trees (map inner es) all);
       }
   layer_told (Rule-F.Choice es) inside h k =
@@ -145,7 +145,7 @@ module _ (n : Numbers) (pattern : Patterns) where
         name = IsUtf8-nil;
         number = zero_number;
         lexical = zero_number;
-        counts = alt_of_to most (map (re_of pattern) (map inner es)) (all_counts (map inner es) all);
+        counts = alt_of_to most (map (tree_re pattern) (map inner es)) (all_counts (map inner es) all);
         tree = choice_typed n (inner_trees (map numbered (map inner es))) (all_trees (map inner es) all);
       }
   layer_told (Rule-F.Repeat e) inside h k =
@@ -154,7 +154,7 @@ module _ (n : Numbers) (pattern : Patterns) where
         name = IsUtf8-nil;
         number = zero_number;
         lexical = zero_number;
-        counts = repeat_to most (re_of pattern (inner e)) 0 None one.counts (omega arith) (omega arith);
+        counts = repeat_to most (tree_re pattern (inner e)) 0 None one.counts (omega arith) (omega arith);
         tree = any_typed (n.repetition (inner e)) (tree_of n (inner e));
       }
   layer_told (Rule-F.Repeat1 e) inside h k =
@@ -163,7 +163,7 @@ module _ (n : Numbers) (pattern : Patterns) where
         name = IsUtf8-nil;
         number = zero_number;
         lexical = zero_number;
-        counts = repeat_to most (re_of pattern (inner e)) 1 None one.counts (omega arith) (omega arith);
+        counts = repeat_to most (tree_re pattern (inner e)) 1 None one.counts (omega arith) (omega arith);
         tree = many_typed (n.repetition (inner e)) (tree_of n (inner e));
       }
   layer_told (Rule-F.Token e) inside h k =

@@ -11,7 +11,7 @@ use Rattle.ts_rules.specs.declared.tree.Around.{Around}
 use Rattle.ts_rules.specs.declared.tree.NumberedStep.{NumberedStep}
 use Rattle.ts_rules.specs.declared.tree.Tree.{Tree}
 use Rattle.ts_rules.specs.declared.tree.Tree.TheVariants as tree
-use Rattle.ts_rules.specs.Alternatives.{Alternatives, alternatives_of, alternative, blank, single, step_at, followed, joins, stronger, sequence, choice_of, members_of, in_field, in_alias, in_dynamic, in_group, in_sequence, is_last, left, left_by, last_left, group}
+use Rattle.ts_rules.specs.Alternatives.{Alternatives, alternatives_of, alternative, blank, single, step_at, followed, joins, stronger, sequence, choice_of, alternatives_each, in_field, in_alias, in_dynamic, in_group, in_sequence, is_last, left, left_by, last_left, group}
 use Rattle.ts_rules.specs.Numbers.{Numbers, outermost}
 use Rattle.ts_rules.specs.Productions.{or_else, prec_or, marked_by, ended_by, inserted, replaced_by, Becomes, stays, replaced, AllBecome, none_left, one_more, unless_blank, filled, again}
 use Rattle.ts_front.specs.Typed.{IsNumber, IsTypedPrec}
@@ -114,9 +114,9 @@ module _ (n : Numbers) where
   group_typed q assoc t k h a r = subst AreTypedAll (sym (at_group q assoc t a))
       (typed_group a (alternatives_of t (in_group q assoc a)) r (h (in_group q assoc a) (record { prec = k; alias = r.alias; dynamic = r.dynamic })))
 
-  members_typed : (ts : List Tree) → AllByRecursion IsTypedTree ts → (a : Around) → IsTypedAround a → AreTypedAll (sequence (members_of ts a))
+  members_typed : (ts : List Tree) → AllByRecursion IsTypedTree ts → (a : Around) → IsTypedAround a → AreTypedAll (sequence (alternatives_each ts a))
   members_typed [] h a r = (typed_blank, tt)
-  members_typed (t ∷ ts) h a r = typed_joins (alternatives_of t (in_sequence (is_last ts) a)) (sequence (members_of ts a))
+  members_typed (t ∷ ts) h a r = typed_joins (alternatives_of t (in_sequence (is_last ts) a)) (sequence (alternatives_each ts a))
       (h.0 (in_sequence (is_last ts) a) (record { prec = r.prec; alias = r.alias; dynamic = r.dynamic })) (members_typed ts h.1 a r)
 
   pub seq_typed : (ts : List Tree) → AllByRecursion IsTypedTree ts → IsTypedTree (tree.Seq ts)

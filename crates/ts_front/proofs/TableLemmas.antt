@@ -5,7 +5,7 @@ use Rattle.ts_core.specs.declared.flat.FlatGrammar.{FlatGrammar}
 use Rattle.ts_core.specs.declared.symbol.Symbol.{Symbol}
 use Rattle.spec_tables.specs.Conflicts.{AreDeclared, IsFirstUndeclared, NotAfter}
 use Rattle.ts_table.specs.Tables.{IsTable}
-use Rattle.ts_items.specs.Collection.{AreTooMany, too_many}
+use Rattle.ts_items.specs.Collection.{AreTooManyStates, too_many}
 use Rattle.ts_items.specs.declared.numbering.ItemFault.{ItemFault}
 use Rattle.ts_items.specs.declared.numbering.ItemFault.TheVariants as items
 use Rattle.ts_table.specs.declared.resolving.TableFault.{TableFault}
@@ -18,7 +18,7 @@ use Rattle.ts_front.specs.declared.table_fault.NoTable.TheVariants.{TooManyState
 
 -- ---- what the parts answer
 
-pub items_refuse : (f : FlatGrammar) (e : ItemFault) → (e ≡ items.Memory) ⊎ ((e ≡ items.TooManyStates too_many) × AreTooMany f)
+pub items_refuse : (f : FlatGrammar) (e : ItemFault) → (e ≡ items.Memory) ⊎ ((e ≡ items.TooManyStates too_many) × AreTooManyStates f)
     → (items_fault e ≡ Memory) ⊎ HasNoTable f (items_fault e)
 items_refuse f items.Memory h = inl refl
 items_refuse f (items.TooManyStates n) (inl e) = absurd cc
@@ -30,14 +30,14 @@ items_refuse f (items.TooManyStates n) (inr h) = inr (at n (number n h.0))
     at : (n : ℕ) → too_many ≡ n → HasNoTable f (TooManyStates n)
     at n e = subst (λ (m : ℕ). HasNoTable f (TooManyStates m)) e (too_many_states h.1)
 
-pub table_refuses : (f : FlatGrammar) (e : TableFault) → (AreTooMany f → ⊥)
+pub table_refuses : (f : FlatGrammar) (e : TableFault) → (AreTooManyStates f → ⊥)
     → (e ≡ table.Memory) ⊎ ((token : Symbol) × (rules : List Symbol) × (e ≡ table.Conflict f token rules) × IsFirstUndeclared f token.0 rules)
     → (table_fault e ≡ Memory) ⊎ HasNoTable f (table_fault e)
 table_refuses f e few (inl m) = inl (ap table_fault m)
 table_refuses f e few (inr h) = inr (subst (HasNoTable f) (sym (ap table_fault h.2)) (undeclared h.0 h.1 few h.3))
 
 -- a table that stands is one of a grammar with few states and no undeclared conflict
-pub has_table : (f : FlatGrammar) (t : ParseTable) → (AreTooMany f → ⊥) → IsTable t → t.grammar ≡ f → HasTable f
+pub has_table : (f : FlatGrammar) (t : ParseTable) → (AreTooManyStates f → ⊥) → IsTable t → t.grammar ≡ f → HasTable f
 has_table f t few stands is = record { few = few; declared = subst AreDeclared is stands.declared }
 
 -- ---- one cause

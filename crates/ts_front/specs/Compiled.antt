@@ -18,7 +18,8 @@ pub record IsCompiled (w : Bytes) (bytes : Bytes) : Type 0 where
   pub table : HasTable form
   pub bytes_are : bytes ≡ spelling form
 
--- The line says why the file is not compiled: it stands for no grammar, or its grammar has no table.
+-- The line says why the file is not compiled: it stands for no grammar, or its grammar has no
+-- table.
 pub data IsRefusalLine (w line : Bytes) : Type 0 where
   of_file : (e : GrammarFault) → IsRefusedFile w e → grammar_fault_line e ≡ Some line
       → IsRefusalLine w line

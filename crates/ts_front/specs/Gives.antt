@@ -10,6 +10,7 @@ use Rattle.ts_langfile.specs.declared.fault.LangFault.TheVariants as language
 use Rattle.ts_front.specs.declared.fault.GrammarFault.{GrammarFault}
 use Rattle.ts_front.specs.declared.fault.GrammarFault.TheVariants.{Json, Form, Normal, Language, Memory}
 
+-- what the fault of a JSON text becomes
 abbrev pub json_fault : OFault → GrammarFault
 json_fault json.Memory = Memory
 json_fault (json.Syntax place) = Json (json.Syntax place)
@@ -17,6 +18,7 @@ json_fault (json.Utf8 place) = Json (json.Utf8 place)
 json_fault (json.Deep place) = Json (json.Deep place)
 json_fault (json.Duplicate place) = Json (json.Duplicate place)
 
+-- what the fault of a JSON value as a grammar file becomes
 abbrev pub form_fault : GFault → GrammarFault
 form_fault form.Memory = Memory
 form_fault (form.Missing pointer) = Form (form.Missing pointer)
@@ -26,6 +28,7 @@ form_fault form.External = Form form.External
 form_fault form.Reserved = Form form.Reserved
 form_fault (form.Limit limited) = Form (form.Limit limited)
 
+-- what the fault of a grammar without a normal form becomes
 abbrev pub normal_fault : NFault → GrammarFault
 normal_fault normal.Memory = Memory
 normal_fault (normal.Undefined name) = Normal (normal.Undefined name)
@@ -39,6 +42,7 @@ normal_fault (normal.Limit limited) = Normal (normal.Limit limited)
 normal_fault (normal.BadWord name) = Normal (normal.BadWord name)
 normal_fault (normal.Pattern rule cause) = Normal (normal.Pattern rule cause)
 
+-- what the fault of a language file becomes
 abbrev pub language_fault : LangFault → GrammarFault
 language_fault language.Memory = Memory
 language_fault language.Magic = Language language.Magic

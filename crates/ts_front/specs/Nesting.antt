@@ -8,6 +8,7 @@ use Rattle.ts_core.specs.declared.re.Re.TheOpen.{Re-F}
 use Rattle.ts_core.specs.declared.re.Re.TheFolds.{fold-Re}
 use Rattle.ts_langfile.specs.Parts.{most_levels}
 
+-- the greatest of some numbers, 0 where there are none
 abbrev pub greatest : List ℕ → ℕ
 greatest [] = 0
 greatest (n ∷ ns) = max n (greatest ns)
@@ -20,6 +21,7 @@ levels_step (Re-F.Cat parts) = 1 + greatest parts
 levels_step (Re-F.Alt parts) = 1 + greatest parts
 levels_step (Re-F.Repeat inner least most) = 1 + inner
 
+-- how deep an expression nests, where one with nothing inside it has 1
 abbrev pub levels : Re → ℕ
 levels = fold-Re ℕ levels_step
 

@@ -1,5 +1,4 @@
--- What is known of the parts of a file: each has one meaning, or is refused for one cause. It serves
--- proofs alone.
+-- What is known of the parts of a file: each has one meaning, or is refused for one cause.
 use Rattle.std.specs.Prelude.{◌≡◌, ◌≢◌}
 use Rattle.ts_base.specs.Bytes.{Bytes}
 use Rattle.ts_core.specs.declared.flat.FlatGrammar.{FlatGrammar}
@@ -17,6 +16,7 @@ use Rattle.ts_langfile.specs.Right as language
 use Rattle.ts_langfile.specs.Faults as file
 use Rattle.ts_langfile.specs.declared.fault.LangFault.{LangFault}
 
+-- what a part reads is one thing, what it refuses has one cause, and it never does both
 pub record PartLaws : Type 0 where
   pub one_value : (v u : OJson) (w : Bytes) → json.Reads v w → json.Reads u w → v ≡ u
   pub no_value : (e : OFault) (v : OJson) (w : Bytes) → e ≢ OFault.Memory → json.IsFault e w

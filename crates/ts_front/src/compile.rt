@@ -1,5 +1,5 @@
-//! The bytes of a grammar file or of a language file in; its parse table, or the bytes of its language
-//! file, out, or the line that says why there is none.
+//! The bytes of a grammar file or of a language file in; its parse table, or the bytes of its
+//! language file, out, or the line that says why there is none.
 ghost use Rattle.std.specs.Prelude.{◌≡◌, ◌<◌, ◌^◌, Option, length, option_map, string_bytes, IfOk, IfErr};
 ghost use Rattle.spec_tables.specs.Fit.{Fit};
 ghost use Rattle.ts_base.specs.Bytes.{Bytes};

@@ -1,6 +1,6 @@
 //! Laws of the definitions: what a grammar file of fewer than 2^32 bytes gives is what the normal
-//! form asks for; a file stands for one grammar, or is refused for one cause; and what is compiled is
-//! compiled to itself.
+//! form asks for; a file stands for one grammar, or is refused for one cause; and what is compiled
+//! is compiled to itself.
 ghost use Rattle.std.specs.Prelude.{◌≡◌, ◌↔◌, ◌<◌, ◌^◌, length};
 ghost use Rattle.spec_tables.specs.Fit.{Fit};
 ghost use Rattle.ts_base.specs.Bytes.{Bytes};
@@ -20,8 +20,8 @@ ghost use Rattle.ts_front.specs.Tables.{HasNoTable, HasTable};
 ghost use Rattle.ts_front.specs.declared.fault.GrammarFault.{GrammarFault as AnyFault};
 ghost use Rattle.ts_front.specs.declared.table_fault.NoTable.{NoTable as AnyNoTable};
 
-/// A grammar that a file of fewer than 2^32 bytes stands for has at least one rule and not too many,
-/// no two of one name, no CHOICE without a branch, and short texts and lists.
+/// A grammar that a file of fewer than 2^32 bytes stands for has at least one rule and not too
+/// many, no two of one name, no CHOICE without a branch, and short texts and lists.
 pub fn read_grammars_are_file_grammars()
     ensures { (w : Bytes) (v : AnyJson) (g : AnyGrammar) → length w < 2 ^ 32 → Reads v w
         → IsGrammar (json_of v) g → IsFileGrammar g }
@@ -52,7 +52,8 @@ fn parts()
 pub fn one_answer()
     ensures form { (w : Bytes) (f h : AnyForm) → IsFormOf w f → IsFormOf w h → f ≡ h }
     ensures fault { (w : Bytes) (e d : AnyFault) → IsRefusedFile w e → IsRefusedFile w d → e ≡ d }
-    ensures either { (w : Bytes) (e : AnyFault) (f : AnyForm) → IsRefusedFile w e → IsFormOf w f → ⊥ }
+    ensures either { (w : Bytes) (e : AnyFault) (f : AnyForm) → IsRefusedFile w e → IsFormOf w f
+        → ⊥ }
 {
     parts();
 }
@@ -82,8 +83,9 @@ pub fn forms_are_fit()
     ts_normalise::normal_forms_are_fit();
 }
 
-/// What is written of the grammar for which a file stands is a language file of that grammar exactly
-/// where no expression of it nests deeper than those of a language file. None of a language file does.
+/// What is written of the grammar for which a file stands is a language file of that grammar
+/// exactly where no expression of it nests deeper than those of a language file. None of a language
+/// file does.
 pub fn written_forms_are_read()
     ensures again { (w : Bytes) (f : AnyForm) → IsFormOf w f
         → AreShallow f ↔ IsFormOf (spelling f) f }

@@ -1,5 +1,5 @@
-//! The words, places and names of a fault of a grammar in; its line out: a compact JSON object and a
-//! newline.
+//! The words, places and names of a fault of a grammar in; its line out: a compact JSON object and
+//! a newline.
 ghost use Rattle.std.specs.Prelude.{◌≡◌, false, IfOk, string_bytes, ◌++◌, ◌∷◌, []};
 ghost use Rattle.serde_json.specs.View.{view};
 ghost use Rattle.serde_json.specs.Written.{compact_text, has_float};

@@ -15,8 +15,8 @@ use Rattle.ts_moves.specs.Laws.{Laws}
 use Rattle.ts_moves.specs.Heads.{config_of, read_on, IsLiveHead, IsRootOf, GainsStacks, LiesAhead}
 use Rattle.ts_glr.specs.declared.acting.Moved.{Moved}
 use Rattle.ts_glr.specs.declared.acting.Moved.TheVariants.{To, Ended, TooDeep}
-use Rattle.ts_glr.specs.Lists.{Each, Any}
-use Rattle.ts_glr.specs.Steps.{IsSeenAhead, Withstands, KeepsBest, LeadsTo, IsTooDeep, IsActed}
+use Rattle.ts_glr.specs.Lists.{OfEach, Any}
+use Rattle.ts_glr.specs.Steps.{IsSeenAhead, Withstands, KeepsBest, ActionLeads, IsTooDeep, IsActed}
 use Rattle.ts_glr.specs.Search.{heads_of, is_deep, Acting}
 use Rattle.ts_glr.proofs.ListLemmas.{each_append, each_map, any_left, any_right}
 use Rattle.ts_glr.proofs.RootLemmas.{one_root}
@@ -32,20 +32,20 @@ shift_room laws t size next old h f a is ahead acts = record {
   some = ahead.some (laws.shifts t.grammar (read_on old h) f.token.0 (by_shift t (read_on old h) f.token.0 next a is acts).0).0.0;
 }
 
-pub shift_leads : (g : FlatGrammar) (c e : Configuration) (f : FoundToken) (a : Action) (next : ℕ) → a ≡ Shift next → e ≡ pushed c (token_tree f.token f.pad f.size) → LeadsTo g c f a e
-shift_leads g c e f a next is same = subst (λ (b : Action). LeadsTo g c f b e) (sym is) same
+pub shift_leads : (g : FlatGrammar) (c e : Configuration) (f : FoundToken) (a : Action) (next : ℕ) → a ≡ Shift next → e ≡ pushed c (token_tree f.token f.pad f.size) → ActionLeads g c f a e
+shift_leads g c e f a next is same = subst (λ (b : Action). ActionLeads g c f b e) (sym is) same
 
 -- ---- where an action leads
 
 module _ (laws : Laws) (g : FlatGrammar) (c : Configuration) (f : FoundToken) where
-  pub lead_once : (a : Action) (d e : Configuration) → LeadsTo g c f a d → LeadsTo g c f a e → d ≡ e
+  pub lead_once : (a : Action) (d e : Configuration) → ActionLeads g c f a d → ActionLeads g c f a e → d ≡ e
   lead_once (Shift next) d e p q = p ∙ sym q
   lead_once (Reduce n) d e p q =
       let r = laws.one_reduction g n c.stack p.0 q.0 p.1 q.1 p.2 q.2 in
       p.4 ∙ ap {B = Configuration} (λ (s : List Tree). record { stack = s; place = c.place }) r.1 ∙ sym q.4
   lead_once Accept d e p q = absurd p
 
-  lead_shallow : (a : Action) (d : Configuration) → LeadsTo g c f a d → IsTooDeep g c a → ⊥
+  lead_shallow : (a : Action) (d : Configuration) → ActionLeads g c f a d → IsTooDeep g c a → ⊥
   lead_shallow (Shift next) d p deep = let e : Shift next ≡ Reduce deep.0 = deep.3 in cc
   lead_shallow (Reduce n) d p deep =
       let e : Reduce n ≡ Reduce deep.0 = deep.3 in
@@ -55,17 +55,17 @@ module _ (laws : Laws) (g : FlatGrammar) (c : Configuration) (f : FoundToken) wh
       omega (arith, d, p.3, deep.5)
   lead_shallow Accept d p deep = absurd p
 
-  leads_no_end : (a : Action) (d : Configuration) → LeadsTo g c f a d → a ≡ Accept → ⊥
-  leads_no_end a d p is = subst (λ (b : Action). LeadsTo g c f b d) is p
+  leads_no_end : (a : Action) (d : Configuration) → ActionLeads g c f a d → a ≡ Accept → ⊥
+  leads_no_end a d p is = subst (λ (b : Action). ActionLeads g c f b d) is p
 
 -- ---- one more action
 
 module _ (laws : Laws) (t : ParseTable) (size : ℕ) (c : Configuration) (f : FoundToken) where
   abbrev Sound : List (List Layer) → List Action → StackHead → Type 0
-  Sound stacks done h = IsLiveHead t size stacks h × Any (λ (a : Action). LeadsTo t.grammar c f a (config_of stacks h)) done
+  Sound stacks done h = IsLiveHead t size stacks h × Any (λ (a : Action). ActionLeads t.grammar c f a (config_of stacks h)) done
 
   abbrev Complete : List (List Layer) → List StackHead → Action → Type 0
-  Complete stacks more a = (e : Configuration) → LeadsTo t.grammar c f a e → Any (λ (h : StackHead). config_of stacks h ≡ e) more
+  Complete stacks more a = (e : Configuration) → ActionLeads t.grammar c f a e → Any (λ (h : StackHead). config_of stacks h ≡ e) more
 
   abbrev Accounted : Option Tree → Action → Type 0
   Accounted best a = a ≡ Accept → (u : Tree) → IsRootOf c.stack u → Withstands best u
@@ -94,16 +94,16 @@ module _ (laws : Laws) (t : ParseTable) (size : ℕ) (c : Configuration) (f : Fo
   }
 
   -- stacks that stay are known as before, among more actions
-  sound_grown : (old new : List (List Layer)) (done : List Action) (a : Action) (more : List StackHead) → GainsStacks old new → Each (Sound old done) more → Each (Sound new (done ++ a ∷ [])) more
+  sound_grown : (old new : List (List Layer)) (done : List Action) (a : Action) (more : List StackHead) → GainsStacks old new → OfEach (Sound old done) more → OfEach (Sound new (done ++ a ∷ [])) more
   sound_grown old new done a more grows all =
       each_map (Sound old done) (Sound new (done ++ a ∷ [])) more
       (λ h s. (
         live_stays t size old new h grows s.0,
-        any_left (λ (b : Action). LeadsTo t.grammar c f b (config_of new h)) done (a ∷ [])
-            (subst (λ (e : Configuration). Any (λ (b : Action). LeadsTo t.grammar c f b e) done) (sym (config_stays t size old new h grows s.0)) s.1),
+        any_left (λ (b : Action). ActionLeads t.grammar c f b (config_of new h)) done (a ∷ [])
+            (subst (λ (e : Configuration). Any (λ (b : Action). ActionLeads t.grammar c f b e) done) (sym (config_stays t size old new h grows s.0)) s.1),
       )) all
 
-  found_grown : (old new : List (List Layer)) (done : List Action) (e : Configuration) (more : List StackHead) → GainsStacks old new → Each (Sound old done) more → Any (λ (h : StackHead). config_of old h ≡ e) more → Any (λ (h : StackHead). config_of new h ≡ e) more
+  found_grown : (old new : List (List Layer)) (done : List Action) (e : Configuration) (more : List StackHead) → GainsStacks old new → OfEach (Sound old done) more → Any (λ (h : StackHead). config_of old h ≡ e) more → Any (λ (h : StackHead). config_of new h ≡ e) more
   found_grown old new done e [] grows all any = absurd any
   found_grown old new done e (h ∷ hs) grows all (inl is) = inl (config_stays t size old new h grows all.0.0 ∙ is)
   found_grown old new done e (h ∷ hs) grows all (inr any) = inr (found_grown old new done e hs grows all.1 any)
@@ -113,13 +113,13 @@ module _ (laws : Laws) (t : ParseTable) (size : ℕ) (c : Configuration) (f : Fo
 
   -- the action led to a head
   pub acting_to : (old new : List (List Layer)) (done : List Action) (a : Action) (k : StackHead) (first live live' : List StackHead) (start best : Option Tree) → GainsStacks old new → Acting t size old c f done first live start best
-      → IsLiveHead t size new k → LeadsTo t.grammar c f a (config_of new k) → live' ≡ live ++ k ∷ [] → Acting t size new c f (done ++ a ∷ []) first live' start best
+      → IsLiveHead t size new k → ActionLeads t.grammar c f a (config_of new k) → live' ≡ live ++ k ∷ [] → Acting t size new c f (done ++ a ∷ []) first live' start best
   acting_to old new done a k first live live' start best grows b head leads live_is = record {
     more = b.more ++ k ∷ [];
     live_is = live_is ∙ ap (λ (l : List StackHead). l ++ k ∷ []) b.live_is ∙ append_assoc first b.more (k ∷ []);
     few = omega (arith, length-append b.more (k ∷ []), length-append done (a ∷ []), b.few);
     sound = each_append (Sound new (done ++ a ∷ [])) b.more (k ∷ []) (sound_grown old new done a b.more grows b.sound)
-        ((head, any_right (λ (x : Action). LeadsTo t.grammar c f x (config_of new k)) done (a ∷ []) (inl leads)), tt);
+        ((head, any_right (λ (x : Action). ActionLeads t.grammar c f x (config_of new k)) done (a ∷ []) (inl leads)), tt);
     complete = each_append (Complete new (b.more ++ k ∷ [])) done (a ∷ [])
         (each_map (Complete old b.more) (Complete new (b.more ++ k ∷ [])) done
         (λ x all e l. any_left (λ (h : StackHead). config_of new h ≡ e) b.more (k ∷ []) (found_grown old new done e b.more grows b.sound (all e l))) b.complete)
@@ -161,7 +161,7 @@ module _ (laws : Laws) (t : ParseTable) (size : ℕ) (c : Configuration) (f : Fo
       → IsActed t size old new h f best after a m → is_deep m ≡ false → live' ≡ live ++ heads_of m → Acting t size new c f (done ++ a ∷ []) first live' start after
   acting_more old new h done a (To k) first live live' start best after same grows b acted shallow live_is =
       subst (λ (o : Option Tree). Acting t size new c f (done ++ a ∷ []) first live' start o) (sym acted.2)
-      (acting_to old new done a k first live live' start best grows b acted.0 (subst (λ (d : Configuration). LeadsTo t.grammar d f a (config_of new k)) same acted.1) live_is)
+      (acting_to old new done a k first live live' start best grows b acted.0 (subst (λ (d : Configuration). ActionLeads t.grammar d f a (config_of new k)) same acted.1) live_is)
   acting_more old new h done a Ended first live live' start best after same grows b acted shallow live_is =
       acting_ended old new done a acted.1.0 first live live' start best after grows b acted.0 (subst (λ (d : Configuration). IsRootOf d.stack (bare acted.1.0)) same acted.1.1) acted.1.2 live_is
   acting_more old new h done a TooDeep first live live' start best after same grows b acted shallow live_is = absurd (let e : true ≡ false = shallow in cc)

@@ -1,7 +1,6 @@
 -- After a reduction the same token is seen again, where some action stays on it.
-use Rattle.std.proofs.Common.{◌≡◌, sym, refl, subst, ℕ, zero, suc, ◌+◌, ◌<◌, inl, inr, ⊎_elim, List, [], ◌∷◌, ◌++◌, length, Option, Some, None, arith}
+use Rattle.std.proofs.Common.{◌≡◌, sym, refl, subst, ℕ, ◌<◌, inl, List, [], ◌∷◌, length, Option, Some, None, arith}
 use Rattle.std.specs.List.{Contains}
-use Rattle.std.proofs.lemmas.List.Elements.{Contains-append_left, Contains-append_right, Contains-append_cases}
 use Rattle.ts_base.specs.Bytes.{Bytes}
 use Rattle.ts_core.specs.declared.action.Action.{Action}
 use Rattle.ts_core.specs.declared.action.Action.TheVariants.{Reduce}
@@ -10,8 +9,7 @@ use Rattle.ts_core.specs.declared.symbol.Symbol.{Symbol}
 use Rattle.spec_runs.specs.Configurations.{Configuration, stack_symbols, HasMove, AreValidTokens}
 use Rattle.ts_table.specs.declared.view.ParseTable.{ParseTable}
 use Rattle.ts_table.specs.Tables.{actions_of, IsTable, IsStateOf, ActsBy}
-use Rattle.ts_lexer.specs.States.{AreValid, AreActing, GainsActing}
-use Rattle.ts_lexer.proofs.StateLemmas.{acting_none, acting_more, gains_none, gains_push, WithExtras, are_valid}
+use Rattle.ts_lexer.specs.States.{AreValid}
 use Rattle.ts_gss.specs.declared.layer.Layer.{Layer}
 use Rattle.ts_moves.specs.declared.found.FoundToken.{FoundToken}
 use Rattle.ts_moves.specs.declared.head.StackHead.{StackHead}
@@ -19,55 +17,10 @@ use Rattle.ts_moves.specs.Heads.{config_of}
 use Rattle.ts_moves.specs.Laws.{Laws}
 use Rattle.ts_glr.specs.Laws.{SameTokenAgain}
 use Rattle.ts_glr.specs.Joining.{IsTakenOut}
-use Rattle.ts_glr.specs.Steps.{SeesToken, IsKnown, LeadsTo}
+use Rattle.ts_glr.specs.Steps.{SeesToken, IsKnown, ActionLeads}
 use Rattle.ts_glr.specs.Search.{AllKnow}
 use Rattle.ts_glr.proofs.ListLemmas.{each_right}
 use Rattle.ts_glr.proofs.TableLemmas.{by_reduce, move_of, valid_tokens}
-
--- ---- the valid tokens of a state, as a list
-
--- the symbol of a number
-abbrev symbol_at : ℕ → Symbol
-symbol_at k = record { 0 = k }
-
--- the list, and the symbol where there are actions
-with_acting : ℕ → List Action → List Symbol → List Symbol
-with_acting k [] l = l
-with_acting k (a ∷ more) l = l ++ symbol_at k ∷ []
-
--- the tokens below a number on which the state acts
-acting_below : ParseTable → ℕ → ℕ → List Symbol
-acting_below t n zero = []
-acting_below t n (suc k) = with_acting k (actions_of t n k) (acting_below t n k)
-
-none_in : (a : Action) → Contains [] a → ⊥
-none_in a (k, below, _) = omega arith
-
-gains_acting : (t : ParseTable) (n k : ℕ) (old : List Symbol) (actions : List Action) → actions_of t n k ≡ actions → GainsActing t n (symbol_at k) old (with_acting k actions old)
-unfolding with_acting
-gains_acting t n k old [] e = gains_none t n (symbol_at k) old (λ has. none_in has.0 (subst (λ (l : List Action). Contains l has.0) e has.1))
-gains_acting t n k old (a ∷ more) e = gains_push t n (symbol_at k) old (a, subst (λ (l : List Action). Contains l a) (sym e) (0, (omega arith), refl))
-
-are_acting : (t : ParseTable) (n k : ℕ) → AreActing t n (acting_below t n k) k
-unfolding acting_below
-are_acting t n zero = acting_none t n
-are_acting t n (suc k) =
-    let e : k + 1 ≡ suc k = omega arith in
-    subst (λ (m : ℕ). AreActing t n (with_acting k (actions_of t n k) (acting_below t n k)) m) e
-    (acting_more t n (symbol_at k) (acting_below t n k) (with_acting k (actions_of t n k) (acting_below t n k)) (are_acting t n k) (gains_acting t n k (acting_below t n k) (actions_of t n k) refl))
-
-with_extras : (t : ParseTable) (n : ℕ) (tokens : List Symbol) → AreActing t n tokens (length t.grammar.tokens + 1) → WithExtras t n (tokens ++ t.grammar.extras) t.grammar.extras
-with_extras t n tokens acting s = (
-  (λ h. ⊎_elim (λ w. inl ((acting s).0 w)) (λ w. inr w) (Contains-append_cases tokens t.grammar.extras s h)),
-  (λ h. ⊎_elim (λ w. Contains-append_left tokens t.grammar.extras s ((acting s).1 w)) (λ w. Contains-append_right tokens t.grammar.extras s w) h),
-)
-
-valid_list : (t : ParseTable) (n : ℕ) → (valid : List Symbol) × AreValid t n valid
-valid_list t n = (
-  acting_below t n (length t.grammar.tokens + 1) ++ t.grammar.extras,
-  are_valid t n (acting_below t n (length t.grammar.tokens + 1) ++ t.grammar.extras)
-      (with_extras t n (acting_below t n (length t.grammar.tokens + 1)) (are_acting t n (length t.grammar.tokens + 1))),
-)
 
 some_action : (actions : List Action) → 0 < length actions → (a : Action) × Contains actions a
 some_action [] lt = absurd (omega arith)
@@ -75,11 +28,11 @@ some_action (a ∷ more) lt = (a, (0, (omega arith), refl))
 
 -- ---- the token that is seen again
 
-pub sees_again : (laws : Laws) (again : SameTokenAgain) (t : ParseTable) (table : IsTable t) (text : Bytes) (c e : Configuration) (f : FoundToken) (number n : ℕ) → SeesToken t.grammar text c f
-    → ActsBy t (stack_symbols c.stack) f.token.0 (Reduce number) → LeadsTo t.grammar c f (Reduce number) e → IsStateOf t (stack_symbols e.stack) n → 0 < length (actions_of t n f.token.0) → SeesToken t.grammar text e f
-sees_again laws again t table text c e f number n sees acts leads st some =
+pub sees_again : (laws : Laws) (again : SameTokenAgain) (lists : (u : ParseTable) (m : ℕ) → (valid : List Symbol) × AreValid u m valid) (t : ParseTable) (table : IsTable t) (text : Bytes) (c e : Configuration) (f : FoundToken) (number n : ℕ) → SeesToken t.grammar text c f
+    → ActsBy t (stack_symbols c.stack) f.token.0 (Reduce number) → ActionLeads t.grammar c f (Reduce number) e → IsStateOf t (stack_symbols e.stack) n → 0 < length (actions_of t n f.token.0) → SeesToken t.grammar text e f
+sees_again laws again lists t table text c e f number n sees acts leads st some =
     let here : IsStateOf t (stack_symbols leads.1) n = subst (λ (d : Configuration). IsStateOf t (stack_symbols d.stack) n) leads.4 st in
-    let list = valid_list t n in
+    let list = lists t n in
     let are : AreValidTokens t.grammar (stack_symbols leads.1) list.0 = valid_tokens laws t (stack_symbols leads.1) n list.0 table here list.1 in
     let first = some_action (actions_of t n f.token.0) some in
     let move : HasMove t.grammar (stack_symbols leads.1) f.token.0 = move_of t (stack_symbols leads.1) f.token.0 first.0 ((table.actions (stack_symbols leads.1) n f.token.0 first.0 here).0 first.1) in

@@ -4,11 +4,13 @@ use Rattle.std.specs.List.{Contains}
 use Rattle.ts_base.specs.Bytes.{Bytes}
 use Rattle.ts_core.specs.declared.action.Action.{Action}
 use Rattle.ts_core.specs.declared.action.Action.TheVariants.{Reduce}
+use Rattle.ts_core.specs.declared.symbol.Symbol.{Symbol}
 use Rattle.spec_trees.specs.declared.tree.Tree.{Tree}
 use Rattle.spec_runs.specs.Configurations.{stack_symbols}
 use Rattle.spec_runs.specs.Runs.{ComesTooDeep}
 use Rattle.ts_table.specs.declared.view.ParseTable.{ParseTable}
 use Rattle.ts_table.specs.Tables.{actions_of, most_actions, IsTable, IsStateOf, ActsBy}
+use Rattle.ts_lexer.specs.States.{AreValid}
 use Rattle.ts_gss.specs.declared.layer.Layer.{Layer}
 use Rattle.ts_gss.specs.Stacks.{stack_at, state_on}
 use Rattle.ts_moves.specs.declared.found.FoundToken.{FoundToken}
@@ -18,7 +20,7 @@ use Rattle.ts_moves.specs.Heads.{config_of, read_on, IsLiveHead}
 use Rattle.ts_glr.specs.declared.acting.Moved.{Moved}
 use Rattle.ts_glr.specs.declared.acting.Moved.TheVariants.{To, Ended, TooDeep}
 use Rattle.ts_glr.specs.Laws.{SameTokenAgain}
-use Rattle.ts_glr.specs.Steps.{SeesToken, IsKnown, LeadsTo, IsActed}
+use Rattle.ts_glr.specs.Steps.{SeesToken, IsKnown, ActionLeads, IsActed}
 use Rattle.ts_glr.specs.Search.{heads_of, is_deep, IsTo, AllKnow, Acting, Spent}
 use Rattle.ts_glr.proofs.StackLemmas.{grows_none, state_there, read_config}
 use Rattle.ts_glr.proofs.ActLemmas.{acting_begins, acting_to, acting_ended, acted_deep}
@@ -44,9 +46,6 @@ acting_alone laws t size f old new h a TooDeep live live' best after acted shall
 
 module _ (laws : Laws) (t : ParseTable) (table : IsTable t) (size : ℕ) (old new : List (List Layer)) (h : StackHead) (f : FoundToken) (state : ℕ) (st : IsStateOf t (read_on old h) state) (actions : List Action)
     (exact : (x : Action) → Contains actions x ↔ ActsBy t (read_on old h) f.token.0 x) (a : Action) (only : actions ≡ a ∷ []) (m : Moved) (best after : Option Tree) (acted : IsActed t size old new h f best after a m) where
-  pub alone_acts : ActsBy t (read_on old h) f.token.0 a
-  alone_acts = (exact a).0 (has_only actions a only)
-
   pub alone_spent : (text : Bytes) → length text ≡ size → SeesToken t.grammar text (config_of old h) f → (live live' : List StackHead) (stuck : Option ℕ) → length actions ≤ most_actions t → is_deep m ≡ false → live' ≡ live ++ heads_of m
       → Spent t text new (most_actions t) (config_of old h) live live' best after stuck stuck
   alone_spent text long sees live live' stuck few shallow live_is =
@@ -60,10 +59,10 @@ module _ (laws : Laws) (t : ParseTable) (table : IsTable t) (size : ℕ) (old ne
       (acted_deep laws t size (config_of old h) f old new h a m best after refl acted deep)
 
   -- what is seen again is what the new head sees
-  pub alone_known : (again : SameTokenAgain) (text : Bytes) → SeesToken t.grammar text (config_of old h) f → (live' : List StackHead) (ahead : Option FoundToken) → live' ≡ heads_of m
+  pub alone_known : (again : SameTokenAgain) (lists : (u : ParseTable) (n : ℕ) → (valid : List Symbol) × AreValid u n valid) (text : Bytes) → SeesToken t.grammar text (config_of old h) f → (live' : List StackHead) (ahead : Option FoundToken) → live' ≡ heads_of m
       → ((g : FoundToken) (k : StackHead) → ahead ≡ Some g → IsTo m k → (g ≡ f) × ((number : ℕ) × (a ≡ Reduce number)) × (0 < length (actions_of t (state_on (stack_at new k.top)) f.token.0)))
       → AllKnow t.grammar text new live' ahead
-  alone_known again text sees live' ahead live_is known = subst (λ (l : List StackHead). AllKnow t.grammar text new l ahead) (sym live_is) (by m refl)
+  alone_known again lists text sees live' ahead live_is known = subst (λ (l : List StackHead). AllKnow t.grammar text new l ahead) (sym live_is) (by m refl)
     where
       acts_config : (number : ℕ) → a ≡ Reduce number → ActsBy t (stack_symbols (config_of old h).stack) f.token.0 (Reduce number)
       acts_config number is =
@@ -76,9 +75,9 @@ module _ (laws : Laws) (t : ParseTable) (table : IsTable t) (size : ℕ) (old ne
           let act = subst (λ (x : Moved). IsActed t size old new h f best after a x) is acted in
           let st : IsStateOf t (read_on new k) (state_on (stack_at new k.top)) = state_there t (stack_at new k.top) act.0.stack.states in
           let there : IsStateOf t (stack_symbols (config_of new k).stack) (state_on (stack_at new k.top)) = subst (λ (read : List ℕ). IsStateOf t read (state_on (stack_at new k.top))) (sym (read_config laws new k)) st in
-          let leads : LeadsTo t.grammar (config_of old h) f (Reduce seen.1.0) (config_of new k) = subst (λ (x : Action). LeadsTo t.grammar (config_of old h) f x (config_of new k)) seen.1.1 act.1 in
+          let leads : ActionLeads t.grammar (config_of old h) f (Reduce seen.1.0) (config_of new k) = subst (λ (x : Action). ActionLeads t.grammar (config_of old h) f x (config_of new k)) seen.1.1 act.1 in
           subst (λ (x : FoundToken). SeesToken t.grammar text (config_of new k) x) (sym seen.0)
-          (sees_again laws again t table text (config_of old h) (config_of new k) f seen.1.0 (state_on (stack_at new k.top)) sees (acts_config seen.1.0 seen.1.1) leads there seen.2)
+          (sees_again laws again lists t table text (config_of old h) (config_of new k) f seen.1.0 (state_on (stack_at new k.top)) sees (acts_config seen.1.0 seen.1.1) leads there seen.2)
 
       by : (x : Moved) → m ≡ x → AllKnow t.grammar text new (heads_of x) ahead
       by (To k) is = (to k is, tt)

@@ -12,7 +12,7 @@ use Rattle.ts_gss.specs.Stacks.{stack_at, trees_on, tree_on, under_top}
 use Rattle.ts_moves.specs.declared.head.StackHead.{StackHead}
 use Rattle.ts_moves.specs.Laws.{Laws}
 use Rattle.ts_moves.specs.Good.{IsGoodTree, AreGoodTrees}
-use Rattle.ts_glr.specs.Lists.{Each}
+use Rattle.ts_glr.specs.Lists.{OfEach}
 use Rattle.ts_glr.specs.Laws.{PackingLaws}
 use Rattle.ts_glr.specs.Joining.{GoesBefore, IsTakenOut, HeadServes, IsKeptOf, JoinsOne}
 use Rattle.ts_glr.proofs.ListLemmas.{each_append, each_map, each_at}
@@ -40,9 +40,9 @@ module _ {X : Type 0} where
   set_parts xs k y lt =
       sym (take-append-drop k (slice_set xs k y)) ∙ ap (λ (l : List X). l ++ drop k (slice_set xs k y)) (take-set xs k y) ∙ ap (λ (l : List X). take k xs ++ l) (drop-set xs k y lt)
 
-  each_one_more : (P : X → Type 0) (xs : List X) (k : ℕ) (x : X) → slice_get xs k ≡ Some x → Each P (take k xs) → P x → Each P (take (k + 1) xs)
+  each_one_more : (P : X → Type 0) (xs : List X) (k : ℕ) (x : X) → slice_get xs k ≡ Some x → OfEach P (take k xs) → P x → OfEach P (take (k + 1) xs)
   each_one_more P xs k x e a p =
-      subst (Each P) (sym (take_more xs k x (in_list xs k x e) ∙ ap (λ (y : X). take k xs ++ y ∷ []) (there_or xs k x x e))) (each_append P (take k xs) (x ∷ []) a (p, tt))
+      subst (OfEach P) (sym (take_more xs k x (in_list xs k x e) ∙ ap (λ (y : X). take k xs ++ y ∷ []) (there_or xs k x x e))) (each_append P (take k xs) (x ∷ []) a (p, tt))
 
 -- ---- the order
 
@@ -58,7 +58,7 @@ goes_through stacks a b c (inr p) (inr q) = inr ((omega (arith, p.0, q.0)), (ome
 
 -- none of these goes before the head
 abbrev pub NoneBefore : List (List Layer) → List StackHead → StackHead → Type 0
-NoneBefore stacks ks h = Each (λ k. GoesBefore stacks k h → ⊥) ks
+NoneBefore stacks ks h = OfEach (λ k. GoesBefore stacks k h → ⊥) ks
 
 none_before_next : (stacks : List (List Layer)) (ks : List StackHead) (a b : StackHead) → NoneBefore stacks ks b → GoesBefore stacks a b → NoneBefore stacks ks a
 none_before_next stacks ks a b none lt = each_map (λ (k : StackHead). GoesBefore stacks k b → ⊥) (λ (k : StackHead). GoesBefore stacks k a → ⊥) ks (λ k w u. w (goes_through stacks k a b u lt)) none

@@ -14,7 +14,7 @@ use Rattle.spec_lexing.specs.Seen.{HasFront, IsReach, IsSeen, last, more, one_ch
 use Rattle.spec_runs.specs.Configurations.{Configuration, stack_symbols, HasMove, AreValidTokens, NextIs}
 use Rattle.ts_table.specs.declared.view.ParseTable.{ParseTable}
 use Rattle.ts_table.specs.Tables.{IsTable, IsStateOf}
-use Rattle.ts_lexer.specs.Answers.{Says, extent_of, IsLexedAt}
+use Rattle.ts_lexer.specs.Answers.{SaysFound, extent_of, IsLexedAt}
 use Rattle.ts_lexer.specs.declared.lexed.Lexed.{Lexed}
 use Rattle.ts_lexer.specs.declared.lexed.Lexed.TheVariants.{Token, Absent}
 use Rattle.ts_moves.specs.Laws.{Laws}
@@ -80,7 +80,7 @@ module _ (laws : Laws) (g : FlatGrammar) (valid : List Symbol) where
 
 module _ (laws : Laws) (t : ParseTable) (read : List ℕ) (n : ℕ) (text : Bytes) (c : Configuration) where
   sees_by : (lexed : Lexed) (valid : List Symbol) (found : Found) → c.place ≤ length text → AreValidTokens t.grammar (stack_symbols c.stack) valid → Lexes t.grammar valid true (drop c.place text) found
-      → Says c.place lexed found → IsSeen t.grammar valid true (drop c.place text) (extent_of lexed) → Sees t.grammar text c lexed
+      → SaysFound c.place lexed found → IsSeen t.grammar valid true (drop c.place text) (extent_of lexed) → Sees t.grammar text c lexed
   sees_by (Token s pad size extent) valid found within are lex says seen =
       let l : Lexes t.grammar valid true (drop c.place text) (token s pad size) = subst (λ (f : Found). Lexes t.grammar valid true (drop c.place text) f) says lex in
       record {

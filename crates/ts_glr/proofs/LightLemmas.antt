@@ -27,7 +27,7 @@ use Rattle.ts_gss.specs.declared.layer.Layer.{Layer}
 use Rattle.ts_moves.specs.declared.head.StackHead.{StackHead}
 use Rattle.ts_moves.specs.Laws.{Laws}
 use Rattle.ts_moves.specs.Heads.{config_of, IsLiveHead}
-use Rattle.ts_glr.specs.Lists.{Each}
+use Rattle.ts_glr.specs.Lists.{OfEach}
 use Rattle.ts_glr.specs.Joining.{IsTakenOut, JoinsOne}
 use Rattle.ts_glr.specs.Search.{StacksStay}
 use Rattle.ts_glr.specs.Weights.{weight, weight_of, last_of, config_weight, head_weight, powers, live_weight}
@@ -219,12 +219,12 @@ module _ (laws : Laws) (t : ParseTable) (fit : Fit t.grammar) (ranks : AreUnitRa
   lighter : (h k : StackHead) → IsLiveHead t (length text) old h → StepsOn t.grammar text (config_of old h) (config_of new k) → head_weight t.grammar (length text) new k < head_weight t.grammar (length text) old h
   lighter h k live step = light_step laws t.grammar fit ranks text (config_of old h) (config_of new k) live.stack.within step
 
-  each_lighter : (h : StackHead) (hs : List StackHead) → IsLiveHead t (length text) old h → Each (λ k. IsLiveHead t (length text) new k × StepsOn t.grammar text (config_of old h) (config_of new k)) hs
-      → Each (λ (v : ℕ). v < head_weight t.grammar (length text) old h) (map (head_weight t.grammar (length text) new) hs)
+  each_lighter : (h : StackHead) (hs : List StackHead) → IsLiveHead t (length text) old h → OfEach (λ k. IsLiveHead t (length text) new k × StepsOn t.grammar text (config_of old h) (config_of new k)) hs
+      → OfEach (λ (v : ℕ). v < head_weight t.grammar (length text) old h) (map (head_weight t.grammar (length text) new) hs)
   each_lighter h [] live all = tt
   each_lighter h (k ∷ hs) live all = (lighter h k live all.0.1, each_lighter h hs live all.1)
 
-  same_weights : (hs : List StackHead) → StacksStay old new hs → Each (λ k. IsLiveHead t (length text) old k) hs → map (head_weight t.grammar (length text) new) hs ≡ map (head_weight t.grammar (length text) old) hs
+  same_weights : (hs : List StackHead) → StacksStay old new hs → OfEach (λ k. IsLiveHead t (length text) old k) hs → map (head_weight t.grammar (length text) new) hs ≡ map (head_weight t.grammar (length text) old) hs
   same_weights [] stay all = refl
   same_weights (k ∷ hs) stay all =
       ap (λ (n : ℕ). n ∷ map (head_weight t.grammar (length text) new) hs) (ap (λ (c : Configuration). config_weight t.grammar (length text) c) (config_kept t (length text) old new k stay.0 all.0))
@@ -236,8 +236,8 @@ module _ (laws : Laws) (t : ParseTable) (fit : Fit t.grammar) (ranks : AreUnitRa
 
   -- the live stacks come to less after the last one was followed
   live_falls : (h : StackHead) (rest more live live' : List StackHead) → StacksStay old new rest → live ≡ rest ++ h ∷ [] → live' ≡ rest ++ more → length more ≤ suc (most_actions t) → IsLiveHead t (length text) old h
-      → Each (λ k. IsLiveHead t (length text) old k) rest
-      → Each (λ k. IsLiveHead t (length text) new k × StepsOn t.grammar text (config_of old h) (config_of new k)) more
+      → OfEach (λ k. IsLiveHead t (length text) old k) rest
+      → OfEach (λ k. IsLiveHead t (length text) new k × StepsOn t.grammar text (config_of old h) (config_of new k)) more
       → live_weight t (length text) new live' < live_weight t (length text) old live
   live_falls h rest more live live' stay live_is live_is' le is others all =
       let w : StackHead → ℕ = head_weight t.grammar (length text) old in
@@ -289,8 +289,8 @@ module _ (t : ParseTable) (size : ℕ) (stacks : List (List Layer)) where
 
 -- the live stacks come to less after one was taken out and followed
 pub followed_falls : (laws : Laws) (t : ParseTable) (fit : Fit t.grammar) (ranks : AreUnitRanks t.grammar (unit_rank t.grammar) (symbol_count t.grammar)) (text : Bytes) (old new : List (List Layer)) (h : StackHead) (rest more live live' : List StackHead) → StacksStay old new rest → IsTakenOut old live rest h
-    → live' ≡ rest ++ more → length more ≤ suc (most_actions t) → IsLiveHead t (length text) old h → Each (λ k. IsLiveHead t (length text) old k) rest
-    → Each (λ k. IsLiveHead t (length text) new k × StepsOn t.grammar text (config_of old h) (config_of new k)) more
+    → live' ≡ rest ++ more → length more ≤ suc (most_actions t) → IsLiveHead t (length text) old h → OfEach (λ k. IsLiveHead t (length text) old k) rest
+    → OfEach (λ k. IsLiveHead t (length text) new k × StepsOn t.grammar text (config_of old h) (config_of new k)) more
     → live_weight t (length text) new live' < live_weight t (length text) old live
 followed_falls laws t fit ranks text old new h rest more live live' stay k live_is le is others all =
     let fall = live_falls laws t fit ranks text old new h rest more (rest ++ h ∷ []) live' stay refl live_is le is others all in

@@ -1,26 +1,26 @@
 -- What holds of each element of a list, or of some one.
 use Rattle.std.proofs.Common.{◌≡◌, sym, subst, refl, ℕ, ◌<◌, zero, suc, List, [], ◌∷◌, ◌++◌, length, get_or, ◌⊎◌, inl, inr, ⊎_elim, arith}
 use Rattle.std.specs.List.{Contains}
-use Rattle.ts_glr.specs.Lists.{Each, Any}
+use Rattle.ts_glr.specs.Lists.{OfEach, Any}
 
 module _ {X : Type 0} where
-  pub each_append : (P : X → Type 0) (xs ys : List X) → Each P xs → Each P ys → Each P (xs ++ ys)
+  pub each_append : (P : X → Type 0) (xs ys : List X) → OfEach P xs → OfEach P ys → OfEach P (xs ++ ys)
   each_append P [] ys a b = b
   each_append P (x ∷ xs) ys a b = (a.0, each_append P xs ys a.1 b)
 
-  pub each_map : (P Q : X → Type 0) (xs : List X) → ((x : X) → P x → Q x) → Each P xs → Each Q xs
+  pub each_map : (P Q : X → Type 0) (xs : List X) → ((x : X) → P x → Q x) → OfEach P xs → OfEach Q xs
   each_map P Q [] f a = tt
   each_map P Q (x ∷ xs) f a = (f x a.0, each_map P Q xs f a.1)
 
-  pub each_both : (P Q R : X → Type 0) (xs : List X) → ((x : X) → P x → Q x → R x) → Each P xs → Each Q xs → Each R xs
+  pub each_both : (P Q R : X → Type 0) (xs : List X) → ((x : X) → P x → Q x → R x) → OfEach P xs → OfEach Q xs → OfEach R xs
   each_both P Q R [] f a b = tt
   each_both P Q R (x ∷ xs) f a b = (f x a.0 b.0, each_both P Q R xs f a.1 b.1)
 
-  pub each_left : (P : X → Type 0) (xs ys : List X) → Each P (xs ++ ys) → Each P xs
+  pub each_left : (P : X → Type 0) (xs ys : List X) → OfEach P (xs ++ ys) → OfEach P xs
   each_left P [] ys a = tt
   each_left P (x ∷ xs) ys a = (a.0, each_left P xs ys a.1)
 
-  pub each_right : (P : X → Type 0) (xs ys : List X) → Each P (xs ++ ys) → Each P ys
+  pub each_right : (P : X → Type 0) (xs ys : List X) → OfEach P (xs ++ ys) → OfEach P ys
   each_right P [] ys a = a
   each_right P (x ∷ xs) ys a = each_right P xs ys a.1
 
@@ -44,24 +44,18 @@ module _ {X : Type 0} where
   any_map P Q (x ∷ xs) f (inr a) = inr (any_map P Q xs f a)
 
   -- where it holds of each, what holds of some one holds beside it
-  pub any_both : (P Q R : X → Type 0) (xs : List X) → ((x : X) → P x → Q x → R x) → Each P xs → Any Q xs → Any R xs
+  pub any_both : (P Q R : X → Type 0) (xs : List X) → ((x : X) → P x → Q x → R x) → OfEach P xs → Any Q xs → Any R xs
   any_both P Q R [] f a b = absurd b
   any_both P Q R (x ∷ xs) f a (inl b) = inl (f x a.0 b)
   any_both P Q R (x ∷ xs) f a (inr b) = inr (any_both P Q R xs f a.1 b)
 
-  pub each_at : (P : X → Type 0) (xs : List X) (x : X) → Each P xs → Contains xs x → P x
+  pub each_at : (P : X → Type 0) (xs : List X) (x : X) → OfEach P xs → Contains xs x → P x
   each_at P xs x a w = go P xs x w.0 a w.1 w.2
     where
-      go : (P : X → Type 0) (xs : List X) (x : X) (k : ℕ) → Each P xs → k < length xs → get_or xs k x ≡ x → P x
+      go : (P : X → Type 0) (xs : List X) (x : X) (k : ℕ) → OfEach P xs → k < length xs → get_or xs k x ≡ x → P x
       go P [] x k a lt is = absurd (omega arith)
       go P (y ∷ xs) x zero a lt is = subst P is a.0
       go P (y ∷ xs) x (suc k) a lt is = go P xs x k a.1 (omega arith) is
-
-  -- it holds of some one that the list has
-  pub any_at : (P Q : X → Type 0) (xs : List X) → ((x : X) → Contains xs x → P x → Q x) → Any P xs → Any Q xs
-  any_at P Q [] f a = absurd a
-  any_at P Q (x ∷ xs) f (inl a) = inl (f x (0, (omega arith), refl) a)
-  any_at P Q (x ∷ xs) f (inr a) = inr (any_at P Q xs (λ y w p. f y (suc w.0, (let lt : w.0 < length xs = w.1 in omega arith), w.2) p) a)
 
   pub any_to : (P : X → Type 0) (Q : Type 0) (xs : List X) → ((x : X) → Contains xs x → P x → Q) → Any P xs → Q
   any_to P Q [] f a = absurd a
@@ -69,10 +63,10 @@ module _ {X : Type 0} where
   any_to P Q (x ∷ xs) f (inr a) = any_to P Q xs (λ y w p. f y (suc w.0, (let lt : w.0 < length xs = w.1 in omega arith), w.2) p) a
 
   -- an element that stands last
-  pub each_last : (P : X → Type 0) (xs : List X) (y : X) (ys zs : List X) → zs ≡ xs ++ ys → Each P (xs ++ y ∷ ys) → Each P (zs ++ y ∷ [])
+  pub each_last : (P : X → Type 0) (xs : List X) (y : X) (ys zs : List X) → zs ≡ xs ++ ys → OfEach P (xs ++ y ∷ ys) → OfEach P (zs ++ y ∷ [])
   each_last P xs y ys zs is a =
       let r = each_right P xs (y ∷ ys) a in
-      each_append P zs (y ∷ []) (subst (Each P) (sym is) (each_append P xs ys (each_left P xs (y ∷ ys) a) r.1)) (r.0, tt)
+      each_append P zs (y ∷ []) (subst (OfEach P) (sym is) (each_append P xs ys (each_left P xs (y ∷ ys) a) r.1)) (r.0, tt)
 
   pub any_last : (P : X → Type 0) (xs : List X) (y : X) (ys zs : List X) → zs ≡ xs ++ ys → Any P (xs ++ y ∷ ys) → Any P (zs ++ y ∷ [])
   any_last P xs y ys zs is a = ⊎_elim (λ b. front (any_left P xs ys b)) (λ b. back b) (any_cases P xs (y ∷ ys) a)

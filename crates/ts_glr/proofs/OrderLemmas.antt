@@ -1,14 +1,13 @@
 -- The order by which the best tree is kept.
-use Rattle.std.proofs.Common.{◌≡◌, ◌∙◌, sym, refl, subst, ℕ, inl, inr, ⊎_elim, List, [], ◌∷◌, Option, Some, None, arith}
+use Rattle.std.proofs.Common.{◌≡◌, ◌∙◌, sym, refl, subst, ℕ, inl, inr, List, [], ◌∷◌, Option, Some, None, arith}
 use lib.IntN.{ℤ}
 use lib.Signed.{◌<ℤ◌}
 use Rattle.std.specs.Int.Signed.{<ℤ_irrefl}
 use Rattle.spec_trees.specs.declared.tree.Tree.{Tree}
 use Rattle.spec_trees.specs.Trees.{total_of, bare}
-use Rattle.spec_trees.specs.Choice.{code_of, ComesBefore, Better, IsInForm}
-use Rattle.ts_core.specs.declared.flat.FlatGrammar.{FlatGrammar}
+use Rattle.spec_trees.specs.Choice.{code_of, ComesBefore, Better}
 use Rattle.ts_moves.specs.Laws.{Laws}
-use Rattle.ts_glr.specs.Steps.{Withstands, KeepsBest, HasForm}
+use Rattle.ts_glr.specs.Steps.{KeepsBest}
 
 before_chains : (xs ys zs : List ℕ) → ComesBefore xs ys → ComesBefore ys zs → ComesBefore xs zs
 before_chains xs [] zs a b = absurd a
@@ -74,14 +73,3 @@ module _ (laws : Laws) where
     where
       one : (x : Tree) → Some o ≡ Some x → o ≡ x
       one x e = cc
-
-  -- the new one is not better
-  pub old_withstands : (old : Option Tree) (o t : Tree) → old ≡ Some o → (Better t o → ⊥) → Withstands old (bare t)
-  old_withstands old o t is not = (o, is, (λ b. not (bare_first t o (bare_second (bare t) o b))))
-
--- what was kept is in form
-pub kept_form : (g : FlatGrammar) (old new : Option Tree) (t : Tree) → KeepsBest old new t → HasForm g old → IsInForm g t → HasForm g new
-kept_form g old new t k h f b is = ⊎_elim (λ e. subst (IsInForm g) (one (sym e ∙ is)) f) (λ e. h b (sym e ∙ is)) k.from
-  where
-    one : Some t ≡ Some b → t ≡ b
-    one e = cc

@@ -15,11 +15,11 @@ use Rattle.ts_gss.specs.declared.layer.Layer.{Layer}
 use Rattle.ts_moves.specs.declared.head.StackHead.{StackHead}
 use Rattle.ts_moves.specs.Heads.{config_of, IsLiveHead}
 use Rattle.ts_glr.specs.declared.outcome.Outcome.{Outcome}
-use Rattle.ts_glr.specs.Lists.{Each, Any}
+use Rattle.ts_glr.specs.Lists.{OfEach, Any}
 use Rattle.ts_glr.specs.Steps.{HasForm}
 use Rattle.ts_glr.specs.Laws.{PackingLaws}
 use Rattle.ts_glr.specs.Joining.{IsTakenOut, HeadServes, JoinsOne}
-use Rattle.ts_glr.specs.Search.{StackStays, StacksStay, Covers, Keeps, Spent, Searching}
+use Rattle.ts_glr.specs.Search.{StackStays, StacksStay, AccountsFor, Keeps, Spent, Searching}
 use Rattle.ts_glr.specs.Outcomes.{value_of_outcome, EndsAs, IsTreeOf}
 use Rattle.ts_glr.proofs.ListLemmas.{each_append, each_map, each_both, each_left, each_right, any_left, any_right, any_cases, any_map, any_both, each_last, any_last}
 use Rattle.ts_glr.proofs.StackLemmas.{live_kept, config_kept}
@@ -60,18 +60,18 @@ module _ (packing : PackingLaws) (t : ParseTable) (fit : Fit t.grammar) (text : 
       (subst (λ (o : Option Tree). Searching t text ([] ∷ []) ((record { top = 0; place = 0 }) ∷ []) o stuck) (sym no_tree)
       (subst (λ (o : Option ℕ). Searching t text ([] ∷ []) ((record { top = 0; place = 0 }) ∷ []) None o) (sym no_place) begins_there)))
 
-  covers_more : (c d : Configuration) (best best' : Option Tree) (stuck stuck' : Option ℕ) → Keeps t.grammar text d best best' stuck stuck' → Covers t.grammar text best stuck c → Covers t.grammar text best' stuck' c
+  covers_more : (c d : Configuration) (best best' : Option Tree) (stuck stuck' : Option ℕ) → Keeps t.grammar text d best best' stuck stuck' → AccountsFor t.grammar text best stuck c → AccountsFor t.grammar text best' stuck' c
   covers_more c d best best' stuck stuck' k cov = record {
     accepted = λ u a. k.others u (cov.accepted u a);
     places = λ q s. k.past q (cov.places q s);
     shallow = cov.shallow;
   }
 
-  pub all_live : (stacks : List (List Layer)) (live : List StackHead) (best : Option Tree) (stuck : Option ℕ) → Searching t text stacks live best stuck → Each (λ k. IsLiveHead t (length text) stacks k) live
+  pub all_live : (stacks : List (List Layer)) (live : List StackHead) (best : Option Tree) (stuck : Option ℕ) → Searching t text stacks live best stuck → OfEach (λ k. IsLiveHead t (length text) stacks k) live
   all_live stacks live best stuck s = each_map (Live stacks) (λ (k : StackHead). IsLiveHead t (length text) stacks k) live (λ k w. w.0) s.heads
 
   -- what is accounted for at a configuration is at each for which it may stand
-  covers_served : (c d : Configuration) (best : Option Tree) (stuck : Option ℕ) → IsReached t.grammar text c → IsReached t.grammar text d → ServesConfiguration d c → Covers t.grammar text best stuck d → Covers t.grammar text best stuck c
+  covers_served : (c d : Configuration) (best : Option Tree) (stuck : Option ℕ) → IsReached t.grammar text c → IsReached t.grammar text d → ServesConfiguration d c → AccountsFor t.grammar text best stuck d → AccountsFor t.grammar text best stuck c
   covers_served c d best stuck rc rd s cov = record {
     accepted = λ u a.
         let w = packing.accepts t.grammar fit text c d u rc rd s a in
@@ -85,7 +85,7 @@ module _ (packing : PackingLaws) (t : ParseTable) (fit : Fit t.grammar) (text : 
   pub head_there : (stacks : List (List Layer)) (rest : List StackHead) (h : StackHead) (best : Option Tree) (stuck : Option ℕ) → Searching t text stacks (rest ++ h ∷ []) best stuck → Live stacks h
   head_there stacks rest h best stuck s = (each_right (Live stacks) rest (h ∷ []) s.heads).0
 
-  pub rest_live : (stacks : List (List Layer)) (rest : List StackHead) (h : StackHead) (best : Option Tree) (stuck : Option ℕ) → Searching t text stacks (rest ++ h ∷ []) best stuck → Each (λ k. IsLiveHead t (length text) stacks k) rest
+  pub rest_live : (stacks : List (List Layer)) (rest : List StackHead) (h : StackHead) (best : Option Tree) (stuck : Option ℕ) → Searching t text stacks (rest ++ h ∷ []) best stuck → OfEach (λ k. IsLiveHead t (length text) stacks k) rest
   rest_live stacks rest h best stuck s = each_left (λ (k : StackHead). IsLiveHead t (length text) stacks k) rest (h ∷ []) (all_live stacks (rest ++ h ∷ []) best stuck s)
 
   live_still : (old new : List (List Layer)) (h : StackHead) → StackStays old new h → Live old h → Live new h
@@ -98,7 +98,7 @@ module _ (packing : PackingLaws) (t : ParseTable) (fit : Fit t.grammar) (text : 
   pub search_more : (old new : List (List Layer)) (most : ℕ) (rest live' : List StackHead) (h : StackHead) (best best' : Option Tree) (stuck stuck' : Option ℕ) → StacksStay old new rest
       → Searching t text old (rest ++ h ∷ []) best stuck → Spent t text new most (config_of old h) rest live' best best' stuck stuck' → Searching t text new live' best' stuck'
   search_more old new most rest live' h best best' stuck stuck' stay s sp = record {
-    heads = subst (Each (Live new)) (sym sp.live_is)
+    heads = subst (OfEach (Live new)) (sym sp.live_is)
         (each_append (Live new) rest sp.more
         (each_both (StackStays old new) (Live old) (Live new) rest (λ k a w. live_still old new k a w) stay others)
         (each_map (Steps (config_of old h) new) (Live new) sp.more (λ k w. (w.0, run_more t.grammar text starting (config_of old h) (config_of new k) reached w.1)) sp.sound));
@@ -110,10 +110,10 @@ module _ (packing : PackingLaws) (t : ParseTable) (fit : Fit t.grammar) (text : 
     some = ⊎_elim (λ (n : 0 < length sp.more). inl (enough sp.more n sp.live_is)) (λ x. inr x) sp.fruitful;
   }
     where
-      others : Each (Live old) rest
+      others : OfEach (Live old) rest
       others = each_left (Live old) rest (h ∷ []) s.heads
 
-      kept : Each (λ k. StackStays old new k × Live old k) rest
+      kept : OfEach (λ k. StackStays old new k × Live old k) rest
       kept = each_both (StackStays old new) (Live old) (λ k. StackStays old new k × Live old k) rest (λ k a w. (a, w)) stay others
 
       reached : IsReached t.grammar text (config_of old h)
@@ -130,7 +130,7 @@ module _ (packing : PackingLaws) (t : ParseTable) (fit : Fit t.grammar) (text : 
           (λ k w r. subst (λ (d : Configuration). ComesToServe t.grammar text d c) (sym (config_kept t (length text) old new k w.0 w.1.0)) r)
           kept u))
 
-      run_from : (d at c : Configuration) → d ≡ config_of old h → IsReached t.grammar text c → Run t.grammar text d at → ComesTooDeep t.grammar text at ⊎ ServesConfiguration at c → Covers t.grammar text best' stuck' c ⊎ Any (LeadsBy new c) live'
+      run_from : (d at c : Configuration) → d ≡ config_of old h → IsReached t.grammar text c → Run t.grammar text d at → ComesTooDeep t.grammar text at ⊎ ServesConfiguration at c → AccountsFor t.grammar text best' stuck' c ⊎ Any (LeadsBy new c) live'
       run_from d _ c is r (run_here _) serves =
           inl (⊎_elim (λ deep. absurd (sp.covers.shallow (subst (λ (x : Configuration). ComesTooDeep t.grammar text x) is deep)))
           (λ w. covers_served c (config_of old h) best' stuck' r reached (subst (λ (x : Configuration). ServesConfiguration x c) is w) sp.covers) serves)
@@ -141,7 +141,7 @@ module _ (packing : PackingLaws) (t : ParseTable) (fit : Fit t.grammar) (text : 
           (λ k w. subst (λ (x : Configuration). ComesToServe t.grammar text x c) (sym w) (record { at = at; run = later; serves = serves }))
           (sp.complete e (subst (λ (x : Configuration). StepsOn t.grammar text x e) is first)))))
 
-      in_head : (c : Configuration) → IsReached t.grammar text c → Any (LeadsBy old c) (h ∷ []) → Covers t.grammar text best' stuck' c ⊎ Any (LeadsBy new c) live'
+      in_head : (c : Configuration) → IsReached t.grammar text c → Any (LeadsBy old c) (h ∷ []) → AccountsFor t.grammar text best' stuck' c ⊎ Any (LeadsBy new c) live'
       in_head c r (inl w) = run_from (config_of old h) w.at c refl r w.run w.serves
       in_head c r (inr w) = absurd w
 
@@ -150,7 +150,7 @@ module _ (packing : PackingLaws) (t : ParseTable) (fit : Fit t.grammar) (text : 
   -- one head stands last
   pub search_taken : (stacks : List (List Layer)) (live rest : List StackHead) (h : StackHead) (best : Option Tree) (stuck : Option ℕ) → IsTakenOut stacks live rest h → Searching t text stacks live best stuck → Searching t text stacks (rest ++ h ∷ []) best stuck
   search_taken stacks live rest h best stuck k s = record {
-    heads = each_last (Live stacks) k.left h k.right rest k.new_is (subst (Each (Live stacks)) k.old_is s.heads);
+    heads = each_last (Live stacks) k.left h k.right rest k.new_is (subst (OfEach (Live stacks)) k.old_is s.heads);
     done = λ c r. ⊎_elim (λ cov. inl cov) (λ w. inr (any_last (LeadsBy stacks c) k.left h k.right rest k.new_is (subst (Any (LeadsBy stacks c)) k.old_is w))) (s.done c r);
     tree_from = s.tree_from;
     stuck_from = s.stuck_from;
@@ -163,7 +163,7 @@ module _ (packing : PackingLaws) (t : ParseTable) (fit : Fit t.grammar) (text : 
   -- of two heads that lead on, the one that is kept leads to what both lead to
   pub search_joined : (stacks : List (List Layer)) (rest live : List StackHead) (h : StackHead) (best : Option Tree) (stuck : Option ℕ) → JoinsOne stacks rest live h → Searching t text stacks (rest ++ h ∷ []) best stuck → Searching t text stacks live best stuck
   search_joined stacks rest live h best stuck j s = record {
-    heads = subst (Each (Live stacks)) (sym j.new_is) (each_append (Live stacks) j.left (j.kept ∷ j.right) (each_left (Live stacks) j.left (j.other ∷ j.right) both) (kept_live, others.1));
+    heads = subst (OfEach (Live stacks)) (sym j.new_is) (each_append (Live stacks) j.left (j.kept ∷ j.right) (each_left (Live stacks) j.left (j.other ∷ j.right) both) (kept_live, others.1));
     done = λ c r. ⊎_elim (λ cov. inl cov) (λ w. inr (subst (Any (LeadsBy stacks c)) (sym j.new_is) (⊎_elim (λ u. in_rest c (subst (Any (LeadsBy stacks c)) j.old_is u)) (λ u. in_head c u)
         (any_cases (LeadsBy stacks c) rest (h ∷ []) w)))) (s.done c r);
     tree_from = s.tree_from;
@@ -171,10 +171,10 @@ module _ (packing : PackingLaws) (t : ParseTable) (fit : Fit t.grammar) (text : 
     some = inl (omega (arith, ap (λ (l : List StackHead). length l) j.new_is, length-append j.left (j.kept ∷ j.right)));
   }
     where
-      both : Each (Live stacks) (j.left ++ j.other ∷ j.right)
-      both = subst (Each (Live stacks)) j.old_is (each_left (Live stacks) rest (h ∷ []) s.heads)
+      both : OfEach (Live stacks) (j.left ++ j.other ∷ j.right)
+      both = subst (OfEach (Live stacks)) j.old_is (each_left (Live stacks) rest (h ∷ []) s.heads)
 
-      others : Each (Live stacks) (j.other ∷ j.right)
+      others : OfEach (Live stacks) (j.other ∷ j.right)
       others = each_right (Live stacks) j.left (j.other ∷ j.right) both
 
       last : Live stacks h
@@ -208,7 +208,7 @@ module _ (packing : PackingLaws) (t : ParseTable) (fit : Fit t.grammar) (text : 
   pub deep_ends : (stacks : List (List Layer)) (rest : List StackHead) (h : StackHead) (best : Option Tree) (stuck : Option ℕ) → Searching t text stacks (rest ++ h ∷ []) best stuck → ComesTooDeep t.grammar text (config_of stacks h) → SomeIsTooDeep t.grammar text
   deep_ends stacks rest h best stuck s deep = (config_of stacks h, (head_there stacks rest h best stuck s).1, deep)
 
-  all_covered : (stacks : List (List Layer)) (live : List StackHead) (best : Option Tree) (stuck : Option ℕ) → live ≡ [] → Searching t text stacks live best stuck → (c : Configuration) → IsReached t.grammar text c → Covers t.grammar text best stuck c
+  all_covered : (stacks : List (List Layer)) (live : List StackHead) (best : Option Tree) (stuck : Option ℕ) → live ≡ [] → Searching t text stacks live best stuck → (c : Configuration) → IsReached t.grammar text c → AccountsFor t.grammar text best stuck c
   all_covered stacks live best stuck empty s c r = ⊎_elim (λ cov. cov) (λ w. absurd (subst (Any (LeadsBy stacks c)) empty w)) (s.done c r)
 
   pub some_end : (stacks : List (List Layer)) (live : List StackHead) (best : Option Tree) (stuck : Option ℕ) → live ≡ [] → Searching t text stacks live best stuck → best ≡ None → stuck ≡ None → ⊥

@@ -24,8 +24,8 @@ use Rattle.ts_moves.specs.declared.head.StackHead.{StackHead}
 use Rattle.ts_moves.specs.Laws.{Laws}
 use Rattle.ts_moves.specs.Heads.{config_of, IsLiveHead, IsRootOf}
 use Rattle.ts_glr.specs.Lists.{Any}
-use Rattle.ts_glr.specs.Steps.{SeesToken, Withstands, LeadsTo, IsTooDeep}
-use Rattle.ts_glr.specs.Search.{Acting, IsPast, Spent}
+use Rattle.ts_glr.specs.Steps.{SeesToken, Withstands, ActionLeads, IsTooDeep}
+use Rattle.ts_glr.specs.Search.{Acting, IsPastStuck, Spent}
 use Rattle.ts_glr.proofs.ListLemmas.{each_map, each_at, any_to}
 use Rattle.ts_glr.proofs.LexLemmas.{next_valid}
 use Rattle.ts_glr.proofs.RootLemmas.{root_accepted, accepts_root}
@@ -67,7 +67,7 @@ module _ (laws : Laws) (g : FlatGrammar) (text : Bytes) (c : Configuration) (f :
 
 module _ (laws : Laws) (t : ParseTable) (text : Bytes) (c : Configuration) (f : FoundToken) (sees : SeesToken t.grammar text c f) where
   -- where an action of the table leads is a step
-  lead_step : (a : Action) (e : Configuration) → ActsBy t (stack_symbols c.stack) f.token.0 a → LeadsTo t.grammar c f a e → StepsOn t.grammar text c e
+  lead_step : (a : Action) (e : Configuration) → ActsBy t (stack_symbols c.stack) f.token.0 a → ActionLeads t.grammar c f a e → StepsOn t.grammar text c e
   lead_step (Shift next) e acts leads =
       subst (λ (d : Configuration). StepsOn t.grammar text c d) (sym leads)
       (shift_token f.token f.pad f.size sees.next (by_shift t (stack_symbols c.stack) f.token.0 next (Shift next) refl acts).0)
@@ -127,11 +127,11 @@ module _ (laws : Laws) (t : ParseTable) (text : Bytes) (c : Configuration) (f : 
       acts_of : (a : Action) → Contains actions a → ActsBy t (stack_symbols c.stack) f.token.0 a
       acts_of a w = (exact a).0 w
 
-      any_leads : (e : Configuration) → Any (λ (a : Action). LeadsTo t.grammar c f a e) actions → StepsOn t.grammar text c e
-      any_leads e any = any_to (λ (a : Action). LeadsTo t.grammar c f a e) (StepsOn t.grammar text c e) actions (λ a w leads. lead_step a e (acts_of a w) leads) any
+      any_leads : (e : Configuration) → Any (λ (a : Action). ActionLeads t.grammar c f a e) actions → StepsOn t.grammar text c e
+      any_leads e any = any_to (λ (a : Action). ActionLeads t.grammar c f a e) (StepsOn t.grammar text c e) actions (λ a w leads. lead_step a e (acts_of a w) leads) any
 
-      found_head : (a : Action) (e : Configuration) → ActsBy t (stack_symbols c.stack) f.token.0 a → LeadsTo t.grammar c f a e → Any (λ (h : StackHead). config_of stacks h ≡ e) b.more
-      found_head a e acts leads = each_at (λ (x : Action). (d : Configuration) → LeadsTo t.grammar c f x d → Any (λ (h : StackHead). config_of stacks h ≡ d) b.more) actions a b.complete (there a acts) e leads
+      found_head : (a : Action) (e : Configuration) → ActsBy t (stack_symbols c.stack) f.token.0 a → ActionLeads t.grammar c f a e → Any (λ (h : StackHead). config_of stacks h ≡ e) b.more
+      found_head a e acts leads = each_at (λ (x : Action). (d : Configuration) → ActionLeads t.grammar c f x d → Any (λ (h : StackHead). config_of stacks h ≡ d) b.more) actions a b.complete (there a acts) e leads
 
       first_action : ActsBy t (stack_symbols c.stack) f.token.0 (get_or actions 0 Accept)
       first_action = acts_of (get_or actions 0 Accept) (Contains-get_or actions 0 Accept some)
@@ -155,7 +155,7 @@ module _ (laws : Laws) (t : ParseTable) (text : Bytes) (c : Configuration) (f : 
         more = b.more;
         live_is = b.live_is;
         few = omega (arith, b.few, few);
-        sound = each_map (λ (h : StackHead). IsLiveHead t (length text) stacks h × Any (λ (a : Action). LeadsTo t.grammar c f a (config_of stacks h)) actions)
+        sound = each_map (λ (h : StackHead). IsLiveHead t (length text) stacks h × Any (λ (a : Action). ActionLeads t.grammar c f a (config_of stacks h)) actions)
             (λ (h : StackHead). IsLiveHead t (length text) stacks h × StepsOn t.grammar text c (config_of stacks h)) b.more
             (λ h s. (s.0, any_leads (config_of stacks h) s.1)) b.sound;
         complete = any_step;
@@ -200,7 +200,7 @@ module _ (laws : Laws) (t : ParseTable) (text : Bytes) (c : Configuration) (plac
       let k : stops.0 ≡ other.0 = cc in
       stops.2 ∙ ap (λ (m : ℕ). c.place + m) k ∙ sym other.2
 
-  pub spent_absent : (stacks : List (List Layer)) (most : ℕ) (live : List StackHead) (best : Option Tree) (before stuck : Option ℕ) → IsPast stuck place → ((q : ℕ) → IsPast before q → IsPast stuck q)
+  pub spent_absent : (stacks : List (List Layer)) (most : ℕ) (live : List StackHead) (best : Option Tree) (before stuck : Option ℕ) → IsPastStuck stuck place → ((q : ℕ) → IsPastStuck before q → IsPastStuck stuck q)
       → ((q : ℕ) → stuck ≡ Some q → (before ≡ Some q) ⊎ (q ≡ place)) → Spent t text stacks most c live live best best before stuck
   spent_absent stacks most live best before stuck mine others from = record {
     more = [];
@@ -210,7 +210,7 @@ module _ (laws : Laws) (t : ParseTable) (text : Bytes) (c : Configuration) (plac
     complete = λ e step. absurd (no_step e step);
     covers = record {
       accepted = λ u acc. absurd (silent accept acc.move);
-      places = λ q other. subst (λ (p : ℕ). IsPast stuck p) (same_stop q other) mine;
+      places = λ q other. subst (λ (p : ℕ). IsPastStuck stuck p) (same_stop q other) mine;
       shallow = λ deep. silent (reduce deep.number) deep.move;
     };
     keeps = record {

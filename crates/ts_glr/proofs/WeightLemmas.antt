@@ -1,7 +1,7 @@
 -- Each step makes a configuration lighter, and the powers of a list fall where one weight gives way to few lighter ones.
 use Rattle.std.proofs.Common.{◌≡◌, ◌∙◌, ap, refl, ℕ, ◌+◌, ◌*◌, ◌^◌, ◌<◌, ◌≤◌, zero, suc, List, [], ◌∷◌, ◌++◌, length, Option, Some, None, arith, add-one}
 use Rattle.std.proofs.Math.Nat.{mul-le-mul_right, suc-mul, pow-le-pow_right, pow-suc, one-le-pow, one-mul}
-use Rattle.ts_glr.specs.Lists.{Each}
+use Rattle.ts_glr.specs.Lists.{OfEach}
 use Rattle.ts_glr.specs.Weights.{weight, powers}
 
 -- ---- weights
@@ -57,7 +57,7 @@ pub powers_append : (base : ℕ) (vs ws : List ℕ) → powers base (vs ++ ws) �
 powers_append base [] ws = omega arith
 powers_append base (v ∷ vs) ws = omega (arith, powers_append base vs ws)
 
-powers_le : (base w : ℕ) (vs : List ℕ) → 0 < base → Each (λ (v : ℕ). v ≤ w) vs → powers base vs ≤ length vs * base ^ w
+powers_le : (base w : ℕ) (vs : List ℕ) → 0 < base → OfEach (λ (v : ℕ). v ≤ w) vs → powers base vs ≤ length vs * base ^ w
 powers_le base w [] pos all = omega arith
 powers_le base w (v ∷ vs) pos all =
     let first : base ^ v ≤ base ^ w = pow-le-pow_right pos all.0 in
@@ -66,7 +66,7 @@ powers_le base w (v ∷ vs) pos all =
     omega arith
 
 -- few lighter weights come to less than one
-pub powers_fall : (base w : ℕ) (vs : List ℕ) → length vs < base → Each (λ (v : ℕ). v < w) vs → powers base vs < base ^ w
+pub powers_fall : (base w : ℕ) (vs : List ℕ) → length vs < base → OfEach (λ (v : ℕ). v < w) vs → powers base vs < base ^ w
 powers_fall base zero [] lt all = omega (arith, one-le-pow 0 base (omega arith))
 powers_fall base zero (v ∷ vs) lt all = let no : v < 0 = all.0 in absurd (omega arith)
 powers_fall base (suc w) vs lt all =
@@ -78,6 +78,6 @@ powers_fall base (suc w) vs lt all =
     let turn : base ^ w * base ≡ base * base ^ w = omega arith in
     omega arith
   where
-    lower : (w : ℕ) (vs : List ℕ) → Each (λ (v : ℕ). v < suc w) vs → Each (λ (v : ℕ). v ≤ w) vs
+    lower : (w : ℕ) (vs : List ℕ) → OfEach (λ (v : ℕ). v < suc w) vs → OfEach (λ (v : ℕ). v ≤ w) vs
     lower w [] all = tt
     lower w (v ∷ vs) all = (let h : v < suc w = all.0 in omega arith, lower w vs all.1)

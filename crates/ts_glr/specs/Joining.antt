@@ -1,5 +1,5 @@
 -- Which reading goes on next, and what becomes of two where one stands for the other. It serves
--- proofs alone.
+-- private clauses and proofs alone.
 use Rattle.std.specs.Prelude.{◌≡◌, ℕ, ◌-◌, ◌<◌, ◌⊎◌, List, [], ◌∷◌, ◌++◌}
 use Rattle.std.specs.List.{Contains}
 use Rattle.spec_trees.specs.Trees.{span_of}

@@ -1,4 +1,5 @@
--- The laws of readings that stand for others that the proofs here rest on. It serves proofs alone.
+-- The laws of readings that stand for others that the proofs here rest on. It serves private
+-- clauses and proofs alone.
 use Rattle.std.specs.Prelude.{ℕ, List}
 use Rattle.std.specs.List.{Contains}
 use Rattle.ts_base.specs.Bytes.{Bytes}
@@ -13,6 +14,7 @@ use Rattle.spec_runs.specs.Configurations.{Configuration, stack_symbols, AreVali
 use Rattle.spec_runs.specs.Runs.{IsReached, ComesTooDeep, AcceptsTree, StopsAt}
 use Rattle.spec_packing.specs.Serving.{ServesFor, ServesConfiguration, ComesToServe}
 
+-- For proofs alone: laws of the better of two trees, and of readings that serve for others.
 pub record PackingLaws : Type 0 where
   pub no_better : (t u v : Tree)
       → (Better u t → ⊥) → (Better v u → ⊥) → Better v t → ⊥

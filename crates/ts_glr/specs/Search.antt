@@ -1,4 +1,4 @@
--- What is known while all live stacks are followed. It serves proofs alone.
+-- What is known while all live stacks are followed. It serves private clauses and proofs alone.
 use Rattle.std.specs.Prelude.{◌≡◌, ℕ, ◌<◌, ◌≤◌, suc, List, [], ◌∷◌, ◌++◌, length, Option, Some, ◌⊎◌, Bool, true, false}
 use Rattle.ts_base.specs.Bytes.{Bytes}
 use Rattle.ts_core.specs.declared.action.Action.{Action}
@@ -18,8 +18,8 @@ use Rattle.ts_moves.specs.declared.head.StackHead.{StackHead}
 use Rattle.ts_moves.specs.Heads.{config_of, IsLiveHead, IsRootOf}
 use Rattle.ts_glr.specs.declared.acting.Moved.{Moved}
 use Rattle.ts_glr.specs.declared.acting.Moved.TheVariants.{To, Ended, TooDeep}
-use Rattle.ts_glr.specs.Lists.{Each, Any}
-use Rattle.ts_glr.specs.Steps.{IsKnown, Withstands, LeadsTo, IsTooDeep}
+use Rattle.ts_glr.specs.Lists.{OfEach, Any}
+use Rattle.ts_glr.specs.Steps.{IsKnown, Withstands, ActionLeads, IsTooDeep}
 
 -- the heads that an action came to
 abbrev pub heads_of : Moved → List StackHead
@@ -44,12 +44,12 @@ StackStays old new h =
 
 -- the stacks of these heads are still there
 abbrev pub StacksStay : List (List Layer) → List (List Layer) → List StackHead → Type 0
-StacksStay old new heads = Each (StackStays old new) heads
+StacksStay old new heads = OfEach (StackStays old new) heads
 
 -- each of these heads sees the token, where one is known
 abbrev pub AllKnow : FlatGrammar → Bytes → List (List Layer) → List StackHead → Option FoundToken
     → Type 0
-AllKnow g text stacks heads ahead = Each (λ h. IsKnown g text (config_of stacks h) ahead) heads
+AllKnow g text stacks heads ahead = OfEach (λ h. IsKnown g text (config_of stacks h) ahead) heads
 
 -- The heads were added to which some actions lead; the trees that they accept are accounted for.
 pub record Acting (t : ParseTable) (size : ℕ) (stacks : List (List Layer)) (c : Configuration)
@@ -58,26 +58,26 @@ pub record Acting (t : ParseTable) (size : ℕ) (stacks : List (List Layer)) (c 
   pub more : List StackHead
   pub live_is : live ≡ old ++ more
   pub few : length more ≤ length done
-  pub sound : Each (λ h. IsLiveHead t size stacks h
-      × Any (λ a. LeadsTo t.grammar c f a (config_of stacks h)) done) more
-  pub complete : Each (λ a. (e : Configuration) → LeadsTo t.grammar c f a e
+  pub sound : OfEach (λ h. IsLiveHead t size stacks h
+      × Any (λ a. ActionLeads t.grammar c f a (config_of stacks h)) done) more
+  pub complete : OfEach (λ a. (e : Configuration) → ActionLeads t.grammar c f a e
       → Any (λ h. config_of stacks h ≡ e) more) done
-  pub accepted : Each (λ a. a ≡ Accept → (u : Tree) → IsRootOf c.stack u → Withstands best u) done
-  pub shallow : Each (λ a. IsTooDeep t.grammar c a → ⊥) done
-  pub fruitful : Each (λ a. (0 < length more) ⊎ ((b : Tree) × (best ≡ Some b))) done
+  pub accepted : OfEach (λ a. a ≡ Accept → (u : Tree) → IsRootOf c.stack u → Withstands best u) done
+  pub shallow : OfEach (λ a. IsTooDeep t.grammar c a → ⊥) done
+  pub fruitful : OfEach (λ a. (0 < length more) ⊎ ((b : Tree) × (best ≡ Some b))) done
   pub others : (u : Tree) → Withstands first u → Withstands best u
   pub from : (b : Tree) → best ≡ Some b
       → (first ≡ Some b) ⊎ (Any (λ a. a ≡ Accept) done × IsRootOf c.stack (bare b))
 
 -- there is a greatest stuck place so far, which is no less
-abbrev pub IsPast : Option ℕ → ℕ → Type 0
-IsPast stuck q = (r : ℕ) × (stuck ≡ Some r) × (q ≤ r)
+abbrev pub IsPastStuck : Option ℕ → ℕ → Type 0
+IsPastStuck stuck q = (r : ℕ) × (stuck ≡ Some r) × (q ≤ r)
 
 -- all ends of runs at the configuration are accounted for
-pub record Covers (g : FlatGrammar) (text : Bytes) (best : Option Tree) (stuck : Option ℕ)
+pub record AccountsFor (g : FlatGrammar) (text : Bytes) (best : Option Tree) (stuck : Option ℕ)
     (c : Configuration) : Type 0 where
   pub accepted : (u : Tree) → AcceptsTree g text c u → Withstands best u
-  pub places : (q : ℕ) → StopsAt g text c q → IsPast stuck q
+  pub places : (q : ℕ) → StopsAt g text c q → IsPastStuck stuck q
   pub shallow : ComesTooDeep g text c → ⊥
 
 -- what is known of trees and places is kept, and what is new is an end of a run at the
@@ -86,7 +86,7 @@ pub record Keeps (g : FlatGrammar) (text : Bytes) (c : Configuration) (old best 
     (before stuck : Option ℕ) : Type 0 where
   pub others : (u : Tree) → Withstands old u → Withstands best u
   pub from : (b : Tree) → best ≡ Some b → (old ≡ Some b) ⊎ AcceptsTree g text c (bare b)
-  pub past : (q : ℕ) → IsPast before q → IsPast stuck q
+  pub past : (q : ℕ) → IsPastStuck before q → IsPastStuck stuck q
   pub stuck_from : (q : ℕ) → stuck ≡ Some q → (before ≡ Some q) ⊎ StopsAt g text c q
 
 -- there is a head, a tree or a place
@@ -101,11 +101,11 @@ pub record Spent (t : ParseTable) (text : Bytes) (stacks : List (List Layer)) (m
   pub more : List StackHead
   pub live_is : live ≡ old ++ more
   pub few : length more ≤ suc most
-  pub sound : Each (λ h. IsLiveHead t (length text) stacks h
+  pub sound : OfEach (λ h. IsLiveHead t (length text) stacks h
       × StepsOn t.grammar text c (config_of stacks h)) more
   pub complete : (e : Configuration) → StepsOn t.grammar text c e
       → Any (λ h. config_of stacks h ≡ e) more
-  pub covers : Covers t.grammar text best stuck c
+  pub covers : AccountsFor t.grammar text best stuck c
   pub keeps : Keeps t.grammar text c first best before stuck
   pub fruitful : HasSome more best stuck
 
@@ -113,10 +113,10 @@ pub record Spent (t : ParseTable) (text : Bytes) (stacks : List (List Layer)) (m
 -- head leads to one that may stand for it, or to a node that is too deep.
 pub record Searching (t : ParseTable) (text : Bytes) (stacks : List (List Layer))
     (live : List StackHead) (best : Option Tree) (stuck : Option ℕ) : Type 0 where
-  pub heads : Each (λ h. IsLiveHead t (length text) stacks h
+  pub heads : OfEach (λ h. IsLiveHead t (length text) stacks h
       × IsReached t.grammar text (config_of stacks h)) live
   pub done : (c : Configuration) → IsReached t.grammar text c
-      → Covers t.grammar text best stuck c
+      → AccountsFor t.grammar text best stuck c
       ⊎ Any (λ h. ComesToServe t.grammar text (config_of stacks h) c) live
   pub tree_from : (b : Tree) → best ≡ Some b → SomeAccepts t.grammar text (bare b)
   pub stuck_from : (q : ℕ) → stuck ≡ Some q → SomeStopsAt t.grammar text q

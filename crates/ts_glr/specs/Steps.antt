@@ -1,4 +1,5 @@
--- What is seen from a live stack, and what one action on it comes to. It serves proofs alone.
+-- What is seen from a live stack, and what one action on it comes to. It serves private clauses and
+-- proofs alone.
 use Rattle.std.specs.Prelude.{◌≡◌, ℕ, ◌+◌, suc, ◌<◌, ◌≤◌, ◌⊎◌, List, length, Option, Some}
 use Rattle.ts_base.specs.Bytes.{Bytes}
 use Rattle.ts_core.specs.declared.action.Action.{Action}
@@ -65,12 +66,12 @@ HasForm g best = (b : Tree) → best ≡ Some b → IsInForm g b
 -- ---- one action
 
 -- where the action leads on the token: acceptance, and a node that is too deep, lead nowhere
-abbrev pub LeadsTo : FlatGrammar → Configuration → FoundToken → Action → Configuration → Type 0
-LeadsTo g c f (Shift next) e = e ≡ pushed c (token_tree f.token f.pad f.size)
-LeadsTo g c f (Reduce number) e =
+abbrev pub ActionLeads : FlatGrammar → Configuration → FoundToken → Action → Configuration → Type 0
+ActionLeads g c f (Shift next) e = e ≡ pushed c (token_tree f.token f.pad f.size)
+ActionLeads g c f (Reduce number) e =
     (node : Tree) × (after : List Tree) × IsReduction g number c.stack node after
     × (tree_depth node ≤ most_depth) × (e ≡ record { stack = after; place = c.place })
-LeadsTo g c f Accept e = ⊥
+ActionLeads g c f Accept e = ⊥
 
 -- the action is a reduction whose node is too deep
 abbrev pub IsTooDeep : FlatGrammar → Configuration → Action → Type 0
@@ -82,7 +83,7 @@ IsTooDeep g c a =
 abbrev pub IsActed : ParseTable → ℕ → List (List Layer) → List (List Layer) → StackHead
     → FoundToken → Option Tree → Option Tree → Action → Moved → Type 0
 IsActed t size old new h f best after a (To k) =
-    IsLiveHead t size new k × LeadsTo t.grammar (config_of old h) f a (config_of new k)
+    IsLiveHead t size new k × ActionLeads t.grammar (config_of old h) f a (config_of new k)
     × (after ≡ best)
 IsActed t size old new h f best after a Ended =
     (a ≡ Accept)

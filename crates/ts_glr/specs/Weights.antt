@@ -1,4 +1,5 @@
--- Why a search over all readings ends: a number that falls with each step. It serves proofs alone.
+-- Why a search over all readings ends: a number that falls with each step. It serves private
+-- clauses and proofs alone.
 use Rattle.std.specs.Prelude.{ℕ, ◌+◌, ◌-◌, ◌*◌, ◌^◌, List, [], ◌∷◌, length, map, Option, Some, None}
 use Rattle.ts_core.specs.declared.flat.FlatGrammar.{FlatGrammar}
 use Rattle.spec_grammar.specs.Symbols.{symbol_count}

@@ -21,6 +21,7 @@ use spec_reuse::same_token_again;
 use std::alloc::{AllocError, Global};
 use ts_core::{Action, Symbol};
 use ts_gss::Graph;
+use ts_lexer::tokens_of_states;
 use ts_moves::{FoundToken, Setting, StackHead};
 use ts_table::Table;
 
@@ -115,6 +116,7 @@ pub(crate) fn follow_alone(
 {
     laws_hold();
     same_token_again();
+    tokens_of_states();
     table.stands();
     let actions = table.actions(readings.graph.state(head.top), found.token);
     match only(actions) {

@@ -5,7 +5,7 @@ ghost use Rattle.ts_core.specs.declared.flat.FlatGrammar.{FlatGrammar};
 ghost use Rattle.spec_trees.specs.Trees.{bare};
 ghost use Rattle.spec_trees.specs.Choice.{IsInForm};
 ghost use Rattle.ts_glr.specs.Steps.{Withstands, KeepsBest, HasForm};
-ghost use Rattle.ts_glr.specs.Search.{IsPast};
+ghost use Rattle.ts_glr.specs.Search.{IsPastStuck};
 
 use crate::laws::laws_hold;
 use ts_node::Node;
@@ -38,8 +38,8 @@ pub(crate) fn keep(best: &mut Option<Node>, node: Node)
 
 /// Whether a place is past the greatest so far.
 fn goes_past(stuck: &Option<u32>, place: u32) -> bool
-    ensures yes { result ≡ true → (q : ℕ) → IsPast stuck.now q → q ≤ place }
-    ensures no { result ≡ false → IsPast stuck.now place }
+    ensures yes { result ≡ true → (q : ℕ) → IsPastStuck stuck.now q → q ≤ place }
+    ensures no { result ≡ false → IsPastStuck stuck.now place }
 {
     match stuck {
         None => true,
@@ -49,8 +49,8 @@ fn goes_past(stuck: &Option<u32>, place: u32) -> bool
 
 /// Keeps the greater place.
 pub(crate) fn stick(stuck: &mut Option<u32>, place: u32)
-    ensures mine { IsPast stuck.new place }
-    ensures others { (q : ℕ) → IsPast stuck.old q → IsPast stuck.new q }
+    ensures mine { IsPastStuck stuck.new place }
+    ensures others { (q : ℕ) → IsPastStuck stuck.old q → IsPastStuck stuck.new q }
     ensures from { (q : ℕ) → stuck.new ≡ Some q → (stuck.old ≡ Some q) ⊎ (q ≡ place) }
 {
     if goes_past(stuck, place) {

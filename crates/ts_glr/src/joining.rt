@@ -6,7 +6,7 @@ ghost use Rattle.spec_trees.specs.Choice.{AreOfOneGrammar};
 ghost use Rattle.spec_packing.specs.Serving.{ServesFor};
 ghost use Rattle.ts_table.specs.declared.view.ParseTable.{ParseTable};
 ghost use Rattle.ts_moves.specs.Heads.{IsLiveHead};
-ghost use Rattle.ts_glr.specs.Lists.{Each};
+ghost use Rattle.ts_glr.specs.Lists.{OfEach};
 ghost use Rattle.ts_glr.specs.Joining.{start_of, GoesBefore, IsTakenOut, HeadServes, IsKeptOf, JoinsOne};
 
 use crate::laws::{laws_hold, packing_laws_hold};
@@ -54,7 +54,7 @@ fn head_at(live: &[StackHead], k: usize) -> StackHead
 /// The number of the head that goes on next: the first of those before which none goes.
 fn first_of(graph: &Graph, live: &[StackHead]) -> usize
     requires some { 0 < length live.now }
-    requires live { (t : ParseTable) × (size : ℕ) × Each (IsLiveHead t size graph.now) live.now }
+    requires live { (t : ParseTable) × (size : ℕ) × OfEach (IsLiveHead t size graph.now) live.now }
     ensures within { result < length live.now }
     ensures first { (k h : StackHead) → Contains live.now k
         → GoesBefore graph.now k (get_or live.now result h) → ⊥ }
@@ -72,7 +72,7 @@ fn first_of(graph: &Graph, live: &[StackHead]) -> usize
 
 /// Takes out the head that goes on next.
 pub(crate) fn next_head(graph: &Graph, live: &mut Vec<StackHead>) -> Option<StackHead>
-    requires { (t : ParseTable) × (size : ℕ) × Each (IsLiveHead t size graph.now) live.old.items }
+    requires { (t : ParseTable) × (size : ℕ) × OfEach (IsLiveHead t size graph.now) live.old.items }
     ensures { MatchOption result (live.old.items ≡ [])
         (IsTakenOut graph.now live.old.items live.new.items) }
 {
@@ -147,7 +147,7 @@ fn kept_of(graph: &Graph, a: StackHead, b: StackHead) -> Option<StackHead>
 /// there is such a one. The one that is kept then is in the live one's place.
 pub(crate) fn join(graph: &Graph, live: &mut Vec<StackHead>, head: StackHead) -> bool
     requires { (t : ParseTable) × (size : ℕ) × IsLiveHead t size graph.now head
-        × Each (IsLiveHead t size graph.now) live.old.items }
+        × OfEach (IsLiveHead t size graph.now) live.old.items }
     ensures joined { result ≡ true → JoinsOne graph.now live.old.items live.new.items head }
     ensures alone { result ≡ false → live.new.items ≡ live.old.items }
 {

@@ -17,6 +17,7 @@ from_above way Reserved = Reserved
 from_above way (Limit limited) = Limit limited
 from_above way Memory = Memory
 
+-- the faults of a value, seen from a value that is this step above it
 abbrev pub under : Bytes → List GFault → List GFault
 under way faults = map (from_above way) faults
 
@@ -29,6 +30,7 @@ first (fault ∷ faults) = Some fault
 abbrev pub wrong : List GFault
 wrong = Wrong [] ∷ []
 
+-- the value is of another kind where nothing is read of it, and else it has no fault
 abbrev pub wrong_if_none : {X : Type 0} → Option X → List GFault
 wrong_if_none None = wrong
 wrong_if_none (Some x) = []

@@ -33,6 +33,7 @@ abbrev pub are_named : Members → Bool
 are_named no_members = false
 are_named (member name value ms) = have_names (member name value ms)
 
+-- the value is wrong where this is not so, and else it has no fault
 abbrev pub wrong_if_not : Bool → List GFault
 wrong_if_not true = []
 wrong_if_not false = wrong
@@ -56,6 +57,7 @@ abbrev pub named_rules : Members → List (Bytes × Rule)
 named_rules no_members = []
 named_rules (member name value ms) = (name, rule_of value) ∷ named_rules ms
 
+-- the rules of the object at the member `rules`, none where there is no object
 abbrev pub rules_in : Option Json → List (Bytes × Rule)
 rules_in (Some (object ms)) = named_rules ms
 rules_in _ = []
@@ -67,40 +69,48 @@ pub data Entry : Type 0 where
   by_name : Entry
   by_rule : Entry
 
+-- the type of an entry that a word names, or the fault of a type that is unknown
 abbrev pub entry_of_word : Bytes → Result Entry GFault
 entry_of_word word =
     if bytes_eq word (codes "STRING") then Ok by_name
     else if bytes_eq word (codes "SYMBOL") then Ok by_rule
     else Err (UnknownType (step (codes "type")))
 
+-- the type of an entry from the text at `type`, which is wrong where there is no text
 abbrev pub entry_of_text : Option Bytes → Result Entry GFault
 entry_of_text None = Err (Wrong (step (codes "type")))
 entry_of_text (Some word) = entry_of_word word
 
+-- the type of an entry from the value at its member `type`, or the fault there
 abbrev pub entry_of : Option Json → Result Entry GFault
 entry_of None = Err (Missing (step (codes "type")))
 entry_of (Some value) = entry_of_text (text_of value)
 
+-- the faults of an entry of this type with these members
 abbrev pub entry_faults : Result Entry GFault → Looked → List GFault
 entry_faults (Err fault) m = fault ∷ []
 entry_faults (Ok by_name) m = must (codes "value") (be text_of) m.value
 entry_faults (Ok by_rule) m = must (codes "name") (be text_of) m.name
 
+-- the faults of a value as an entry of `precedences`
 abbrev pub ranked_faults : Json → List GFault
 ranked_faults (object ms) = entry_faults (entry_of (find (codes "type") ms)) (looked ms)
 ranked_faults _ = wrong
 
+-- the entry of this type with these members, where it has no faults
 abbrev pub ranked_by : Result Entry GFault → Looked → Ranked
 ranked_by (Err fault) m = ranked.Name []
 ranked_by (Ok by_name) m = ranked.Name (text_in m.value)
 ranked_by (Ok by_rule) m = ranked.Rule (text_in m.name)
 
+-- the entry of a value that has no faults as one
 abbrev pub ranked_of : Json → Ranked
 ranked_of (object ms) = ranked_by (entry_of (find (codes "type") ms)) (looked ms)
 ranked_of _ = ranked.Name []
 
 -- ---- lists
 
+-- the items in their order, each read by this
 abbrev pub each_read : {X : Type 0} → (Json → X) → Items → List X
 each_read read no_items = []
 each_read read (item value js) = read value ∷ each_read read js
@@ -115,19 +125,23 @@ abbrev pub list_in : {X : Type 0} → (Json → X) → Option Json → List X
 list_in read None = []
 list_in read (Some value) = list_of read value
 
+-- the text that a value is, the empty one where it is no text
 abbrev pub text_at : Json → Bytes
 text_at value = text_in (Some value)
 
+-- the faults of a value that has to be a text
 abbrev pub is_text : Json → List GFault
 is_text value = be text_of value
 
 -- ---- what is refused unless it is empty
 
+-- the faults at `externals`: an array that has an item, or a value that is no array
 abbrev pub external_faults : Json → List GFault
 external_faults (array no_items) = []
 external_faults (array (item value js)) = External ∷ []
 external_faults _ = wrong
 
+-- the faults at `reserved`: an object or an array that is not empty, or another value
 abbrev pub reserved_faults : Json → List GFault
 reserved_faults (array no_items) = []
 reserved_faults (array (item value js)) = Reserved ∷ []
@@ -150,6 +164,7 @@ pub record FileMembers : Type 0 where
   pub inline : Option Json
   pub supertypes : Option Json
 
+-- the values of the members by their names, the first of equal names
 abbrev pub file_members : Members → FileMembers
 file_members ms = record {
   name = find (codes "name") ms;
@@ -201,6 +216,7 @@ members_grammar m = record {
   supertypes = list_in text_at m.supertypes;
 }
 
+-- the grammar of a value that has no faults as a grammar file
 abbrev pub grammar_of : Json → Grammar
 grammar_of (object ms) = members_grammar (file_members ms)
 grammar_of _ = members_grammar (file_members no_members)

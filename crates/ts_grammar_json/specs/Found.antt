@@ -29,6 +29,7 @@ abbrev pub noted : Option Json → Bytes → Bytes → Json → Option Json
 noted (Some before) wanted name value = Some before
 noted None wanted name value = if bytes_eq name wanted then Some value else None
 
+-- the members of a rule that were found, as the values that they stand for
 abbrev pub looked_of : Found → Looked
 looked_of found = record {
   kind = json_at found.kind;
@@ -52,6 +53,7 @@ looked_and before name value = record {
   named = noted before.named (codes "named") name value;
 }
 
+-- the members of the file that were found, as the values that they stand for
 abbrev pub file_of : FileFound → FileMembers
 file_of found = record {
   name = json_at found.name;
@@ -66,6 +68,7 @@ file_of found = record {
   supertypes = json_at found.supertypes;
 }
 
+-- the members of the file that were found, and one more
 abbrev pub file_and : FileMembers → Bytes → Json → FileMembers
 file_and before key value = record {
   name = noted before.name (codes "name") key value;

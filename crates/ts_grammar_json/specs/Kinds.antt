@@ -9,14 +9,17 @@ use Rattle.ts_ojson.specs.Json.{Json, null, boolean, number, string, array, obje
 use Rattle.ts_core.specs.declared.rule.PrecValue.{PrecValue}
 use Rattle.ts_core.specs.declared.rule.PrecValue.TheVariants.{Number, Name}
 
+-- a text, as its bytes
 abbrev pub text_of : Json → Option Bytes
 text_of (string text) = Some text
 text_of _ = None
 
+-- true or false
 abbrev pub truth_of : Json → Option Bool
 truth_of (boolean b) = Some b
 truth_of _ = None
 
+-- an array, as its items
 abbrev pub array_of : Json → Option Items
 array_of (array js) = Some js
 array_of _ = None
@@ -26,9 +29,11 @@ abbrev pub some_of : Items → Option Items
 some_of no_items = None
 some_of (item j js) = Some (item j js)
 
+-- the items of an array that isn't empty
 abbrev pub some_items_of : Json → Option Items
 some_items_of value = option_and_then some_of (array_of value)
 
+-- an object, as its members
 abbrev pub object_of : Json → Option Members
 object_of (object ms) = Some ms
 object_of _ = None
@@ -41,15 +46,19 @@ word_of _ = None
 
 -- ---- flags of a pattern: a text of i and u alone, read as whether an i is in it
 
+-- the byte is an i
 abbrev pub is_i : ℕ → Bool
 is_i byte = byte == 105
 
+-- the byte is an i or a u
 abbrev pub is_flag : ℕ → Bool
 is_flag byte = is_i byte || byte == 117
 
+-- whether an i is in the text, or nothing where the text is not of i and u alone
 abbrev pub flags_in : Bytes → Option Bool
 flags_in text = if list_all is_flag text then Some (list_any is_i text) else None
 
+-- whether an i is in a text of flags
 abbrev pub flags_of : Json → Option Bool
 flags_of value = option_and_then flags_in (text_of value)
 
@@ -61,20 +70,24 @@ abbrev pub is_numeral_below : ℕ → Bytes → Bool
 is_numeral_below bound digits =
     nat_lt 0 (length digits) && all_ascii_digits digits && nat_lt (digits_value 10 digits) bound
 
+-- the number that digits spell, where it is below 2 ^ 31
 abbrev pub positive_of : Bytes → Option ℤ
 positive_of digits =
     if is_numeral_below (2 ^ 31) digits then Some (pos (digits_value 10 digits)) else None
 
+-- minus the number that digits spell, where that is at most 2 ^ 31
 abbrev pub negative_of : Bytes → Option ℤ
 negative_of digits =
     if is_numeral_below (2 ^ 31 + 1) digits
     then Some (neg_ℤ (pos (digits_value 10 digits)))
     else None
 
+-- the whole number that is spelled so, if one is
 abbrev pub integer_of : Bytes → Option ℤ
 integer_of spelling =
     if slice_index spelling 0 == 45 then negative_of (drop 1 spelling) else positive_of spelling
 
+-- a whole number
 abbrev pub whole_of : Json → Option ℤ
 whole_of (number spelling) = integer_of spelling
 whole_of _ = None
@@ -87,8 +100,10 @@ precedence_of _ = None
 
 -- ---- what a member is read as, where there is none or one of another kind the default
 
+-- what the member is read as where it is of the kind, else the default
 abbrev pub read_or : {X : Type 0} → X → (Json → Option X) → Option Json → X
 read_or default kind value = unwrap_or (option_and_then kind value) default
 
+-- the text of the member, else the empty one
 abbrev pub text_in : Option Json → Bytes
 text_in value = read_or [] text_of value

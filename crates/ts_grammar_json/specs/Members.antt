@@ -10,9 +10,10 @@ abbrev pub find : Bytes → Members → Option Json
 find name no_members = None
 find name (member own value ms) = if bytes_eq own name then Some value else find name ms
 
--- what the code's lists of members and of items stand for
+-- what the code's list of members stands for
 abbrev pub members_json : List (Bytes × OJson) → Members
 members_json ms = members_of (map (λ m. (m.0, json_of m.1)) ms)
 
+-- what the code's list of items stands for
 abbrev pub items_json : List OJson → Items
 items_json js = items_of (map json_of js)

@@ -7,6 +7,7 @@ use Rattle.ts_base.specs.Bytes.{Bytes}
 abbrev pub escape_of : ℕ → Bytes
 escape_of byte = if byte == 126 then codes "~0" else if byte == 47 then codes "~1" else byte ∷ []
 
+-- a name as a pointer spells it
 abbrev pub escaped : Bytes → Bytes
 escaped [] = []
 escaped (byte ∷ name) = escape_of byte ++ escaped name

@@ -18,6 +18,7 @@ use Rattle.ts_grammar_json.specs.Faults.{under, wrong, be, must, may}
 
 -- ---- types
 
+-- the rule type that a word names, if it names one
 abbrev pub type_named : Bytes → Option RuleType
 type_named word =
     if bytes_eq word (codes "BLANK") then Some Blank
@@ -38,15 +39,17 @@ type_named word =
     else if bytes_eq word (codes "PREC_DYNAMIC") then Some PrecDynamic
     else None
 
--- of a word: RESERVED is read and refused, and another word has to name a type
+-- the type that a word was found to name, or the fault of a type that is unknown
 abbrev pub known_type : Option RuleType → Result RuleType GFault
 known_type (Some t) = Ok t
 known_type None = Err (UnknownType (step (codes "type")))
 
+-- of a word: RESERVED is read and refused, and another word has to name a type
 abbrev pub type_of_word : Bytes → Result RuleType GFault
 type_of_word word =
     if bytes_eq word (codes "RESERVED") then Err Reserved else known_type (type_named word)
 
+-- the type of a rule from the text at `type`, which is wrong where there is no text
 abbrev pub type_of_text : Option Bytes → Result RuleType GFault
 type_of_text None = Err (Wrong (step (codes "type")))
 type_of_text (Some word) = type_of_word word
@@ -68,6 +71,7 @@ pub record Looked : Type 0 where
   pub content : Option Json
   pub named : Option Json
 
+-- the values of a rule's members by their names, the first of equal names
 abbrev pub looked : Members → Looked
 looked ms = record {
   kind = find (codes "type") ms;
@@ -79,6 +83,7 @@ looked ms = record {
   named = find (codes "named") ms;
 }
 
+-- the faults of the member `content`, which has to be there and to be an object
 abbrev pub content_faults : Looked → List GFault
 content_faults m = must (codes "content") (be object_of) m.content
 
@@ -128,6 +133,7 @@ abbrev pub typed_faults : Result RuleType GFault → Looked → List GFault → 
 typed_faults (Err fault) m content members = fault ∷ []
 typed_faults (Ok t) m content members = own_faults t m ++ inner_faults t content members
 
+-- the faults of rules, with those of the rules inside them
 abbrev mutual
   -- the faults of a value as a rule
   pub rule_faults : Json → List GFault
@@ -150,6 +156,7 @@ abbrev mutual
       if bytes_eq name (codes "members") then under (step (codes "members")) (array_faults value)
       else faults_at_members ms
 
+  -- the faults of a value as an array of rules
   pub array_faults : Json → List GFault
   array_faults (array js) = item_faults 0 js
   array_faults _ = wrong
@@ -161,6 +168,7 @@ abbrev mutual
 
 -- ---- trees
 
+-- the precedence at the member `value`, else the number 0
 abbrev pub precedence_in : Looked → PrecValue
 precedence_in m = read_or (Number (pos 0)) precedence_of m.value
 
@@ -184,10 +192,12 @@ tree_of PrecLeft m content members = rule.PrecLeft (precedence_in m) content
 tree_of PrecRight m content members = rule.PrecRight (precedence_in m) content
 tree_of PrecDynamic m content members = rule.PrecDynamic (read_or (pos 0) whole_of m.value) content
 
+-- the tree of a rule of this type; of a fault at `type` nothing is meant
 abbrev pub typed_tree : Result RuleType GFault → Looked → Rule → List Rule → Rule
 typed_tree (Err fault) m content members = rule.Blank
 typed_tree (Ok t) m content members = tree_of t m content members
 
+-- the trees of rules, with those of the rules inside them
 abbrev mutual
   -- the tree of a value that has no faults as a rule; of others nothing is meant
   pub rule_of : Json → Rule
@@ -207,10 +217,12 @@ abbrev mutual
   rules_of (member name value ms) =
       if bytes_eq name (codes "members") then array_rules value else rules_of ms
 
+  -- the trees of the rules in an array
   pub array_rules : Json → List Rule
   array_rules (array js) = item_rules js
   array_rules _ = []
 
+  -- the trees of items, one after another
   pub item_rules : Items → List Rule
   item_rules no_items = []
   item_rules (item value js) = rule_of value ∷ item_rules js

@@ -12,9 +12,11 @@ use Rattle.ts_core.specs.declared.rule.Rule.TheFolds.{fold-Rule}
 use Rattle.ts_core.specs.declared.rule.Grammar.{Grammar}
 use Rattle.ts_grammar_json.specs.WellFormed.{is_true}
 
+-- the list is no longer than n
 abbrev pub is_within : {X : Type 0} → ℕ → List X → Bool
 is_within n xs = nat_le (length xs) n
 
+-- the precedence is a number, or its name is no longer than n
 abbrev pub has_name_within : ℕ → PrecValue → Bool
 has_name_within n (Number value) = true
 has_name_within n (Name name) = is_within n name
@@ -46,9 +48,11 @@ has_parts_within n = fold-Rule Bool (within_step n)
 abbrev pub ListWithin : {X : Type 0} → ℕ → (X → Type 0) → List X → Type 0
 ListWithin n P xs = (length xs ≤ n) × All P xs
 
+-- the text is no longer than n
 abbrev pub TextWithin : ℕ → Bytes → Type 0
 TextWithin n text = length text ≤ n
 
+-- the name in an entry of `precedences` is no longer than n
 abbrev pub EntryWithin : ℕ → Ranked → Type 0
 EntryWithin n (ranked.Name name) = TextWithin n name
 EntryWithin n (ranked.Rule name) = TextWithin n name

@@ -9,6 +9,7 @@ use Rattle.ts_core.specs.declared.rule.Rule.TheFolds.{fold-Rule}
 use Rattle.ts_core.specs.declared.rule.Grammar.{Grammar}
 use Rattle.ts_grammar_json.specs.File.{most_rules}
 
+-- the truth value itself, as a test of elements
 abbrev pub is_true : Bool → Bool
 is_true b = b
 

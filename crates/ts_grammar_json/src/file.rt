@@ -26,8 +26,8 @@ const MOST_RULES: usize = 4_096;
 
 /// Reads a grammar file in the form of Tree-sitter's grammar.json from its JSON value. Members are
 /// judged in the order `name`, `rules`, `word`, `extras`, `conflicts`, `precedences`, `externals`,
-/// `reserved`, `inline`, `supertypes`, each with all that is inside it, and of a rule its own members
-/// come before the rules inside it.
+/// `reserved`, `inline`, `supertypes`, each with all that is inside it, and of a rule its own
+/// members come before the rules inside it.
 ///
 /// # Errors
 ///

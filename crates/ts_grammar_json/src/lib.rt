@@ -13,8 +13,6 @@ mod pointer;
 mod rule;
 mod rule_type;
 mod shape;
-#[cfg(test)]
-mod tests;
 
 pub use fault::GFault;
 pub use file::grammar;

@@ -7,7 +7,7 @@ use Rattle.spec_trees.specs.Made.{filling, BeginsFilled}
 use Rattle.spec_runs.specs.Configurations.{AreExtras}
 use Rattle.ts_gss.specs.declared.layer.Layer.{Layer}
 use Rattle.ts_gss.specs.Stacks.{trees_on, tree_on, under_top, begins_with_extra}
-use Rattle.ts_gss.specs.Paths.{IsLifted, IsTakenOff, still_wanting, Lifting, Taking}
+use Rattle.ts_gss.specs.Paths.{IsTakenOff, still_wanting, Lifting, Taking}
 
 extras_more : (es : List Tree) (t : Tree) → AreExtras es → is_extra_node t ≡ true → AreExtras (es ++ t ∷ [])
 extras_more [] t all h = (h, tt)
@@ -24,13 +24,6 @@ drop_next ts t stack rest l e =
     let n : length (ts ++ t ∷ []) ≡ suc (length ts) = omega (arith, length-append ts (t ∷ [])) in
     drop_one (length ts) stack rest l e ∙ ap (λ (k : ℕ). drop k stack) (sym n)
 
-pub lift_begins : (stack : List Layer) (extras : List Tree) → extras ≡ [] → Lifting stack extras stack
-lift_begins stack extras none = record { trees = rw none refl; all_extras = rw none tt; rest = rw none refl }
-
-pub lift_some : (under : List Layer) → true ≡ begins_with_extra under → 0 < length under
-lift_some [] e = absurd (true≢false e)
-lift_some (l ∷ under) e = omega arith
-
 pub lift_more : (stack under rest : List Layer) (extras more : List Tree) (t : Tree) → Lifting stack extras under → true ≡ begins_with_extra under → Some t ≡ tree_on under → rest ≡ under_top under → more ≡ extras ++ t ∷ [] → Lifting stack more rest
 lift_more stack [] rest extras more t b extra top rest_is more_is = absurd (true≢false extra)
 lift_more stack (l ∷ under) rest extras more t b extra top rest_is more_is =
@@ -43,27 +36,7 @@ lift_more stack (l ∷ under) rest extras more t b extra top rest_is more_is =
       rest = r ∙ drop_next extras t stack under l b.rest ∙ ap (λ (es : List Tree). drop (length es) stack) (sym more_is);
     }
 
-filled_top : (under : List Layer) → false ≡ begins_with_extra under → BeginsFilled (trees_on under)
-filled_top [] e = tt
-filled_top (l ∷ under) e = sym e
-
-pub lift_ends : (stack under : List Layer) (extras : List Tree) → Lifting stack extras under → false ≡ begins_with_extra under → IsLifted stack extras under
-lift_ends stack under extras b none = record { trees = b.trees; all_extras = b.all_extras; no_more = filled_top under none; rest = b.rest }
-
 -- ---- taking
-
-pub take_begins : (stack : List Layer) (count : ℕ) (trees : List Tree) → trees ≡ [] → count ≤ length (filling (trees_on stack)) → Taking stack count trees stack count
-take_begins stack count trees none enough = record {
-  trees_are = rw none refl;
-  filled = rw none (omega arith);
-  enough = enough;
-  begins = λ zero_is. rw none tt;
-  rest = rw none refl;
-}
-
-pub take_some : (stack below : List Layer) (count wanting : ℕ) (trees : List Tree) → Taking stack count trees below wanting → 0 < wanting → 0 < length below
-take_some stack [] count wanting trees b some = absurd (let e = b.enough in omega arith)
-take_some stack (l ∷ below) count wanting trees b some = omega arith
 
 filling_snoc : (ts : List Tree) (t : Tree) (b : Bool) → is_extra_node t ≡ b → length (filling (ts ++ t ∷ [])) ≡ length (filling ts) + (if b then 0 else 1)
 filling_snoc [] t true e = rw e refl

@@ -72,7 +72,8 @@ impl Graph {
     fn cell(&self, head: usize) -> &Cell
         requires there { head < length self.now }
         requires some { 0 < length (stack_at self.now head) }
-        ensures stack { stack_at self.now head ≡ layer_of result.now ∷ stack_at self.now result.now.below }
+        ensures stack { stack_at self.now head
+            ≡ layer_of result.now ∷ stack_at self.now result.now.below }
         ensures below { result.now.below < head }
     {
         cell_at(self.cells.as_slice(), head)

@@ -27,9 +27,6 @@ module _ {A X : Type 0} (P : A → ℕ → X → Type 0) where
       let there' : Contains (take k xs ++ get_or xs k d ∷ []) e.by = subst (λ (l : List A). Contains l e.by) (take_more xs k d below) e.there in
       ⊎_elim (λ w. inl (record { by = e.by; there = w; gives = e.gives })) (λ w. inr (subst (λ (a : A). P a y x) (sym w) e.gives)) (Contains-push_cases (take k xs) (get_or xs k d) e.by there')
 
-  pub each_all : (xs : List A) (k : ℕ) (y : ℕ) (x : X) → take k xs ≡ xs → FromOne P (take k xs) y x → FromOne P xs y x
-  each_all xs k y x e h = subst (λ (l : List A). FromOne P l y x) e h
-
 module _ {X : Type 0} where
   pub puts_none : (P : ℕ → X → Type 0) (rows : List (Vec X)) → ((y : ℕ) (x : X) → P y x → ⊥) → Puts P rows rows
   puts_none P rows none = record { count = refl; members = λ y x. ((λ h. inl h), (λ h. ⊎_elim (λ a. a) (λ b. absurd (none y x b)) h)) }

@@ -10,7 +10,7 @@ use Rattle.ts_core.specs.declared.flat.Step.{Step}
 use Rattle.spec_grammar.specs.Symbols.{all_productions, productions_from, start_symbol, symbol_count}
 use Rattle.spec_tables.specs.Fit.{Fit, IsFitProduction, IsFitStep}
 use Rattle.ts_items.specs.declared.plain.Plain.{Plain}
-use Rattle.ts_items.specs.Productions.{symbols_in, plain, ArePlainOf, right_of}
+use Rattle.ts_items.specs.Productions.{symbols_of_steps, plain, ArePlainOf, right_of}
 use Rattle.ts_items.specs.Edges.{AreInside}
 use Rattle.ts_items.proofs.ListLemmas.{append_at, at_of}
 use Rattle.ts_items.proofs.PlainLemmas.{plain_at, step_at}
@@ -51,7 +51,7 @@ plain_inside g ps fit are p h =
     let d = at.production.0 in
     let f = from_at (start_symbol g) g.rules h.0 p.left d at.production.1 in
     let good : IsFitProduction g d = all_at (IsFitProduction g) f.rule.productions f.place d (fit.rules f.number f.rule f.at).productions f.there in
-    let same : right_of g (Some h.0) ≡ symbols_in d.steps = ap (λ (o : Option (ℕ × Production)). symbols_in (unwrap_or (option_map (λ (q : ℕ × Production). q.1.steps) o) [])) at.production.1 in
+    let same : right_of g (Some h.0) ≡ symbols_of_steps d.steps = ap (λ (o : Option (ℕ × Production)). symbols_of_steps (unwrap_or (option_map (λ (q : ℕ × Production). q.1.steps) o) [])) at.production.1 in
     record {
       left = (let w = slice_get_within g.rules f.number f.rule f.at in let e = f.left in omega (arith, w, e));
       short = (let few = good.few in let a = length-map d.steps (λ (s : Step). s.symbol.0) in let b = ap (λ (l : List ℕ). length l) (sym same ∙ at.right) in omega (arith, few, a, b));

@@ -18,16 +18,8 @@ use Rattle.ts_items.specs.Sets.{HasAt}
 use Rattle.ts_items.specs.Closing.{AtDot, Closed, SameItems, MovesPast, IsLinePart, Closes, AddsSets}
 use Rattle.ts_items.specs.Numbers.{part_cmp, AreMoved, IsOrdered, IsKernelOf, AreStates, HasRows, AreGotos, AreOnce, Enters, EntersGoto, Collecting}
 use Rattle.ts_items.proofs.ListLemmas.{cases_lt_or_eq, one_at, at_grown, snoc_at, none_in_nil, none_at_nil, there, some_at}
-use Rattle.ts_items.proofs.PoolLemmas.{grows_same}
 use Rattle.ts_items.proofs.StateLemmas.{row_moves, row_state, state_grown, same_both}
 use Rattle.ts_items.proofs.ClosureLemmas.{first_valid}
-
-pub enters_none : (parts : List Part) (old new : List (Vec Part)) → new ≡ old → Enters parts old new
-enters_none parts old new e = record {
-  grows = grows_same old new e;
-  of = λ n k at. inl (subst (λ (l : List (Vec Part)). slice_get l n ≡ Some k) e at);
-  once = λ o. subst AreOnce (sym e) o;
-}
 
 pub enters_some : (parts : List Part) (kernel : Vec Part) (old new : List (Vec Part)) → ((parts ≡ []) → ⊥) → IsOrdered parts kernel.items → AddsSets old new
     → ((n : ℕ) (k : Vec Part) → slice_get new n ≡ Some k → (slice_get old n ≡ Some k) ⊎ (k.items ≡ kernel.items)) → (AreOnce old → AreOnce new) → Enters parts old new
@@ -36,9 +28,6 @@ enters_some parts kernel old new some order grows of once = record {
   of = λ n k at. ⊎_elim (λ w. inl w) (λ e. inr (subst (λ (l : List Part). IsOrdered parts l) (sym e) order, some)) (of n k at);
   once = once;
 }
-
-pub goto_none : (kernels : List (Vec Part)) (symbol : ℕ) (parts : List Part) (gotos : List Goto) → parts ≡ [] → EntersGoto kernels symbol parts gotos gotos
-goto_none kernels symbol parts gotos e = record { none = λ f. refl; some = λ f. absurd (f e) }
 
 pub goto_some : (kernels : List (Vec Part)) (symbol n : ℕ) (parts : List Part) (kernel : Vec Part) (old new : List Goto) → ((parts ≡ []) → ⊥) → IsOrdered parts kernel.items → (k : Vec Part) × (slice_get kernels n ≡ Some k) × (k.items ≡ kernel.items)
     → new ≡ old ++ record { symbol = symbol; state = n } ∷ [] → EntersGoto kernels symbol parts old new

@@ -12,7 +12,6 @@ pub mod OrderLemmas
 pub mod PartLemmas
 pub mod PlainLemmas
 pub mod PoolLemmas
-pub mod SmallestLemmas
 pub mod StandLemmas
 pub mod StateLemmas
 pub mod TableLemmas

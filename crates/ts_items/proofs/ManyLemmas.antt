@@ -5,7 +5,7 @@ use Rattle.indexmap.proofs.IndexTableLemmas.Probe.{pigeonhole}
 use Rattle.ts_core.specs.declared.flat.FlatGrammar.{FlatGrammar}
 use Rattle.spec_tables.specs.Items.{Item, Valid}
 use Rattle.ts_items.specs.declared.part.Items.{Items}
-use Rattle.ts_items.specs.Collection.{most_states, HoldsItem, IsReachedBy, StandsFor, AreTooMany}
+use Rattle.ts_items.specs.Collection.{most_states, HoldsItem, IsReachedBy, StandsFor, AreTooManyStates}
 use Rattle.ts_items.proofs.StateLemmas.{same_both, same_back}
 
 abbrev AreSome : FlatGrammar → List (List ℕ) → Type 0
@@ -33,7 +33,7 @@ module _ (g : FlatGrammar) (items : Items) (stands : StandsFor g items) where
       let l = led rs (λ n read at. some (suc n) read at) k (omega (arith, lt)) in
       record { read = l.read; at = l.at; leads = l.leads; item = l.item; valid = l.valid }
 
-  pub fits : length items.states.items ≤ most_states → AreTooMany g → ⊥
+  pub fits : length items.states.items ≤ most_states → AreTooManyStates g → ⊥
   fits few (reads, different, many) =
       let le = pigeonhole (length reads) (length items.states.items) (numbers reads different.some) into one in
       omega (arith, le, few, many)

@@ -1,8 +1,8 @@
 -- Parts that begin lines.
-use Rattle.std.proofs.Common.{◌≡◌, ◌∙◌, sym, ap, refl, subst, ℕ, ◌+◌, ◌<◌, ◌≤◌, ⊎_elim, List, [], ◌∷◌, ◌++◌, length, take, get_or, slice_get, Some, arith, ◌↔◌, append_assoc}
+use Rattle.std.proofs.Common.{◌≡◌, ◌∙◌, sym, ap, refl, subst, ℕ, ◌+◌, ◌<◌, ⊎_elim, List, [], ◌∷◌, ◌++◌, length, take, get_or, slice_get, Some, arith, ◌↔◌, append_assoc}
 use Rattle.std.specs.Global.{Vec}
 use Rattle.std.specs.List.{Contains}
-use Rattle.std.proofs.lemmas.List.{take_more, append-nil}
+use Rattle.std.proofs.lemmas.List.{take_more}
 use Rattle.std.proofs.lemmas.List.Elements.{Contains-append_left, Contains-append_right, Contains-append_cases, Contains-push, Contains-push_cases}
 use Rattle.std.proofs.lemmas.Option.{slice_get_within}
 use Rattle.ts_bits.specs.declared.set.BitSet.{BitSet}
@@ -10,7 +10,7 @@ use Rattle.ts_bits.specs.Members.{Has}
 use Rattle.ts_items.specs.declared.part.Part.{Part}
 use Rattle.ts_items.specs.Sets.{HasAt}
 use Rattle.ts_items.specs.Closing.{AddsParts, AddsBegun, BeginsAt, AreBegun, AddsSets}
-use Rattle.ts_items.proofs.ListLemmas.{cases_lt_or_eq, one_at, at_grown, some_at, none_in_nil}
+use Rattle.ts_items.proofs.ListLemmas.{cases_lt_or_eq, one_at, at_grown, some_at}
 use Rattle.ts_items.proofs.GainLemmas.{has_at}
 
 part_of : (p q : Part) → p.line ≡ q.line → p.dot ≡ q.dot → p.tokens ≡ q.tokens → p ≡ q
@@ -112,9 +112,3 @@ begun_more lines asked old new k row items set start now next at same here grows
       (q.0, Contains-append_right before.more adds.more q.0 q.1, q.2))
       (cases_lt_or_eq y k lt);
 }
-
-pub begun_none : (lines : List (Vec ℕ)) (asked pool : List BitSet) (start : List Part) → AreBegun lines asked pool 0 start start
-begun_none lines asked pool start = record { more = []; is = sym (append-nil start); only = λ q h. absurd (none_in_nil q h); added = λ y line t lt row has. absurd (omega (arith, lt)) }
-
-pub begun_end : (lines : List (Vec ℕ)) (asked pool : List BitSet) (k n : ℕ) (start now : List Part) → n ≤ k → AreBegun lines asked pool k start now → AreBegun lines asked pool n start now
-begun_end lines asked pool k n start now le b = record { more = b.more; is = b.is; only = b.only; added = λ y line t lt row has. b.added y line t (omega (arith, lt, le)) row has }

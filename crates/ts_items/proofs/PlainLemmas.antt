@@ -10,7 +10,7 @@ use Rattle.ts_core.specs.declared.flat.Step.{Step}
 use Rattle.spec_grammar.specs.Symbols.{production_at, all_productions, productions_from}
 use Rattle.spec_tables.specs.Items.{Item, line_steps, IsProductionOf, IsBefore, MayFollow, MayStandBehind}
 use Rattle.ts_items.specs.declared.plain.Plain.{Plain}
-use Rattle.ts_items.specs.Productions.{symbols_in, right_of, plain, ArePlainOf, plain_rule, plain_rules}
+use Rattle.ts_items.specs.Productions.{symbols_of_steps, right_of, plain, ArePlainOf, plain_rule, plain_rules}
 use Rattle.ts_items.proofs.ListLemmas.{map_append}
 use Rattle.ts_items.specs.Closing.{AtDot, Behind}
 
@@ -31,28 +31,24 @@ plain_at g ps n p are at = by (production_at g n) refl (sym (slice_get-map plain
     by : (o : Option (ℕ × Production)) → production_at g n ≡ o → option_map plain o ≡ Some (p.left, p.right.items) → PlainAt g n p
     by None e h = absurd (let x : ◌≡◌ {A = Option (ℕ × List ℕ)} None (Some (p.left, p.right.items)) = h in cc)
     by (Some (y, d)) e h =
-        let m = both_in y p.left (symbols_in d.steps) p.right.items h in
+        let m = both_in y p.left (symbols_of_steps d.steps) p.right.items h in
         record {
           production = subst (λ (k : ℕ). IsProductionOf g k n) m.0 (d, e);
-          right = ap (λ (o : Option (ℕ × Production)). symbols_in (unwrap_or (option_map (λ (q : ℕ × Production). q.1.steps) o) [])) e ∙ m.1;
+          right = ap (λ (o : Option (ℕ × Production)). symbols_of_steps (unwrap_or (option_map (λ (q : ℕ × Production). q.1.steps) o) [])) e ∙ m.1;
         }
 
 pub at_plain : (g : FlatGrammar) (ps : List Plain) (y n : ℕ) → ArePlainOf g ps → IsProductionOf g y n → (p : Plain) × (slice_get ps n ≡ Some p) × (p.left ≡ y)
 at_plain g ps y n are (d, e) = by (slice_get ps n) refl (sym (slice_get-map seen ps n) ∙ ap (λ (l : List (ℕ × List ℕ)). slice_get l n) are ∙ slice_get-map plain (all_productions g) n ∙ ap (option_map plain) e)
   where
-    by : (o : Option Plain) → slice_get ps n ≡ o → option_map seen o ≡ Some (y, symbols_in d.steps) → (p : Plain) × (slice_get ps n ≡ Some p) × (p.left ≡ y)
-    by None e h = absurd (let x : ◌≡◌ {A = Option (ℕ × List ℕ)} None (Some (y, symbols_in d.steps)) = h in cc)
-    by (Some p) e h = (p, e, (both_in p.left y p.right.items (symbols_in d.steps) h).0)
-
--- a production has one left side
-pub one_left : (g : FlatGrammar) (y z n : ℕ) → IsProductionOf g y n → IsProductionOf g z n → y ≡ z
-one_left g y z n (d, a) (e, b) = ap (λ (o : Option (ℕ × Production)). (unwrap_or o (z, e)).0) (sym a ∙ b)
+    by : (o : Option Plain) → slice_get ps n ≡ o → option_map seen o ≡ Some (y, symbols_of_steps d.steps) → (p : Plain) × (slice_get ps n ≡ Some p) × (p.left ≡ y)
+    by None e h = absurd (let x : ◌≡◌ {A = Option (ℕ × List ℕ)} None (Some (y, symbols_of_steps d.steps)) = h in cc)
+    by (Some p) e h = (p, e, (both_in p.left y p.right.items (symbols_of_steps d.steps) h).0)
 
 -- what stands at a dot, as a step and as a symbol
 pub dot_of : (g : FlatGrammar) (i : Item) (step : Step) → IsBefore g i step → AtDot g i step.symbol.0
 dot_of g i step h = slice_get-map (λ (s : Step). s.symbol.0) (line_steps g i.line) i.dot ∙ ap (option_map (λ (s : Step). s.symbol.0)) h
 
-pub step_at : (steps : List Step) (k x : ℕ) → slice_get (symbols_in steps) k ≡ Some x → (step : Step) × (slice_get steps k ≡ Some step) × (step.symbol.0 ≡ x)
+pub step_at : (steps : List Step) (k x : ℕ) → slice_get (symbols_of_steps steps) k ≡ Some x → (step : Step) × (slice_get steps k ≡ Some step) × (step.symbol.0 ≡ x)
 step_at steps k x h = by (slice_get steps k) refl (sym (slice_get-map (λ (s : Step). s.symbol.0) steps k) ∙ h)
   where
     by : (o : Option Step) → slice_get steps k ≡ o → option_map (λ (s : Step). s.symbol.0) o ≡ Some x → (step : Step) × (slice_get steps k ≡ Some step) × (step.symbol.0 ≡ x)

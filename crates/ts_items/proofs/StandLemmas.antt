@@ -22,7 +22,7 @@ use Rattle.ts_items.specs.Tables.{IsTables}
 use Rattle.ts_items.specs.Edges.{AreFirstSets}
 use Rattle.ts_items.specs.Closing.{AtDot, Begun, Closed, SameItems, AreLineParts, IsKernel, IsPool}
 use Rattle.ts_items.specs.Numbers.{IsKernelOf, AreStates, AreOnce, IsDone, Collecting}
-use Rattle.ts_items.specs.Collection.{most_states, HoldsItem, IsReachedBy, here, step, StandsFor, AreDifferent, AreTooMany}
+use Rattle.ts_items.specs.Collection.{most_states, HoldsItem, IsReachedBy, here, step, StandsFor, AreDifferent, AreTooManyStates}
 use Rattle.ts_items.proofs.ListLemmas.{one_at, some_at}
 use Rattle.ts_items.proofs.GainLemmas.{has_at}
 use Rattle.ts_items.proofs.PlainLemmas.{dot_of}
@@ -112,7 +112,7 @@ unfolding reads_of
 reads_length g lines pool [] are = refl
 reads_length g lines pool (k ∷ ks) are = ap suc (reads_length g lines pool ks (λ n v at. are (suc n) v at))
 
-pub are_too_many : (law : SameWords) (g : FlatGrammar) (width lines : ℕ) (pool : List BitSet) (kernels : List (Vec Part)) → IsPool width pool → AreStates g lines pool kernels → AreOnce kernels → most_states < length kernels → AreTooMany g
+pub are_too_many : (law : SameWords) (g : FlatGrammar) (width lines : ℕ) (pool : List BitSet) (kernels : List (Vec Part)) → IsPool width pool → AreStates g lines pool kernels → AreOnce kernels → most_states < length kernels → AreTooManyStates g
 are_too_many law g width lines pool kernels is are once many = (reads_of g lines pool kernels are, different, let e = reads_length g lines pool kernels are in omega (arith, many, e))
   where
     valid_of : (n : ℕ) (read : List ℕ) → (r : ReadAt g lines pool kernels n read) → SameItems (Closed g (In pool r.kernel.items)) (Valid g read)

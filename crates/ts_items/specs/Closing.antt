@@ -53,6 +53,7 @@ pub record Begun (g : FlatGrammar) (K : Item → Type 0) (j : Item) : Type 0 whe
 abbrev pub Closed : FlatGrammar → (Item → Type 0) → Item → Type 0
 Closed g K j = K j ⊎ Begun g K j
 
+-- the two sets have the same items
 abbrev pub SameItems : (Item → Type 0) → (Item → Type 0) → Type 0
 SameItems P Q = (i : Item) → P i ↔ Q i
 
@@ -80,6 +81,7 @@ pub record IsLinePart (lines : ℕ) (pool : List BitSet) (q : Part) : Type 0 whe
   pub tokens : q.tokens < length pool
   pub some : (t : ℕ) × HasAt pool q.tokens t
 
+-- each of the parts has one of so many lines, and a set of the pool that has some token
 abbrev pub AreLineParts : ℕ → List BitSet → List Part → Type 0
 AreLineParts lines pool parts = (q : Part) → Contains parts q → IsLinePart lines pool q
 

@@ -79,5 +79,5 @@ pub record AreDifferent (g : FlatGrammar) (reads : List (List ℕ)) : Type 0 whe
       → slice_get reads n ≡ Some other → SameItems (Valid g read) (Valid g other) → m ≡ n
 
 -- there are more such sets than there may be
-abbrev pub AreTooMany : FlatGrammar → Type 0
-AreTooMany g = (reads : List (List ℕ)) × AreDifferent g reads × (most_states < length reads)
+abbrev pub AreTooManyStates : FlatGrammar → Type 0
+AreTooManyStates g = (reads : List (List ℕ)) × AreDifferent g reads × (most_states < length reads)

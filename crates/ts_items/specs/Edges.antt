@@ -36,6 +36,7 @@ pub record IsPlainInside (count : ℕ) (p : Plain) : Type 0 where
   pub short : length p.right.items < 2 ^ 16
   pub right : (k x : ℕ) → slice_get p.right.items k ≡ Some x → x < count
 
+-- so it is with each of the productions
 abbrev pub AreInside : ℕ → List Plain → Type 0
 AreInside count ps = (p : Plain) → Contains ps p → IsPlainInside count p
 

@@ -17,6 +17,7 @@ use Rattle.ts_items.specs.Parts.{line_of, In}
 use Rattle.ts_items.specs.Rows.{RowHas, FromOne}
 use Rattle.ts_items.specs.Closing.{AddsSets, AtDot, Closed, SameItems, MovesPast, AreLineParts, HaveOneSetEach, IsKernel, Closes}
 
+-- the order of parts: by line, then by dot, then by the place of the set of tokens
 abbrev pub part_cmp : Part → Part → Ordering
 part_cmp = (derived.cmp-value).it
 
@@ -50,6 +51,7 @@ pub record IsKernelOf (g : FlatGrammar) (lines : ℕ) (pool : List BitSet)
   pub kernel_is : IsKernel kernel
   pub order : IsStrictlySortedBy part_cmp kernel
 
+-- each list of parts begins the set of the items that are valid after some list of symbols
 abbrev pub AreStates : FlatGrammar → ℕ → List BitSet → List (Vec Part) → Type 0
 AreStates g lines pool kernels = (n : ℕ) (k : Vec Part) → slice_get kernels n ≡ Some k
     → IsKernelOf g lines pool k.items
@@ -113,10 +115,12 @@ pub record Collecting (g : FlatGrammar) (lines count : ℕ) (pool : List BitSet)
 abbrev pub StatesBy : FlatGrammar → Tables → List BitSet → List (Vec Part) → Type 0
 StatesBy g t pool kernels = AreStates g (length t.productions.items) pool kernels
 
+-- a set whose parts and whose gotos are there, by the numbers that tables have
 abbrev pub DoneBy : FlatGrammar → Tables → List BitSet → List (Vec Part) → Vec Part → State → Type 0
 DoneBy g t pool kernels k s =
     IsDone g (length t.productions.items) (length t.firsts.items) pool kernels k s
 
+-- the sets that have been gone through, by the numbers that tables have
 abbrev pub CollectedBy : FlatGrammar → Tables → List BitSet → List (Vec Part) → List State → ℕ
     → Type 0
 CollectedBy g t pool kernels states next =

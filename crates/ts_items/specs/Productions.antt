@@ -9,17 +9,18 @@ use Rattle.spec_tables.specs.Items.{Line, line_steps}
 use Rattle.ts_items.specs.declared.plain.Plain.{Plain}
 
 -- the symbols of steps
-abbrev pub symbols_in : List Step → List ℕ
-symbols_in steps = map (λ step. step.symbol.0) steps
+abbrev pub symbols_of_steps : List Step → List ℕ
+symbols_of_steps steps = map (λ step. step.symbol.0) steps
 
 -- the symbols of the production of an item
 abbrev pub right_of : FlatGrammar → Line → List ℕ
-right_of g line = symbols_in (line_steps g line)
+right_of g line = symbols_of_steps (line_steps g line)
 
 -- a left side and the symbols on the right
 abbrev pub plain : ℕ × Production → ℕ × List ℕ
-plain p = (p.0, symbols_in p.1.steps)
+plain p = (p.0, symbols_of_steps p.1.steps)
 
+-- the productions of one rule, each as this left side and the symbols on the right
 abbrev pub plain_rule : ℕ → List Production → List (ℕ × List ℕ)
 plain_rule left productions = map (λ production. plain (left, production)) productions
 
@@ -27,6 +28,7 @@ plain_rule left productions = map (λ production. plain (left, production)) prod
 abbrev pub plain_rules : ℕ → List FlatRule → List (ℕ × List ℕ)
 plain_rules first rules = map plain (productions_from first rules)
 
+-- the productions of the code, each as a left side and the symbols on the right
 abbrev pub seen_all : List Plain → List (ℕ × List ℕ)
 seen_all productions = map (λ p. (p.left, p.right.items)) productions
 

@@ -17,6 +17,7 @@ pub record IsLineOf (ps : List Plain) (y line : ℕ) : Type 0 where
   pub at : slice_get ps number ≡ Some production
   pub left : y ≡ production.left
 
+-- for each symbol the lines of the productions that have it on the left
 pub record AreLines (ps : List Plain) (count : ℕ) (lines : List (Vec ℕ)) : Type 0 where
   pub count_is : length lines ≡ count
   pub members : (y line : ℕ) → RowHas lines y line ↔ IsLineOf ps y line

@@ -79,7 +79,8 @@ fn ask_all(
     requires count { length asked.old ≡ length tables.now.firsts.items }
     requires wide { AreWide tables.now.width asked.old }
     ensures gains { (g : FlatGrammar) → IsTables g tables.now
-        → OnOk result (GainsTokens (FromOne (AskedBy g pool.now.keys) kernel.now) asked.old asked.new) }
+        → OnOk result (GainsTokens (FromOne (AskedBy g pool.now.keys) kernel.now) asked.old
+        asked.new) }
     ensures tells { OnOk result (QueuesGains asked.old asked.new queue.old.items queue.new.items) }
 {
     for part in kernel {

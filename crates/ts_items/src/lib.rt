@@ -12,8 +12,6 @@ mod plain;
 mod rows;
 mod sets;
 mod tables;
-#[cfg(test)]
-mod tests;
 
 pub use numbering::{ItemFault, collection};
 pub use part::{Goto, Items, Part, State};

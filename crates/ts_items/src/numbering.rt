@@ -10,7 +10,7 @@ ghost use Rattle.ts_items.specs.Numbers.{AreStates, HasRows, AreGotos, Enters, E
 ghost use Rattle.ts_items.specs.Closing.{AddsSets, IsPool};
 ghost use Rattle.ts_items.specs.Sets.{AreWide};
 ghost use Rattle.ts_items.specs.Tables.{IsTables};
-ghost use Rattle.ts_items.specs.Collection.{most_states, too_many, StandsFor, AreTooMany};
+ghost use Rattle.ts_items.specs.Collection.{most_states, too_many, StandsFor, AreTooManyStates};
 
 use crate::closing::{close, place_of};
 use crate::moving::{in_order, moved};
@@ -199,7 +199,7 @@ fn state_of(
         → length kernels.new.keys ≤ most_states) }
     ensures many { IfErr result (λ e. (e ≡ Memory) ⊎ ((e ≡ TooManyStates too_many)
         × ((g : Flat) → IsTables g tables.now → StatesBy g tables.now pool.old.keys kernels.old.keys
-        → AreOnce kernels.old.keys → AreTooMany g))) }
+        → AreOnce kernels.old.keys → AreTooManyStates g))) }
 {
     ts_bits::same_words();
     let parts = close(alloc, tables, pool, asked, kernel_at(kernels, at))?;
@@ -231,7 +231,7 @@ fn states_of(
         (length kernels.new.keys)) }
     ensures many { IfErr result (λ e. (e ≡ Memory) ⊎ ((e ≡ TooManyStates too_many)
         × ((g : Flat) → IsTables g tables.now
-        → CollectedBy g tables.now pool.old.keys kernels.old.keys [] 0 → AreTooMany g))) }
+        → CollectedBy g tables.now pool.old.keys kernels.old.keys [] 0 → AreTooManyStates g))) }
 {
     let mut states = Vec::new(alloc);
     let mut next = 0;
@@ -252,9 +252,9 @@ fn states_of(
 pub fn collection(alloc: Global, grammar: &FlatGrammar) -> Result<Items, ItemFault>
     requires { Fit grammar.now }
     ensures stands { IfOk result (StandsFor grammar.now) }
-    ensures fits { IfOk result (λ items. AreTooMany grammar.now → ⊥) }
+    ensures fits { IfOk result (λ items. AreTooManyStates grammar.now → ⊥) }
     ensures many { IfErr result (λ e. (e ≡ Memory)
-        ⊎ ((e ≡ TooManyStates too_many) × AreTooMany grammar.now)) }
+        ⊎ ((e ≡ TooManyStates too_many) × AreTooManyStates grammar.now)) }
 {
     ts_bits::same_words();
     let tables = tables_of(alloc, grammar)?;

@@ -2,7 +2,7 @@
 
 ghost use Rattle.std.specs.Prelude.{◌≡◌, ◌+◌, ◌<◌, ◌^◌, ◌++◌, length, IfOk, OnOk};
 ghost use Rattle.spec_grammar.specs.Symbols.{symbol_count};
-ghost use Rattle.ts_items.specs.Productions.{symbols_in, seen_all, plain_rule, plain_rules, ArePlainOf};
+ghost use Rattle.ts_items.specs.Productions.{symbols_of_steps, seen_all, plain_rule, plain_rules, ArePlainOf};
 
 use std::alloc::{AllocError, Global};
 use ts_core::{FlatGrammar, FlatRule, Step};
@@ -16,7 +16,7 @@ pub(crate) struct Plain {
 
 /// The symbols of some steps.
 fn symbols_of(alloc: Global, steps: &[Step]) -> Result<Vec<u16>, AllocError>
-    ensures { IfOk result (λ v. v.items ≡ symbols_in steps.now) }
+    ensures { IfOk result (λ v. v.items ≡ symbols_of_steps steps.now) }
 {
     let mut symbols = Vec::new(alloc);
     for step in steps {

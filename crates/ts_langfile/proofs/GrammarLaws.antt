@@ -17,7 +17,7 @@ use Rattle.ts_langfile.specs.declared.known.Known.{Known}
 use Rattle.ts_langfile.specs.Reader.{Reader, ◌>>=◌, give, tested, times, in_turn}
 use Rattle.ts_langfile.specs.Spelling.{joined, number16, number32, flag, text, listed, optional, symbol, token, rule, re, entry, supertypes, front, back, fields, old_version}
 use Rattle.ts_langfile.specs.Parts.{number16_at, number32_at, optional_by, symbol_at, is_hidden, supertype_at, behind_symbol, left_after, most_levels}
-use Rattle.ts_langfile.specs.Reading.{rule_count_at, head_at, to_fields_at, to_precs_at, supertypes_at, symbols_in, fields_at}
+use Rattle.ts_langfile.specs.Reading.{rule_count_at, head_at, to_fields_at, to_precs_at, supertypes_at, symbol_sum, fields_at}
 use Rattle.ts_langfile.specs.Right.{InTurn, IsShortText, IsBetween, RightRe, RightToken, RightRule, RightEntry, may_be_rules, IsSupertypeSymbol, RightSupertypes, Right}
 use Rattle.ts_langfile.proofs.LawLemmas.{Law, then_law, after_law, as_law, spelled_law, alone_law, made_law, give_law, tested_law, times_law, turn_law, number16_law, number32_law}
 use Rattle.ts_langfile.proofs.PartLaws.{IsThere, inner_of, optional_by_law, le_true, true_le, and_true, true_and, text_law, count_law, flag_law, listed_law, symbol_law, symbols_law}
@@ -35,7 +35,7 @@ pub record RightHead (known : Known) (h : Head) : Type 0 where
   pub few_tokens : (length h.tokens < 2 ^ 32) × (length h.tokens ≤ most_symbols - 1)
   pub tokens : AllByRecursion (RightToken known) h.tokens
   pub few_rules : (length h.rules < 2 ^ 32) × (may_be_rules (length h.tokens) (length h.rules) ≡ true)
-  pub rules : InTurn (λ (left : ℕ). RightRule (symbols_in h) known left) left_after most_productions h.rules
+  pub rules : InTurn (λ (left : ℕ). RightRule (symbol_sum h) known left) left_after most_productions h.rules
   pub separators : (length h.separators < 2 ^ 32) × AllByRecursion (RightRe most_levels) h.separators
   pub extras : (length h.extras < 2 ^ 32) × AllByRecursion (IsBetween 1 (suc (length h.tokens))) h.extras
 
@@ -152,8 +152,8 @@ grammar_of t precs conflicts precedences supertypes = record {
 pub record RightGrammar (version : ℕ) (known : Known) (f : FlatGrammar) : Type 0 where
   pub before : RightToPrecs known (to_precs_in f)
   pub precs : AllByRecursion IsShortText f.precs
-  pub conflicts : (length f.conflicts < 2 ^ 32) × AllByRecursion (λ (set : List Symbol). (length set < 2 ^ 32) × AllByRecursion (IsBetween 0 (symbols_in (head_in f))) set) f.conflicts
-  pub precedences : (length f.precedences < 2 ^ 32) × AllByRecursion (λ (es : List Entry). (length es < 2 ^ 32) × AllByRecursion (RightEntry (symbols_in (head_in f)) (length f.precs)) es) f.precedences
+  pub conflicts : (length f.conflicts < 2 ^ 32) × AllByRecursion (λ (set : List Symbol). (length set < 2 ^ 32) × AllByRecursion (IsBetween 0 (symbol_sum (head_in f))) set) f.conflicts
+  pub precedences : (length f.precedences < 2 ^ 32) × AllByRecursion (λ (es : List Entry). (length es < 2 ^ 32) × AllByRecursion (RightEntry (symbol_sum (head_in f)) (length f.precs)) es) f.precedences
   pub supertypes : RightSupertypes (nat_eq version old_version) f.tokens f.rules f.supertypes
 
 same_word : (o : Option Symbol) → flag (is_some o) ++ inner_of symbol o ≡ optional symbol o
@@ -183,8 +183,8 @@ regrouped version f =
 natural_law : (version : ℕ) (known : Known) → Law (fields_at version known) (natural version) (RightGrammar version known)
 unfolding fields_at natural
 natural_law version known = as_law
-    (after_law to_precs_in (to_precs_law known) (λ t r1. then_law (λ (f : FlatGrammar). f.precs) (times_law text_law t.prec_count) (λ precs r2. then_law (λ (f : FlatGrammar). f.conflicts) (listed_law (symbols_law 0 (symbols_in t.before.head))) (λ conflicts r3.
-    then_law (λ (f : FlatGrammar). f.precedences) (listed_law (listed_law (entry_law (symbols_in t.before.head) t.prec_count))) (λ precedences r4. then_law (λ (f : FlatGrammar). f.supertypes) (supertypes_law version t.before.head) (λ supertypes r5. give_law (grammar_of t precs conflicts precedences supertypes))
+    (after_law to_precs_in (to_precs_law known) (λ t r1. then_law (λ (f : FlatGrammar). f.precs) (times_law text_law t.prec_count) (λ precs r2. then_law (λ (f : FlatGrammar). f.conflicts) (listed_law (symbols_law 0 (symbol_sum t.before.head))) (λ conflicts r3.
+    then_law (λ (f : FlatGrammar). f.precedences) (listed_law (listed_law (entry_law (symbol_sum t.before.head) t.prec_count))) (λ precedences r4. then_law (λ (f : FlatGrammar). f.supertypes) (supertypes_law version t.before.head) (λ supertypes r5. give_law (grammar_of t precs conflicts precedences supertypes))
     (λ supertypes f right. ap (λ (f : FlatGrammar). f.supertypes) right)) (λ precedences f right. ap (λ (f : FlatGrammar). f.precedences) right.1)) (λ conflicts f right. ap (λ (f : FlatGrammar). f.conflicts) right.1.1)) (λ precs f right. ap (λ (f : FlatGrammar). f.precs) right.1.1.1))
     (λ t f r1 right. before_is known t f.precs f.conflicts f.precedences f.supertypes f r1 right.0.0 right.1.1.1.1))
     (λ f right. record { before = right.0; precs = right.1.0.1; conflicts = right.1.1.0; precedences = right.1.1.1.0; supertypes = right.1.1.1.1.0 })

@@ -1,11 +1,8 @@
 -- Parts that a loop reads one after another, what was read before standing in a list.
-use Rattle.std.proofs.Common.{◌≡◌, ℕ, zero, suc, ◌-◌, ◌+◌, ◌≤◌, ◌<◌, List, [], ◌∷◌, ◌++◌, Result, Ok, Err, refl, sym, ap, ◌∙◌, append_assoc, arith}
-use Rattle.std.proofs.lemmas.List.{append-nil}
+use Rattle.std.proofs.Common.{◌≡◌, ℕ, zero, suc, ◌-◌, ◌+◌, ◌<◌, List, [], ◌∷◌, ◌++◌, Result, Ok, Err, refl, sym, ap, ◌∙◌, append_assoc, arith}
 use Rattle.ts_base.specs.Bytes.{Bytes}
 use Rattle.ts_langfile.specs.declared.flaw.Flaw.{Flaw}
-use Rattle.ts_langfile.specs.declared.flaw.Stop.{Stop}
-use Rattle.ts_langfile.specs.declared.flaw.Stop.TheVariants as stop
-use Rattle.ts_langfile.specs.Reader.{SeenBytes, Reader, going_on, give, times, in_turn, StopsWith}
+use Rattle.ts_langfile.specs.Reader.{SeenBytes, Reader, going_on, give, times, in_turn}
 
 -- what was read before, and what is still read
 abbrev pub with_front : {A : Type 0} → List A → SeenBytes (List A) → SeenBytes (List A)
@@ -16,10 +13,6 @@ regroup : {A : Type 0} (front : List A) (x : A) (read : SeenBytes (List A)) → 
 regroup front x (Ok others) = ap (λ (xs : List _). Ok (xs, others.1)) (simp append_assoc)
 regroup front x (Err flaw) = refl
 
-pub front_none : {A : Type 0} (read : SeenBytes (List A)) → with_front [] read ≡ read
-front_none (Ok x) = refl
-front_none (Err flaw) = refl
-
 -- ---- so many
 
 pub times_next : {A : Type 0} (part : Reader A) (front : List A) (count i : ℕ) (bytes : Bytes) (x : A) (after : Bytes) (total : SeenBytes (List A)) → i < count → part bytes ≡ Ok (x, after)
@@ -29,20 +22,6 @@ times_next part front count i bytes x after total below read so_far =
     let one : with_front front (times (count - i) part bytes) ≡ with_front (front ++ x ∷ []) (times (count - (i + 1)) part after) = rw (k, read) (regroup front x (times (count - (i + 1)) part after)) in
     sym one ∙ so_far
 
-pub times_stops : {A : Type 0} (part : Reader A) (front : List A) (count i : ℕ) (bytes : Bytes) (s : Stop) (total : SeenBytes (List A)) → i < count → StopsWith s (part bytes)
-    → with_front front (times (count - i) part bytes) ≡ total → StopsWith s total
-times_stops part front count i bytes stop.Memory total below read so_far = tt
-times_stops part front count i bytes (stop.Flawed flaw) total below read so_far =
-    let k : count - i ≡ suc (count - (i + 1)) = omega arith in
-    let one : with_front front (times (count - i) part bytes) ≡ Err flaw = rw (k, read) refl in
-    sym so_far ∙ one
-
-pub times_done : {A : Type 0} (part : Reader A) (front : List A) (count i : ℕ) (bytes : Bytes) (total : SeenBytes (List A)) → count ≤ i → with_front front (times (count - i) part bytes) ≡ total → total ≡ Ok (front, bytes)
-times_done part front count i bytes total le so_far =
-    let k : count - i ≡ 0 = omega arith in
-    let one : with_front front (times (count - i) part bytes) ≡ Ok (front, bytes) = rw k (ap (λ (xs : List _). Ok (xs, bytes)) (append-nil front)) in
-    sym so_far ∙ one
-
 -- ---- each judged by a state
 
 pub in_turn_next : {S A : Type 0} (part : S → Reader A) (step : S → A → S) (front : List A) (count i : ℕ) (state : S) (bytes : Bytes) (x : A) (after : Bytes) (total : SeenBytes (List A)) → i < count → part state bytes ≡ Ok (x, after)
@@ -51,17 +30,3 @@ in_turn_next part step front count i state bytes x after total below read so_far
     let k : count - i ≡ suc (count - (i + 1)) = omega arith in
     let one : with_front front (in_turn part step (count - i) state bytes) ≡ with_front (front ++ x ∷ []) (in_turn part step (count - (i + 1)) (step state x) after) = rw (k, read) (regroup front x (in_turn part step (count - (i + 1)) (step state x) after)) in
     sym one ∙ so_far
-
-pub in_turn_stops : {S A : Type 0} (part : S → Reader A) (step : S → A → S) (front : List A) (count i : ℕ) (state : S) (bytes : Bytes) (s : Stop) (total : SeenBytes (List A)) → i < count → StopsWith s (part state bytes)
-    → with_front front (in_turn part step (count - i) state bytes) ≡ total → StopsWith s total
-in_turn_stops part step front count i state bytes stop.Memory total below read so_far = tt
-in_turn_stops part step front count i state bytes (stop.Flawed flaw) total below read so_far =
-    let k : count - i ≡ suc (count - (i + 1)) = omega arith in
-    let one : with_front front (in_turn part step (count - i) state bytes) ≡ Err flaw = rw (k, read) refl in
-    sym so_far ∙ one
-
-pub in_turn_done : {S A : Type 0} (part : S → Reader A) (step : S → A → S) (front : List A) (count i : ℕ) (state : S) (bytes : Bytes) (total : SeenBytes (List A)) → count ≤ i → with_front front (in_turn part step (count - i) state bytes) ≡ total → total ≡ Ok (front, bytes)
-in_turn_done part step front count i state bytes total le so_far =
-    let k : count - i ≡ 0 = omega arith in
-    let one : with_front front (in_turn part step (count - i) state bytes) ≡ Ok (front, bytes) = rw k (ap (λ (xs : List _). Ok (xs, bytes)) (append-nil front)) in
-    sym so_far ∙ one

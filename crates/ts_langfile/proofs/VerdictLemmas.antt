@@ -26,7 +26,7 @@ use Rattle.ts_langfile.specs.Reader.{SeenBytes}
 use Rattle.ts_langfile.specs.Spelling.{magic, number16, new_version, old_version, fields, file, spelling}
 use Rattle.ts_langfile.specs.Parts.{number16_at}
 use Rattle.ts_langfile.specs.Reading.{judged_at}
-use Rattle.ts_langfile.specs.Verdict.{Answers, fault_of, ended, of_version, verdict}
+use Rattle.ts_langfile.specs.Verdict.{ReturnsVerdict, fault_of, ended, of_version, verdict}
 use Rattle.ts_langfile.specs.Right.{Right, IsVersion, Reads}
 use Rattle.ts_langfile.proofs.LawLemmas.{AreBytes, Took, number16_law}
 use Rattle.ts_langfile.proofs.FormedLemmas.{right_formed}
@@ -51,9 +51,6 @@ same_numbers a b = (eqb-true a b, eq-eqb a b)
 
 begins : (w : Bytes) → starts_with nat_eq w magic ≡ true → w ≡ magic ++ drop 4 w
 begins w e = let is = starts_is same_numbers w magic (starts_with nat_eq w magic) refl in is.0 e
-
-begun : (rest : Bytes) → starts_with nat_eq (magic ++ rest) magic ≡ true
-begun rest = let is = starts_is same_numbers (magic ++ rest) magic (starts_with nat_eq (magic ++ rest) magic) refl in is.1 rest refl
 
 version_is : (v : ℕ) → (nat_eq v old_version || nat_eq v new_version) ≡ true → IsVersion v
 version_is v e = elim (or_true (nat_eq v old_version) (nat_eq v new_version) e) [
@@ -173,17 +170,17 @@ is_fault w (LangFault.Field p) h = h
 is_fault w (LangFault.Misfit u) h = absurd (no_misfit w u h)
 is_fault w LangFault.Memory h = tt
 
-pub reads_from : (w : Bytes) (r : Result FlatGrammar LangFault) → AreBytes w → Answers r (verdict w) → IfOk r (λ f. Reads f w)
+pub reads_from : (w : Bytes) (r : Result FlatGrammar LangFault) → AreBytes w → ReturnsVerdict r (verdict w) → IfOk r (λ f. Reads f w)
 reads_from w (Ok f) are (inl e) = verdict_takes w f are (sym e)
 reads_from w (Ok f) are (inr e) = absurd cc
 reads_from w (Err e) are h = tt
 
-pub formed_from : (w : Bytes) (r : Result FlatGrammar LangFault) → AreBytes w → Answers r (verdict w) → IfOk r (λ f. IsFormedGrammar f)
+pub formed_from : (w : Bytes) (r : Result FlatGrammar LangFault) → AreBytes w → ReturnsVerdict r (verdict w) → IfOk r (λ f. IsFormedGrammar f)
 formed_from w (Ok f) are (inl e) = let reads = verdict_takes w f are (sym e) in right_formed reads.version f reads.right
 formed_from w (Ok f) are (inr e) = absurd cc
 formed_from w (Err e) are h = tt
 
-pub fault_from : (w : Bytes) (r : Result FlatGrammar LangFault) → Answers r (verdict w) → IfErr r (λ e. IsFault e w)
+pub fault_from : (w : Bytes) (r : Result FlatGrammar LangFault) → ReturnsVerdict r (verdict w) → IfErr r (λ e. IsFault e w)
 fault_from w (Ok f) h = tt
 fault_from w (Err e) (inl h) = is_fault w e (sym h)
 fault_from w (Err e) (inr h) = subst (λ (e : LangFault). IsFault e w) (sym (same_fault e LangFault.Memory h)) tt
@@ -191,7 +188,7 @@ fault_from w (Err e) (inr h) = subst (λ (e : LangFault). IsFault e w) (sym (sam
 -- ---- one misfit
 
 -- a fault of the fields is no misfit
-pub fields_fault : (w : Bytes) (r : Result FlatGrammar LangFault) → Answers r (verdict w) → IfErr r (λ e. (cause : Unfit) → e ≡ LangFault.Misfit cause → ⊥)
+pub fields_fault : (w : Bytes) (r : Result FlatGrammar LangFault) → ReturnsVerdict r (verdict w) → IfErr r (λ e. (cause : Unfit) → e ≡ LangFault.Misfit cause → ⊥)
 fields_fault w (Ok f) says = tt
 fields_fault w (Err e) (inl same) = λ cause is. no_misfit w cause (sym same ∙ ap (λ (x : LangFault). Err x) is)
 fields_fault w (Err e) (inr same) = λ cause is. clash cause (sym (same_fault e LangFault.Memory same) ∙ is)

@@ -6,6 +6,7 @@ use Rattle.ts_fit.specs.Misfits.{Misfits}
 use Rattle.ts_langfile.specs.declared.fault.LangFault.{LangFault}
 use Rattle.ts_langfile.specs.Verdict.{verdict}
 
+-- the file says this fault, or a grammar that has this misfit
 abbrev pub IsFault : LangFault → Bytes → Type 0
 IsFault LangFault.Magic w = verdict w ≡ Err LangFault.Magic
 IsFault (LangFault.Version n) w = verdict w ≡ Err (LangFault.Version n)

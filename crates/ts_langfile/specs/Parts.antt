@@ -22,12 +22,15 @@ use Rattle.ts_langfile.specs.Reader.{Reader, ◌>>=◌, give, byte_at, bytes_at,
 
 -- ---- numbers, texts and lists
 
+-- a number of 16 bits
 unfoldable pub number16_at : Reader ℕ
 number16_at = number_at w16
 
+-- a number of 32 bits
 unfoldable pub number32_at : Reader ℕ
 number32_at = number_at w32
 
+-- a number of 32 bits in two's complement
 unfoldable pub signed32_at : Reader ℤ
 signed32_at = do
   n ← number32_at
@@ -37,11 +40,13 @@ signed32_at = do
 unfoldable pub tag_at : ℕ → Reader ℕ
 tag_at most = tested byte_at (λ tag. nat_le tag most)
 
+-- a byte that is 1 for true and 0 for false
 unfoldable pub flag_at : Reader Bool
 flag_at = do
   tag ← tag_at 1
   give (nat_eq tag 1)
 
+-- a length, and then a text of so many bytes, which is UTF-8
 unfoldable pub text_at : Reader Bytes
 text_at = do
   n ← number32_at
@@ -64,6 +69,7 @@ optional_by part true = do
   x ← part
   give (Some x)
 
+-- a flag, and then a value where the flag is set
 abbrev pub optional_at : {A : Type 0} → Reader A → Reader (Option A)
 optional_at part = do
   there ← flag_at
@@ -77,6 +83,7 @@ symbol_at least bound = do
 
 -- ---- expressions
 
+-- a number that is a character: below 1114112, and no surrogate
 abbrev pub is_character : ℕ → Bool
 is_character c = nat_lt c 55296 || (nat_le 57344 c && nat_lt c 1114112)
 
@@ -96,6 +103,7 @@ range_at least = do
 abbrev pub behind_range : ℕ → ℕ × ℕ → ℕ
 behind_range least range = range.1 + 2
 
+-- the ranges of a set, which rise and do not touch each other
 abbrev pub ranges_at : Reader (List (ℕ × ℕ))
 ranges_at = do
   n ← number32_at
@@ -143,6 +151,7 @@ abbrev pub may_name : Option ℕ → ℕ → Bool
 may_name None name = true
 may_name (Some count) name = nat_lt name count
 
+-- whether there is a word, or that is not known
 abbrev pub may_have_word : Option Bool → Bool
 may_have_word None = true
 may_have_word (Some has_word) = has_word
@@ -153,16 +162,19 @@ may_be_keyword known literal keyword = not keyword || (literal && may_have_word 
 
 -- ---- tokens
 
+-- the kind that a tag stands for
 abbrev pub kind_of : ℕ → Kind
 kind_of zero = Kind.Named
 kind_of (suc zero) = Kind.Anonymous
 kind_of (suc (suc tag)) = Kind.Hidden
 
+-- a kind, by its tag
 unfoldable pub kind_at : Reader Kind
 kind_at = do
   tag ← tag_at 2
   give (kind_of tag)
 
+-- a token, where so much is known of the word
 unfoldable pub token_at : Known → Reader TokenDef
 token_at known = do
   name ← text_at
@@ -184,6 +196,7 @@ token_at known = do
 
 -- ---- rules
 
+-- what stands behind each tag of a precedence
 abbrev pub prec_by : Known → ℕ → Reader Prec
 prec_by known zero = give Prec.Absent
 prec_by known (suc zero) = do
@@ -193,27 +206,32 @@ prec_by known (suc (suc tag)) = do
   name ← tested number16_at (may_name known.precs)
   give (Prec.Name name)
 
+-- a precedence: its tag, and what stands behind it
 unfoldable pub prec_at : Known → Reader Prec
 prec_at known = do
   tag ← tag_at 2
   prec_by known tag
 
+-- the associativity that a tag stands for
 abbrev pub assoc_of : ℕ → Assoc
 assoc_of zero = Assoc.Absent
 assoc_of (suc zero) = Assoc.Left
 assoc_of (suc (suc tag)) = Assoc.Right
 
+-- an associativity, by its tag
 unfoldable pub assoc_at : Reader Assoc
 assoc_at = do
   tag ← tag_at 2
   give (assoc_of tag)
 
+-- an alias: its name, and whether it is named
 unfoldable pub alias_at : Reader Alias
 alias_at = do
   name ← text_at
   named ← flag_at
   give (record { name = name; named = named })
 
+-- the number of a field name, where a step has a field
 unfoldable pub field_at : Known → Reader (Option ℕ)
 field_at known = optional_at (tested number16_at (may_name known.fields))
 
@@ -233,6 +251,7 @@ step_at symbols known = do
     field = field;
   })
 
+-- a production: its dynamic value, and its steps, which are not too many
 unfoldable pub production_at : ℕ → Known → Reader Production
 production_at symbols known = do
   dynamic ← signed32_at
@@ -256,9 +275,11 @@ left_after left r = left - length r.productions
 
 -- ---- lists of symbols
 
+-- a list of symbols from the least on and below a bound
 unfoldable pub symbols_at : ℕ → ℕ → Reader (List Symbol)
 symbols_at least bound = listed_at (symbol_at least bound)
 
+-- what stands behind each tag of an entry of an ordering
 abbrev pub entry_by : ℕ → ℕ → ℕ → Reader Entry
 entry_by symbols precs zero = do
   name ← tested number16_at (may_name (Some precs))
@@ -267,6 +288,7 @@ entry_by symbols precs (suc tag) = do
   symbol ← symbol_at 0 symbols
   give (Entry.Rule symbol)
 
+-- an entry of an ordering: its tag, and what stands behind it
 unfoldable pub entry_at : ℕ → ℕ → Reader Entry
 entry_at symbols precs = do
   tag ← tag_at 1
@@ -279,12 +301,14 @@ kind_there tokens rules (suc k) = if nat_lt k (length tokens)
     then option_map (λ (d : TokenDef). d.kind) (slice_get tokens k)
     else option_map (λ (r : FlatRule). r.kind) (slice_get rules (k - length tokens))
 
+-- whether there is a kind, and it is hidden
 abbrev pub is_hidden_kind : Option Kind → Bool
 is_hidden_kind None = false
 is_hidden_kind (Some Kind.Named) = false
 is_hidden_kind (Some Kind.Anonymous) = false
 is_hidden_kind (Some Kind.Hidden) = true
 
+-- whether the symbol of a number is there, and hidden
 abbrev pub is_hidden : List TokenDef → List FlatRule → ℕ → Bool
 is_hidden tokens rules s = is_hidden_kind (kind_there tokens rules s)
 

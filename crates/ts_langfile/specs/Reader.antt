@@ -12,14 +12,17 @@ use Rattle.ts_langfile.specs.declared.flaw.Stop.TheVariants as stop
 abbrev pub SeenBytes : Type 0 → Type 0
 SeenBytes A = Result (A × Bytes) Flaw
 
+-- how a part is read at the beginning of bytes
 abbrev pub Reader : Type 0 → Type 0
 Reader A = Bytes → SeenBytes A
 
+-- what is read next by what was read, from the bytes behind it; a flaw ends the reading
 abbrev pub going_on : {A B : Type 0} → SeenBytes A → (A → Reader B) → SeenBytes B
 going_on (Ok x) next = next x.0 x.1
 going_on (Err flaw) next = Err flaw
 
 infixl 10 ◌>>=◌
+-- one part, and then the next, which may rest on the first
 abbrev pub ◌>>=◌ : {A B : Type 0} → Reader A → (A → Reader B) → Reader B
 ◌>>=◌ part next = λ bytes. going_on (part bytes) next
 
@@ -39,6 +42,7 @@ unfoldable pub bytes_at : ℕ → Reader Bytes
 bytes_at n bytes =
     if nat_lt (length bytes) n then Err (Short (length bytes)) else Ok (take n bytes, drop n bytes)
 
+-- a number of so many bits, the byte of greatest weight first
 unfoldable pub number_at : Width → Reader ℕ
 number_at w bytes = if nat_lt (length bytes) (byte_len w) then Err (Short (length bytes))
     else Ok (from_be_bytes w (take (byte_len w) bytes), drop (byte_len w) bytes)

@@ -73,16 +73,16 @@ supertypes_at version head =
       in_turn (supertype_at head.tokens head.rules) behind_symbol n 1)
 
 -- how many symbols there are, the end among them
-abbrev pub symbols_in : Head → ℕ
-symbols_in head = suc (length head.tokens + length head.rules)
+abbrev pub symbol_sum : Head → ℕ
+symbol_sum head = suc (length head.tokens + length head.rules)
 
 -- all that stands behind the version
 unfoldable pub fields_at : ℕ → Known → Reader FlatGrammar
 fields_at version known = do
   before ← to_precs_at known
   precs ← times before.prec_count text_at
-  conflicts ← listed_at (symbols_at 0 (symbols_in before.before.head))
-  precedences ← listed_at (listed_at (entry_at (symbols_in before.before.head) before.prec_count))
+  conflicts ← listed_at (symbols_at 0 (symbol_sum before.before.head))
+  precedences ← listed_at (listed_at (entry_at (symbol_sum before.before.head) before.prec_count))
   supertypes ← supertypes_at version before.before.head
   give (record {
     name = before.before.head.name;

@@ -43,6 +43,7 @@ IsName count n = (n < 2 ^ 16) × (may_name count n ≡ true)
 
 -- ---- expressions
 
+-- whether a number is a character, and not below the least
 abbrev pub begins_range : ℕ → ℕ → Bool
 begins_range least c = is_character c && nat_le least c
 
@@ -51,6 +52,7 @@ abbrev pub RightRange : ℕ → ℕ × ℕ → Type 0
 RightRange least r = ((r.0 < 2 ^ 32) × (begins_range least r.0 ≡ true))
     × ((r.1 < 2 ^ 32) × (ends_range r.0 r.1 ≡ true))
 
+-- the most times of a repeat, where there is a most: it fits 32 bits and is not below the least
 abbrev pub RightMost : ℕ → Option ℕ → Type 0
 RightMost least = IfThere (λ (most : ℕ). (most < 2 ^ 32) × (nat_le least most ≡ true))
 
@@ -73,23 +75,27 @@ RightRe (suc room) r = (tag : ℕ) × (tag ≤ 4) × ReBy (RightRe room) tag r
 
 -- ---- tokens and rules
 
+-- a token: its name, expression and precedence are right, and it may be a keyword if it is one
 pub record RightToken (known : Known) (d : TokenDef) : Type 0 where
   pub name : IsShortText d.name
   pub re : RightRe most_levels d.re
   pub prec : FitsSigned w32 d.prec
   pub keyword : may_be_keyword known d.literal d.keyword ≡ true
 
+-- a precedence: its value fits 32 bits, or its name may be there
 abbrev pub RightPrec : Known → Prec → Type 0
 RightPrec known Prec.Absent = Unit {0}
 RightPrec known (Prec.Number value) = FitsSigned w32 value
 RightPrec known (Prec.Name name) = IsName known.precs name
 
+-- a step: it names a token or a rule, and its precedence, alias and field are right
 pub record RightStep (symbols : ℕ) (known : Known) (s : Step) : Type 0 where
   pub symbol : IsBetween 1 symbols s.symbol
   pub prec : RightPrec known s.prec
   pub alias : IfThere (λ (a : Alias). IsShortText a.name) s.alias
   pub field : IfThere (IsName known.fields) s.field
 
+-- a production: its dynamic value fits 32 bits, and its steps are few enough and right
 abbrev pub RightProduction : ℕ → Known → Production → Type 0
 RightProduction symbols known p = FitsSigned w32 p.dynamic × (length p.steps ≤ most_steps)
     × AllByRecursion (RightStep symbols known) p.steps
@@ -101,6 +107,7 @@ pub record RightRule (symbols : ℕ) (known : Known) (left : ℕ) (r : FlatRule)
   pub few : (length r.productions < 2 ^ 32) × (length r.productions ≤ left)
   pub productions : AllByRecursion (RightProduction symbols known) r.productions
 
+-- an entry of an ordering: a name or a symbol that is there
 abbrev pub RightEntry : ℕ → ℕ → Entry → Type 0
 RightEntry symbols precs (Entry.Name name) = IsName (Some precs) name
 RightEntry symbols precs (Entry.Rule s) = IsBetween 0 symbols s
@@ -111,10 +118,12 @@ RightEntry symbols precs (Entry.Rule s) = IsBetween 0 symbols s
 abbrev pub may_be_rules : ℕ → ℕ → Bool
 may_be_rules tokens n = nat_lt 0 n && nat_le (suc (tokens + n)) most_symbols
 
+-- a hidden symbol from the least on
 abbrev pub IsSupertypeSymbol : List TokenDef → List FlatRule → ℕ → Symbol → Type 0
 IsSupertypeSymbol tokens rules least s = (s.0 < 2 ^ 16)
     × ((nat_le least s.0 && is_hidden tokens rules s.0) ≡ true)
 
+-- in the old version there are none, and else they are hidden symbols that rise
 abbrev pub RightSupertypes : Bool → List TokenDef → List FlatRule → List Symbol → Type 0
 RightSupertypes true tokens rules xs = xs ≡ []
 RightSupertypes false tokens rules xs = (length xs < 2 ^ 32)
@@ -153,9 +162,11 @@ known_of f = record {
   precs = Some (length f.precs);
 }
 
+-- each field of the grammar is right, by what the fields behind it tell
 abbrev pub Right : ℕ → FlatGrammar → Type 0
 Right version f = RightBy version (known_of f) f
 
+-- a version that can be read
 abbrev pub IsVersion : ℕ → Type 0
 IsVersion version = (version ≡ old_version) ⊎ (version ≡ new_version)
 

@@ -25,12 +25,14 @@ ended w (Ok x) = if nat_eq (length x.1) 0 then Ok x.0
     else Err (LangFault.Long (length w - length x.1))
 ended w (Err flaw) = Err (fault_of w flaw)
 
+-- what the bytes behind the version say, where the version can be read
 unfoldable pub of_version : Bytes → SeenBytes ℕ → Result FlatGrammar LangFault
 of_version w (Ok x) = if nat_eq x.0 old_version || nat_eq x.0 new_version
     then ended w (judged_at x.0 x.1)
     else Err (LangFault.Version x.0)
 of_version w (Err flaw) = Err (fault_of w flaw)
 
+-- what a whole file says: its grammar, or its first fault
 unfoldable pub verdict : Bytes → Result FlatGrammar LangFault
 verdict w = if starts_with nat_eq w magic
     then of_version w (number16_at (drop 4 w))
@@ -44,5 +46,5 @@ FaultIs fault w stop.Memory = fault ≡ LangFault.Memory
 FaultIs fault w (stop.Flawed flaw) = fault ≡ fault_of w flaw
 
 -- what is returned is what the file says, unless memory runs out
-abbrev pub Answers : Result FlatGrammar LangFault → Result FlatGrammar LangFault → Type 0
-Answers result says = (result ≡ says) ⊎ (result ≡ Err LangFault.Memory)
+abbrev pub ReturnsVerdict : Result FlatGrammar LangFault → Result FlatGrammar LangFault → Type 0
+ReturnsVerdict result says = (result ≡ says) ⊎ (result ≡ Err LangFault.Memory)

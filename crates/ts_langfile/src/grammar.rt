@@ -82,7 +82,7 @@ fn rule_count(bytes: &[u8], tokens: u32) -> Result<(u32, &[u8]), Stop>
 #[tactic(auto, unfolding(crate::specs::Reading::head_at))]
 fn read_head<'a>(alloc: Global, bytes: &'a [u8], known: &Known) -> Result<(Head, &'a [u8]), Stop>
     ensures read { Gives (λ x. (x.0, x.1.now)) result (head_at known.now bytes.now) }
-    ensures few { IfOk result (λ x. spec.symbols_in x.0 ≤ most_symbols) }
+    ensures few { IfOk result (λ x. spec.symbol_sum x.0 ≤ most_symbols) }
 {
     let (name, rest) = text(alloc, bytes)?;
     let (token_count, rest) = count(rest, MOST_SYMBOLS - 1)?;
@@ -132,7 +132,7 @@ fn read_to_fields<'a>(
     known: &Known,
 ) -> Result<(ToFields, &'a [u8]), Stop>
     ensures read { Gives (λ x. (x.0, x.1.now)) result (to_fields_at known.now bytes.now) }
-    ensures few { IfOk result (λ x. spec.symbols_in x.0.head ≤ most_symbols) }
+    ensures few { IfOk result (λ x. spec.symbol_sum x.0.head ≤ most_symbols) }
 {
     let (head, rest) = read_head(alloc, bytes, known)?;
     let (word, rest) = word(rest, head.has_word, head.tokens.len() as u32)?;
@@ -153,7 +153,7 @@ fn read_to_precs<'a>(
     known: &Known,
 ) -> Result<(ToPrecs, &'a [u8]), Stop>
     ensures read { Gives (λ x. (x.0, x.1.now)) result (to_precs_at known.now bytes.now) }
-    ensures few { IfOk result (λ x. spec.symbols_in x.0.before.head ≤ most_symbols) }
+    ensures few { IfOk result (λ x. spec.symbol_sum x.0.before.head ≤ most_symbols) }
 {
     let (before, rest) = read_to_fields(alloc, bytes, known)?;
     let (fields, rest) = texts(alloc, rest, before.field_count)?;

@@ -51,7 +51,7 @@ fn of_version(
     version: u16,
 ) -> Result<FlatGrammar, LangFault>
     requires { length bytes.now < 2 ^ 32 }
-    ensures { spec.Answers result (spec.ended bytes.now (judged_at version start.now)) }
+    ensures { spec.ReturnsVerdict result (spec.ended bytes.now (judged_at version start.now)) }
 {
     match judged(alloc, start, version) {
         Ok((grammar, rest)) => {
@@ -68,7 +68,7 @@ fn of_version(
 #[tactic(auto, unfolding(crate::specs::Verdict::of_version))]
 fn behind_magic(alloc: Global, bytes: &[u8], start: &[u8]) -> Result<FlatGrammar, LangFault>
     requires { length bytes.now < 2 ^ 32 }
-    ensures { spec.Answers result (spec.of_version bytes.now (number16_at start.now)) }
+    ensures { spec.ReturnsVerdict result (spec.of_version bytes.now (number16_at start.now)) }
 {
     match number16(start) {
         Ok((version, start)) => {
@@ -85,7 +85,7 @@ fn behind_magic(alloc: Global, bytes: &[u8], start: &[u8]) -> Result<FlatGrammar
 #[tactic(auto, unfolding(crate::specs::Verdict::verdict))]
 fn judged_fields(alloc: Global, bytes: &[u8]) -> Result<FlatGrammar, LangFault>
     requires { length bytes.now < 2 ^ 32 }
-    ensures { spec.Answers result (spec.verdict bytes.now) }
+    ensures { spec.ReturnsVerdict result (spec.verdict bytes.now) }
 {
     if !bytes.starts_with(b"TSLF") {
         return Err(LangFault::Magic);
@@ -94,15 +94,15 @@ fn judged_fields(alloc: Global, bytes: &[u8]) -> Result<FlatGrammar, LangFault>
     behind_magic(alloc, bytes, start)
 }
 
-/// Reads the fields of a whole language file, as `read` does, and does not ask whether the grammar is
-/// fit for use.
+/// Reads the fields of a whole language file, as `read` does, and does not ask whether the grammar
+/// is fit for use.
 ///
 /// # Errors
 ///
 /// The fault of the least place, and `Long` behind all others. `Memory` may come at any time.
 pub fn fields(alloc: Global, bytes: &[u8]) -> Result<FlatGrammar, LangFault>
     requires { length bytes.now < 2 ^ 32 }
-    ensures exact { spec.Answers result (spec.verdict bytes.now) }
+    ensures exact { spec.ReturnsVerdict result (spec.verdict bytes.now) }
     ensures ok { IfOk result (λ f. Reads f bytes.now) }
     ensures formed { IfOk result (λ f. IsFormedGrammar f) }
     ensures refused { IfErr result (λ e. IsFault e bytes.now) }

@@ -17,7 +17,6 @@ use Rattle.ts_lexer.specs.declared.view.View.{View}
 use Rattle.ts_lexer.specs.Ahead.{contents_of, IsNumbered, HasMoreRows, AreVerdicts, HasPair, IsReady, HavePairs}
 use Rattle.ts_lexer.specs.Judged.{JudgesNodes}
 use Rattle.ts_lexer.specs.Rules.{IsRules}
-use Rattle.ts_lexer.specs.Views.{IsView}
 
 -- the row has the verdicts on the first so many sets
 pub record Judging (g : FlatGrammar) (valid : List Symbol) (first : Bool) (m : Machine) (row : List Verdict) (k : ℕ) : Type 0 where
@@ -106,15 +105,3 @@ pairs_more g old new lists pairs k list o count more at one before n valid p of 
 pub ready_pair : (g : FlatGrammar) (valid : List Symbol) (t : LexTables) (v : View) (o : Option RowPair) (p : RowPair) → o ≡ Some p → IsReady g valid t v o → HasPair g valid t p
 ready_pair g valid t v None p e h = absurd (let f : None ≡ Some p = e in cc)
 ready_pair g valid t v (Some q) p e h = let f : q ≡ p = cc in subst (λ (x : RowPair). HasPair g valid t x) f h
-
-pub ready_view : (g : FlatGrammar) (valid : List Symbol) (t : LexTables) (v : View) (o : Option RowPair) → o ≡ None → IsReady g valid t v o → IsView g valid v
-ready_view g valid t v None e h = h
-ready_view g valid t v (Some q) e h = absurd (let f : Some q ≡ None = e in cc)
-
-pub pair_ready : (g : FlatGrammar) (valid : List Symbol) (t : LexTables) (v : View) (o : Option RowPair) (p : RowPair) → o ≡ Some p → HasPair g valid t p → IsReady g valid t v o
-pair_ready g valid t v None p e h = absurd (let f : None ≡ Some p = e in cc)
-pair_ready g valid t v (Some q) p e h = let f : q ≡ p = cc in subst (λ (x : RowPair). HasPair g valid t x) (sym f) h
-
-pub view_ready : (g : FlatGrammar) (valid : List Symbol) (t : LexTables) (v : View) (o : Option RowPair) → o ≡ None → IsView g valid v → IsReady g valid t v o
-view_ready g valid t v None e h = h
-view_ready g valid t v (Some q) e h = absurd (let f : Some q ≡ None = e in cc)

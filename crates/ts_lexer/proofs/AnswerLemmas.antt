@@ -10,16 +10,16 @@ use Rattle.spec_lexing.specs.Lexing.{Found, token, absent, Lex}
 use Rattle.spec_lexing.specs.Seen.{Seen, Agree}
 use Rattle.ts_lexer.specs.declared.lexed.Lexed.{Lexed}
 use Rattle.ts_lexer.specs.declared.lexed.Lexed.TheVariants.{Token, Absent}
-use Rattle.ts_lexer.specs.Answers.{Says, extent_of, IsAnswer, LexesIn, IsLexedAt}
+use Rattle.ts_lexer.specs.Answers.{SaysFound, extent_of, IsLexedAnswer, LexesIn, IsLexedAt}
 use Rattle.ts_lexer.specs.States.{AreValid, HaveSameSymbols}
 
 -- an answer says one thing
-pub says_once : (start : ℕ) (a : Lexed) (f h : Found) → Says start a f → Says start a h → f ≡ h
+pub says_once : (start : ℕ) (a : Lexed) (f h : Found) → SaysFound start a f → SaysFound start a h → f ≡ h
 says_once start (Token s pad size extent) f h x y = x ∙ sym y
 says_once start (Absent place extent) f h (n, p, e) (m, q, d) = let same : n ≡ m = omega arith in e ∙ ap absent same ∙ sym d
 
 -- what says one thing, and looked as far, is one answer
-pub said_once : (start : ℕ) (a b : Lexed) (f : Found) → Says start a f → Says start b f → extent_of a ≡ extent_of b → a ≡ b
+pub said_once : (start : ℕ) (a b : Lexed) (f : Found) → SaysFound start a f → SaysFound start b f → extent_of a ≡ extent_of b → a ≡ b
 said_once start (Token s p z e) (Token t q y d) f u v far =
     let both : token s p z ≡ token t q y = sym u ∙ v in
     let symbol : s ≡ t = cc in
@@ -48,12 +48,12 @@ one_lexed laws t state text place a b x y =
     let same : HaveSameSymbols x.valid y.valid = λ s. ((λ h. (y.are_valid s).1 ((x.are_valid s).0 h)), (λ h. (x.are_valid s).1 ((y.are_valid s).0 h))) in
     let found = laws.one_found g y.valid (drop place text) x.answer.found y.answer.found (laws.same_found g x.valid y.valid (drop place text) x.answer.found same x.answer.lex) y.answer.lex in
     let far = laws.one_seen g y.valid (drop place text) (extent_of a) (extent_of b) (laws.same_seen g x.valid y.valid (drop place text) (extent_of a) same x.answer.seen) y.answer.seen in
-    said_once place a b y.answer.found (subst (λ (f : Found). Says place a f) found x.answer.says) y.answer.says far
+    said_once place a b y.answer.found (subst (λ (f : Found). SaysFound place a f) found x.answer.says) y.answer.says far
 
 -- where another text agrees as far as was looked at, lexing comes to the same
 pub settled : ((g : FlatGrammar) (valid : List Symbol) (text other : Bytes) (place at n : ℕ) (f : Found) → IsUtf8 text → Seen g valid (drop place text) n → Agree n (drop place text) (drop at other)
     → Lex g valid (drop place text) f → Lex g valid (drop at other) f)
-    → (t : ParseTable) (state : ℕ) (text other : Bytes) (place at : ℕ) (lexed : Lexed) (f : Found) → IsUtf8 text → IsLexedAt t state text place lexed → Says place lexed f
+    → (t : ParseTable) (state : ℕ) (text other : Bytes) (place at : ℕ) (lexed : Lexed) (f : Found) → IsUtf8 text → IsLexedAt t state text place lexed → SaysFound place lexed f
     → Agree (extent_of lexed) (drop place text) (drop at other) → LexesIn t state (drop at other) f
 settled decides t state text other place at lexed f utf8 x says agree =
     let same = says_once place lexed x.answer.found f x.answer.says says in

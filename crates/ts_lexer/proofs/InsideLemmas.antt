@@ -5,7 +5,6 @@ use Rattle.std.specs.Char.{IsScalar}
 use Rattle.std.specs.Str.{IsCharBoundary}
 use Rattle.std.proofs.Math.Dec.{leb}
 use Rattle.std.proofs.lemmas.Bool.Decides.{leb_tells}
-use Rattle.std.proofs.lemmas.List.Sums.{prefix_len-drop_yes, prefix_len-drop_no, prefix_len-drop_all}
 use Rattle.std.proofs.Math.Seq.{drop-cons}
 use Rattle.std.proofs.Math.Utf8.{encode, encodes}
 use Rattle.std.proofs.lemmas.List.{get_or_append_left}
@@ -91,14 +90,3 @@ cond_true false n e = absurd (let f : false ≡ true = e in cc)
 -- how many bytes are left of the character
 pub inside_extent : (text : Bytes) (place : ℕ) → (i : Inside text place) → prefix_len is_inner (drop place text) ≡ suc (prefix_len is_inner i.bytes)
 inside_extent text place i = ap (λ (l : Bytes). prefix_len is_inner l) i.rest ∙ cond_true (is_inner i.byte) (prefix_len is_inner i.bytes) i.inner
-
--- one byte more
-pub inner_more : (rest : Bytes) (i n : ℕ) → i < length rest → is_inner (get_or rest i 0) ≡ true → n ≡ i → prefix_len is_inner rest ≡ n + prefix_len is_inner (drop i rest)
-    → prefix_len is_inner rest ≡ n + 1 + prefix_len is_inner (drop (i + 1) rest)
-inner_more rest i n below is same h = let e = prefix_len-drop_yes is_inner rest i 0 below is in omega arith
-
-pub inner_stops : (rest : Bytes) (i n : ℕ) → i < length rest → is_inner (get_or rest i 0) ≡ false → prefix_len is_inner rest ≡ n + prefix_len is_inner (drop i rest) → n ≡ prefix_len is_inner rest
-inner_stops rest i n below is h = let e = prefix_len-drop_no is_inner rest i 0 below is in omega arith
-
-pub inner_ends : (rest : Bytes) (i n : ℕ) → length rest ≤ i → prefix_len is_inner rest ≡ n + prefix_len is_inner (drop i rest) → n ≡ prefix_len is_inner rest
-inner_ends rest i n past h = let e = prefix_len-drop_all is_inner rest i past in omega arith

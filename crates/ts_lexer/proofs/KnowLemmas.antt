@@ -8,8 +8,8 @@ use Rattle.spec_lexing.specs.Words.{Regular}
 use Rattle.ts_automata.specs.declared.automaton.Automaton.{Automaton}
 use Rattle.ts_automata.specs.declared.machine.Machine.{Machine}
 use Rattle.ts_automata.specs.declared.walk.Walk.{Walk}
-use Rattle.ts_automata.specs.After.{Comes}
-use Rattle.ts_automata.specs.Walks.{HasCome, members_of}
+use Rattle.ts_automata.specs.After.{LeadsToNode}
+use Rattle.ts_automata.specs.Walks.{HasCome, walk_nodes}
 use Rattle.ts_automata.specs.Sets.{sets_of}
 use Rattle.ts_automata.specs.Parts.{IsPart}
 use Rattle.ts_automata.specs.Automata.{parts_of, IsAutomaton}
@@ -24,8 +24,8 @@ find (x ∷ xs) zero lt = (x, refl)
 find (x ∷ xs) (suc k) lt = find xs k (omega arith)
 
 -- the members of a set are the nodes to which the characters lead, of those that there are
-module _ (g : FlatGrammar) (a : Automaton) (is : IsAutomaton g a) (w : List ℕ) (members : List ℕ) (comes : (t : ℕ) → Contains members t → Comes a.nodes.items a.entries.items w t)
-    (held : (t : ℕ) → Comes a.nodes.items a.entries.items w t → t < length a.nodes.items → Contains members t) where
+module _ (g : FlatGrammar) (a : Automaton) (is : IsAutomaton g a) (w : List ℕ) (members : List ℕ) (comes : (t : ℕ) → Contains members t → LeadsToNode a.nodes.items a.entries.items w t)
+    (held : (t : ℕ) → LeadsToNode a.nodes.items a.entries.items w t → t < length a.nodes.items → Contains members t) where
   -- a node of the set belongs to a part that can begin so
   record From (t : ℕ) : Type 0 where
     part : ℕ
@@ -116,7 +116,7 @@ knows g m is w n read members at = members_know g m.automaton is w members
     same = let e : Some read.set ≡ Some members = sym read.at ∙ at in cc
 
 -- what the nodes of a walk say, where it has come
-pub walk_knows : (g : FlatGrammar) (a : Automaton) → IsAutomaton g a → (w : List ℕ) (walk : Walk) → HasCome a w walk → (members : List ℕ) → members ≡ members_of walk
+pub walk_knows : (g : FlatGrammar) (a : Automaton) → IsAutomaton g a → (w : List ℕ) (walk : Walk) → HasCome a w walk → (members : List ℕ) → members ≡ walk_nodes walk
     → (valid : List Symbol) (first : Bool) (v : Verdict) → JudgesNodes g valid first a members v → Knows g valid first w v
 walk_knows g a is w walk come members same = members_know g a is w members
     (λ t h. ((come t).0 (subst (λ (l : List ℕ). Contains l t) same h)).0)

@@ -7,6 +7,7 @@ pub mod InsideLemmas
 pub mod JudgeLemmas
 pub mod KindLemmas
 pub mod KnowLemmas
+pub mod ListLemmas
 pub mod MarkLemmas
 pub mod OverLemmas
 pub mod PassLemmas

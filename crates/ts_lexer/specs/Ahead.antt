@@ -40,7 +40,8 @@ pub record AreVerdicts (g : FlatGrammar) (valid : List Symbol) (first : Bool) (m
 
 -- the rows of these two numbers are the valid tokens': for the first place that is tried, and for
 -- later ones
-pub record HasPair (g : FlatGrammar) (valid : List Symbol) (t : LexTables) (p : RowPair) : Type 0 where
+pub record HasPair (g : FlatGrammar) (valid : List Symbol) (t : LexTables) (p : RowPair)
+    : Type 0 where
   pub early : List Verdict
   pub early_at : slice_get (contents_of t.rows.keys) p.first ≡ Some early
   pub early_is : AreVerdicts g valid true t.machine early

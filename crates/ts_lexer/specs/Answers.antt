@@ -11,9 +11,9 @@ use Rattle.ts_lexer.specs.declared.lexed.Lexed.{Lexed}
 use Rattle.ts_lexer.specs.declared.lexed.Lexed.TheVariants.{Token, Absent}
 
 -- the answer says this of a lexing that began at the place
-abbrev pub Says : ℕ → Lexed → Found → Type 0
-Says start (Token symbol pad size extent) found = found ≡ token symbol pad size
-Says start (Absent place extent) found = (n : ℕ) × (place ≡ start + n) × (found ≡ absent n)
+abbrev pub SaysFound : ℕ → Lexed → Found → Type 0
+SaysFound start (Token symbol pad size extent) found = found ≡ token symbol pad size
+SaysFound start (Absent place extent) found = (n : ℕ) × (place ≡ start + n) × (found ≡ absent n)
 
 -- how many bytes were looked at
 abbrev pub extent_of : Lexed → ℕ
@@ -21,11 +21,11 @@ extent_of (Token symbol pad size extent) = extent
 extent_of (Absent place extent) = extent
 
 -- the answer is what lexing comes to, and how far it looked
-pub record IsAnswer (g : FlatGrammar) (valid : List Symbol) (text : Bytes) (place : ℕ)
+pub record IsLexedAnswer (g : FlatGrammar) (valid : List Symbol) (text : Bytes) (place : ℕ)
     (lexed : Lexed) : Type 0 where
   pub found : Found
   pub lex : Lex g valid (drop place text) found
-  pub says : Says place lexed found
+  pub says : SaysFound place lexed found
   pub seen : Seen g valid (drop place text) (extent_of lexed)
 
 -- this is what lexing comes to among the valid tokens of the state
@@ -39,4 +39,4 @@ pub record IsLexedAt (t : ParseTable) (state : ℕ) (text : Bytes) (place : ℕ)
     (lexed : Lexed) : Type 0 where
   pub valid : List Symbol
   pub are_valid : AreValid t state valid
-  pub answer : IsAnswer t.grammar valid text place lexed
+  pub answer : IsLexedAnswer t.grammar valid text place lexed

@@ -8,7 +8,7 @@ ghost use Rattle.ts_core.specs.declared.symbol.Symbol.{Symbol as AnySymbol};
 ghost use Rattle.ts_automata.specs.Walks.{walk_room};
 ghost use Rattle.spec_lexing.specs.Seen.{is_inner as inner_byte};
 ghost use Rattle.ts_lexer.specs.Passed.{IsWithinText, found_by};
-ghost use Rattle.ts_lexer.specs.Answers.{IsAnswer, Says, extent_of};
+ghost use Rattle.ts_lexer.specs.Answers.{IsLexedAnswer, SaysFound, extent_of};
 ghost use Rattle.ts_lexer.specs.Ways.{IsReadyFor};
 
 use crate::ahead::RowPair;
@@ -56,7 +56,7 @@ fn inner_bytes(rest: &[u8]) -> u32
 fn told(passed: &Passed, place: u32, size: u32) -> Lexed
     requires within { IsWithinText size passed.now }
     requires small { place + size ≤ 2 ^ 31 }
-    ensures says { Says place result (found_by passed.now.found passed.now.pad) }
+    ensures says { SaysFound place result (found_by passed.now.found passed.now.pad) }
     ensures extent { extent_of result ≡ passed.now.extent }
 {
     let extent = passed.extent as u32;
@@ -81,7 +81,7 @@ fn inside(text: &Text, place: u32) -> Lexed
     requires inner { IsCharBoundary text.now place → ⊥ }
     ensures utf8 { IsUtf8 text.now }
     ensures answer { (g : AnyGrammar) (valid : List AnySymbol)
-        → IsAnswer g valid text.now place result }
+        → IsLexedAnswer g valid text.now place result }
 {
     let (_, rest) = text.as_bytes().split_at(place as usize);
     Lexed::Absent {
@@ -107,7 +107,7 @@ pub(crate) fn answer_at(
     ensures utf8 { IsUtf8 text.now }
     ensures answer { (g : AnyGrammar)
         → IsReadyFor g valid.now way.now view.now pair (walk_room walk.old)
-        → IsAnswer g valid.now text.now place result }
+        → IsLexedAnswer g valid.now text.now place result }
 {
     if !text.is_boundary(place) {
         return inside(text, place);

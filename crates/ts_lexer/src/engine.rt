@@ -8,7 +8,7 @@ ghost use Rattle.ts_automata.specs.Automata.{IsAutomaton};
 ghost use Rattle.ts_automata.specs.Machine.{IsMachine};
 ghost use Rattle.ts_lexer.specs.Ahead.{contents_of, HasPair, IsReady};
 ghost use Rattle.ts_lexer.specs.declared.ahead.RowPair.{RowPair as AnyPair};
-ghost use Rattle.ts_lexer.specs.Answers.{IsAnswer};
+ghost use Rattle.ts_lexer.specs.Answers.{IsLexedAnswer};
 ghost use Rattle.ts_lexer.specs.Engines.{IsEngine};
 ghost use Rattle.ts_lexer.specs.Rules.{AreFew, IsRules};
 ghost use Rattle.ts_lexer.specs.Ways.{IsWayOf, IsReadyOn, HasPairOn};
@@ -157,7 +157,7 @@ impl Engine {
         ensures utf8 { IsUtf8 text.now }
         ensures answer { (g : AnyGrammar) (valid : List AnySymbol) → IsEngine g self.old
             → slice_get (contents_of self.old.lists.keys) list ≡ Some valid
-            → IsAnswer g valid text.now place result }
+            → IsLexedAnswer g valid text.now place result }
     {
         let valid = list_at(&self.lists, list);
         let pair = self.pairs[list];

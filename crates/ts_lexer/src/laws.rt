@@ -8,7 +8,7 @@ ghost use Rattle.spec_lexing.specs.Lexing.{Found, Lex};
 ghost use Rattle.spec_lexing.specs.Seen.{Seen};
 ghost use Rattle.ts_lexer.specs.declared.lexed.Lexed.{Lexed as AnyLexed};
 ghost use Rattle.ts_lexer.specs.Answers.{IsLexedAt};
-ghost use Rattle.ts_lexer.specs.States.{HaveSameSymbols};
+ghost use Rattle.ts_lexer.specs.States.{AreValid, HaveSameSymbols};
 
 use spec_lexing::one_answer;
 
@@ -28,3 +28,9 @@ pub fn one_lexed()
     one_answer();
     same_tokens();
 }
+
+/// Each state has a list of its valid tokens.
+pub fn tokens_of_states()
+    ensures { (t : ParseTable) (state : ℕ)
+        → (valid : List AnySymbol) × AreValid t state valid }
+{}

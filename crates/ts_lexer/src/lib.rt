@@ -23,7 +23,7 @@ mod view;
 mod walking;
 mod ways;
 
-pub use laws::{one_lexed, same_tokens};
+pub use laws::{one_lexed, same_tokens, tokens_of_states};
 pub use lexed::Lexed;
 pub use lexer::Lexer;
 pub use tokens::{Content, Tokens};

@@ -75,8 +75,8 @@ pub(crate) fn has_keyword(rules: &Rules, marks: &[bool]) -> bool
 /// Makes a view of the valid tokens.
 pub(crate) fn look(rules: &Rules, view: &mut View, valid: &[Symbol])
     ensures marks { length view.new.marks.items ≡ length view.old.marks.items }
-    ensures view { (g : AnyGrammar) → IsRules g rules.now → length view.old.marks.items ≡ length g.tokens
-        → IsView g valid.now view.new }
+    ensures view { (g : AnyGrammar) → IsRules g rules.now
+        → length view.old.marks.items ≡ length g.tokens → IsView g valid.now view.new }
 {
     mark(&mut view.marks, valid);
     view.keyworded = has_keyword(rules, view.marks.as_slice());

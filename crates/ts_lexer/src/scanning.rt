@@ -114,8 +114,8 @@ fn scan_by_nodes(machine: &Machine, rules: &Rules, view: &View, first: bool, res
     }
 }
 
-/// What stands at the beginning of a text, which is the first place that is tried or a later one, by
-/// tables.
+/// What stands at the beginning of a text, which is the first place that is tried or a later one,
+/// by tables.
 pub(crate) fn scan_by_tables(
     tables: &LexTables,
     pair: Option<RowPair>,

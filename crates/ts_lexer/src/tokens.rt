@@ -5,7 +5,7 @@ ghost use Rattle.spec_lexing.specs.Lexing.{Found};
 ghost use Rattle.spec_lexing.specs.Seen.{Agree};
 ghost use Rattle.ts_table.specs.declared.view.ParseTable.{ParseTable};
 ghost use Rattle.ts_text.specs.Edit.{InRange, Fits, IsOver, apply_of};
-ghost use Rattle.ts_lexer.specs.Answers.{IsLexedAt, LexesIn, Says, extent_of};
+ghost use Rattle.ts_lexer.specs.Answers.{IsLexedAt, LexesIn, SaysFound, extent_of};
 
 use crate::lexed::Lexed;
 use std::alloc::Global;
@@ -41,7 +41,7 @@ pub trait Tokens {
         ensures answer { (t : ParseTable) → made_for self.old t → state < length t.rows
             → IsLexedAt t state (Self.Text.bytes text.now) place result }
         ensures settled { (t : ParseTable) (other : Bytes) (at : ℕ) (found : Found)
-            → made_for self.old t → state < length t.rows → Says place result found
+            → made_for self.old t → state < length t.rows → SaysFound place result found
             → Agree (extent_of result) (drop place (Self.Text.bytes text.now)) (drop at other)
             → LexesIn t state (drop at other) found }
         ensures examined { examined self.new ≡ min (examined self.old + extent_of result)
@@ -56,7 +56,8 @@ pub trait Tokens {
         ensures size { (n : ℕ) → IsErrOf result (EditFault.Size n)
             ↔ IsOver (Self.Text.bytes text.now) edit.now n }
         ensures accepts { IsOkUnless result EditFault.Memory
-            ↔ InRange (Self.Text.bytes text.now) edit.now × Fits (Self.Text.bytes text.now) edit.now };
+            ↔ InRange (Self.Text.bytes text.now) edit.now
+            × Fits (Self.Text.bytes text.now) edit.now };
 }
 
 impl Content for Text {

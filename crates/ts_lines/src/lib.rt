@@ -7,8 +7,6 @@ mod line;
 mod outcome;
 mod parse;
 mod status;
-#[cfg(test)]
-mod tests;
 
 pub use faults::{absent, fault, fault_at_name, fault_at_number, text_fault, usage};
 pub use outcome::{members_in, send_outcome};

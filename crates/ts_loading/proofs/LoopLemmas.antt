@@ -10,8 +10,8 @@ use Rattle.ts_query_syntax.specs.Refusals.{HasRisen}
 use Rattle.ts_query_syntax.specs.declared.fault.QueryFault.{QueryFault}
 use Rattle.ts_query_syntax.specs.declared.fault.QueryFault.TheVariants as fault
 use Rattle.ts_query_syntax.specs.declared.read_query.ReadQuery.{ReadQuery}
-use Rattle.ts_loading.specs.Loads.{AreQueries, HasNoFault, IsOfText, IsFirstFault, GrewByEach, IsRegexAt, IsCause, of_text, of_patterns, HasCause, load_fault}
-use Rattle.ts_loading.specs.Reading.{HasFew, AreRead}
+use Rattle.ts_loading.specs.Loads.{AreQueries, HasNoFault, IsOfText, IsFirstFault, GrewByEach, IsRegexAt, IsCause, of_text, of_patterns, HasLoadCause, load_fault}
+use Rattle.ts_loading.specs.Reading.{HasFew, AreLoadedAs}
 use Rattle.ts_loading.proofs.FaultLemmas.{none_there, same_some, some_at}
 
 at_end : {A : Type 0} (xs : List A) (x y : A) (n : ℕ) → slice_get (xs ++ x ∷ []) n ≡ Some y → (slice_get xs n ≡ Some y) ⊎ ((n ≡ length xs) × (x ≡ y))
@@ -30,7 +30,7 @@ grew_more g called (x ∷ ws) w old mid new before more = (before.0, before.1, g
 taken_more : (texts : List Bytes) (i : ℕ) (w : Bytes) → slice_get texts i ≡ Some w → take (i + 1) texts ≡ take i texts ++ w ∷ []
 taken_more texts i w at = take_more texts i w (slice_get_within texts i w at) ∙ ap (λ (y : Bytes). take i texts ++ y ∷ []) (get_or_from_slice_get texts i w w at)
 
-pub read_none : (g : FlatGrammar) (called texts old : List Bytes) → AreRead g called texts 0 [] old old
+pub read_none : (g : FlatGrammar) (called texts old : List Bytes) → AreLoadedAs g called texts 0 [] old old
 read_none g called texts old = record {
   count_is = refl;
   each = λ k text query at there. absurd (none_there query None refl there);
@@ -39,10 +39,10 @@ read_none g called texts old = record {
 }
 
 pub read_more : (g : FlatGrammar) (called texts : List Bytes) (i : ℕ) (queries pushed : List ReadQuery) (old mid new : List Bytes) (text : Bytes) (query : ReadQuery) → slice_get texts i ≡ Some text
-    → AreRead g called texts i queries old mid → IsQuery g called text query → length query.patterns ≤ most_query_bytes → GrewByAll g called text mid new → pushed ≡ queries ++ query ∷ [] → AreRead g called texts (i + 1) pushed old new
+    → AreLoadedAs g called texts i queries old mid → IsQuery g called text query → length query.patterns ≤ most_query_bytes → GrewByAll g called text mid new → pushed ≡ queries ++ query ∷ [] → AreLoadedAs g called texts (i + 1) pushed old new
 read_more g called texts i queries pushed old mid new text query at are is few more same =
     let count = are.count_is in
-    subst (λ (qs : List ReadQuery). AreRead g called texts (i + 1) qs old new) (sym same) (record {
+    subst (λ (qs : List ReadQuery). AreLoadedAs g called texts (i + 1) qs old new) (sym same) (record {
       count_is = length-append queries (query ∷ []) ∙ ap (λ (n : ℕ). n + 1) count;
       each = λ k other found d there. elim (at_end queries query found k there) [
         | inl before ↦ are.each k other found d before
@@ -54,15 +54,15 @@ read_more g called texts i queries pushed old mid new text query at are is few m
       grew = subst (λ (ws : List Bytes). GrewByEach g called ws old new) (sym (taken_more texts i text at)) (grew_more g called (take i texts) text old mid new are.grew more);
     })
 
-pub all_read : (g : FlatGrammar) (called texts : List Bytes) (queries : List ReadQuery) (old new : List Bytes) → AreRead g called texts (length texts) queries old new → AreQueries g called texts queries
+pub all_read : (g : FlatGrammar) (called texts : List Bytes) (queries : List ReadQuery) (old new : List Bytes) → AreLoadedAs g called texts (length texts) queries old new → AreQueries g called texts queries
 all_read g called texts queries old new are = record { count = are.count_is; each = are.each }
 
-pub all_grew : (g : FlatGrammar) (called texts : List Bytes) (queries : List ReadQuery) (old new : List Bytes) → AreRead g called texts (length texts) queries old new → GrewByEach g called texts old new
+pub all_grew : (g : FlatGrammar) (called texts : List Bytes) (queries : List ReadQuery) (old new : List Bytes) → AreLoadedAs g called texts (length texts) queries old new → GrewByEach g called texts old new
 all_grew g called texts queries old new are = subst (λ (ws : List Bytes). GrewByEach g called ws old new) (take_all (length texts) texts (omega arith)) are.grew
 
 -- ---- faults
 
-no_fault_before : (g : FlatGrammar) (called texts : List Bytes) (i : ℕ) (queries : List ReadQuery) (old new : List Bytes) → AreRead g called texts i queries old new → (k : ℕ) (other : Bytes) → k < i → slice_get texts k ≡ Some other → HasNoFault g called other
+no_fault_before : (g : FlatGrammar) (called texts : List Bytes) (i : ℕ) (queries : List ReadQuery) (old new : List Bytes) → AreLoadedAs g called texts i queries old new → (k : ℕ) (other : Bytes) → k < i → slice_get texts k ≡ Some other → HasNoFault g called other
 no_fault_before g called texts i queries old new are k other below at =
     let count = are.count_is in
     let query = some_at queries k (omega (arith, below, count)) in
@@ -77,7 +77,7 @@ rose_more a b c le h =
 
 module _ (g : FlatGrammar) (called texts : List Bytes) (i : ℕ) (queries : List ReadQuery) (old mid new : List Bytes) (text : Bytes) (rose : Type 0) where
   -- a fault that the text decides
-  by_text : (f : QueryFault) → slice_get texts i ≡ Some text → AreRead g called texts i queries old mid → IsOfText f → IsQueryFault g called text f → IsCause g called texts rose old new i f
+  by_text : (f : QueryFault) → slice_get texts i ≡ Some text → AreLoadedAs g called texts i queries old mid → IsOfText f → IsQueryFault g called text f → IsCause g called texts rose old new i f
   by_text f at are of is = of_text f (record {
     text = text;
     text_is = at;
@@ -86,8 +86,8 @@ module _ (g : FlatGrammar) (called texts : List Bytes) (i : ℕ) (queries : List
     before = no_fault_before g called texts i queries old mid are;
   })
 
-  pub cause_of : (f : QueryFault) → slice_get texts i ≡ Some text → AreRead g called texts i queries old mid → IsQueryFault g called text f → GrewWith g called text mid new f → (IsRegex f → rose)
-      → HasCause g called texts rose old new (load_fault i f)
+  pub cause_of : (f : QueryFault) → slice_get texts i ≡ Some text → AreLoadedAs g called texts i queries old mid → IsQueryFault g called text f → GrewWith g called text mid new f → (IsRegex f → rose)
+      → HasLoadCause g called texts rose old new (load_fault i f)
   cause_of (fault.Syntax at) here are is grew rises = by_text (fault.Syntax at) here are (record { no_memory = λ e. (let never : ⊥ = cc in never); no_regex = λ r. (let e = r.1 in let never : ⊥ = cc in never) }) is
   cause_of (fault.Deep at) here are is grew rises = by_text (fault.Deep at) here are (record { no_memory = λ e. (let never : ⊥ = cc in never); no_regex = λ r. (let e = r.1 in let never : ⊥ = cc in never) }) is
   cause_of (fault.UnknownNode at) here are is grew rises = by_text (fault.UnknownNode at) here are (record { no_memory = λ e. (let never : ⊥ = cc in never); no_regex = λ r. (let e = r.1 in let never : ⊥ = cc in never) }) is

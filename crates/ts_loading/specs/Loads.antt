@@ -58,8 +58,8 @@ GrewByEach g called (w ∷ ws) old new =
     (mid : List Bytes) × GrewByAll g called w old mid × GrewByEach g called ws mid new
 
 -- The expression at this place of the text of this number was refused. The texts before have no
--- fault; the list grew by all their expressions, and then by those of this text up to the one at the
--- place, which is the last one now.
+-- fault; the list grew by all their expressions, and then by those of this text up to the one at
+-- the place, which is the last one now.
 pub record IsRegexAt (g : FlatGrammar) (called texts : List Bytes) (number at : ℕ)
     (old new : List Bytes) : Type 0 where
   pub text : Bytes
@@ -82,11 +82,11 @@ pub data IsCause (g : FlatGrammar) (called texts : List Bytes) (rose : Type 0)
       → IsCause g called texts rose old new number (fault.Regex at)
 
 -- the same of what is told; running out of memory has no cause
-abbrev pub HasCause : FlatGrammar → List Bytes → List Bytes → Type 0 → List Bytes → List Bytes
+abbrev pub HasLoadCause : FlatGrammar → List Bytes → List Bytes → Type 0 → List Bytes → List Bytes
     → LoadFault → Type 0
-HasCause g called texts rose old new (load.Query number f) =
+HasLoadCause g called texts rose old new (load.Query number f) =
     IsCause g called texts rose old new number f
-HasCause g called texts rose old new load.Memory = Unit {0}
+HasLoadCause g called texts rose old new load.Memory = Unit {0}
 
 -- what is told where the query of this number has this fault
 abbrev pub load_fault : ℕ → QueryFault → LoadFault

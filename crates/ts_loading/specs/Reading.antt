@@ -1,4 +1,4 @@
--- What is known while queries are read one by one. It serves proofs alone.
+-- What is known while queries are read one by one. It serves private clauses and proofs alone.
 use Rattle.std.specs.Prelude.{◌≡◌, ℕ, ◌<◌, ◌^◌, List, All, length, take, slice_get, Some}
 use Rattle.ts_base.specs.Bytes.{Bytes}
 use Rattle.ts_core.specs.declared.flat.FlatGrammar.{FlatGrammar}
@@ -11,7 +11,7 @@ abbrev pub HasFew : ReadQuery → Type 0
 HasFew q = length q.patterns < 2 ^ 32
 
 -- the first so many texts were read as these queries, and the list grew by their expressions
-pub record AreRead (g : FlatGrammar) (called texts : List Bytes) (count : ℕ)
+pub record AreLoadedAs (g : FlatGrammar) (called texts : List Bytes) (count : ℕ)
     (queries : List ReadQuery) (old new : List Bytes) : Type 0 where
   pub count_is : length queries ≡ count
   pub each : (k : ℕ) (text : Bytes) (query : ReadQuery) → slice_get texts k ≡ Some text

@@ -4,21 +4,21 @@ ghost use Rattle.ts_base.specs.Bytes.{Bytes};
 ghost use Rattle.ts_query_syntax.specs.Queries.{most_query_bytes};
 ghost use Rattle.ts_query_syntax.specs.Refusals.{HasRisen};
 ghost use Rattle.ts_query_syntax.specs.declared.read_query.ReadQuery.{ReadQuery as AnyQuery};
-ghost use Rattle.ts_loading.specs.Loads.{AreQueries, GrewByEach, HasCause, load_fault};
-ghost use Rattle.ts_loading.specs.Reading.{AreRead};
+ghost use Rattle.ts_loading.specs.Loads.{AreQueries, GrewByEach, HasLoadCause, load_fault};
+ghost use Rattle.ts_loading.specs.Reading.{AreLoadedAs};
 
 use crate::fault::LoadFault;
 use std::alloc::Global;
 use ts_core::{FlatGrammar, List, Str};
 use ts_query_syntax::{Patterns, QueryFault, ReadQuery, query};
 
-/// Reads the queries of these texts in their order, up to the first that is refused. `hosts` are the
-/// names of a host's predicates. The expressions in them are built by `patterns`.
+/// Reads the queries of these texts in their order, up to the first that is refused. `hosts` are
+/// the names of a host's predicates. The expressions in them are built by `patterns`.
 ///
 /// # Errors
 ///
-/// `Query` with the fault that `query` answers, and with the number of the query from 0. `Memory` may
-/// come at any time.
+/// `Query` with the fault that `query` answers, and with the number of the query from 0. `Memory`
+/// may come at any time.
 pub fn load<P: Patterns>(
     alloc: Global,
     grammar: &FlatGrammar,
@@ -34,7 +34,7 @@ pub fn load<P: Patterns>(
     ensures few { IfOk result (All (λ (q : AnyQuery). length q.patterns < 2 ^ 32)) }
     ensures built { IfOk result (λ _. GrewByEach grammar.now hosts.now texts.now
         (P.sources patterns.old) (P.sources patterns.new)) }
-    ensures cause { IfErr result (HasCause grammar.now hosts.now texts.now
+    ensures cause { IfErr result (HasLoadCause grammar.now hosts.now texts.now
         (HasRisen (P.refusals patterns.old) (P.refusals patterns.new))
         (P.sources patterns.old) (P.sources patterns.new)) }
     ensures later { P.refusals patterns.old ≤ P.refusals patterns.new }
@@ -60,9 +60,9 @@ fn read_all<P: Patterns>(
     requires few_fields { length grammar.now.fields ≤ 2 ^ 16 }
     requires few_hosts { length hosts.now ≤ 2 ^ 32 }
     requires empty { queries.old ≡ [] }
-    ensures read { OnOk result (AreRead grammar.now hosts.now texts.now (length texts.now)
+    ensures read { OnOk result (AreLoadedAs grammar.now hosts.now texts.now (length texts.now)
         queries.new (P.sources patterns.old) (P.sources patterns.new)) }
-    ensures cause { IfErr result (HasCause grammar.now hosts.now texts.now
+    ensures cause { IfErr result (HasLoadCause grammar.now hosts.now texts.now
         (HasRisen (P.refusals patterns.old) (P.refusals patterns.new))
         (P.sources patterns.old) (P.sources patterns.new)) }
     ensures later { P.refusals patterns.old ≤ P.refusals patterns.new }
@@ -100,13 +100,13 @@ fn read_one<P: Patterns>(
     requires few_hosts { length hosts.now ≤ 2 ^ 32 }
     ensures read { OnOk result ((texts before : Values Bytes)
         → slice_get texts number ≡ Some text.now
-        → AreRead grammar.now hosts.now texts number queries.old before (P.sources patterns.old)
-        → AreRead grammar.now hosts.now texts (number + 1) queries.new before
+        → AreLoadedAs grammar.now hosts.now texts number queries.old before (P.sources patterns.old)
+        → AreLoadedAs grammar.now hosts.now texts (number + 1) queries.new before
         (P.sources patterns.new)) }
     ensures cause { IfErr result (λ e. (texts before : Values Bytes) (count : ℕ)
         → slice_get texts number ≡ Some text.now
-        → AreRead grammar.now hosts.now texts number queries.old before (P.sources patterns.old)
-        → count ≤ P.refusals patterns.old → HasCause grammar.now hosts.now texts
+        → AreLoadedAs grammar.now hosts.now texts number queries.old before (P.sources patterns.old)
+        → count ≤ P.refusals patterns.old → HasLoadCause grammar.now hosts.now texts
         (HasRisen count (P.refusals patterns.new)) before (P.sources patterns.new) e) }
     ensures later { P.refusals patterns.old ≤ P.refusals patterns.new }
 {

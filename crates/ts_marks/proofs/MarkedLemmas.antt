@@ -1,6 +1,5 @@
 -- What becomes of a tree at an edit, node by node.
 use Rattle.std.proofs.Common.{◌≡◌, ℕ, zero, suc, ◌+◌, ◌-◌, ◌<◌, ◌≤◌, sym, ap, subst, ◌∙◌, refl, arith, Bool, true, false, not, ◌&&◌, List, [], ◌∷◌, ◌++◌, length, append_assoc, drop, set, slice_get, Some, All}
-use Rattle.std.proofs.lemmas.List.{drop_all}
 use Rattle.std.proofs.lemmas.List.Elements.{All-head, All-tail}
 use Rattle.std.proofs.lemmas.Option.{slice_get_within}
 use Rattle.ts_text.specs.declared.edit.Edit.{Edit}
@@ -196,9 +195,6 @@ snoc_length : (xs : List Tree) (x : Tree) → length (xs ++ x ∷ []) ≡ length
 snoc_length [] x = omega arith
 snoc_length (y ∷ xs) x = omega (arith, snoc_length xs x)
 
-pub none_done : (edit : Edit) (ts : List Tree) (base : ℕ) → AreDone edit ts base [] 0 base
-none_done edit ts base = record { done = []; many = refl; changed = refl; all = refl }
-
 next_all : (edit : Edit) (ts done : List Tree) (base k place : ℕ) (c : Tree) → slice_get ts k ≡ Some c → all_marked edit ts base ≡ done ++ all_marked edit (drop k ts) place
     → all_marked edit ts base ≡ (done ++ marked_below edit c place ∷ []) ++ all_marked edit (drop (k + 1) ts) (place + span_of c)
 next_all edit ts done base k place c e h = h
@@ -232,11 +228,6 @@ one_changed edit ts base changes more k place next c new d e is m n = record {
       ∙ ap (λ (x : Tree). (d.done ++ x ∷ []) ++ all_marked edit (drop (k + 1) ts) (place + span_of c)) (sym is)
       ∙ ap (λ (q : ℕ). (d.done ++ new ∷ []) ++ all_marked edit (drop (k + 1) ts) q) (sym n);
 }
-
-pub all_done : (edit : Edit) (ts : List Tree) (base : ℕ) (changes : List (ℕ × Tree)) (k place : ℕ) → AreDone edit ts base changes k place → length ts ≤ k → replaced changes ts ≡ all_marked edit ts base
-all_done edit ts base changes k place d h =
-    let none : drop k ts ≡ [] = drop_all k ts h in
-    d.changed ∙ ap (λ (us : List Tree). d.done ++ us) none ∙ sym (d.all ∙ ap (λ (us : List Tree). d.done ++ all_marked edit us place) none)
 
 greatest_in : (ts : List Tree) (k : ℕ) (c : Tree) → slice_get ts k ≡ Some c → tree_depth c ≤ greatest_depth ts
 greatest_in [] k c e = let f : ⊥ = omega (arith, slice_get_within [] k c e) in elim f [ ]

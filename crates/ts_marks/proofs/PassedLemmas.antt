@@ -25,9 +25,6 @@ left_next a b n = left_at a n.part n.there
     ∙ ap (λ (k : ℕ). n.part ∷ drop k a.edit.now.parts) (sym n.next)
     ∙ ap (λ (e : Edit). n.part ∷ drop b.next e.parts) (sym n.edit)
 
-pub begins : (a : Passed) (p : Part) (place : ℕ) → slice_get a.edit.now.parts a.next ≡ Some p → p.start ≤ place → BeginsBy (left_of a) place
-begins a p place e h = subst (λ (ps : List Part). BeginsBy ps place) (sym (left_at a p e)) h
-
 pub begun : (a : Passed) (p : Part) (place : ℕ) → slice_get a.edit.now.parts a.next ≡ Some p → BeginsBy (left_of a) place → p.start ≤ place
 begun a p place e h = subst (λ (ps : List Part). BeginsBy ps place) (left_at a p e) h
 
@@ -39,9 +36,6 @@ ended a p place e h = subst (λ (ps : List Part). EndsBy ps place) (left_at a p 
 
 pub none_begins : (a : Passed) (place : ℕ) → length a.edit.now.parts ≤ a.next → BeginsBy (left_of a) place → ⊥
 none_begins a place h b = subst (λ (ps : List Part). BeginsBy ps place) (drop_all a.next a.edit.now.parts h) b
-
-pub none_ends : (a : Passed) (place : ℕ) → length a.edit.now.parts ≤ a.next → EndsBy (left_of a) place → ⊥
-none_ends a place h b = subst (λ (ps : List Part). EndsBy ps place) (drop_all a.next a.edit.now.parts h) b
 
 -- ---- one part more
 
@@ -135,22 +129,7 @@ list_end from (p ∷ ps) place h = by (less_or place p.start)
 pub towards_end : (a : Passed) (place : ℕ) → IsTowards a place → (BeginsBy (left_of a) place → ⊥) → a.to + (place - a.from) ≡ moved a.edit.now place
 towards_end a place w h = omega (arith, w.is, list_end a.from (left_of a) place h)
 
-pub first_passed : (a : Passed) → AreOrdered 0 a.edit.now.parts → a.next ≡ 0 → a.from ≡ 0 → a.to ≡ 0 → IsPassed a
-first_passed a o n f t =
-    let l : left_of a ≡ a.edit.now.parts = ap (λ (k : ℕ). drop k a.edit.now.parts) n in
-    record {
-      whole = o;
-      left = subst (λ (ps : List Part). AreOrdered a.from ps) (sym l) (subst (λ (k : ℕ). AreOrdered k a.edit.now.parts) (sym f) o);
-      moves = λ place h.
-          let m : moved_from a.from (left_of a) place ≡ moved_from 0 a.edit.now.parts place = ap (λ (ps : List Part). moved_from a.from ps place) l ∙ ap (λ (k : ℕ). moved_from k a.edit.now.parts place) f in
-          omega (arith, m, t);
-      meets = λ place extent h. ap (λ (ps : List Part). is_met ps place extent) (sym l);
-    }
-
 -- ---- what is met
-
-pub met_none : (a : Passed) (place extent : ℕ) → IsPassed a → a.from ≤ place → length a.edit.now.parts ≤ a.next → is_met a.edit.now.parts place extent ≡ false
-met_none a place extent w h n = w.meets place extent h ∙ ap (λ (ps : List Part). is_met ps place extent) (drop_all a.next a.edit.now.parts n)
 
 pub met_left : (a : Passed) (place extent : ℕ) (p : Part) → IsPassed a → a.from ≤ place → (EndsBy (left_of a) place → ⊥) → slice_get a.edit.now.parts a.next ≡ Some p
     → (is_met a.edit.now.parts place extent ≡ true → p.start < place + extent) × (p.start < place + extent → is_met a.edit.now.parts place extent ≡ true)

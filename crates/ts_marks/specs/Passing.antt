@@ -1,4 +1,4 @@
--- How far the parts of an edit have been gone through. For proofs alone.
+-- How far the parts of an edit have been gone through. For private clauses and proofs alone.
 use Rattle.std.specs.Prelude.{◌≡◌, ℕ, ◌+◌, ◌-◌, ◌≤◌, ◌⊎◌, ◌++◌, List, [], ◌∷◌, length, drop, slice_get, Some}
 use Rattle.ts_text.specs.declared.edit.Edit.{Edit}
 use Rattle.ts_text.specs.declared.edit.Part.{Part}

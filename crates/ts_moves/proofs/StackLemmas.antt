@@ -1,7 +1,7 @@
 -- Good stacks: what is pushed on them, and what is taken off.
 use Rattle.std.proofs.Common.{◌≡◌, ◌∙◌, sym, ap, refl, subst, ℕ, zero, suc, ◌+◌, ◌<◌, ◌≤◌, inl, Bool, true, false, List, [], ◌∷◌, ◌++◌, append_assoc, append-nil, length, length-append, map, reverse, drop, Option, None, unwrap_or, arith}
 use Rattle.std.proofs.lemmas.List.{reverse-append}
-use Rattle.ts_base.proofs.PlaceLemmas.{in_prefix, at_end}
+use Rattle.ts_base.proofs.PlaceLemmas.{at_end}
 use lib.IntN.{pos}
 use Rattle.std.proofs.Common.{◌*◌, nat_le, one-mul}
 use Rattle.ts_core.specs.declared.flat.FlatGrammar.{FlatGrammar}
@@ -32,28 +32,11 @@ use Rattle.ts_moves.proofs.NodeLemmas.{all_spans-append, end_by_wider, end_by_bo
 pub stack_new : (ss : List (List Layer)) (x : List Layer) → stack_at (ss ++ x ∷ []) (length ss) ≡ x
 stack_new ss x = ap (λ (o : Option (List Layer)). unwrap_or o []) (at_end ss x)
 
-pub stack_stays : (old new : List (List Layer)) (top : ℕ) → GainsStacks old new → top < length old → stack_at new top ≡ stack_at old top
-stack_stays old new top g low =
-    ap (λ (ss : List (List Layer)). stack_at ss top) g.1
-    ∙ ap (λ (o : Option (List Layer)). unwrap_or o []) (in_prefix old g.0 top low)
-
 pub grows_none : (old : List (List Layer)) → GainsStacks old old
 grows_none old = ([], sym (append-nil old))
 
 pub grows_more : (old now new : List (List Layer)) → GainsStacks old now → GainsStacks now new → GainsStacks old new
 grows_more old now new a b = (a.0 ++ b.0, b.1 ∙ ap (λ (l : List (List Layer)). l ++ b.0) a.1 ∙ append_assoc old a.0 b.0)
-
-pub still_there : (old new : List (List Layer)) (top : ℕ) → GainsStacks old new → top < length old → top < length new
-still_there old new top g low = omega (arith, low, ap (λ (l : List (List Layer)). length l) g.1, length-append old g.0)
-
-pub live_stays : (t : ParseTable) (size : ℕ) (old new : List (List Layer)) (h : StackHead) → GainsStacks old new → IsLiveHead t size old h → IsLiveHead t size new h
-live_stays t size old new h g l = record {
-  there = still_there old new h.top g l.there;
-  stack = subst (λ (s : List Layer). IsGoodStack t size s h.place) (sym (stack_stays old new h.top g l.there)) l.stack;
-}
-
-pub config_stays : (old new : List (List Layer)) (h : StackHead) → GainsStacks old new → h.top < length old → config_of new h ≡ config_of old h
-config_stays old new h g low = ap {B = Configuration} (λ (s : List Layer). record { stack = map bare (trees_on s); place = h.place }) (stack_stays old new h.top g low)
 
 -- ---- lists of trees
 
@@ -73,10 +56,6 @@ spans_turned (x ∷ xs) = omega (arith, ap all_spans (turned x xs), all_spans-ap
 pub extras_append : (xs ys : List Tree) → AreExtras xs → AreExtras ys → AreExtras (xs ++ ys)
 extras_append [] ys a b = b
 extras_append (x ∷ xs) ys a b = (a.0, extras_append xs ys a.1 b)
-
-pub extras_left : (xs ys : List Tree) → AreExtras (xs ++ ys) → AreExtras xs
-extras_left [] ys a = tt
-extras_left (x ∷ xs) ys a = (a.0, extras_left xs ys a.1)
 
 pub extras_turned : (xs : List Tree) → AreExtras xs → AreExtras (reverse xs)
 extras_turned [] a = tt

@@ -1,4 +1,4 @@
--- What is known of each tree on a stack. It serves proofs alone.
+-- What is known of each tree on a stack. It serves private clauses and proofs alone.
 use Rattle.std.specs.Prelude.{◌≡◌, ℕ, ◌+◌, ◌*◌, ◌<◌, ◌≤◌, ◌⊎◌, true, IsTrue, List, [], ◌∷◌, length, reverse, Some}
 use Rattle.std.proofs.Common.{is_some}
 use Rattle.ts_core.specs.declared.flat.FlatGrammar.{FlatGrammar}
@@ -22,6 +22,7 @@ pub record IsLight (t : Tree) : Type 0 where
   pub parts : length (elements_of t) ≤ span_of t
   pub nodes : all_nodes (children_of t) + 2 * span_of t ≤ 2 * (tree_depth t * span_of t)
 
+-- a tree on a stack: a settled node in its rule's form, light, and empty only as the start rule
 pub record IsGoodTree (g : FlatGrammar) (t : Tree) : Type 0 where
   pub node : IsNode t
   pub settled : is_settled t ≡ true
@@ -34,6 +35,7 @@ pub record IsGoodTree (g : FlatGrammar) (t : Tree) : Type 0 where
   pub whole : 0 < length (elements_of t) → all_spans (children_of t) ≡ span_of t
   pub rule : symbol_of t ≡ start_symbol g → IsTrue (is_some (production_of t))
 
+-- each tree of the list is good
 abbrev pub AreGoodTrees : FlatGrammar → List Tree → Type 0
 AreGoodTrees g ts = EachTree (IsGoodTree g) ts
 

@@ -1,4 +1,5 @@
--- The laws of other crates that the parser's proofs rest on. It serves proofs alone.
+-- The laws of other crates that the parser's proofs rest on. It serves private clauses and proofs
+-- alone.
 use Rattle.std.specs.Prelude.{◌≡◌, ℕ, ◌+◌, ◌≤◌, ◌<◌, false, List, [], ◌∷◌, length, map, Option, Some, None}
 use Rattle.ts_base.specs.Bytes.{Bytes}
 use Rattle.ts_core.specs.declared.flat.FlatGrammar.{FlatGrammar}
@@ -18,6 +19,7 @@ use Rattle.spec_runs.specs.BareTrees.{KeepsAll}
 use Rattle.spec_runs.specs.Configurations.{Configuration, NextIs, IsReduction}
 use Rattle.spec_runs.specs.Moves.{StandsBefore, EndsWithProduction, RepeatsItself, IsUnused}
 
+-- For proofs alone: laws of bare trees, of moves and reductions, and of what a lexer sees.
 pub record Laws : Type 0 where
   pub keeps : (t : Tree) → KeepsAll t
   pub once : (t : Tree) → bare (bare t) ≡ bare t

@@ -1,4 +1,4 @@
--- How deep the node of a reduction is. It serves proofs alone.
+-- How deep the node of a reduction is. It serves private clauses and proofs alone.
 use Rattle.std.specs.Prelude.{ℕ, ◌+◌, max, Bool, List, take, drop, if◌then◌else◌}
 use Rattle.spec_trees.specs.declared.tree.Tree.{Tree}
 use Rattle.spec_trees.specs.Trees.{greatest_depth}

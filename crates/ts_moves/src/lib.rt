@@ -1,6 +1,6 @@
 //! The moves of a parser on one of its stacks: a token, an extra, the number of a production, or
-//! acceptance goes in; the new stack, the accepted root, or that a node would be too deep comes out.
-//! The stack that was there stays, but where it is reduced alone.
+//! acceptance goes in; the new stack, the accepted root, or that a node would be too deep comes
+//! out. The stack that was there stays, but where it is reduced alone.
 #![tactic(auto)]
 
 mod accepting;

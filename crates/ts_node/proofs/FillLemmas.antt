@@ -3,7 +3,6 @@ use Rattle.std.proofs.Common.{◌≡◌, ℕ, zero, suc, ◌+◌, ◌-◌, ◌<�
 use Rattle.ts_base.proofs.PlaceLemmas.{in_prefix}
 use Rattle.std.proofs.lemmas.List.{take-append-le, drop-append-le, drop-drop}
 use Rattle.std.proofs.Math.Seq.{drop-cons}
-use Rattle.std.proofs.lemmas.Option.{slice_get_within}
 use Rattle.std.specs.Prelude.{if◌then◌else◌}
 use Rattle.spec_trees.specs.declared.tree.Tree.{Tree}
 use Rattle.spec_trees.specs.declared.tree.Element.{Element}
@@ -11,70 +10,6 @@ use Rattle.spec_trees.specs.declared.tree.Stretch.{Stretch}
 use Rattle.ts_node.specs.Held.{joined_stretch}
 use Rattle.spec_trees.specs.Trees.{is_extra_node}
 use Rattle.spec_trees.specs.Made.{children_count, fills_from, fills_in}
-
-no_item : {P : Type 0} (i : ℕ) (t : Tree) → slice_get [] i ≡ Some t → P
-no_item i t e = let f : ⊥ = omega (arith, slice_get_within [] i t e) in elim f [ ]
-
--- ---- one production
-
--- past a child that fills a step
-pub fill_past : (n i : ℕ) (ts : List Tree) (t : Tree) (k : ℕ) → slice_get ts i ≡ Some t → is_extra_node t ≡ false → i < k → slice_get (fills_from (n + 1) (drop (i + 1) ts)) (k - (i + 1)) ≡ slice_get (fills_from n (drop i ts)) (k - i)
-fill_past n i [] t k e x h = no_item i t e
-fill_past n zero (u ∷ ts) t zero e x h = let f : ⊥ = omega (arith, h) in elim f [ ]
-fill_past n zero (u ∷ ts) t (suc k) e x h =
-    let s : Some u ≡ Some t = e in
-    let y : is_extra_node u ≡ false = cc in
-    let p : n + 1 ≡ suc n = omega arith in
-    let m : suc k - 0 ≡ suc k = omega arith in
-    let m1 : suc k - 1 ≡ k = omega arith in
-    rw (y, p, m, m1) refl
-fill_past n (suc i) (u ∷ ts) t zero e x h = let f : ⊥ = omega (arith, h) in elim f [ ]
-fill_past n (suc i) (u ∷ ts) t (suc k) e x h =
-    let q : suc i + 1 ≡ suc (i + 1) = omega arith in
-    let a : suc k - suc (i + 1) ≡ k - (i + 1) = omega arith in
-    let b : suc k - suc i ≡ k - i = omega arith in
-    ap (λ (j : ℕ). slice_get (fills_from (n + 1) (drop j (u ∷ ts))) (suc k - j)) q
-    ∙ ap (λ (m : ℕ). slice_get (fills_from (n + 1) (drop (i + 1) ts)) m) a
-    ∙ fill_past n i ts t k e x (omega (arith, h))
-    ∙ ap (λ (m : ℕ). slice_get (fills_from n (drop i ts)) m) (sym b)
-
--- past an extra
-pub fill_past_extra : (n i : ℕ) (ts : List Tree) (t : Tree) (k : ℕ) → slice_get ts i ≡ Some t → is_extra_node t ≡ true → i < k → slice_get (fills_from n (drop (i + 1) ts)) (k - (i + 1)) ≡ slice_get (fills_from n (drop i ts)) (k - i)
-fill_past_extra n i [] t k e x h = no_item i t e
-fill_past_extra n zero (u ∷ ts) t zero e x h = let f : ⊥ = omega (arith, h) in elim f [ ]
-fill_past_extra n zero (u ∷ ts) t (suc k) e x h =
-    let s : Some u ≡ Some t = e in
-    let y : is_extra_node u ≡ true = cc in
-    let m : suc k - 0 ≡ suc k = omega arith in
-    let m1 : suc k - 1 ≡ k = omega arith in
-    rw (y, m, m1) refl
-fill_past_extra n (suc i) (u ∷ ts) t zero e x h = let f : ⊥ = omega (arith, h) in elim f [ ]
-fill_past_extra n (suc i) (u ∷ ts) t (suc k) e x h =
-    let q : suc i + 1 ≡ suc (i + 1) = omega arith in
-    let a : suc k - suc (i + 1) ≡ k - (i + 1) = omega arith in
-    let b : suc k - suc i ≡ k - i = omega arith in
-    ap (λ (j : ℕ). slice_get (fills_from (n) (drop j (u ∷ ts))) (suc k - j)) q
-    ∙ ap (λ (m : ℕ). slice_get (fills_from (n) (drop (i + 1) ts)) m) a
-    ∙ fill_past_extra n i ts t k e x (omega (arith, h))
-    ∙ ap (λ (m : ℕ). slice_get (fills_from n (drop i ts)) m) (sym b)
-
--- at a child that fills a step
-pub fill_here : (n k : ℕ) (ts : List Tree) (t : Tree) → slice_get ts k ≡ Some t → is_extra_node t ≡ false → slice_get (fills_from n (drop k ts)) 0 ≡ Some (Some n)
-fill_here n k [] t e x = no_item k t e
-fill_here n zero (u ∷ ts) t e x =
-    let s : Some u ≡ Some t = e in
-    let y : is_extra_node u ≡ false = cc in
-    rw y refl
-fill_here n (suc k) (u ∷ ts) t e x = fill_here n k ts t e x
-
--- at an extra
-pub fill_here_extra : (n k : ℕ) (ts : List Tree) (t : Tree) → slice_get ts k ≡ Some t → is_extra_node t ≡ true → slice_get (fills_from n (drop k ts)) 0 ≡ Some None
-fill_here_extra n k [] t e x = no_item k t e
-fill_here_extra n zero (u ∷ ts) t e x =
-    let s : Some u ≡ Some t = e in
-    let y : is_extra_node u ≡ true = cc in
-    rw y refl
-fill_here_extra n (suc k) (u ∷ ts) t e x = fill_here_extra n k ts t e x
 
 -- ---- elements
 

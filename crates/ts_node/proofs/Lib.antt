@@ -9,6 +9,5 @@ pub mod ReducedLemmas
 pub mod RemadeLemmas
 pub mod RemakeLemmas
 pub mod RunLemmas
-pub mod StandingLemmas
 pub mod TotalLemmas
 pub mod WholeLemmas

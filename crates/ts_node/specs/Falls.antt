@@ -16,6 +16,7 @@ use Rattle.ts_node.specs.declared.node.Node.TheDeep.{deep-Kind, deep-Shape}
 use Rattle.spec_trees.specs.Trees.{node_count, nodes_step, all_nodes}
 use Rattle.ts_node.specs.Held.{node_tree, body_tree, stretch_of, HasNoEmptyPart}
 
+-- For proofs alone: a node counts one, one for each of its elements, and the nodes of its children.
 pub nodes_of_body : (s : Summary) (production : Option ℕ) (es : List Element) (ks : List Tree)
     → node_count (body_tree s production es ks) ≡ 1 + (length es + all_nodes ks)
 nodes_of_body s production es ks = fold-roll-Tree ℕ nodes_step (record {
@@ -32,29 +33,35 @@ nodes_of_body s production es ks = fold-roll-Tree ℕ nodes_step (record {
   children = ks;
 })
 
+-- For proofs alone: the greatest size of some children is bounded by the nodes of all of them.
 most_le : (ks : List Tree) → most (λ k. 4 * node_count k + 1 + 1) ks ≤ 4 * all_nodes ks + 2
 most_le [] = omega arith
 most_le (k ∷ ks) = omega (arith, most_le ks)
 
+-- For proofs alone: what is in a node of this kind is smaller than the node.
 pub kind_falls : (k : Kind) → max (deep-Kind k) 0 ≤ 4 * node_count (node_tree k) + 1
 kind_falls (kind.Leaf leaf) = omega arith
 kind_falls (kind.Rule body) = omega arith
 kind_falls (kind.Repetition body) = omega arith
 
+-- For proofs alone: the children of a rule's node are smaller than the node.
 pub children_fall : (s : Summary) (production : ℕ) (ks : List Tree)
     → max (most (λ k. 4 * node_count k + 1 + 1) ks) 0
     ≤ 4 * node_count (body_tree s (Some production) [] ks)
 children_fall s production ks = omega (arith, most_le ks, nodes_of_body s (Some production) [] ks)
 
+-- For proofs alone: the run of a repetition's node is smaller than the node.
 pub run_falls : (s : Summary) (run : Stretch)
     → max (4 * (length run.elements + all_nodes run.children) + 2 + 1) 0
     ≤ 4 * node_count (body_tree s None run.elements run.children)
 run_falls s run = omega (arith, nodes_of_body s None run.elements run.children)
 
+-- For proofs alone: two lists of trees, one after the other, have the nodes of both.
 pub all_nodes-append : (xs ys : List Tree) → all_nodes (xs ++ ys) ≡ all_nodes xs + all_nodes ys
 all_nodes-append [] ys = omega arith
 all_nodes-append (x ∷ xs) ys = omega (arith, all_nodes-append xs ys)
 
+-- For proofs alone: what is in a run of this shape is smaller than the run.
 pub shape_falls : (s : Shape) → HasNoEmptyPart s
     → max (deep-Shape s) 0
     ≤ 4 * (length (stretch_of s).elements + all_nodes (stretch_of s).children) + 2

@@ -18,7 +18,8 @@ pub record IsRuleNode (number : ℕ) (t : Tree) : Type 0 where
   pub elements : elements_of t ≡ []
   pub plain : is_extra_node t ≡ false
 
--- A repetition has no production, and is no extra. It has elements, and they have just its children.
+-- A repetition has no production, and is no extra. It has elements, and they have just its
+-- children.
 pub record IsRepetitionNode (t : Tree) : Type 0 where
   pub production : production_of t ≡ None
   pub elements : 0 < length (elements_of t)

@@ -23,9 +23,9 @@ depth_by (of_first alternative) ts = 1 + greatest_depth ts
 depth_by (of_next alternative) [] = 1
 depth_by (of_next alternative) (before ∷ more) = max (tree_depth before) (1 + greatest_depth more)
 
--- The children are those of the production, whose value has 32 bits. They are settled nodes, few and
--- short, and the node over them is not too deep; so many bytes were examined that they are past all
--- of them and past what each of them examined.
+-- The children are those of the production, whose value has 32 bits. They are settled nodes, few
+-- and short, and the node over them is not too deep; so many bytes were examined that they are past
+-- all of them and past what each of them examined.
 pub record CanBeReduced
     (g : FlatGrammar) (number extent : ℕ) (state : Option ℕ) (children : List Tree) : Type 0 where
   pub fits : FitsProduction g number children

@@ -12,8 +12,8 @@ pub enum NodeKind {
     /// A node of the production of this number, which is no repetition's. The accepted root is one
     /// too, and has the extras before and after it among its children.
     Rule(u32),
-    /// A repetition. Each of its elements, from `element(0)` on, says how many of the node's children
-    /// are its own, one element's after another's.
+    /// A repetition. Each of its elements, from `element(0)` on, says how many of the node's
+    /// children are its own, one element's after another's.
     Repetition,
 }
 

@@ -373,18 +373,18 @@ impl Node {
         self.summary().depth as u32
     }
 
-    /// The sum of the dynamic values of all productions in it, each as often as it was used: a number
-    /// without a unit that the grammar gives by `prec.dynamic`. Of two trees of one text the one with
-    /// the greater sum is the better one.
+    /// The sum of the dynamic values of all productions in it, each as often as it was used: a
+    /// number without a unit that the grammar gives by `prec.dynamic`. Of two trees of one text the
+    /// one with the greater sum is the better one.
     pub fn dynamic(&self) -> i64
         ensures { result ≡ total_of self.now }
     {
         self.summary().dynamic
     }
 
-    /// How many bytes were examined to make it, counted from the first byte of its pad on, so that an
-    /// edit behind them leaves it as it is. The end of the text counts as one byte, so that a settled
-    /// node has examined more than its pad and size.
+    /// How many bytes were examined to make it, counted from the first byte of its pad on, so that
+    /// an edit behind them leaves it as it is. The end of the text counts as one byte, so that a
+    /// settled node has examined more than its pad and size.
     pub fn extent(&self) -> u32
         ensures { result ≡ node_extent self.now }
     {

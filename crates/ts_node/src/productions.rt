@@ -70,8 +70,8 @@ impl Productions {
         })
     }
 
-    /// The dynamic values of the productions have 32 bits, as the laws of reduced nodes ask. No value
-    /// goes in or out.
+    /// The dynamic values of the productions have 32 bits, as the laws of reduced nodes ask. No
+    /// value goes in or out.
     pub fn values_are_small(&self)
         ensures { (number : ℕ) → HasSmallValue self.now number }
     {

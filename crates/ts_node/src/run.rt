@@ -267,8 +267,8 @@ impl Run {
         Run::leaf(alloc, elements, children)
     }
 
-    /// The run with one more element of these children. The last leaf grows until it is full; it then
-    /// becomes part of the balanced tree before it, and a new one begins.
+    /// The run with one more element of these children. The last leaf grows until it is full; it
+    /// then becomes part of the balanced tree before it, and a new one begins.
     pub(crate) fn with_element(
         alloc: Global,
         run: &Shared<Run>,

@@ -16,7 +16,7 @@ use Rattle.ts_rules.specs.declared.tree.Around.{Around}
 use Rattle.ts_rules.specs.declared.tree.NumberedStep.{NumberedStep}
 use Rattle.ts_rules.specs.declared.tree.Tree.{Tree}
 use Rattle.ts_rules.specs.declared.tree.Tree.TheVariants as tree
-use Rattle.ts_rules.specs.Alternatives.{Alternatives, alternatives_of, followed, joins, sequence, choice_of, members_of, in_field, in_alias, in_dynamic, in_group, in_sequence, is_last, left, last_left, group}
+use Rattle.ts_rules.specs.Alternatives.{Alternatives, alternatives_of, followed, joins, sequence, choice_of, alternatives_each, in_field, in_alias, in_dynamic, in_group, in_sequence, is_last, left, last_left, group}
 use Rattle.ts_rules.specs.FirstSights.{Each, end, both}
 use Rattle.ts_rules.specs.Numbers.{Numbers, Numbered, inner_trees, tree_of, tree_step, outermost, is_blank, has_blank, has_steps, where_so, any_times, many_times, prec_of}
 use Rattle.ts_rules.specs.Sights.{alias}
@@ -98,15 +98,15 @@ group_tree p q assoc t u h a b =
 seq_tree : (ts us : List Tree) → Each Same ts us → Same (tree.Seq ts) (tree.Seq us)
 seq_tree ts us all a b = ap blanks (at_seq ts a) ∙ members_same ts us all ∙ sym (ap blanks (at_seq us b))
   where
-    members_same : (ts us : List Tree) → Each Same ts us → blanks (sequence (members_of ts a)) ≡ blanks (sequence (members_of us b))
+    members_same : (ts us : List Tree) → Each Same ts us → blanks (sequence (alternatives_each ts a)) ≡ blanks (sequence (alternatives_each us b))
     members_same _ _ end = refl
     members_same _ _ (both t u ts us h rest) =
         let one : Alternatives = alternatives_of t (in_sequence (is_last ts) a) in
         let two : Alternatives = alternatives_of u (in_sequence (is_last us) b) in
-        blanks_joins one (sequence (members_of ts a))
-        ∙ ap (λ (bs : List Bool). blanks_joined bs (blanks (sequence (members_of ts a)))) (h (in_sequence (is_last ts) a) (in_sequence (is_last us) b))
+        blanks_joins one (sequence (alternatives_each ts a))
+        ∙ ap (λ (bs : List Bool). blanks_joined bs (blanks (sequence (alternatives_each ts a)))) (h (in_sequence (is_last ts) a) (in_sequence (is_last us) b))
         ∙ ap (blanks_joined (blanks two)) (members_same ts us rest)
-        ∙ sym (blanks_joins two (sequence (members_of us b)))
+        ∙ sym (blanks_joins two (sequence (alternatives_each us b)))
 
 choice_tree : (ts us : List Tree) → Each Same ts us → Same (tree.Choice ts) (tree.Choice us)
 choice_tree ts us all a b = ap blanks (at_choice ts a) ∙ branches_same ts us all ∙ sym (ap blanks (at_choice us b))

@@ -15,7 +15,7 @@ use Rattle.ts_rules.specs.declared.tree.Around.{Around}
 use Rattle.ts_rules.specs.declared.tree.NumberedStep.{NumberedStep}
 use Rattle.ts_rules.specs.declared.tree.Tree.{Tree}
 use Rattle.ts_rules.specs.declared.tree.Tree.TheVariants as tree
-use Rattle.ts_rules.specs.Alternatives.{Alternatives, alternatives_of, blank, single, followed, joins, sequence, choice_of, members_of, in_field, in_alias, in_dynamic, in_group, in_sequence, is_last, left, group}
+use Rattle.ts_rules.specs.Alternatives.{Alternatives, alternatives_of, blank, single, followed, joins, sequence, choice_of, alternatives_each, in_field, in_alias, in_dynamic, in_group, in_sequence, is_last, left, group}
 use Rattle.ts_rules.specs.FileGrammar.{IsSmallLayer, IsSmallSight}
 use Rattle.ts_rules.specs.FirstSights.{Not}
 use Rattle.ts_rules.specs.Numbers.{Numbers, Numbered, inner_trees, tree_of, tree_step, is_blank, has_blank, has_steps, where_so, any_times, many_times, prec_of, outermost, alts}
@@ -53,9 +53,9 @@ some_group a xs h = by a.at_end
     by true = h
     by false = some_mapped (left a) xs h
 
-some_members : (ts : List Tree) → ((t : Tree) → Contains ts t → HasSomeTree t) → (a : Around) → HasSome (sequence (members_of ts a))
+some_members : (ts : List Tree) → ((t : Tree) → Contains ts t → HasSomeTree t) → (a : Around) → HasSome (sequence (alternatives_each ts a))
 some_members [] h a = (blank, head_in blank [])
-some_members (t ∷ ts) h a = some_joins (alternatives_of t (in_sequence (is_last ts) a)) (sequence (members_of ts a))
+some_members (t ∷ ts) h a = some_joins (alternatives_of t (in_sequence (is_last ts) a)) (sequence (alternatives_each ts a))
     (h t (head_in t ts) (in_sequence (is_last ts) a)) (some_members ts (λ u w. h u (tail_in t u ts w)) a)
 
 some_choice : (ts : List Tree) (t : Tree) → Contains ts t → (a : Around) → HasSome (alternatives_of t a) → HasSome (choice_of ts a)

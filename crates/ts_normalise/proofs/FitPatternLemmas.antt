@@ -13,7 +13,7 @@ use Rattle.ts_core.specs.declared.re.Re.TheVariants.{rolls-Empty, rolls-Set, rol
 use Rattle.ts_core.specs.declared.re.Re.TheFolds.{fold-roll-Re}
 use Rattle.spec_lexing.specs.Words.{Regular, empty, one_of, repeat, all_of, any_of, regular_step, regular_of}
 use Rattle.spec_tables.specs.Fit.{IsSet, IsInOrder, IsFormed, IsFitRe, lengths, lengths_step}
-use Rattle.ts_pattern.specs.Trees.{Pattern, only, or, Branch, more, Piece, once, times, Atom, set, group, Token, bar, opening, closing, quantifier, spelling, branch_spelling, piece_spelling, atom_spelling, joined, chosen, branches_of, pieces_of, piece_re, atom_re}
+use Rattle.ts_pattern.specs.Trees.{Pattern, only, or, Branch, more, Piece, once, times, Atom, set, group, Token, bar, opening, closing, quantifier, spelling, branch_spelling, piece_spelling, atom_spelling, joined_parts, chosen, branches_of, pieces_of, piece_re, atom_re}
 use Rattle.ts_pattern.specs.Trees.{empty as nothing, one_of as set_token}
 use Rattle.ts_pattern.specs.Reads.{Reads, IsTree}
 use Rattle.regex_class.specs.Ranges.{in_ranges, IsCanonical}
@@ -142,7 +142,7 @@ right_token law w ignore_case p tree (quantifier least (Some most)) v = law.coun
 
 -- ---- patterns
 
-joined_formed : (rs : List Re) → length rs < 2 ^ 32 → AllFormed rs → Formed (joined rs)
+joined_formed : (rs : List Re) → length rs < 2 ^ 32 → AllFormed rs → Formed (joined_parts rs)
 joined_formed [] few all = empty_formed
 joined_formed (r ∷ []) few all = all.0
 joined_formed (r ∷ s ∷ rs) few all = cat_formed (r ∷ s ∷ rs) few all
@@ -172,9 +172,9 @@ mutual
       let pieces = pieces_formed b parts.1.1 (omega (arith, len, few)) in
       let fewer = pieces.1 in
       let count = first.1 in
-      let last : Formed (joined (pieces_of b)) = joined_formed (pieces_of b) (omega (arith, fewer, len, few)) pieces.0 in
-      let longer = one_longer (branches_of p) (joined (pieces_of b)) in
-      (one_after (branches_of p) (joined (pieces_of b)) first.0 last, omega (arith, len, count, longer))
+      let last : Formed (joined_parts (pieces_of b)) = joined_formed (pieces_of b) (omega (arith, fewer, len, few)) pieces.0 in
+      let longer = one_longer (branches_of p) (joined_parts (pieces_of b)) in
+      (one_after (branches_of p) (joined_parts (pieces_of b)) first.0 last, omega (arith, len, count, longer))
 
   pieces_formed : (b : Branch) → AreRight (branch_spelling b) → suc (length (branch_spelling b)) < 2 ^ 32 → AllFormed (pieces_of b) × (length (pieces_of b) ≤ length (branch_spelling b))
   pieces_formed nothing h few = (tt, omega arith)

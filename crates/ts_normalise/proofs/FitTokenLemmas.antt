@@ -24,7 +24,7 @@ use Rattle.ts_rules.specs.FirstSights.{Not}
 use Rattle.ts_rules.specs.Normal.{IsNormal, IsTokenExtra}
 use Rattle.ts_rules.specs.Productions.{symbol}
 use Rattle.ts_rules.specs.Sights.{NamedRule, Sight, SeenBelow, seen_all, below, below_step, sights, sights_within, rule_sights, extra_sights, walk, tokens_in, patterns_in, pattern_layer}
-use Rattle.ts_rules.specs.Tokens.{Patterns, Core, text, core, core_step, core_name, is_text, IsTokenDef, re_of, re_step, cat_of, alt_of, one_char}
+use Rattle.ts_rules.specs.Tokens.{Patterns, Core, text, core, core_step, core_name, is_text, IsTokenDef, tree_re, re_step, cat_of, alt_of, one_char}
 use Rattle.ts_normalise.specs.Texts.{IsFitText, HasFitText, HasFitTexts}
 use Rattle.ts_normalise.proofs.UsedLemmas.{walk_has}
 use Rattle.ts_normalise.proofs.InsideLemmas.{token_seen}
@@ -91,7 +91,7 @@ module _ (pattern : Patterns) where
   AreReady all = (s : Sight) → Contains all s → IsReady (out-Rule s.tree)
 
   abbrev IsTold : Rule → Type 0
-  IsTold t = (inside : Bool) → AreReady (sights_within t inside) → Formed (re_of pattern t)
+  IsTold t = (inside : Bool) → AreReady (sights_within t inside) → Formed (tree_re pattern t)
 
   abbrev Child : Type 0
   Child = Such the_family (claims IsTold) member-Rule
@@ -99,29 +99,29 @@ module _ (pattern : Patterns) where
   abbrev inner : Child → Rule
   inner child = child.0
 
-  told_of : (e : Child) (inside : Bool) → AreReady (sights_within (inner e) inside) → Formed (re_of pattern (inner e))
+  told_of : (e : Child) (inside : Bool) → AreReady (sights_within (inner e) inside) → Formed (tree_re pattern (inner e))
   told_of e inside h = let k : IsTold e.0 = e.1 in k inside h
 
-  all_told : (es : List Child) (inside : Bool) → AreReady (seen_all (map seen_below (map inner es)) inside) → AllFormed (map (re_of pattern) (map inner es))
+  all_told : (es : List Child) (inside : Bool) → AreReady (seen_all (map seen_below (map inner es)) inside) → AllFormed (map (tree_re pattern) (map inner es))
   all_told [] inside h = tt
   all_told (e ∷ es) inside h = (
     told_of e inside (λ s w. h s (Contains-append_left (sights_within (inner e) inside) (seen_all (map seen_below (map inner es)) inside) s w)),
     all_told es inside (λ s w. h s (Contains-append_right (sights_within (inner e) inside) (seen_all (map seen_below (map inner es)) inside) s w)),
   )
 
-  short_parts : (trees : List Rule) → IsShort trees → length (map (re_of pattern) trees) < 2 ^ 32
-  short_parts trees short = let same : length (map (re_of pattern) trees) ≡ length trees = length-map trees (re_of pattern) in omega (arith, short, same)
+  short_parts : (trees : List Rule) → IsShort trees → length (map (tree_re pattern) trees) < 2 ^ 32
+  short_parts trees short = let same : length (map (tree_re pattern) trees) ≡ length trees = length-map trees (tree_re pattern) in omega (arith, short, same)
 
   layer_told : (y : Rule-F Child) (inside : Bool) → IsReady (map-Rule Child Rule inner y) → AreReady (below_step (map-Rule Rule SeenBelow seen_below (map-Rule Child Rule inner y)) inside)
-      → Formed (re_step pattern (map-Rule Rule Re (re_of pattern) (map-Rule Child Rule inner y)))
+      → Formed (re_step pattern (map-Rule Rule Re (tree_re pattern) (map-Rule Child Rule inner y)))
   layer_told Rule-F.Blank inside h k = empty_formed
   layer_told (Rule-F.Literal value) inside h k = text_formed value h.0 h.1
   layer_told (Rule-F.Pattern value ignore_case) inside h k = h
   layer_told (Rule-F.Symbol name) inside h k = empty_formed
-  layer_told (Rule-F.Seq es) inside h k = cat_of_formed (map (re_of pattern) (map inner es)) (short_parts (map inner es) h) (all_told es inside k)
-  layer_told (Rule-F.Choice es) inside h k = alt_of_formed (map (re_of pattern) (map inner es)) (short_parts (map inner es) h) (all_told es inside k)
-  layer_told (Rule-F.Repeat e) inside h k = repeat_formed (re_of pattern (inner e)) 0 None tt (told_of e inside k)
-  layer_told (Rule-F.Repeat1 e) inside h k = repeat_formed (re_of pattern (inner e)) 1 None tt (told_of e inside k)
+  layer_told (Rule-F.Seq es) inside h k = cat_of_formed (map (tree_re pattern) (map inner es)) (short_parts (map inner es) h) (all_told es inside k)
+  layer_told (Rule-F.Choice es) inside h k = alt_of_formed (map (tree_re pattern) (map inner es)) (short_parts (map inner es) h) (all_told es inside k)
+  layer_told (Rule-F.Repeat e) inside h k = repeat_formed (tree_re pattern (inner e)) 0 None tt (told_of e inside k)
+  layer_told (Rule-F.Repeat1 e) inside h k = repeat_formed (tree_re pattern (inner e)) 1 None tt (told_of e inside k)
   layer_told (Rule-F.Token e) inside h k = told_of e true k
   layer_told (Rule-F.ImmediateToken e) inside h k = told_of e true k
   layer_told (Rule-F.Field name e) inside h k = told_of e inside k
@@ -142,7 +142,7 @@ module _ (pattern : Patterns) where
       = λ s w. h s (tail_in top s (below (roll-Rule x) inside) (subst (λ (all : List Sight). Contains all s) (sym seen) w)) in
       subst Formed (sym (fold-roll-Rule Re (re_step pattern) x)) (layer_told y inside here rest)
 
-  pub tree_formed : (t : Rule) → AreReady (sights t) → Formed (re_of pattern t)
+  pub tree_formed : (t : Rule) → AreReady (sights t) → Formed (tree_re pattern t)
   tree_formed t h = ind-Rule IsTold (λ x y e. subst (λ (z : Rule-F Rule). IsTold (roll-Rule z)) e (rolled_told y)) t false h
 
 -- ---- the name of a token that no rule names
@@ -232,8 +232,8 @@ module _ (law : SpellingLaw) (g : Grammar) (f : FlatGrammar) (normal : IsNormal 
   ready s (Rule-F.PrecRight value c) w e = tt
   ready s (Rule-F.PrecDynamic value c) w e = tt
 
-  fit_tree : (t : Rule) → ((s : Sight) → Contains (sights t) s → Contains (walk g) s) → IsFitRe (re_of normal.pattern t)
-  fit_tree t seen = formed_fit (re_of normal.pattern t) (tree_formed normal.pattern t (λ s w. ready s (out-Rule s.tree) (seen s w) refl))
+  fit_tree : (t : Rule) → ((s : Sight) → Contains (sights t) s → Contains (walk g) s) → IsFitRe (tree_re normal.pattern t)
+  fit_tree t seen = formed_fit (tree_re normal.pattern t) (tree_formed normal.pattern t (λ s w. ready s (out-Rule s.tree) (seen s w) refl))
 
   token_walked : (t : Rule) → Contains (tokens_in (rule_sights g)) t → (s : Sight) → Contains (sights t) s → Contains (walk g) s
   token_walked t w s v = walk_has g s (token_seen g t w s v)
@@ -248,11 +248,11 @@ module _ (law : SpellingLaw) (g : Grammar) (f : FlatGrammar) (normal : IsNormal 
   fit_separators =
       let x = normal.separators in
       let a = picks_length IsSeparator g.extras x.0 x.1 in
-      let b : length f.separators ≡ length x.0 = ap (λ (rs : List Re). length rs) x.2 ∙ length-map x.0 (re_of normal.pattern) in
+      let b : length f.separators ≡ length x.0 = ap (λ (rs : List Re). length rs) x.2 ∙ length-map x.0 (tree_re normal.pattern) in
       let c = file.extras in (
         omega (arith, a, b, c),
         all_of IsFitRe f.separators (λ r w.
-            let m = mapped_in (re_of normal.pattern) x.0 r (subst (λ (rs : List Re). Contains rs r) x.2 w) in
+            let m = mapped_in (tree_re normal.pattern) x.0 r (subst (λ (rs : List Re). Contains rs r) x.2 w) in
             let p = picked IsSeparator g.extras x.0 m.0 x.1 m.1 in
             subst IsFitRe m.2 (fit_tree m.0 (extra_walked m.0 p.0))),
       )

@@ -18,7 +18,7 @@ use Rattle.ts_rules.specs.declared.tree.Around.{Around}
 use Rattle.ts_rules.specs.declared.tree.NumberedStep.{NumberedStep}
 use Rattle.ts_rules.specs.declared.tree.Tree.{Tree}
 use Rattle.ts_rules.specs.declared.tree.Tree.TheVariants as tree
-use Rattle.ts_rules.specs.Alternatives.{Alternatives, alternatives_of, blank, single, step_at, followed, joins, sequence, choice_of, members_of, in_field, in_alias, in_dynamic, in_group, in_sequence, is_last, left, left_by, last_left, group}
+use Rattle.ts_rules.specs.Alternatives.{Alternatives, alternatives_of, blank, single, step_at, followed, joins, sequence, choice_of, alternatives_each, in_field, in_alias, in_dynamic, in_group, in_sequence, is_last, left, left_by, last_left, group}
 use Rattle.ts_rules.specs.Numbers.{Numbers, Numbered, inner_trees, tree_of, tree_step, has_blank, has_steps, where_so, any_times, many_times, prec_of, outermost, alts}
 use Rattle.ts_rules.specs.Sights.{Sight, SeenBelow, seen_all, below, below_step, sights, alias}
 use Rattle.ts_normalise.proofs.ListLemmas.{none_in, head_in, tail_in, member_cases}
@@ -137,9 +137,9 @@ module _ (n : Numbers) (f : FlatGrammar) (top : ℕ) where
   in_turn : (last : Bool) (a : Around) → IsRound a → IsRound (in_sequence last a)
   in_turn last a r = record { prec = r.prec; field = r.field; alias = r.alias }
 
-  members_sound : (ts : List Tree) → AllSound ts → (a : Around) → IsRound a → AreSound (sequence (members_of ts a))
+  members_sound : (ts : List Tree) → AllSound ts → (a : Around) → IsRound a → AreSound (sequence (alternatives_each ts a))
   members_sound [] h a r = sound_blank
-  members_sound (t ∷ ts) h a r = sound_joins (alternatives_of t (in_sequence (is_last ts) a)) (sequence (members_of ts a))
+  members_sound (t ∷ ts) h a r = sound_joins (alternatives_of t (in_sequence (is_last ts) a)) (sequence (alternatives_each ts a))
       (h t (head_in t ts) (in_sequence (is_last ts) a) (in_turn (is_last ts) a r)) (members_sound ts (λ u w. h u (tail_in t u ts w)) a r)
 
   seq_sound : (ts : List Tree) → AllSound ts → IsSoundTree (tree.Seq ts)

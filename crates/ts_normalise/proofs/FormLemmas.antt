@@ -6,7 +6,7 @@ use Rattle.ts_core.specs.declared.flat.FlatRule.{FlatRule}
 use Rattle.ts_core.specs.declared.rule.Grammar.{Grammar}
 use Rattle.ts_core.specs.declared.symbol.Symbol.{Symbol}
 use Rattle.spec_tables.specs.Fit as fit
-use Rattle.ts_fit.specs.Misfits.{Finds, IsEmptyToken, IsFirstPlace}
+use Rattle.ts_fit.specs.Misfits.{FindsFirst, IsEmptyToken, IsFirstPlace}
 use Rattle.ts_pattern.specs.Reads.{Reads}
 use Rattle.ts_rules.specs.Normal.{IsNormal}
 use Rattle.ts_normalise.specs.declared.fault.NFault.{NFault}
@@ -18,13 +18,13 @@ use Rattle.ts_normalise.proofs.CheckLemmas.{nothing_both, first_cause, later_cau
 -- ---- what is found in a flat grammar
 
 module _ (f : FlatGrammar) where
-  pub empty_token_none : Finds (IsEmptyToken f) None → Nothing (TellsEmptyToken f)
+  pub empty_token_none : FindsFirst (IsEmptyToken f) None → Nothing (TellsEmptyToken f)
   empty_token_none none found t = none t.0 t.2.holds
 
-  pub empty_rule_none : Finds (fit.IsEmptyRule f) None → Nothing (TellsEmptyRule f)
+  pub empty_rule_none : FindsFirst (fit.IsEmptyRule f) None → Nothing (TellsEmptyRule f)
   empty_rule_none none found t = none t.0 t.2.holds
 
-  pub cycle_none : Finds (fit.IsCyclic f) None → Nothing (TellsCycle f)
+  pub cycle_none : FindsFirst (fit.IsCyclic f) None → Nothing (TellsCycle f)
   cycle_none none found t = none t.0 t.3.holds
 
   pub empty_token_place : (place : ℕ) → IsFirstPlace (IsEmptyToken f) place → place < length f.tokens

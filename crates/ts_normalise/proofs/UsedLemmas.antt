@@ -4,7 +4,7 @@ use Rattle.std.specs.List.{Contains}
 use Rattle.std.proofs.lemmas.List.Elements.{Contains-append_left, Contains-append_right}
 use Rattle.ts_base.specs.Bytes.{Bytes}
 use Rattle.ts_core.specs.declared.rule.Grammar.{Grammar}
-use Rattle.ts_rules.specs.Causes.{names_used, listed, joined}
+use Rattle.ts_rules.specs.Causes.{names_used, listed, merged}
 use Rattle.ts_rules.specs.FirstSights.{Once}
 use Rattle.ts_rules.specs.Sights.{Sight, rule_sights, extra_sights, walk, symbols_in, ranked_rules}
 use Rattle.ts_normalise.proofs.ListLemmas.{head_in}
@@ -21,21 +21,21 @@ used_in_rules g = symbols_in (walk g) ++ listed g.word
 
 pub symbol_used : (g : Grammar) (name : Bytes) → Contains (symbols_in (walk g)) name → Contains (names_used g) name
 symbol_used g name w =
-    Contains-append_left (used_in_rules g ++ joined g.conflicts ++ ranked_rules g) g.supertypes name
-    (Contains-append_left (used_in_rules g ++ joined g.conflicts) (ranked_rules g) name
-    (Contains-append_left (used_in_rules g) (joined g.conflicts) name
+    Contains-append_left (used_in_rules g ++ merged g.conflicts ++ ranked_rules g) g.supertypes name
+    (Contains-append_left (used_in_rules g ++ merged g.conflicts) (ranked_rules g) name
+    (Contains-append_left (used_in_rules g) (merged g.conflicts) name
     (Contains-append_left (symbols_in (walk g)) (listed g.word) name w)))
 
-pub conflict_used : (g : Grammar) (name : Bytes) → Contains (joined g.conflicts) name → Contains (names_used g) name
+pub conflict_used : (g : Grammar) (name : Bytes) → Contains (merged g.conflicts) name → Contains (names_used g) name
 conflict_used g name w =
-    Contains-append_left (used_in_rules g ++ joined g.conflicts ++ ranked_rules g) g.supertypes name
-    (Contains-append_left (used_in_rules g ++ joined g.conflicts) (ranked_rules g) name
-    (Contains-append_right (used_in_rules g) (joined g.conflicts) name w))
+    Contains-append_left (used_in_rules g ++ merged g.conflicts ++ ranked_rules g) g.supertypes name
+    (Contains-append_left (used_in_rules g ++ merged g.conflicts) (ranked_rules g) name
+    (Contains-append_right (used_in_rules g) (merged g.conflicts) name w))
 
 pub ranked_used : (g : Grammar) (name : Bytes) → Contains (ranked_rules g) name → Contains (names_used g) name
 ranked_used g name w =
-    Contains-append_left (used_in_rules g ++ joined g.conflicts ++ ranked_rules g) g.supertypes name
-    (Contains-append_right (used_in_rules g ++ joined g.conflicts) (ranked_rules g) name w)
+    Contains-append_left (used_in_rules g ++ merged g.conflicts ++ ranked_rules g) g.supertypes name
+    (Contains-append_right (used_in_rules g ++ merged g.conflicts) (ranked_rules g) name w)
 
 pub supertype_used : (g : Grammar) (name : Bytes) → Contains g.supertypes name → Contains (names_used g) name
-supertype_used g name w = Contains-append_right (used_in_rules g ++ joined g.conflicts ++ ranked_rules g) g.supertypes name w
+supertype_used g name w = Contains-append_right (used_in_rules g ++ merged g.conflicts ++ ranked_rules g) g.supertypes name w

@@ -24,7 +24,7 @@ use Rattle.ts_normalise.specs.declared.fault.NFault.{NFault}
 use Rattle.ts_normalise.specs.declared.fault.NFault.TheVariants as fault
 use Rattle.ts_normalise.specs.Faults.{form_told}
 use Rattle.ts_normalise.specs.Forms.{HasOwners, TellsInForm}
-use Rattle.ts_normalise.specs.Refusals.{Cause, Nothing, Before, HasCause, FindsUndefined, FindsSymbolInToken, FindsBadInline, FindsBadWord, FindsBadExtra, FindsInWords, FindsInRules, FindsInTrees, FindsBadPattern, FindsMany, FindsInForm, IsRefused, IsDue, Flattens}
+use Rattle.ts_normalise.specs.Refusals.{Cause, Nothing, Before, HasCause, FindsUndefined, FindsSymbolInToken, FindsBadInline, FindsBadWord, FindsBadExtra, FindsInWords, FindsInRules, FindsInTrees, FindsBadPattern, FindsMany, FindsInForm, IsRefused, IsDueAnswer, Flattens}
 use Rattle.ts_normalise.proofs.ListLemmas.{none_in, head_in, tail_in, member_cases, flat_in, in_flat, first_in}
 use Rattle.ts_normalise.proofs.RefusalLemmas.{nothing_first, clear_of, defined}
 use Rattle.ts_normalise.proofs.CheckLemmas.{nothing_both, first_cause, later_cause}
@@ -162,11 +162,11 @@ module _ (g : Grammar) where
   -- ---- what is due is what is given
 
   pub due_refusal : ((e h : NFault) → IsRefused g e → IsRefused g h → e ≡ h) → ((e : NFault) (f : FlatGrammar) → IsRefused g e → Flattens g f → ⊥) → (r : Result FlatGrammar NFault)
-      → IfOk r (Flattens g) → IfErr r (HasCause (IsRefused g)) → (e : NFault) → IsRefused g e → IsDue (Err e) r
+      → IfOk r (Flattens g) → IfErr r (HasCause (IsRefused g)) → (e : NFault) → IsRefused g e → IsDueAnswer (Err e) r
   due_refusal one never (Ok f) normal caused e refused told = absurd (never e f refused normal)
   due_refusal one never (Err h) normal caused e refused told = ap Err (one h e (caused (λ is. told (ap Err is))) refused)
 
   pub due_form : ((f h : FlatGrammar) → Flattens g f → Flattens g h → f ≡ h) → ((e : NFault) (f : FlatGrammar) → IsRefused g e → Flattens g f → ⊥) → (r : Result FlatGrammar NFault)
-      → IfOk r (Flattens g) → IfErr r (HasCause (IsRefused g)) → (f : FlatGrammar) → Flattens g f → IsDue (Ok f) r
+      → IfOk r (Flattens g) → IfErr r (HasCause (IsRefused g)) → (f : FlatGrammar) → Flattens g f → IsDueAnswer (Ok f) r
   due_form one never (Ok h) normal caused f flat told = ap Ok (one h f normal flat)
   due_form one never (Err h) normal caused f flat told = absurd (never h f (caused (λ is. told (ap Err is))) flat)

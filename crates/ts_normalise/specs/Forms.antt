@@ -15,12 +15,14 @@ abbrev pub HasOwners : FlatGrammar → Type 0
 HasOwners f = (place : ℕ) (rule : FlatRule) → slice_get f.rules place ≡ Some rule
     → (owner : FlatRule) × fit.HasRule f rule.owner owner
 
+-- the fault tells the first token that matches the empty text
 abbrev pub TellsEmptyToken : FlatGrammar → Cause
 TellsEmptyToken f found =
     (place : ℕ) × (token : TokenDef) × IsFirstPlace (IsEmptyToken f) place
     × (slice_get f.tokens place ≡ Some token)
     × (found ≡ fault.EmptyToken token.name)
 
+-- the fault tells the first rule that may be empty where it must not
 abbrev pub TellsEmptyRule : FlatGrammar → Cause
 TellsEmptyRule f found =
     (place : ℕ) × (rule : FlatRule) × IsFirstPlace (fit.IsEmptyRule f) place

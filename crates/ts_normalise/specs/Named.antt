@@ -1,4 +1,5 @@
--- The names of rules that name a token, as the code lists them. They serve proofs alone.
+-- The names of rules that name a token, as the code lists them. They serve private clauses and
+-- proofs alone.
 use Rattle.std.specs.Prelude.{◌↔◌, List}
 use Rattle.std.specs.List.{Contains}
 use Rattle.ts_base.specs.Bytes.{Bytes}

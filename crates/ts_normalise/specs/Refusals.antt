@@ -24,43 +24,54 @@ use Rattle.ts_normalise.specs.declared.fault.NFault.TheVariants as fault
 
 -- ---- what can be wrong
 
+-- the fault tells the first of the names that are used that no rule has
 abbrev pub FindsUndefined : Grammar → NFault → Type 0
 FindsUndefined g found = (name : Bytes) × First (IsUndefined g) (names_used g) name
     × (found ≡ fault.Undefined name)
 
+-- the fault tells the first SYMBOL of the walk that stands inside a token
 abbrev pub FindsSymbolInToken : Grammar → NFault → Type 0
 FindsSymbolInToken g found = (name : Bytes) × BeginsWith name (symbols_inside (walk g))
     × (found ≡ fault.SymbolInToken name)
 
+-- the fault tells the first rule, in file order, that is inlined and can't be
 abbrev pub FindsBadInline : Grammar → NFault → Type 0
 FindsBadInline g found = (name : Bytes) × First (IsBadInline g) (rule_names g) name
     × (found ≡ fault.BadInline name)
 
+-- the fault tells the word, which names no token
 abbrev pub FindsBadWord : Grammar → NFault → Type 0
 FindsBadWord g found = (name : Bytes) × (g.word ≡ Some name) × IsBadWord g name
     × (found ≡ fault.BadWord name)
 
+-- the fault tells the first SYMBOL of the extras that can't stand there
 abbrev pub FindsBadExtra : Grammar → NFault → Type 0
 FindsBadExtra g found = (symbol : ExtraSymbol) × First (IsBadExtra g) (extra_symbols g) symbol
     × (found ≡ fault.NonTerminalExtra symbol.0)
 
+-- the fault tells the rule of the first pattern of the walk that can't be read, and why
 abbrev pub FindsBadPattern : Grammar → NFault → Type 0
 FindsBadPattern g found = (rule : Bytes) × (cause : PFault)
     × IsRefusedPattern (placed_patterns g) rule cause
     × (found ≡ fault.Pattern rule cause)
 
+-- the fault tells that there are too many symbols, the end among them
 abbrev pub FindsManySymbols : Grammar → NFault → Type 0
 FindsManySymbols g found = HasManySymbols g × (found ≡ fault.Limit limited.Symbols)
 
+-- the fault tells that there are too many field names, or too many precedence names
 abbrev pub FindsManyNames : Grammar → NFault → Type 0
 FindsManyNames g found = HasManyNames g × (found ≡ fault.Limit limited.Fields)
 
+-- the fault tells that there are too many productions, before inlining or after it
 abbrev pub FindsManyProductions : Grammar → NFault → Type 0
 FindsManyProductions g found = HasManyProductions g × (found ≡ fault.Limit limited.Productions)
 
+-- the fault tells that a production has too many steps, before inlining or after it
 abbrev pub FindsManySteps : Grammar → NFault → Type 0
 FindsManySteps g found = HasManySteps g × (found ≡ fault.Limit limited.Steps)
 
+-- the fault tells that a token, or all tokens and separators, have too many positions
 abbrev pub FindsManyPositions : Grammar → NFault → Type 0
 FindsManyPositions g found = HasManyPositions g × (found ≡ fault.Limit limited.Positions)
 
@@ -96,12 +107,15 @@ pub record HasCycle (g : Grammar) (name : Bytes) : Type 0 where
   pub owner_there : fit.HasRule form rule.owner owner
   pub name_is : name ≡ owner.name
 
+-- the fault tells the first token that matches the empty text
 abbrev pub FindsEmptyToken : Grammar → NFault → Type 0
 FindsEmptyToken g found = (name : Bytes) × HasEmptyToken g name × (found ≡ fault.EmptyToken name)
 
+-- the fault tells the first rule that may be empty where it must not
 abbrev pub FindsEmptyRule : Grammar → NFault → Type 0
 FindsEmptyRule g found = (name : Bytes) × HasEmptyRule g name × (found ≡ fault.EmptyRule name)
 
+-- the fault tells the first rule that derives itself alone
 abbrev pub FindsCyclic : Grammar → NFault → Type 0
 FindsCyclic g found = (name : Bytes) × HasCycle g name × (found ≡ fault.Cyclic name)
 
@@ -155,5 +169,5 @@ pub record Flattens (g : Grammar) (f : FlatGrammar) : Type 0 where
   pub accepted : Nothing (IsRefused g)
 
 -- the answer is the one that is due, unless memory ran out
-abbrev pub IsDue : Result FlatGrammar NFault → Result FlatGrammar NFault → Type 0
-IsDue due answer = Not (answer ≡ Err fault.Memory) → answer ≡ due
+abbrev pub IsDueAnswer : Result FlatGrammar NFault → Result FlatGrammar NFault → Type 0
+IsDueAnswer due answer = Not (answer ≡ Err fault.Memory) → answer ≡ due

@@ -7,8 +7,8 @@ use Rattle.ts_core.specs.declared.rule.Rule.TheOpen.{Rule-F}
 use Rattle.ts_core.specs.declared.rule.Rule.TheViews.{out-Rule}
 use Rattle.ts_rules.specs.Sights.{Sight, walk}
 
--- a literal is a text in UTF-8, and a pattern is shorter than 2 ^ 32 - 1 bytes: its branches, one more
--- than its bars, can then be counted in 32 bits
+-- a literal is a text in UTF-8, and a pattern is shorter than 2 ^ 32 - 1 bytes: its branches, one
+-- more than its bars, can then be counted in 32 bits
 abbrev pub IsFitText : Rule-F Rule → Type 0
 IsFitText Rule-F.Blank = Unit {0}
 IsFitText (Rule-F.Literal text) = IsUtf8 text
@@ -27,6 +27,7 @@ IsFitText (Rule-F.PrecLeft value content) = Unit {0}
 IsFitText (Rule-F.PrecRight value content) = Unit {0}
 IsFitText (Rule-F.PrecDynamic value content) = Unit {0}
 
+-- so is the text of a tree that is seen, where it is a literal or a pattern
 abbrev pub HasFitText : Sight → Type 0
 HasFitText sight = IsFitText (out-Rule sight.tree)
 

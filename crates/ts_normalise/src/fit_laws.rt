@@ -1,5 +1,5 @@
-//! Laws of the definitions: the normal form of a grammar that is not refused is fit. No value goes in
-//! or out.
+//! Laws of the definitions: the normal form of a grammar that is not refused is fit. No value goes
+//! in or out.
 ghost use Rattle.std.specs.Prelude.{ℕ, ◌≡◌, ◌≤◌, All, List, Some, length, slice_get};
 ghost use Rattle.std.specs.List.{Contains};
 ghost use Rattle.spec_tables.specs.Fit.{AreRising, AreShort, Fit, IfThere, IsFitEntry, IsFitProduction, IsFitRe, IsFitRule, IsFitToken, IsHiddenSymbol, IsShort, IsSymbol, IsToken, all_positions, most_names, most_positions, most_positions_in_all, most_productions, most_steps, most_symbols, positions, productions_of, symbols_of};

@@ -5,7 +5,7 @@ ghost use Rattle.std.specs.Prelude.{Ok, Err, IfOk, IfErr};
 ghost use Rattle.ts_core.specs.declared.flat.FlatGrammar.{FlatGrammar as AnyForm};
 ghost use Rattle.spec_tables.specs.Fit.{Fit};
 ghost use Rattle.ts_normalise.specs.declared.fault.NFault.{NFault as AnyFault};
-ghost use Rattle.ts_normalise.specs.Refusals.{Flattens, HasCause, IsDue, IsRefused};
+ghost use Rattle.ts_normalise.specs.Refusals.{Flattens, HasCause, IsDueAnswer, IsRefused};
 ghost use Rattle.ts_rules.specs.FileGrammar.{IsFileGrammar};
 
 use crate::accepted::check_form;
@@ -49,8 +49,8 @@ pub fn flatten(alloc: Global, grammar: &Grammar) -> Result<FlatGrammar, NFault>
     ensures normal { IfOk result (Flattens grammar.now) }
     ensures fit { IfOk result Fit }
     ensures refused { IfErr result (HasCause (IsRefused grammar.now)) }
-    ensures refuses { (e : AnyFault) → IsRefused grammar.now e → IsDue (Err e) result }
-    ensures gives { (f : AnyForm) → Flattens grammar.now f → IsDue (Ok f) result }
+    ensures refuses { (e : AnyFault) → IsRefused grammar.now e → IsDueAnswer (Err e) result }
+    ensures gives { (f : AnyForm) → Flattens grammar.now f → IsDueAnswer (Ok f) result }
 {
     one_normal_form();
     one_refusal();

@@ -9,7 +9,8 @@ ghost use Rattle.ts_rules.specs.Causes.{IsUndefined, names_used};
 ghost use Rattle.ts_rules.specs.FirstSights.{Clear};
 ghost use Rattle.ts_rules.specs.Normal.{IsNormal};
 
-/// A grammar that uses no undefined name has one normal form at most, and what is flattened has one.
+/// A grammar that uses no undefined name has one normal form at most, and what is flattened has
+/// one.
 pub fn one_normal_form()
     ensures normal { (g : AnyGrammar) (f h : AnyForm) → Clear (IsUndefined g) (names_used g)
         → IsNormal Reads g f → IsNormal Reads g h → f ≡ h }

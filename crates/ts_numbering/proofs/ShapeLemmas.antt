@@ -6,7 +6,7 @@ use Rattle.std.proofs.lemmas.List.Folds.{list_any-append}
 use Rattle.ts_core.specs.declared.flat.Assoc.{Assoc}
 use Rattle.ts_core.specs.declared.flat.Prec.{Prec}
 use Rattle.ts_core.specs.declared.rule.Rule.{Rule}
-use Rattle.ts_rules.specs.Alternatives.{Alternatives, alternatives_of, joins, followed, sequence, members_of, choice_of, is_last, in_sequence, in_field, in_alias, in_dynamic, in_group, group, left, last_left, single}
+use Rattle.ts_rules.specs.Alternatives.{Alternatives, alternatives_of, joins, followed, sequence, alternatives_each, choice_of, is_last, in_sequence, in_field, in_alias, in_dynamic, in_group, group, left, last_left, single}
 use Rattle.ts_rules.specs.Numbers.{Numbers, tree_of, is_blank, has_steps, has_blank, where_so, any_times, many_times, outermost}
 use Rattle.ts_rules.specs.declared.tree.Alternative.{Alternative}
 use Rattle.ts_rules.specs.declared.tree.Around.{Around}
@@ -142,8 +142,8 @@ of_step t shape symbol b f e = record {
 at_tree : (t u : Tree) (a : Around) → t ≡ u → alternatives_of t a ≡ alternatives_of u a
 at_tree t u a e = ap (λ (v : Tree). alternatives_of v a) e
 
-pub of_seq : (t : Tree) (ts : List Tree) (shape : Shape) → t ≡ tree.Seq ts → IsShapeOf (λ a. sequence (members_of ts a)) shape → Shaped t shape
-of_seq t ts shape e h = by_alternatives (alternatives_of t) (λ a. sequence (members_of ts a)) shape (λ a. at_tree t (tree.Seq ts) a e ∙ at_seq ts a) h
+pub of_seq : (t : Tree) (ts : List Tree) (shape : Shape) → t ≡ tree.Seq ts → IsShapeOf (λ a. sequence (alternatives_each ts a)) shape → Shaped t shape
+of_seq t ts shape e h = by_alternatives (alternatives_of t) (λ a. sequence (alternatives_each ts a)) shape (λ a. at_tree t (tree.Seq ts) a e ∙ at_seq ts a) h
 
 pub of_choice : (t : Tree) (ts : List Tree) (shape : Shape) → t ≡ tree.Choice ts → IsShapeOf (choice_of ts) shape → Shaped t shape
 of_choice t ts shape e h = by_alternatives (alternatives_of t) (choice_of ts) shape (λ a. at_tree t (tree.Choice ts) a e ∙ at_choice ts a) h
@@ -204,12 +204,6 @@ of_many_times t content number shape e h =
     })
 
 -- ---- lists
-
-pub joins_none : (n : Numbers) (shape : Shape) → shape.blank ≡ true → shape.filled ≡ false → IsShapeOf (joins_of n []) shape
-joins_none n shape b f = record { blank = λ a. b; filled = λ a. f }
-
-pub branches_none : (n : Numbers) (shape : Shape) → shape.blank ≡ false → shape.filled ≡ false → IsShapeOf (branches_of n []) shape
-branches_none n shape b f = record { blank = λ a. b; filled = λ a. f }
 
 -- one more member before the rest
 joins_before : (n : Numbers) (member : Rule) (rest : List Rule) (here now new : Shape)

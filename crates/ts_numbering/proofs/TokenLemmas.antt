@@ -10,7 +10,7 @@ use Rattle.ts_core.specs.declared.rule.Rule.{Rule}
 use Rattle.ts_rules.specs.FirstSights.{Not, Once}
 use Rattle.ts_numbering.specs.Keys.{Twice, AreSeenTokens, trees}
 use Rattle.ts_numbering.specs.Places.{same_tree}
-use Rattle.ts_numbering.proofs.FirstSightLemmas.{there, at_of, only_one, any_at, sights_begin, sights_insert, any_map, insert_map}
+use Rattle.ts_numbering.proofs.FirstSightLemmas.{there, at_of, only_one, any_at, sights_insert, any_map, insert_map}
 use Rattle.ts_numbering.proofs.SameLemmas.{tree_same, tree_itself}
 
 module _ {X : Type 0} where
@@ -56,13 +56,6 @@ module _ {X : Type 0} where
 
   once_new : (xs : List X) (x : X) → Not (Contains xs x) → Once (xs ++ x ∷ []) x
   once_new xs x unseen = record { before = xs; after = []; is = refl; not_before = unseen; not_after = nothing_in x }
-
-pub tokens_begin : AreSeenTokens [] [] []
-tokens_begin = record {
-  first = sights_begin;
-  again = λ t w. absurd (nothing_in t w);
-  once = λ t w u. absurd (nothing_in t w);
-}
 
 in_list : (xs : List Rule) (x : Rule) → Contains xs x → list_any (same_tree x) xs ≡ true
 in_list xs x w = any_at same_tree tree_same tree_itself xs x w.0 (at_of xs x w)

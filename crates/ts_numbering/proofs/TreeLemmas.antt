@@ -9,7 +9,7 @@ use Rattle.ts_core.specs.declared.rule.Rule.TheOpen.{Rule-F}
 use Rattle.ts_core.specs.declared.rule.Rule.TheVariants as rule
 use Rattle.ts_core.specs.declared.rule.Rule.TheVariants.{rolls-Blank, rolls-Literal, rolls-Pattern, rolls-Symbol, rolls-Seq, rolls-Choice, rolls-Repeat, rolls-Repeat1, rolls-Token, rolls-ImmediateToken, rolls-Field, rolls-Alias, rolls-Prec, rolls-PrecLeft, rolls-PrecRight, rolls-PrecDynamic}
 use Rattle.ts_core.specs.declared.rule.Rule.TheFolds.{para-roll-Rule}
-use Rattle.ts_rules.specs.Alternatives.{Alternatives, layer, alternatives_of, sequence, choice, members, branches, members_of, choice_of, is_last, in_sequence, in_field, in_alias, in_dynamic, group, in_group, blank, single}
+use Rattle.ts_rules.specs.Alternatives.{Alternatives, layer, alternatives_of, sequence, choice, members, branches, alternatives_each, choice_of, is_last, in_sequence, in_field, in_alias, in_dynamic, group, in_group, blank, single}
 use Rattle.ts_rules.specs.Numbers.{Numbers, inner_trees, tree_step, tree_of, any_times, many_times, prec_of}
 use Rattle.ts_rules.specs.Sights.{alias}
 use Rattle.ts_rules.specs.declared.tree.Around.{Around}
@@ -73,8 +73,6 @@ tree_seq n members = ap (tree_of n) (sym (rolls-Seq members)) ∙ para-roll-Rule
 pub tree_choice : (n : Numbers) (members : List Rule) → tree_of n (rule.Choice members) ≡ tree.Choice (map (tree_of n) members)
 tree_choice n members = ap (tree_of n) (sym (rolls-Choice members)) ∙ para-roll-Rule Tree (tree_step n) (Rule-F.Choice members) ∙ ap tree.Choice (inner_map n members)
 
-pub ruleset tree_laws = (tree_blank, tree_literal, tree_pattern, tree_symbol, tree_token, tree_immediate_token, tree_repeat, tree_repeat1, tree_field, tree_alias, tree_prec, tree_prec_left, tree_prec_right, tree_prec_dynamic, tree_seq, tree_choice)
-
 -- ---- alternatives
 
 pub at_blank : (a : Around) → alternatives_of tree.Blank a ≡ blank ∷ []
@@ -99,7 +97,7 @@ last_map : (ts : List Tree) → is_last (map alternatives_of ts) ≡ is_last ts
 last_map [] = refl
 last_map (t ∷ ts) = refl
 
-members_map : (ts : List Tree) (a : Around) → members (map alternatives_of ts) a ≡ members_of ts a
+members_map : (ts : List Tree) (a : Around) → members (map alternatives_of ts) a ≡ alternatives_each ts a
 members_map [] a = refl
 members_map (t ∷ ts) a =
     ap (λ (b : Bool). alternatives_of t (in_sequence b a) ∷ members (map alternatives_of ts) a) (last_map ts)
@@ -109,7 +107,7 @@ choice_map : (ts : List Tree) (a : Around) → choice (branches (map alternative
 choice_map [] a = refl
 choice_map (t ∷ ts) a = ap (λ (xs : Alternatives). alternatives_of t a ++ xs) (choice_map ts a)
 
-pub at_seq : (ts : List Tree) (a : Around) → alternatives_of (tree.Seq ts) a ≡ sequence (members_of ts a)
+pub at_seq : (ts : List Tree) (a : Around) → alternatives_of (tree.Seq ts) a ≡ sequence (alternatives_each ts a)
 at_seq ts a = ap (λ (f : Around → Alternatives). f a) (ap {B = Around → Alternatives} alternatives_of (sym (tree_rolls-Seq ts)) ∙ fold-roll-Tree (Around → Alternatives) layer (Tree-F.Seq ts)) ∙ ap sequence (members_map ts a)
 
 pub at_choice : (ts : List Tree) (a : Around) → alternatives_of (tree.Choice ts) a ≡ choice_of ts a

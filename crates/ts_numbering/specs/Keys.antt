@@ -41,6 +41,7 @@ is_repeated content = has_steps (tree_of unnumbered content)
 abbrev pub repeated_at : Rule → Bool → List Rule
 repeated_at tree inside = filter is_repeated (content_at tree inside)
 
+-- all repeated contents that are seen, in order
 abbrev pub repeated_in : List Sight → List Rule
 repeated_in = flat_map (λ (sight : Sight). repeated_at sight.tree sight.inside)
 

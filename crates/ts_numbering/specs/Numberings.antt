@@ -19,9 +19,11 @@ lists_with survey fields precs = record {
   precs = precs;
 }
 
+-- the lists that a numbering stands for
 abbrev pub lists_of : Numbering → Lists
 lists_of n = lists_with n.survey (told n.fields.keys) (told n.precs.keys)
 
+-- the numbers that a numbering stands for
 abbrev pub numbers_of : Numbering → Numbers
 numbers_of n = numbers_by (lists_of n) (rules_told n.survey.named.entries)
     (aliases_told n.aliases.keys)

@@ -25,9 +25,11 @@ abbrev pub number_or : ℕ → ℕ → Option ℕ → ℕ
 number_or other first None = other
 number_or other first (Some place) = first + place
 
+-- the first place of a name in a list, where it stands there
 abbrev pub place_of_name : List Bytes → Bytes → Option ℕ
 place_of_name names name = position (bytes_eq name) names
 
+-- the first place of a tree in a list, where it stands there
 abbrev pub place_of_tree : List Rule → Rule → Option ℕ
 place_of_tree trees tree = position (same_tree tree) trees
 

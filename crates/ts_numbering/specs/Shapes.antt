@@ -4,7 +4,7 @@ use Rattle.std.specs.List.{list_any}
 use Rattle.ts_core.specs.declared.rule.Rule.{Rule}
 use Rattle.ts_rules.specs.declared.tree.Alternative.{Alternative}
 use Rattle.ts_rules.specs.declared.tree.Around.{Around}
-use Rattle.ts_rules.specs.Alternatives.{Alternatives, members_of, choice_of, sequence}
+use Rattle.ts_rules.specs.Alternatives.{Alternatives, alternatives_each, choice_of, sequence}
 use Rattle.ts_rules.specs.Numbers.{Numbers, tree_of, is_blank}
 use Rattle.ts_numbering.specs.declared.shape.Shape.{Shape}
 
@@ -23,7 +23,7 @@ join_filled blank filled next_blank next_filled =
 
 -- the alternatives of rule trees in a SEQ
 abbrev pub joins_of : Numbers → List Rule → Around → Alternatives
-joins_of n members around = sequence (members_of (map (tree_of n) members) around)
+joins_of n members around = sequence (alternatives_each (map (tree_of n) members) around)
 
 -- the alternatives of rule trees in a CHOICE
 abbrev pub branches_of : Numbers → List Rule → Around → Alternatives

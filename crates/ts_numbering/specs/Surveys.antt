@@ -19,8 +19,10 @@ kept_if false x = []
 
 -- a rule whose name is new went to the end, where it was wanted
 abbrev pub IsAdded : List NamedRule → NamedRule → Bool → List NamedRule → Type 0
-IsAdded old rule wanted new = Not (Contains (names_of old) rule.0) → new ≡ old ++ kept_if wanted rule
+IsAdded old rule wanted new = Not (Contains (names_of old) rule.0)
+    → new ≡ old ++ kept_if wanted rule
 
+-- the rule is inlined
 abbrev pub IsInlinedRule : Grammar → NamedRule → Type 0
 IsInlinedRule g rule = IsInlined g rule.0
 
@@ -47,6 +49,7 @@ abbrev pub tree_named : List NamedRule → Bytes → Option Rule
 tree_named [] name = None
 tree_named (rule ∷ rules) name = if bytes_eq name rule.0 then Some rule.1 else tree_named rules name
 
+-- a tree, where there is one
 abbrev pub listed_tree : Option Rule → List Rule
 listed_tree None = []
 listed_tree (Some tree) = tree ∷ []

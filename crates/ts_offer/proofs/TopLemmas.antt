@@ -5,10 +5,10 @@ use Rattle.spec_trees.specs.declared.tree.Tree.{Tree}
 use Rattle.spec_trees.specs.Trees.{children_of, span_of, all_spans}
 use Rattle.spec_reuse.specs.Places.{IsIn, here, inside, later, IsWhole, IsInTree, lead_of}
 use Rattle.spec_reuse.specs.Offered.{IsFit, IsTopmost}
-use Rattle.ts_offer.specs.Answers.{Answers}
-use Rattle.ts_offer.specs.Ways.{IsFirst, IsFirstAt, IsTop, IsTopmostAt, IsNext, LeadsTo}
+use Rattle.ts_offer.specs.Answers.{IsOfferAt}
+use Rattle.ts_offer.specs.Ways.{IsFirst, IsFirstAt, IsTop, IsTopmostAt, IsNext}
 use Rattle.ts_offer.specs.declared.way.Ahead.{Ahead}
-use Rattle.ts_offer.proofs.PlaceLemmas.{lie, none_in, split, single, wide, whole_children, whole_one, AllWhole, whole_tail, spans_drop, child_depth}
+use Rattle.ts_offer.proofs.PlaceLemmas.{lie, none_in, split, wide, whole_children, whole_one, AllWhole, whole_tail, spans_drop, child_depth}
 
 -- a node among the first child with bytes and those after it
 skip : (ts : List Tree) (k : ℕ) (c : Tree) (place : ℕ) (u : Tree) → AllWhole ts → slice_get ts k ≡ Some c → all_spans (drop k ts) ≡ all_spans ts → 0 < span_of c
@@ -71,29 +71,6 @@ fit_is_top t state fit = record {
   top = λ u place h f. h;
 }
 
--- all fit nodes that begin with an unfit one are in its first child
-below : (t c : Tree) (state : ℕ) → (IsFit state t → ⊥) → IsFirst t c → (u : Tree) (place : ℕ) → IsIn (t ∷ []) place u place → IsFit state u → IsIn (c ∷ []) place u place
-below t c state unfit first u place h f = by (single t place u place h)
-  where
-    by : ((u ≡ t) × (place ≡ place)) ⊎ IsIn (children_of t) place u place → IsIn (c ∷ []) place u place
-    by (inl e) = absurd (unfit (subst (λ (x : Tree). IsFit state x) e.0 f))
-    by (inr i) = first.holds u place i f.some
-
-pub top_below : (t c : Tree) (state : ℕ) (found : Option Tree) → (IsFit state t → ⊥) → IsFirst t c → IsTopmostAt c state found → IsTopmostAt t state found
-top_below t c state None unfit first none = λ u place h f. none u place (below t c state unfit first u place h f) f
-top_below t c state (Some x) unfit first top = record {
-  there = λ place. first.there x place (top.there place);
-  fit = top.fit;
-  top = λ u place h f. top.top u place (below t c state unfit first u place h f) f;
-}
-
-pub top_none : (t : Tree) (state : ℕ) → (IsFit state t → ⊥) → IsFirstAt t None → IsTopmostAt t state None
-top_none t state unfit none u place h f = by (single t place u place h)
-  where
-    by : ((u ≡ t) × (place ≡ place)) ⊎ IsIn (children_of t) place u place → ⊥
-    by (inl e) = unfit (subst (λ (x : Tree). IsFit state x) e.0 f)
-    by (inr i) = none u place i f.some
-
 -- ---- answers
 
 root_alone : (root u : Tree) (at : ℕ) → at ≡ 0 → IsWhole root → 0 < span_of root → IsInTree root u at → IsIn (root ∷ []) at u at
@@ -115,16 +92,13 @@ inner_fit : (root : Tree) (place state : ℕ) → (place ≡ 0 → IsFit state r
 inner_fit root place state unfit u (inl h) f = absurd (unfit h.1 (subst (λ (x : Tree). IsFit state x) h.0 f))
 inner_fit root place state unfit u (inr h) f = h
 
-pub none_ahead : (root : Tree) (place state : ℕ) → (place ≡ 0 → IsFit state root → ⊥) → LeadsTo root place None → Answers root place state None
-none_ahead root place state unfit none u h f = none u (inner_fit root place state unfit u h f) f.some
-
-pub ahead_later : (root : Tree) (place state : ℕ) (a : Ahead) → (place ≡ 0 → IsFit state root → ⊥) → IsNext root place a → (a.place ≡ place → ⊥) → Answers root place state None
+pub ahead_later : (root : Tree) (place state : ℕ) (a : Ahead) → (place ≡ 0 → IsFit state root → ⊥) → IsNext root place a → (a.place ≡ place → ⊥) → IsOfferAt root place state None
 ahead_later root place state a unfit next apart u h f =
     let i : IsIn (a.node.now ∷ []) a.place u place = next.holds u (inner_fit root place state unfit u h f) f.some in
     let r = lie (a.node.now ∷ []) a.place u place (whole_one a.node.now next.whole) i in
     apart (omega (arith, r.0, next.from))
 
-pub ahead_here : (root : Tree) (place state : ℕ) (a : Ahead) (found : Option Tree) → (place ≡ 0 → IsFit state root → ⊥) → IsNext root place a → a.place ≡ place → IsTopmostAt a.node.now state found → Answers root place state found
+pub ahead_here : (root : Tree) (place state : ℕ) (a : Ahead) (found : Option Tree) → (place ≡ 0 → IsFit state root → ⊥) → IsNext root place a → a.place ≡ place → IsTopmostAt a.node.now state found → IsOfferAt root place state found
 ahead_here root place state a None unfit next at none = λ u h f.
     none u place (subst (λ (q : ℕ). IsIn (a.node.now ∷ []) q u place) at (next.holds u (inner_fit root place state unfit u h f) f.some)) f
 ahead_here root place state a (Some x) unfit next at top = record {
@@ -135,10 +109,10 @@ ahead_here root place state a (Some x) unfit next at top = record {
 
 -- ---- what a trait's clauses ask
 
-pub given : (tree : Tree) (place state : ℕ) (o : Option Tree) → Answers tree place state o → (t : Tree) → o ≡ Some t → IsTopmost tree place state t
-given tree place state o a t e = subst (λ (x : Option Tree). Answers tree place state x) e a
+pub given : (tree : Tree) (place state : ℕ) (o : Option Tree) → IsOfferAt tree place state o → (t : Tree) → o ≡ Some t → IsTopmost tree place state t
+given tree place state o a t e = subst (λ (x : Option Tree). IsOfferAt tree place state x) e a
 
-pub told : (tree : Tree) (place state : ℕ) (o : Option Tree) → Answers tree place state o → (t : Tree) → Some tree ≡ Some t → Answers t place state o
+pub told : (tree : Tree) (place state : ℕ) (o : Option Tree) → IsOfferAt tree place state o → (t : Tree) → Some tree ≡ Some t → IsOfferAt t place state o
 told tree place state o a t e =
     let d : tree ≡ t = cc in
-    subst (λ (x : Tree). Answers x place state o) d a
+    subst (λ (x : Tree). IsOfferAt x place state o) d a

@@ -1,5 +1,5 @@
 -- What is ahead on the way down a tree, turn by turn.
-use Rattle.std.proofs.Common.{◌≡◌, ℕ, suc, ◌+◌, ◌*◌, ◌<◌, ◌≤◌, ◌⊎◌, inl, inr, sym, ap, subst, ◌∙◌, refl, arith, List, [], ◌∷◌, ◌++◌, length, drop, slice_get, Some, None}
+use Rattle.std.proofs.Common.{◌≡◌, ℕ, suc, ◌+◌, ◌*◌, ◌<◌, ◌≤◌, ◌⊎◌, inl, inr, sym, ap, subst, ◌∙◌, refl, arith, List, [], ◌∷◌, ◌++◌, length, drop, slice_get, Some}
 use Rattle.std.proofs.lemmas.List.{drop_all}
 use Rattle.std.proofs.lemmas.Option.{slice_get_within}
 use Rattle.spec_trees.specs.declared.tree.Tree.{Tree}
@@ -10,7 +10,7 @@ use Rattle.spec_trees.specs.Inside as nodes
 use Rattle.spec_reuse.specs.Places.{IsIn, inside, later, IsWhole, lead_of}
 use Rattle.ts_offer.specs.declared.way.Turn.{Turn}
 use Rattle.ts_offer.specs.declared.way.Ahead.{Ahead}
-use Rattle.ts_offer.specs.Ways.{rest_of, IsAhead, IsTurn, AreTurns, IsOn, weight, IsNext, LeadsTo, IsPast, IsInto, IsReached, IsPassed, IsEntered}
+use Rattle.ts_offer.specs.Ways.{rest_of, IsAhead, IsTurn, AreTurns, IsOn, weight, IsNext, IsPast, IsInto, IsReached, IsPassed, IsEntered}
 use Rattle.ts_offer.proofs.PlaceLemmas.{drop_at, lie, none_in, split, single, wide, whole_children, whole_one, whole_drop, AllWhole, child_depth}
 
 -- ---- lists of turns
@@ -252,9 +252,6 @@ next_is root size ts t s a place w e past at' le lt =
         absurd (omega (arith, low _ _ ts u place l k, h.within, r, lt))
     by l h u (inr k) = next h u (next_or_rest t s a.node.now u place e past k)
 
-pub none_next : (root : Tree) (size place : ℕ) → IsOn root size [] place → LeadsTo root place None
-none_next root size place w u h some = w.all u place h (omega arith) some
-
 -- ---- the start, room and weight
 
 pub first_way : (root : Tree) (size : ℕ) (t : Turn) → IsWhole root → 1 + tree_depth root ≤ size → t.node.now ≡ root → t.next ≡ 0 → t.place ≡ lead_of root → IsOn root size (t ∷ []) 0
@@ -333,9 +330,6 @@ roomier root size more ts us place w e le =
 popped : (root : Tree) (size : ℕ) (xs ts : List Turn) (t : Turn) (place : ℕ) → IsOn root size xs place → xs ≡ ts ++ t ∷ [] → IsOn root size (ts ++ t ∷ []) place
 popped root size xs ts t place w e = subst (λ (ys : List Turn). IsOn root size ys place) e w
 
-pub pop_room : (root : Tree) (size : ℕ) (xs ts : List Turn) (t : Turn) (place : ℕ) → IsOn root size xs place → xs ≡ ts ++ t ∷ [] → length ts < size
-pop_room root size xs ts t place w e = has_room root size ts t place (popped root size xs ts t place w e)
-
 pub pop_turn : (root : Tree) (size : ℕ) (xs ts : List Turn) (t : Turn) (place : ℕ) → IsOn root size xs place → xs ≡ ts ++ t ∷ [] → IsWhole t.node.now × (t.place + all_spans (rest_of t) ≤ most_span)
 pop_turn root size xs ts t place w e =
     let v = popped root size xs ts t place w e in
@@ -359,9 +353,6 @@ into_room root size xs ts us t s i place w e h j =
     let v = entered root size ts t s i h.node place (popped root size xs ts t place w e) h.child h.after h.inner h.begins in
     let l : length us ≡ length (ts ++ s ∷ []) = ap (λ (ys : List Turn). length ys) j in
     omega (arith, l, has_room root size (ts ++ s ∷ []) i place v)
-
-pub go_next : (root : Tree) (size more : ℕ) (xs ts us : List Turn) (t : Turn) (a : Ahead) (place : ℕ) → IsOn root size xs place → xs ≡ ts ++ t ∷ [] → IsReached t place a → us ≡ ts ++ t ∷ [] → size ≤ more → IsOn root more us place
-go_next root size more xs ts us t a place w e h i le = roomier root size more xs us place w (e ∙ sym i) le
 
 pub reached : (root : Tree) (size : ℕ) (xs ts : List Turn) (t : Turn) (a : Ahead) (place : ℕ) → IsOn root size xs place → xs ≡ ts ++ t ∷ [] → IsReached t place a → IsNext root place a
 reached root size xs ts t a place w e h =

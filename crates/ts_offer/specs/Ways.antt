@@ -1,4 +1,4 @@
--- Where the search through a tree stands, and what it finds. For proofs alone.
+-- Where the search through a tree stands, and what it finds. For private clauses and proofs alone.
 use Rattle.std.specs.Prelude.{◌≡◌, ℕ, ◌+◌, ◌*◌, ◌<◌, ◌≤◌, ◌⊎◌, ◌++◌, List, [], ◌∷◌, length, drop, slice_get, Option, Some, None, vec_capacity}
 use Rattle.spec_trees.specs.declared.tree.Tree.{Tree}
 use Rattle.spec_trees.specs.Trees.{children_of, span_of, all_spans, all_nodes, tree_depth}

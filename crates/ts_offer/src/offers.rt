@@ -1,7 +1,7 @@
 //! Offers: a place and a state go in, and a node that may be taken over there comes out, or none.
 ghost use Rattle.std.specs.Prelude.{◌≡◌, ◌≤◌, ℕ, Some, option_copied};
 ghost use Rattle.spec_trees.specs.declared.tree.Tree.{Tree};
-ghost use Rattle.ts_offer.specs.Answers.{Answers};
+ghost use Rattle.ts_offer.specs.Answers.{IsOfferAt};
 
 use ts_node::Node;
 
@@ -29,7 +29,7 @@ pub trait Offers<'t> {
             → gives self.old place state t }
         ensures same { (p s : ℕ) (t : Tree) → gives self.new p s t → gives self.old p s t }
         ensures told { (t : Tree) → tree self.old ≡ Some t
-            → Answers t place state (option_copied result) };
+            → IsOfferAt t place state (option_copied result) };
 }
 
 /// Offers no node.

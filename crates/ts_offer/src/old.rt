@@ -2,7 +2,7 @@
 ghost use Rattle.std.specs.Prelude.{◌≡◌, ◌↔◌, ◌≤◌, IfOk, IsTrue, option_copied};
 ghost use Rattle.spec_reuse.specs.Places.{IsWhole};
 ghost use Rattle.spec_reuse.specs.Offered.{IsFit};
-ghost use Rattle.ts_offer.specs.Answers.{Answers, offering};
+ghost use Rattle.ts_offer.specs.Answers.{IsOfferAt, offering};
 ghost use Rattle.ts_offer.specs.Ways.{LeadsTo};
 
 use crate::offers::Offers;
@@ -56,7 +56,7 @@ impl<'t> Old<'t> {
     #[tactic(auto, using(crate::proofs::WayLemmas::later_way))]
     fn answer(&mut self, place: u32, state: u16) -> Option<&'t Node>
         requires { self.old.least ≤ place }
-        ensures answer { Answers self.old.tree place state (option_copied result) }
+        ensures answer { IsOfferAt self.old.tree place state (option_copied result) }
         ensures new { self.new ≡ offering self.old.tree place }
     {
         self.least = place;
@@ -81,7 +81,7 @@ fn topmost_at<'t>(
 ) -> Option<&'t Node>
     requires whole { IsWhole root.now }
     requires next { LeadsTo root.now place ahead }
-    ensures { Answers root.now place state (option_copied result) }
+    ensures { IsOfferAt root.now place state (option_copied result) }
 {
     if takes_root(root, place, state) {
         return Some(root);

@@ -25,7 +25,7 @@ use Rattle.ts_ojson.specs.States.{State}
 use Rattle.ts_ojson.specs.States as state
 use Rattle.ts_ojson.specs.Machine.{Frames, Gathered, class_of, part_next, part_ends, word_bytes, word_value, stuck, goes, fine, too_deep, repeated, stays, opens, begin_class, value_class, after, item_first_class, name_first, name_next, colon_next, number_part, closed, text_piece, text_next, next, on_byte, outcome, ended_in, ended}
 use Rattle.ts_ojson.specs.Places.{between, byte_there, class_there, part_there, AreBlank, NoBlank, ArePlain, NoPlain, Reaches, Ends, Starts, Named, IsStuck, IsDeep, IsTaken}
-use Rattle.ts_ojson.proofs.ClassLemmas.{IsKnown, of_class, class_ascii, part_known}
+use Rattle.ts_ojson.proofs.ClassLemmas.{IsKnown, class_ascii, part_known}
 
 -- ---- what stands at a place
 some_same : {A : Type 0} (x y : A) → Some x ≡ Some y → x ≡ y
@@ -165,24 +165,6 @@ module _ (w : Bytes) where
       let here = class_here w at c is in
       reach_on at h.state t h.inner l h.reached here.0 (h.next here.0 ∙ ap (begin_class k (get_or w at 0)) here.1 ∙ e)
 
-  pub start_stuck : (at : ℕ) (k : Frames) (c : Class) → Starts w at k → class_there w at ≡ Some c → ((b : ℕ) → begin_class k b c ≡ stuck) → IsStuck w at
-  start_stuck at k c h is e = record {
-    state = h.state;
-    inner = h.inner;
-    reached = h.reached;
-    next = λ lt. h.next lt ∙ ap (begin_class k (get_or w at 0)) (class_here w at c is).1 ∙ e (get_or w at 0);
-    last = λ x. h.last;
-  }
-
-  pub start_none : (at : ℕ) (k : Frames) → Starts w at k → class_there w at ≡ None → IsStuck w at
-  start_none at k h is = record {
-    state = h.state;
-    inner = h.inner;
-    reached = h.reached;
-    next = λ lt. absurd (not_some (class_of (get_or w at 0)) (sym is ∙ class_is w at lt));
-    last = λ x. h.last;
-  }
-
   too_many : (s : State) (k : Frames) → 256 ≤ length k → opens s k ≡ goes too_deep s k
   too_many s k le = ap (λ t. goes (cond t fine too_deep) s k) (le-ltb (length k) 256 le)
 
@@ -286,20 +268,6 @@ module _ (w : Bytes) where
 
   pub named_next : (at : ℕ) (ms : Gathered) (k : Frames) → NoBlank w at → Reaches w at (state.name ms) k → Named w at ms k
   named_next at ms k n h = record { state = state.name ms; reached = h; next = λ lt. refl; blank = n; last = not_ended (state.name ms) k refl }
-
-  name_or : (at : ℕ) (ms : Gathered) (k : Frames) (c : Class) → (c ≡ class.Blank → ⊥) → (c ≡ class.Quote → ⊥) → stays (name_next at ms c) k ≡ stuck
-  name_or at ms k class.Blank n m = absurd (n refl)
-  name_or at ms k class.Quote n m = absurd (m refl)
-  name_or at ms k c n m = refl
-
-  pub named_stuck : (at : ℕ) (ms : Gathered) (k : Frames) → Named w at ms k → (class_there w at ≡ Some class.Quote → ⊥) → IsStuck w at
-  named_stuck at ms k h m = record {
-    state = h.state;
-    inner = k;
-    reached = h.reached;
-    next = λ lt. h.next lt ∙ name_or at ms k (class_of (get_or w at 0)) (not_class w at class.Blank h.blank lt) (not_class w at class.Quote m lt);
-    last = λ x. h.last;
-  }
 
   pub named_quote : (at : ℕ) (ms : Gathered) (k : Frames) → Named w at ms k → class_there w at ≡ Some class.Quote → Reaches w (at + 1) (state.text Plain [] (role.name at ms)) k
   named_quote at ms k h is =
@@ -512,7 +480,3 @@ module _ (w : Bytes) (at : ℕ) where
   after_part p q u is =
       let here = part_here w at p q is in
       after_ascii u here.0 (class_ascii (get_or w at 0) (class_of (get_or w at 0)) refl (part_known p (class_of (get_or w at 0)) q here.1))
-
--- a class that begins a value or a name is that of its byte
-pub quote_there : (w : Bytes) (at : ℕ) → class_there w at ≡ Some class.Quote → byte_there w at ≡ Some 34
-quote_there w at is = let here = class_here w at class.Quote is in byte_is w at here.0 ∙ ap Some (of_class (get_or w at 0) class.Quote here.1)

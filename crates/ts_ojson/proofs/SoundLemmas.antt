@@ -99,8 +99,6 @@ Judged (goes too_deep s k) = IsOpening s k
 Judged (goes (repeated p) s k) = IsTwice s k
 
 -- ---- names
-eq_name : (n m : List ℕ) → bytes_eq n m ≡ true → n ≡ m
-eq_name n m e = (bytes_eq-Decides n m).0 e
 
 name_eq : (n m : List ℕ) → n ≡ m → bytes_eq n m ≡ true
 name_eq n m e = (bytes_eq-Decides n m).1 e

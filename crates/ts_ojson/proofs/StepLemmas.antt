@@ -95,9 +95,6 @@ stops part.Power c e = digit_stops c part.Power e
 yes_means : (v : Json) (w : List ℕ) (x y : Outcome) (t : Bool) → t ≡ true → Means x v w → Means (cond t x y) v w
 yes_means v w x y t e h = subst (λ (z : Bool). Means (cond z x y) v w) (sym e) h
 
-no_means : (v : Json) (w : List ℕ) (x y : Outcome) (t : Bool) → t ≡ false → Means y v w → Means (cond t x y) v w
-no_means v w x y t e h = subst (λ (z : Bool). Means (cond z x y) v w) (sym e) h
-
 test_means : (v : Json) (w : List ℕ) (A : Type 0) (x y : Outcome) (t : Bool) → (t ≡ true → A ↔ Means x v w) → (t ≡ false → A ↔ Means y v w) → A ↔ Means (cond t x y) v w
 test_means v w A x y true f g = f refl
 test_means v w A x y false f g = g refl

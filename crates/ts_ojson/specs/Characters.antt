@@ -6,6 +6,7 @@ use Rattle.std.specs.Prelude.{◌≡◌, ◌≢◌, ℕ, zero, suc, ◌+◌, ◌
 use Rattle.std.specs.Char.{encode_utf8, digit_value}
 use Rattle.ts_base.specs.Bytes.{Bytes}
 
+-- the byte stands for itself: it is no control character, quote or backslash
 abbrev pub IsRaw : ℕ → Type 0
 IsRaw c = (32 ≤ c) × (c ≢ 34) × (c ≢ 92)
 
@@ -32,15 +33,19 @@ Hex (suc k) n u w r =
 abbrev pub Unit16 : ℕ → Bytes → Bytes → Type 0
 Unit16 u w r = (v : Bytes) × (w ≡ 92 ∷ 117 ∷ v) × Hex 4 0 u v r
 
+-- the code unit is a high surrogate
 abbrev pub IsHigh : ℕ → Type 0
 IsHigh u = (55296 ≤ u) × (u < 56320)
 
+-- the code unit is a low surrogate
 abbrev pub IsLow : ℕ → Type 0
 IsLow u = (56320 ≤ u) × (u < 57344)
 
+-- the code unit is no surrogate, and so a character by itself
 abbrev pub IsAlone : ℕ → Type 0
 IsAlone u = (u < 55296) ⊎ (57344 ≤ u)
 
+-- the character of a high and a low surrogate
 abbrev pub pair_of : ℕ → ℕ → ℕ
 pair_of high low = 65536 + (high - 55296) * 1024 + (low - 56320)
 

@@ -3,14 +3,16 @@
 use Rattle.std.specs.Prelude.{◌≡◌, ℕ, ◌≤◌, ◌⊎◌, List, [], ◌∷◌}
 use Rattle.ts_base.specs.Bytes.{Bytes}
 
+-- the byte is a digit
 abbrev pub IsDigit : ℕ → Type 0
 IsDigit c = (48 ≤ c) × (c ≤ 57)
 
--- any number of digits, and at least one
+-- any number of digits
 abbrev pub Digits : Bytes → Bytes → Type 0
 Digits [] r = r ≡ []
 Digits (c ∷ w) r = (r ≡ c ∷ w) ⊎ (IsDigit c × Digits w r)
 
+-- at least one digit
 abbrev pub SomeDigits : Bytes → Bytes → Type 0
 SomeDigits w r = (c : ℕ) × (u : Bytes) × (w ≡ c ∷ u) × IsDigit c × Digits u r
 
@@ -37,6 +39,7 @@ Exponent w r =
     ⊎ ((e : ℕ) × (u : Bytes) × (v : Bytes) × (w ≡ e ∷ u) × ((e ≡ 101) ⊎ (e ≡ 69)) × Sign u v
     × SomeDigits v r)
 
+-- a number: a minus or none, a whole part, a fraction or none, an exponent or none
 abbrev pub Number : Bytes → Bytes → Type 0
 Number w r =
     (a : Bytes) × (b : Bytes) × (c : Bytes) × Minus w a × Whole a b × Fraction b c × Exponent c r

@@ -18,20 +18,23 @@ use Rattle.ts_ojson.specs.Machine.{Frames, Gathered, class_of, part_next, stuck,
 abbrev pub between : Bytes → ℕ → ℕ → Bytes
 between w from to = take (to - from) (drop from w)
 
--- the byte at a place; its class; the part of a number with it
+-- the byte at a place, where there is one
 abbrev pub byte_there : Bytes → ℕ → Option ℕ
 byte_there w at = cond (nat_lt at (length w)) (Some (get_or w at 0)) None
 
+-- the class of the byte at a place, where there is a byte
 abbrev pub class_there : Bytes → ℕ → Option Class
 class_there w at = cond (nat_lt at (length w)) (Some (class_of (get_or w at 0))) None
 
+-- the part of a number with the byte at a place, where the number goes on with it
 abbrev pub part_there : Bytes → ℕ → Part → Option Part
 part_there w at p = cond (nat_lt at (length w)) (part_next p (class_of (get_or w at 0))) None
 
--- blanks alone stand between two places; none stands at a place
+-- blanks alone stand between two places
 abbrev pub AreBlank : Bytes → ℕ → ℕ → Type 0
 AreBlank w from to = (i : ℕ) → from ≤ i → i < to → class_there w i ≡ Some class.Blank
 
+-- no blank stands at a place
 abbrev pub NoBlank : Bytes → ℕ → Type 0
 NoBlank w at = class_there w at ≢ Some class.Blank
 

@@ -25,6 +25,7 @@ pub record Reads (v : OJson) (w : Bytes) : Type 0 where
 abbrev pub Begins : (Json → Type 0) → Bytes → Type 0
 Begins P u = (rest : Bytes) × (j : Json) × IsJsonText j (u ++ rest) × P j
 
+-- any value
 abbrev pub IsAny : Json → Type 0
 IsAny j = ⊤
 

@@ -10,33 +10,40 @@ use Rattle.ts_ojson.specs.Pieces.{Piece}
 use Rattle.ts_ojson.specs.Pieces.{reading, finished}
 use Rattle.ts_ojson.specs.Characters.{IsHigh, pair_of, short_of}
 
+-- the string with a byte outside an escape: a character, a backslash or the last quote
 abbrev pub plain_piece : Bytes → ℕ → Option Piece
 plain_piece s b =
     cond (b == 34) (Some (finished s))
     (cond (b == 92) (Some (reading Backslash s))
     (cond (nat_lt b 32) None (Some (reading Plain (s ++ b ∷ [])))))
 
+-- the string with the character of a short escape, where there is one
 abbrev pub shorted : Bytes → Option ℕ → Option Piece
 shorted s None = None
 shorted s (Some c) = Some (reading Plain (s ++ c ∷ []))
 
+-- the string with the byte behind a backslash
 abbrev pub backslash_piece : Bytes → ℕ → Option Piece
 backslash_piece s b = cond (b == 117) (Some (reading First s)) (shorted s (short_of b))
 
+-- the string with a code unit: a high surrogate waits for a low one, and no low one comes first
 abbrev pub unit_piece : Bytes → ℕ → Option Piece
 unit_piece s u =
     cond (nat_lt u 55296) (Some (reading Plain (s ++ encode_utf8 u)))
     (cond (nat_lt u 56320) (Some (reading (High u) s))
     (cond (nat_lt u 57344) None (Some (reading Plain (s ++ encode_utf8 u)))))
 
+-- the string with the character of two surrogates
 abbrev pub pair_piece : Bytes → ℕ → ℕ → Option Piece
 pair_piece s h l = Some (reading Plain (s ++ encode_utf8 (pair_of h l)))
 
+-- the string behind two digits of an escape, which begin no low surrogate
 abbrev pub third_piece : Bytes → ℕ → Option Piece
 third_piece s n =
     cond (nat_lt n 220) (Some (reading (Third n) s))
     (cond (nat_lt n 224) None (Some (reading (Third n) s)))
 
+-- the string with one more hex digit of an escape, by the digits before it
 abbrev pub digit_piece : Escape → Bytes → ℕ → Option Piece
 digit_piece Plain s d = None
 digit_piece Backslash s d = None
@@ -51,6 +58,7 @@ digit_piece (LowSecond h) s d = cond (nat_lt d 12) None (Some (reading (LowThird
 digit_piece (LowThird h n) s d = Some (reading (LowFourth h (n * 16 + d)) s)
 digit_piece (LowFourth h n) s d = pair_piece s h (n * 16 + d)
 
+-- the string with a byte that has to be a hex digit
 abbrev pub hex_piece : Escape → Bytes → ℕ → Option Piece
 hex_piece e s b = cond (nat_lt (digit_value b) 16) (digit_piece e s (digit_value b)) None
 

@@ -13,8 +13,6 @@ mod part;
 mod reader;
 mod stop;
 mod string;
-#[cfg(test)]
-mod tests;
 mod tree;
 mod value;
 mod word;

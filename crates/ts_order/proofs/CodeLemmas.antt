@@ -14,9 +14,9 @@ use Rattle.spec_trees.specs.declared.tree.Tree.{Tree}
 use Rattle.spec_trees.specs.declared.tree.Element.{Element}
 use Rattle.spec_trees.specs.declared.tree.Tree.TheFolds.{fold-Tree, fold_out-Tree}
 use Rattle.spec_trees.specs.Trees.{symbol_of, production_of, pad_of, size_of, elements_of, children_of, total_of, node_count, nodes_step, sum_of}
-use Rattle.spec_trees.specs.Made.{children_count, AreCounted}
+use Rattle.spec_trees.specs.Made.{children_count}
 use Rattle.spec_trees.specs.Choice.{code_of, code_step, inner_code, element_codes, form_step, has_form, IsInForm, Better}
-use Rattle.ts_order.specs.Compared.{Compares, count_by, count_of, head_of, codes_from, elements_code}
+use Rattle.ts_order.specs.Compared.{Compares, count_by, count_in_code, head_of, codes_from, elements_code}
 use Rattle.ts_order.proofs.CompareLemmas.{none, one, join, stop, go_on, whole, equal_is, equal_numbers, before_is}
 
 -- ---- a node
@@ -121,7 +121,7 @@ fewer t k c at = omega (arith, fewer_in (children_of t) k c at, fold_out-Tree �
 pub record AreAlike (a b : Tree) : Type 0 where
   pub none : length (elements_of a) ≡ 0 → length (elements_of b) ≡ 0
   pub some : 0 < length (elements_of a) → 0 < length (elements_of b)
-  pub count : count_of a ≡ count_of b
+  pub count : count_in_code a ≡ count_in_code b
 
 pub alike : (g : FlatGrammar) (a b : Tree) (r : Ordering) → IsInForm g a → IsInForm g b → is_ne r ≡ false → Compares r (head_of a) (head_of b) → AreAlike a b
 alike g a b r ha hb ne h =
@@ -228,11 +228,6 @@ children_end a b k end past =
     let n : end - k ≡ 0 = omega (arith, past) in
     rw n none
 
-pub children_start : (a b : Tree) (from count : ℕ) (s : Ordering) → Compares s (codes_from from (from + count - from) a) (codes_from from (from + count - from) b) → Compares s (codes_from from count a) (codes_from from count b)
-children_start a b from count s h =
-    let n : from + count - from ≡ count = omega arith in
-    rw n at h
-
 -- ---- two nodes, element by element
 
 -- how the two numbers of two elements compare
@@ -298,10 +293,6 @@ own_ahead es k from n e at h =
         let x : d ≡ e = cc in
         ap (λ (y : Element). y.children + children_count ds) x
     by (d ∷ ds) (suc i) at = by ds i at
-
-pub own_start : (es : List Element) (ts : List Tree) → AreCounted es ts → children_count es ≤ length ts
-own_start [] ts own = omega arith
-own_start (e ∷ es) ts own = omega (arith, own)
 
 -- ---- the better of two trees
 

@@ -1,3 +1,2 @@
 pub mod CompareLemmas
 pub mod CodeLemmas
-pub mod LeafLemmas

@@ -22,13 +22,13 @@ count_by [] ts = length ts
 count_by (e ∷ es) ts = length (e ∷ es)
 
 -- the fifth number of a tree's code
-abbrev pub count_of : Tree → ℕ
-count_of t = count_by (elements_of t) (children_of t)
+abbrev pub count_in_code : Tree → ℕ
+count_in_code t = count_by (elements_of t) (children_of t)
 
 -- the first five numbers of a tree's code
 abbrev pub head_of : Tree → List ℕ
 head_of t =
-    symbol_of t ∷ unwrap_or (production_of t) 0 ∷ pad_of t ∷ size_of t ∷ count_of t ∷ []
+    symbol_of t ∷ unwrap_or (production_of t) 0 ∷ pad_of t ∷ size_of t ∷ count_in_code t ∷ []
 
 -- the codes of so many children, from one number on
 abbrev pub codes_from : ℕ → ℕ → Tree → List ℕ

@@ -4,7 +4,7 @@ ghost use Rattle.std.specs.Prelude.{◌≡◌, ◌+◌, ◌<◌, ◌≤◌, ◌�
 ghost use Rattle.spec_trees.specs.Trees.{children_of, elements_of};
 ghost use Rattle.spec_trees.specs.Made.{AreCounted, node_limit};
 ghost use Rattle.spec_trees.specs.Choice.{code_of, AreOfOneGrammar, Better};
-ghost use Rattle.ts_order.specs.Compared.{Compares, head_of, codes_from, count_of, elements_code};
+ghost use Rattle.ts_order.specs.Compared.{Compares, head_of, codes_from, count_in_code, elements_code};
 
 use std::cmp::Ordering;
 use ts_node::Node;
@@ -111,7 +111,7 @@ fn number(production: Option<u32>) -> u32
 
 /// How many elements a node has as a repetition, and else how many children.
 fn count(node: &Node) -> u32
-    ensures { result ≡ count_of node.now }
+    ensures { result ≡ count_in_code node.now }
 {
     let elements = node.elements();
     if elements == 0 {

@@ -6,7 +6,7 @@ use Rattle.ts_pattern.specs.declared.level.Level.{Level}
 use Rattle.ts_pattern.specs.declared.level.Part.{Part}
 use Rattle.ts_core.specs.declared.re.Re.{Re}
 use Rattle.ts_core.specs.declared.re.Re.TheVariants as re
-use Rattle.ts_pattern.specs.Trees.{Pattern, only, or, Branch, empty, more, Piece, once, times, Atom, set, group, joined, chosen, branches_of, pieces_of, piece_re, atom_re, re_of, nesting, branch_nesting, piece_nesting, atom_nesting, greatest, piece_greatest, positions, piece_positions, limit_passed, passed_limit}
+use Rattle.ts_pattern.specs.Trees.{Pattern, only, or, Branch, empty, more, Piece, once, times, Atom, set, group, joined_parts, chosen, branches_of, pieces_of, piece_re, atom_re, re_of, nesting, branch_nesting, piece_nesting, atom_nesting, greatest, piece_greatest, positions, piece_positions, limit_passed, passed_limit}
 use Rattle.ts_pattern.specs.Machine.{plus, last_branch, built_branches, built_pieces, built_piece, built_atom, built_before, earlier, branch_latest, is_repeatable, level_of, part_of}
 
 -- ---- numbers that stop
@@ -50,7 +50,7 @@ pub repeatable_plus : (p : Pattern) (a : Atom) → is_repeatable (last_branch (p
 repeatable_plus (only b) a = refl
 repeatable_plus (or p b) a = refl
 
-pub branches_split : (p : Pattern) → built_branches p ≡ built_before p ++ joined (built_pieces (last_branch p)) ∷ []
+pub branches_split : (p : Pattern) → built_branches p ≡ built_before p ++ joined_parts (built_pieces (last_branch p)) ∷ []
 branches_split (only b) = refl
 branches_split (or p b) = refl
 
@@ -58,8 +58,8 @@ branches_split (or p b) = refl
 
 mutual
   branches_is : (p : Pattern) → nesting p ≤ 200 → built_branches p ≡ branches_of p
-  branches_is (only b) h = ap (λ (rs : List Re). joined rs ∷ []) (pieces_is b h)
-  branches_is (or p b) h = ap₂ (λ (rs ss : List Re). rs ++ joined ss ∷ []) (branches_is p (omega (arith, h))) (pieces_is b (omega (arith, h)))
+  branches_is (only b) h = ap (λ (rs : List Re). joined_parts rs ∷ []) (pieces_is b h)
+  branches_is (or p b) h = ap₂ (λ (rs ss : List Re). rs ++ joined_parts ss ∷ []) (branches_is p (omega (arith, h))) (pieces_is b (omega (arith, h)))
 
   pieces_is : (b : Branch) → branch_nesting b ≤ 200 → built_pieces b ≡ pieces_of b
   pieces_is empty h = refl
@@ -103,11 +103,11 @@ with_is p a s x ps n g e hs hx hp hn hg he =
     (ap (λ (y : Part). y.positions) hx ∙ ap (min 8193) (sym (latest_plus p (once a))))
     (sym (repeatable_plus p a))
 
-pub bar_is : (p : Pattern) (s : Level) (bs : List Re) (r : Re) (e : ℕ) → s ≡ level_of p → r ≡ joined s.pieces → bs ≡ s.branches ++ r ∷ [] →
+pub bar_is : (p : Pattern) (s : Level) (bs : List Re) (r : Re) (e : ℕ) → s ≡ level_of p → r ≡ joined_parts s.pieces → bs ≡ s.branches ++ r ∷ [] →
     e ≡ min 8193 (earlier p + branch_latest (last_branch p)) → made bs [] s.nesting s.greatest e 0 false ≡ level_of (or p empty)
 bar_is p s bs r e hs hr hb he =
     same_level
-    (hb ∙ ap (λ (x : Re). s.branches ++ x ∷ []) hr ∙ ap (λ (t : Level). t.branches ++ joined t.pieces ∷ []) hs ∙ sym (branches_split p))
+    (hb ∙ ap (λ (x : Re). s.branches ++ x ∷ []) hr ∙ ap (λ (t : Level). t.branches ++ joined_parts t.pieces ∷ []) hs ∙ sym (branches_split p))
     refl
     (ap (λ (t : Level). t.nesting) hs ∙ omega arith)
     (ap (λ (t : Level). t.greatest) hs ∙ omega arith)
@@ -147,9 +147,9 @@ limit_is p s k hs hk =
     ap₂ (λ (t : Level) (n : ℕ). limit_passed t.nesting t.greatest n) hs (hk ∙ ap (min 8193) (sym (positions_split p)))
     ∙ ap₂ (λ (x y : Bool). if x then Some 200 else if nat_lt 65535 (greatest p) then Some 65535 else if y then Some 8192 else None) a b
 
-pub whole_level : (p : Pattern) (s : Level) → s ≡ level_of p → passed_limit p ≡ None → chosen (s.branches ++ joined s.pieces ∷ []) ≡ re_of p
+pub whole_level : (p : Pattern) (s : Level) → s ≡ level_of p → passed_limit p ≡ None → chosen (s.branches ++ joined_parts s.pieces ∷ []) ≡ re_of p
 whole_level p s hs e =
-    ap (λ (t : Level). chosen (t.branches ++ joined t.pieces ∷ [])) hs ∙ ap chosen (sym (branches_split p)) ∙ whole_is p (not_deep p e)
+    ap (λ (t : Level). chosen (t.branches ++ joined_parts t.pieces ∷ [])) hs ∙ ap chosen (sym (branches_split p)) ∙ whole_is p (not_deep p e)
 
 pub depth_is : (p : Pattern) (s : Level) → s ≡ level_of p → min s.nesting 200 + 1 ≡ min 201 (nesting p + 1)
 depth_is p s hs = ap (λ (t : Level). min t.nesting 200 + 1) hs ∙ omega arith

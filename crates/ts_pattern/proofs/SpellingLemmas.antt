@@ -18,7 +18,7 @@ use Rattle.ts_pattern.specs.declared.sign.Sign.TheVariants as sign
 use Rattle.ts_pattern.specs.declared.property.Table.{Table}
 use Rattle.ts_pattern.specs.declared.property.Table.TheVariants.{Any}
 use Rattle.ts_pattern.specs.Characters.{Text, ending, question, open_bracket, open_brace, close_brace, close_bracket, backslash, hyphen, peek, run, number, is_decimal, is_hex, is_name_char, is_scalar}
-use Rattle.ts_pattern.specs.Classes.{Items, item, item_from, range_to, mark, hyphen_mark, is_itself, is_joined, one, is_class, inside, is_inverted, IsClass}
+use Rattle.ts_pattern.specs.Classes.{AreClassItems, item, item_from, range_to, mark, hyphen_mark, is_itself, is_joined, one, is_class, inside, is_inverted, IsClass}
 use Rattle.ts_pattern.specs.Escapes.{escape, shorthand, escaped_char, short_escape, coded, fixed_code, braced_code, unicode_code, found, named, prefix, braced_name, short_name, property}
 use Rattle.ts_pattern.specs.Signs.{count, char, dot, brace, two_counts, counts, opened, escaped, plain, IsSign}
 use Rattle.ts_pattern.specs.Sets.{InSet, AreRangesOf}
@@ -128,7 +128,7 @@ from_ends w i _ (wrong flaw p) = wrong flaw p
 item_ends : (w : Text) (opens : Bool) (i : ℕ) → EndsItem i (item w opens i)
 item_ends w opens i = from_ends w i (mark w opens i) (mark_ends w opens i)
 
-items_end : (w : Text) (opens : Bool) (i : ℕ) (xs : List Item) (j : ℕ) → Items w opens i xs j → i ≤ j
+items_end : (w : Text) (opens : Bool) (i : ℕ) (xs : List Item) (j : ℕ) → AreClassItems w opens i xs j → i ≤ j
 items_end w opens i [] j h = omega (arith, h)
 items_end w opens i (x ∷ xs) j h =
     let lt = (ends_after (AnyOf Item) i x h.0 (subst (EndsItem i) h.2 (item_ends w opens i))).1 in

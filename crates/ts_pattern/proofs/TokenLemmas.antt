@@ -11,7 +11,7 @@ use Rattle.ts_pattern.specs.declared.item.Item.{Item}
 use Rattle.ts_pattern.specs.declared.sign.Sign.{Sign}
 use Rattle.ts_pattern.specs.declared.sign.Sign.TheVariants as sign
 use Rattle.ts_pattern.specs.Characters.{Text, ending, peek}
-use Rattle.ts_pattern.specs.Classes.{Items, item, is_class, opens_after, is_inverted, inside, IsClass, IsWrongClass}
+use Rattle.ts_pattern.specs.Classes.{AreClassItems, item, is_class, opens_after, is_inverted, inside, IsClass, IsWrongClass}
 use Rattle.ts_pattern.specs.Sets.{InSet, AreRangesOf}
 use Rattle.ts_pattern.specs.Signs.{IsSign, IsNoSign}
 use Rattle.ts_pattern.specs.Trees.{Token, one_of}
@@ -56,29 +56,29 @@ abbrev closes : Text → ℕ → Bool
 closes w i = peek w i == 93
 
 module _ (w : Text) where
-  one_items : (xs ys : List Item) (o : Bool) (i j k : ℕ) → Items w o i xs j → Items w o i ys k → closes w j ≡ true → closes w k ≡ true → (xs ≡ ys) × (j ≡ k)
+  one_items : (xs ys : List Item) (o : Bool) (i j k : ℕ) → AreClassItems w o i xs j → AreClassItems w o i ys k → closes w j ≡ true → closes w k ≡ true → (xs ≡ ys) × (j ≡ k)
   one_items [] [] o i j k g h a b = (refl, sym g ∙ h)
   one_items [] (y ∷ ys) o i j k g h a b = absurd (true≢false (sym a ∙ ap (closes w) (sym g) ∙ h.1))
   one_items (x ∷ xs) [] o i j k g h a b = absurd (true≢false (sym b ∙ ap (closes w) (sym h) ∙ g.1))
   one_items (x ∷ xs) (y ∷ ys) o i j k g h a b =
       let s : Sees x g.0 ≡ Sees y h.0 = sym g.2 ∙ h.2 in
       let same = same_seen x y g.0 h.0 s in
-      let there = subst (λ (z : Item). Items w (is_class z.base) h.0 ys k) (sym same) h.3 in
-      let rest = one_items xs ys (is_class x.base) g.0 j k g.3 (subst (λ (n : ℕ). Items w (is_class x.base) n ys k) (sym (same_end x y g.0 h.0 s)) there) a b in
+      let there = subst (λ (z : Item). AreClassItems w (is_class z.base) h.0 ys k) (sym same) h.3 in
+      let rest = one_items xs ys (is_class x.base) g.0 j k g.3 (subst (λ (n : ℕ). AreClassItems w (is_class x.base) n ys k) (sym (same_end x y g.0 h.0 s)) there) a b in
       (ap (λ (z : Item). z ∷ xs) same ∙ ap (λ (zs : List Item). y ∷ zs) rest.0, rest.1)
 
-  items_wrong : (xs ys : List Item) (o : Bool) (i j k : ℕ) (f : Flaw) (p : ℕ) → Items w o i xs j → Items w o i ys k → closes w j ≡ true → closes w k ≡ false → item w (opens_after o ys) k ≡ Wrong f p → ⊥
+  items_wrong : (xs ys : List Item) (o : Bool) (i j k : ℕ) (f : Flaw) (p : ℕ) → AreClassItems w o i xs j → AreClassItems w o i ys k → closes w j ≡ true → closes w k ≡ false → item w (opens_after o ys) k ≡ Wrong f p → ⊥
   items_wrong [] [] o i j k f p g h a b e = true≢false (sym a ∙ ap (closes w) (sym g ∙ h) ∙ b)
   items_wrong [] (y ∷ ys) o i j k f p g h a b e = true≢false (sym a ∙ ap (closes w) (sym g) ∙ h.1)
   items_wrong (x ∷ xs) [] o i j k f p g h a b e = seen_wrong x g.0 f p (sym g.2 ∙ ap (item w o) h ∙ e)
   items_wrong (x ∷ xs) (y ∷ ys) o i j k f p g h a b e =
       let s : Sees x g.0 ≡ Sees y h.0 = sym g.2 ∙ h.2 in
       let same = same_seen x y g.0 h.0 s in
-      let there = subst (λ (z : Item). Items w (is_class z.base) h.0 ys k) (sym same) h.3 in
+      let there = subst (λ (z : Item). AreClassItems w (is_class z.base) h.0 ys k) (sym same) h.3 in
       let last = subst (λ (z : Item). item w (opens_after (is_class z.base) ys) k ≡ Wrong f p) (sym same) e in
-      items_wrong xs ys (is_class x.base) g.0 j k f p g.3 (subst (λ (n : ℕ). Items w (is_class x.base) n ys k) (sym (same_end x y g.0 h.0 s)) there) a b last
+      items_wrong xs ys (is_class x.base) g.0 j k f p g.3 (subst (λ (n : ℕ). AreClassItems w (is_class x.base) n ys k) (sym (same_end x y g.0 h.0 s)) there) a b last
 
-  one_wrong_item : (xs ys : List Item) (o : Bool) (i j k : ℕ) (f g : Flaw) (p q : ℕ) → Items w o i xs j → Items w o i ys k →
+  one_wrong_item : (xs ys : List Item) (o : Bool) (i j k : ℕ) (f g : Flaw) (p q : ℕ) → AreClassItems w o i xs j → AreClassItems w o i ys k →
       item w (opens_after o xs) j ≡ Wrong f p → item w (opens_after o ys) k ≡ Wrong g q → (f ≡ g) × (p ≡ q)
   one_wrong_item [] [] o i j k f g p q a b d e =
       let s : ◌≡◌ {A = Sight Item} (Wrong f p) (Wrong g q) = sym d ∙ ap (item w o) (sym a ∙ b) ∙ e in (same_flaw f g p q s, same_place f g p q s)
@@ -87,9 +87,9 @@ module _ (w : Text) where
   one_wrong_item (x ∷ xs) (y ∷ ys) o i j k f g p q a b d e =
       let s : Sees x a.0 ≡ Sees y b.0 = sym a.2 ∙ b.2 in
       let same = same_seen x y a.0 b.0 s in
-      let there = subst (λ (z : Item). Items w (is_class z.base) b.0 ys k) (sym same) b.3 in
+      let there = subst (λ (z : Item). AreClassItems w (is_class z.base) b.0 ys k) (sym same) b.3 in
       let last = subst (λ (z : Item). item w (opens_after (is_class z.base) ys) k ≡ Wrong g q) (sym same) e in
-      one_wrong_item xs ys (is_class x.base) a.0 j k f g p q a.3 (subst (λ (n : ℕ). Items w (is_class x.base) n ys k) (sym (same_end x y a.0 b.0 s)) there) d last
+      one_wrong_item xs ys (is_class x.base) a.0 j k f g p q a.3 (subst (λ (n : ℕ). AreClassItems w (is_class x.base) n ys k) (sym (same_end x y a.0 b.0 s)) there) d last
 
 -- ---- signs
 

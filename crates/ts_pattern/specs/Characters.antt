@@ -8,6 +8,7 @@ use Rattle.ts_pattern.specs.declared.chars.Test.TheVariants.{Decimal, Hex, Name}
 use Rattle.ts_pattern.specs.declared.sight.Sight.{Sight}
 use Rattle.ts_pattern.specs.declared.sight.Sight.TheVariants.{Sees, Wrong}
 
+-- characters, by their codes
 abbrev pub Text : Type 0
 Text = List ℕ
 
@@ -15,25 +16,31 @@ Text = List ℕ
 abbrev pub ending : ℕ
 ending = 0x110000
 
--- the signs that more than one rule names
+-- the codes of the signs that more than one rule names, first that of `-`
 abbrev pub hyphen : ℕ
 hyphen = 45
 
+-- the code of `?`
 abbrev pub question : ℕ
 question = 63
 
+-- the code of `[`
 abbrev pub open_bracket : ℕ
 open_bracket = 91
 
+-- the code of `\`
 abbrev pub backslash : ℕ
 backslash = 92
 
+-- the code of `]`
 abbrev pub close_bracket : ℕ
 close_bracket = 93
 
+-- the code of `{`
 abbrev pub open_brace : ℕ
 open_brace = 123
 
+-- the code of `}`
 abbrev pub close_brace : ℕ
 close_brace = 125
 
@@ -46,6 +53,7 @@ abbrev pub goes_on : Text → ℕ → Text → Bool
 goes_on w i [] = true
 goes_on w i (c ∷ cs) = (peek w i == c) && goes_on w (i + 1) cs
 
+-- the text goes on with the characters of this string
 abbrev pub spells : Text → ℕ → String → Bool
 spells w i s = goes_on w i (codes s)
 
@@ -53,9 +61,11 @@ spells w i s = goes_on w i (codes s)
 abbrev pub run : (ℕ → Bool) → Text → ℕ → ℕ
 run p w i = prefix_len p (drop i w)
 
+-- the character is a decimal digit
 abbrev pub is_decimal : ℕ → Bool
 is_decimal c = is_digit c 10
 
+-- the character is a hex digit
 abbrev pub is_hex : ℕ → Bool
 is_hex c = is_digit c 16
 
@@ -63,6 +73,7 @@ is_hex c = is_digit c 16
 abbrev pub is_name_char : ℕ → Bool
 is_name_char c = is_ascii_alphanumeric c || (c == 95)
 
+-- the character passes the test
 abbrev pub passes : Test → ℕ → Bool
 passes Decimal = is_decimal
 passes Hex = is_hex
@@ -82,6 +93,7 @@ padded_digit digits width i =
     if nat_lt i (width - length digits)
     then 0 else digit_value (slice_index_or digits (i - (width - length digits)) 0)
 
+-- all of them are decimal digits
 abbrev pub AreDecimal : Text → Type 0
 AreDecimal digits = (k : ℕ) → k < length digits → digit_value (slice_index_or digits k 0) < 10
 

@@ -19,6 +19,7 @@ use Rattle.ts_pattern.specs.Escapes.{escape, is_class_escape}
 abbrev pub is_itself : Text → Bool → ℕ → Bool
 is_itself w opens i = opens || (peek w (i + 1) == close_bracket) || is_class_escape w (i + 1)
 
+-- what a `-` is: itself, or one that joins; a text that ends behind one that joins is wrong
 abbrev pub hyphen_mark : Text → Bool → ℕ → Sight Mark
 hyphen_mark w opens i =
     if is_itself w opens i then Sees (Char hyphen) (i + 1)
@@ -34,6 +35,7 @@ mark w opens i =
     else if c == ending then Wrong Syntax i
     else Sees (Char c) (i + 1)
 
+-- the item of a base's own characters
 abbrev pub one : Base → Item
 one base = record { base = base; lacking = false }
 
@@ -48,6 +50,7 @@ range_to i c k (Sees (Class item) j) = Wrong Syntax k
 range_to i c k (Sees Join j) = Wrong Syntax k
 range_to i c k (Wrong flaw j) = Wrong flaw j
 
+-- the item that begins with this mark: a range where a `-` joins it to what follows
 abbrev pub item_from : Text → ℕ → Sight Mark → Sight Item
 item_from w i (Sees (Char c) j) =
     if is_joined w j then range_to i c (j + 1) (mark w false (j + 1)) else Sees (one (Range c c)) j
@@ -59,6 +62,7 @@ item_from w i (Wrong flaw j) = Wrong flaw j
 abbrev pub item : Text → Bool → ℕ → Sight Item
 item w opens i = item_from w i (mark w opens i)
 
+-- the base is that of a class escape, and no range
 abbrev pub is_class : Base → Bool
 is_class (Range a b) = false
 is_class Digit = true
@@ -67,23 +71,24 @@ is_class Space = true
 is_class (Property s) = true
 
 -- from place i to place j stand these items, and no bracket closes before them
-abbrev pub Items : Text → Bool → ℕ → List Item → ℕ → Type 0
-Items w opens i [] j = i ≡ j
-Items w opens i (x ∷ xs) j =
+abbrev pub AreClassItems : Text → Bool → ℕ → List Item → ℕ → Type 0
+AreClassItems w opens i [] j = i ≡ j
+AreClassItems w opens i (x ∷ xs) j =
     (k : ℕ)
     × ((peek w i == close_bracket) ≡ false)
     × (item w opens i ≡ Sees x k)
-    × Items w (is_class x.base) k xs j
+    × AreClassItems w (is_class x.base) k xs j
 
 -- whether a `-` that follows the items is itself for what stands before it
 abbrev pub opens_after : Bool → List Item → Bool
 opens_after opens [] = opens
 opens_after opens (x ∷ xs) = opens_after (is_class x.base) xs
 
--- where the items of the class begin whose bracket is at i
+-- the class whose bracket is at i begins with a `^`
 abbrev pub is_inverted : Text → ℕ → Bool
 is_inverted w i = peek w (i + 1) == 94
 
+-- where the items of the class begin whose bracket is at i
 abbrev pub inside : Text → ℕ → ℕ
 inside w i = if is_inverted w i then i + 2 else i + 1
 
@@ -92,7 +97,7 @@ abbrev pub IsClass : Text → ℕ → List Item → ℕ → Type 0
 IsClass w i xs j =
     (k : ℕ)
     × ((peek w (inside w i) == close_bracket) ≡ false)
-    × Items w true (inside w i) xs k
+    × AreClassItems w true (inside w i) xs k
     × (peek w k ≡ close_bracket)
     × (j ≡ k + 1)
 
@@ -101,7 +106,7 @@ abbrev pub IsWrongItem : Text → ℕ → Flaw → ℕ → Type 0
 IsWrongItem w i flaw p =
     (xs : List Item)
     × (k : ℕ)
-    × Items w true (inside w i) xs k
+    × AreClassItems w true (inside w i) xs k
     × ((peek w k == close_bracket) ≡ false)
     × (item w (opens_after true xs) k ≡ Wrong flaw p)
 

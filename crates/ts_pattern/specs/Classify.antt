@@ -18,5 +18,6 @@ abbrev pub in_inverted : Bool → List (ℕ × ℕ) → ℕ → Bool
 in_inverted false ranges c = in_ranges ranges c
 in_inverted true ranges c = nat_le c 0x10FFFF && not (in_ranges ranges c)
 
+-- the code is in the ranges, and is a character's
 abbrev pub in_characters : List (ℕ × ℕ) → ℕ → Bool
 in_characters ranges c = in_ranges ranges c && is_scalar c

@@ -57,6 +57,7 @@ braced_code w i n =
     if nat_le 1 n && nat_le n 6 && (peek w (i + 3 + n) == close_brace)
     then coded i (number 16 w (i + 3) n) (i + 4 + n) else Wrong Syntax i
 
+-- `\u{H}` or `\uHHHH`
 abbrev pub unicode_code : Text → ℕ → Sight Mark
 unicode_code w i =
     if peek w (i + 2) == open_brace
@@ -78,6 +79,7 @@ prefix w i =
     else if spells w i "Script=" then (Script, 7)
     else (Any, 0)
 
+-- the class of the set that a name was found to stand for; a name of no set is unknown
 abbrev pub found : ℕ → Bool → ℕ → Option Set → Sight Mark
 found i lacking j None = Wrong UnknownProperty i
 found i lacking j (Some s) = Sees (Class (record { base = Property s; lacking = lacking })) j
@@ -96,6 +98,7 @@ short_name w i lacking =
     then found i lacking (i + 3) (named Any (normalize (take 1 (drop (i + 2) w))))
     else Wrong Syntax i
 
+-- `\p{N}` or `\pN`, and with `lacking` `\P{N}` or `\PN`
 abbrev pub property : Text → ℕ → Bool → Sight Mark
 property w i lacking =
     if peek w (i + 2) == open_brace then (
@@ -103,6 +106,7 @@ property w i lacking =
     braced_name w i lacking (prefix w (i + 3)).0 k (run is_name_char w k)
     ) else short_name w i lacking
 
+-- an escape of one character, which stands for a class or for a character, or else is wrong
 abbrev pub short_escape : ℕ → ℕ → Option Item → Option ℕ → Sight Mark
 short_escape i c (Some item) char = Sees (Class item) (i + 2)
 short_escape i c None (Some d) = Sees (Char d) (i + 2)

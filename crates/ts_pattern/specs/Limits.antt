@@ -13,9 +13,10 @@ most_counted = 65535
 abbrev pub most_positions : ℕ
 most_positions = 8192
 
--- numbers that stop one above their limit, for private clauses
+-- a depth of groups that stops one above its limit, for private clauses
 abbrev pub stopped_nesting : ℕ → ℕ
 stopped_nesting n = min (most_nested + 1) n
 
+-- a count of positions that stops one above its limit, for private clauses
 abbrev pub stopped_positions : ℕ → ℕ
 stopped_positions n = min (most_positions + 1) n

@@ -8,12 +8,13 @@ use Rattle.ts_pattern.specs.declared.level.Part.{Part}
 use Rattle.ts_pattern.specs.declared.level.Finished.{Finished}
 use Rattle.ts_pattern.specs.declared.level.Finished.TheVariants.{Whole, Over}
 use Rattle.ts_pattern.specs.Limits.{most_nested, stopped_nesting, stopped_positions}
-use Rattle.ts_pattern.specs.Trees.{Token, one_of, opening, closing, bar, quantifier, Pattern, only, or, Branch, empty, more, Piece, once, times, Atom, set, group, joined, chosen, re_of, passed_limit, nesting, atom_nesting, greatest, atom_greatest, positions, branch_positions, piece_positions, atom_positions}
+use Rattle.ts_pattern.specs.Trees.{Token, one_of, opening, closing, bar, quantifier, Pattern, only, or, Branch, empty, more, Piece, once, times, Atom, set, group, joined_parts, chosen, re_of, passed_limit, nesting, atom_nesting, greatest, atom_greatest, positions, branch_positions, piece_positions, atom_positions}
 
 -- the pattern that is open, and those round it
 abbrev pub Open : Type 0
 Open = Pattern × List Pattern
 
+-- the last branch of a pattern
 abbrev pub last_branch : Pattern → Branch
 last_branch (only b) = b
 last_branch (or p b) = b
@@ -29,14 +30,17 @@ repeated empty n m = None
 repeated (more b (once a)) n m = Some (more b (times a n m))
 repeated (more b (times a k l)) n m = None
 
+-- the pattern with a quantifier on its last piece, where it has none yet
 abbrev pub times_last : Pattern → ℕ → Option ℕ → Option Pattern
 times_last (only b) n m = option_map only (repeated b n m)
 times_last (or p b) n m = option_map (or p) (repeated b n m)
 
+-- what is open once the innermost pattern is closed, which has to be a group's
 abbrev pub closed : Pattern → List Pattern → Option Open
 closed p [] = None
 closed p (q ∷ k) = Some (plus q (once (group p)), k)
 
+-- this pattern is open, and these round it
 abbrev pub with_rest : List Pattern → Pattern → Open
 with_rest k q = (q, k)
 
@@ -48,21 +52,24 @@ step p k closing = closed p k
 step p k bar = Some (or p empty, k)
 step p k (quantifier n m) = option_map (with_rest k) (times_last p n m)
 
+-- what is open after some tokens, where each can stand where it does
 abbrev pub run_from : Option Open → List Token → Option Open
 run_from None ts = None
 run_from (Some z) [] = Some z
 run_from (Some z) (t ∷ ts) = run_from (step z.0 z.1 t) ts
 
+-- what is open at first: a pattern with nothing in it yet
 abbrev pub start : Option Open
 start = Some (only empty, [])
 
 -- ---- what is kept of an open pattern; below the limit on nesting nothing is kept, since such a
 -- pattern is refused
 
+-- the regular expressions of the parts, as far as they are kept
 abbrev mutual
   pub built_branches : Pattern → List Re
-  built_branches (only b) = joined (built_pieces b) ∷ []
-  built_branches (or p b) = built_branches p ++ joined (built_pieces b) ∷ []
+  built_branches (only b) = joined_parts (built_pieces b) ∷ []
+  built_branches (or p b) = built_branches p ++ joined_parts (built_pieces b) ∷ []
 
   pub built_pieces : Branch → List Re
   built_pieces empty = []
@@ -77,28 +84,33 @@ abbrev mutual
   built_atom (group p) =
       if nat_lt most_nested (nesting p + 1) then re.Empty else chosen (built_branches p)
 
+-- the regular expressions of all branches but the last
 abbrev pub built_before : Pattern → List Re
 built_before (only b) = []
 built_before (or p b) = built_branches p
 
--- the positions of all but the last piece, and of the last piece
+-- the positions of all pieces of a branch but the last
 abbrev pub branch_earlier : Branch → ℕ
 branch_earlier empty = 0
 branch_earlier (more b x) = branch_positions b
 
+-- the positions of all pieces of a pattern but the last
 abbrev pub earlier : Pattern → ℕ
 earlier (only b) = branch_earlier b
 earlier (or p b) = positions p + branch_earlier b
 
+-- the positions of the last piece of a branch
 abbrev pub branch_latest : Branch → ℕ
 branch_latest empty = 0
 branch_latest (more b x) = piece_positions x
 
+-- the branch has a last piece, and that has no quantifier yet
 abbrev pub is_repeatable : Branch → Bool
 is_repeatable empty = false
 is_repeatable (more b (once a)) = true
 is_repeatable (more b (times a n m)) = false
 
+-- what is kept of an open pattern
 abbrev pub level_of : Pattern → Level
 level_of p = record {
   branches = built_before p;
@@ -110,6 +122,7 @@ level_of p = record {
   repeatable = is_repeatable (last_branch p);
 }
 
+-- what is kept of an atom
 abbrev pub part_of : Atom → Part
 part_of a =
     record {
@@ -124,6 +137,7 @@ abbrev pub Follows : Option Open → Option Level → List Level → Type 0
 Follows None r outer = r ≡ None
 Follows (Some z) r outer = (r ≡ Some (level_of z.0)) × (outer ≡ map level_of z.1)
 
+-- what is kept with a quantifier on the last piece: nothing where it cannot stand there
 abbrev pub IsTimes : Option Pattern → Option Level → Type 0
 IsTimes None r = r ≡ None
 IsTimes (Some q) r = r ≡ Some (level_of q)

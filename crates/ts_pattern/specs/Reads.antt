@@ -47,6 +47,7 @@ Reads source ignore_case r =
 abbrev pub Begins : List Token → Type 0
 Begins ts = (rest : List Token) × (p : Pattern) × (spelling p ≡ ts ++ rest)
 
+-- the token is a quantifier
 abbrev pub is_quantifier : Token → Bool
 is_quantifier (one_of ranges) = false
 is_quantifier opening = false
@@ -63,6 +64,7 @@ ends_quantified before (t ∷ ts) = ends_quantified (is_quantifier t) ts
 abbrev pub flaw_at : Bool → ℕ → Flaw
 flaw_at quantified code = if quantified && (code == question) then Unsupported else Syntax
 
+-- the flaw of a token at place i that no pattern has after the tokens ts
 abbrev pub misplaced : List Token → Text → ℕ → Flaw
 misplaced ts w i = flaw_at (ends_quantified false ts) (peek w i)
 
@@ -114,6 +116,7 @@ IsFault source ignore_case (fault.Limit n) =
     (p : Pattern) × IsTree ignore_case (chars source) p × (passed_limit p ≡ Some n)
 IsFault source ignore_case fault.Memory = ⊤
 
+-- the fault of a source that has this flaw at this place
 abbrev pub fault_of : Flaw → ℕ → PFault
 fault_of Syntax p = fault.Syntax p
 fault_of Unsupported p = fault.Unsupported p

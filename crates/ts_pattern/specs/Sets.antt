@@ -9,16 +9,19 @@ use Rattle.ts_pattern.specs.declared.item.Item.{Item}
 use Rattle.ts_pattern.specs.declared.item.CharSet.{CharSet}
 use Rattle.ts_pattern.specs.Characters.{is_scalar}
 
--- `[0-9]`, `[0-9A-Za-z_]`, and space, tab, CR, LF, VT and FF
+-- `[0-9]`
 abbrev pub digit_ranges : List (ℕ × ℕ)
 digit_ranges = (48, 57) ∷ []
 
+-- `[0-9A-Za-z_]`
 abbrev pub word_ranges : List (ℕ × ℕ)
 word_ranges = (48, 57) ∷ (65, 90) ∷ (95, 95) ∷ (97, 122) ∷ []
 
+-- space, tab, CR, LF, VT and FF
 abbrev pub space_ranges : List (ℕ × ℕ)
 space_ranges = (9, 13) ∷ (32, 32) ∷ []
 
+-- the character is one of the base's
 abbrev pub in_base : Base → ℕ → Bool
 in_base (Range a b) c = in_ranges ((a, b) ∷ []) c
 in_base Digit c = in_ranges digit_ranges c
@@ -42,6 +45,7 @@ abbrev pub InItem : Bool → ℕ → Item → Type 0
 InItem ignore_case c item =
     Unless item.lacking (Folded (ignore_case && item.lacking) (λ d. in_base item.base d ≡ true) c)
 
+-- the character is one of some item's
 abbrev pub InUnion : Bool → List Item → ℕ → Type 0
 InUnion ignore_case [] c = ⊥
 InUnion ignore_case (x ∷ xs) c = InItem ignore_case c x ⊎ InUnion ignore_case xs c

@@ -25,6 +25,7 @@ count w i n = min (most_counted + 1) (number 10 w i n)
 abbrev pub set_of : Bool → Item → Sign
 set_of inverted item = sign.Set (record { inverted = inverted; items = item ∷ [] })
 
+-- the set of one character
 abbrev pub char : ℕ → Sign
 char c = set_of false (one (Range c c))
 
@@ -62,6 +63,7 @@ opened w i =
     then (if peek w (i + 2) == 58 then Sees sign.Open (i + 3) else Wrong Unsupported i)
     else Sees sign.Open (i + 1)
 
+-- what an escape stands for, as a sign
 abbrev pub escaped : ℕ → Sight Mark → Sight Sign
 escaped i (Sees (Char c) j) = Sees (char c) j
 escaped i (Sees (Class item) j) = Sees (set_of false item) j

@@ -29,6 +29,7 @@ pub record IsState (ignore_case : Bool) (w : Text) (s : State) : Type 0 where
   pub quantified : s.quantified ≡ ends_quantified false before
   pub within : s.at ≤ length w
 
+-- a turn goes on to a later place, or stops with what the text is
 abbrev pub IsTurn : Bool → Text → State → Turn → Type 0
 IsTurn ignore_case w s (turn.Goes t) = IsState ignore_case w t × (s.at < t.at)
 IsTurn ignore_case w s (turn.Stops o) = IsOutcome ignore_case w o

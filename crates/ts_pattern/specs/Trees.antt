@@ -28,6 +28,7 @@ mutual
     once : Atom → Piece
     times : Atom → ℕ → Option ℕ → Piece
 
+  -- a set of characters, or a pattern in brackets
   pub data Atom : Type 0 where
     set : List (ℕ × ℕ) → Atom
     group : Pattern → Atom
@@ -50,12 +51,13 @@ abbrev mutual
   atom_spelling (set ranges) = one_of ranges ∷ []
   atom_spelling (group p) = opening ∷ (spelling p ++ closing ∷ [])
 
--- parts one after another, and one of some parts; one part alone is that part
-abbrev pub joined : List Re → Re
-joined [] = re.Empty
-joined (r ∷ []) = r
-joined (r ∷ s ∷ rs) = re.Cat (r ∷ s ∷ rs)
+-- parts one after another; one part alone is that part
+abbrev pub joined_parts : List Re → Re
+joined_parts [] = re.Empty
+joined_parts (r ∷ []) = r
+joined_parts (r ∷ s ∷ rs) = re.Cat (r ∷ s ∷ rs)
 
+-- one of some parts; one part alone is that part
 abbrev pub chosen : List Re → Re
 chosen [] = re.Alt []
 chosen (r ∷ []) = r
@@ -64,8 +66,8 @@ chosen (r ∷ s ∷ rs) = re.Alt (r ∷ s ∷ rs)
 -- the regular expressions of the parts
 abbrev mutual
   pub branches_of : Pattern → List Re
-  branches_of (only b) = joined (pieces_of b) ∷ []
-  branches_of (or p b) = branches_of p ++ joined (pieces_of b) ∷ []
+  branches_of (only b) = joined_parts (pieces_of b) ∷ []
+  branches_of (or p b) = branches_of p ++ joined_parts (pieces_of b) ∷ []
 
   pub pieces_of : Branch → List Re
   pieces_of empty = []
@@ -79,6 +81,7 @@ abbrev mutual
   atom_re (set ranges) = re.Set ranges
   atom_re (group p) = chosen (branches_of p)
 
+-- the regular expression that a pattern stands for
 abbrev pub re_of : Pattern → Re
 re_of p = chosen (branches_of p)
 
@@ -100,6 +103,7 @@ abbrev mutual
   atom_nesting (set ranges) = 0
   atom_nesting (group p) = nesting p + 1
 
+-- the greater of a quantifier's counts
 abbrev pub greater_count : ℕ → Option ℕ → ℕ
 greater_count n None = n
 greater_count n (Some m) = max n m
@@ -122,6 +126,7 @@ abbrev mutual
   atom_greatest (set ranges) = 0
   atom_greatest (group p) = greatest p
 
+-- how often a quantifier counts the positions of what it repeats
 abbrev pub factor : ℕ → Option ℕ → ℕ
 factor n None = max n 1
 factor n (Some m) = m

@@ -1,5 +1,5 @@
-//! Laws of the definitions: a source has one regular expression, or one fault, and what spells a tree
-//! is in form.
+//! Laws of the definitions: a source has one regular expression, or one fault, and what spells a
+//! tree is in form.
 ghost use Rattle.std.specs.Prelude.{ℕ, ◌≡◌, ◌≢◌, ◌≤◌, Bool, List, Some, length, true};
 ghost use Rattle.std.specs.List.{Contains};
 ghost use Rattle.regex_class.specs.Ranges.{in_ranges, IsCanonical};

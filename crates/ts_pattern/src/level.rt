@@ -1,7 +1,7 @@
 //! Patterns that are open: from parts, bars and quantifiers to a regular expression and its
 //! measures.
 ghost use Rattle.std.specs.Prelude.{◌≡◌, ◌≤◌, ◌*◌, ◌+◌, ℕ, min, max, nat_lt, [], ◌∷◌, ◌++◌, Option, None, Some, IfOk, if◌then◌else◌};
-ghost use Rattle.ts_pattern.specs.Trees.{Pattern, Atom, set, group, once, or, only, empty, joined, chosen, factor, greater_count, nesting, limit_passed};
+ghost use Rattle.ts_pattern.specs.Trees.{Pattern, Atom, set, group, once, or, only, empty, joined_parts, chosen, factor, greater_count, nesting, limit_passed};
 ghost use Rattle.ts_pattern.specs.Limits.{stopped_nesting, stopped_positions};
 ghost use Rattle.ts_pattern.specs.Machine.{plus, times_last, last_branch, built_before, built_pieces, built_atom, level_of, part_of, IsTimes, IsFinish};
 
@@ -42,7 +42,7 @@ pub(crate) enum Finished {
 }
 
 fn joined(mut parts: List<Re>) -> Re
-    ensures { result ≡ joined parts }
+    ensures { result ≡ joined_parts parts }
 {
     if parts.len() > 1 {
         return Re::Cat(parts);

@@ -18,8 +18,6 @@ mod sight;
 mod sign;
 mod stack;
 mod state;
-#[cfg(test)]
-mod tests;
 
 pub use fault::PFault;
 pub use laws::{one_fault, one_pattern, refused_is_not_read, spellings_are_formed};

@@ -1,4 +1,4 @@
--- What is known while a predicate is judged. It serves proofs alone.
+-- What is known while a predicate is judged. It serves private clauses and proofs alone.
 use Rattle.std.specs.Prelude.{◌≡◌, ℕ, ◌<◌, Bool, true, false, List, Option, Some, None}
 use Rattle.std.specs.List.{Contains}
 use Rattle.ts_base.specs.Bytes.{Bytes}

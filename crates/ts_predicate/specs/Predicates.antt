@@ -16,8 +16,8 @@ use Rattle.spec_matches.specs.declared.found.Match.{Match}
 -- ---- texts
 
 -- the text of a node
-abbrev pub text_of : Bytes → Capture → Bytes
-text_of text capture = slice_range text capture.start capture.end
+abbrev pub capture_text : Bytes → Capture → Bytes
+capture_text text capture = slice_range text capture.start capture.end
 
 -- the nodes that a capture names, in order
 abbrev pub named_by : ℕ → List Capture → List Capture
@@ -25,7 +25,7 @@ named_by name captures = filter (λ capture. nat_eq capture.name name) captures
 
 -- their texts
 abbrev pub texts_of : Bytes → ℕ → List Capture → List Bytes
-texts_of text name captures = map (text_of text) (named_by name captures)
+texts_of text name captures = map (capture_text text) (named_by name captures)
 
 -- ---- what is asked
 

@@ -29,7 +29,8 @@ pub(crate) fn is_as<H: Hosts>(
     requires one { IsOfOne asked.now }
     requires matcher { HasMatcher matcher.old asked.now }
     ensures matcher { HasMatcher matcher.new asked.now }
-    ensures is { IsTrue result ↔ IsAs (AnswersOf (H.called hosts.now) (H.accepts hosts.now)) asked.now text.now }
+    ensures is { IsTrue result
+        ↔ IsAs (AnswersOf (H.called hosts.now) (H.accepts hosts.now)) asked.now text.now }
 {
     match asked {
         Asked::Text(wanted) => wanted.text() == text,

@@ -1,4 +1,5 @@
-//! Predicates of a host: the number of a predicate and a text go in, and whether it holds comes out.
+//! Predicates of a host: the number of a predicate and a text go in, and whether it holds comes
+//! out.
 ghost use Rattle.std.specs.Prelude.{◌≡◌, ℕ, ◌<◌, ◌↔◌, List, IsTrue, length};
 ghost use Rattle.ts_base.specs.Bytes.{Bytes};
 

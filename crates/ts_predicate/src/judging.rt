@@ -45,7 +45,8 @@ fn of_texts<H: Hosts>(
 ) -> Result<bool, AllocError>
     requires one { IsOfOne predicate.now.asked }
     ensures { IfOk result (λ yes. IsTrue yes ↔ OfTexts predicate.now.some predicate.now.negated
-        (IsAs (AnswersOf (H.called hosts.now) (H.accepts hosts.now)) predicate.now.asked) (map (λ t. t.now) texts.now)) }
+        (IsAs (AnswersOf (H.called hosts.now) (H.accepts hosts.now)) predicate.now.asked)
+        (map (λ t. t.now) texts.now)) }
 {
     let mut matcher = matcher_of(alloc, &predicate.asked)?;
     for text in texts {
@@ -75,7 +76,8 @@ fn are_same(text: &str, other: &str) -> bool
     text == other
 }
 
-/// Whether lists of these lengths may be as asked: where they have to be equal, so have the lengths.
+/// Whether lists of these lengths may be as asked: where they have to be equal, so have the
+/// lengths.
 fn may_be_equal(predicate: &Predicate, count: usize, other: usize) -> bool
     ensures yes { result ≡ true → predicate.now.some ≡ false → predicate.now.negated ≡ false
         → count ≡ other }

@@ -6,8 +6,6 @@ mod asking;
 mod hosts;
 mod judging;
 mod predicates;
-#[cfg(test)]
-mod tests;
 
 pub use hosts::Hosts;
 pub use predicates::Predicates;

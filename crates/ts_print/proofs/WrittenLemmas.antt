@@ -22,21 +22,21 @@ use Rattle.spec_trees.specs.VisibleNodes.{visible_nodes}
 use Rattle.spec_output.specs.Lines.{newline}
 use Rattle.spec_output.specs.Outcomes.{node_data, node_items, outcome_members, parse_line}
 use Rattle.spec_output.specs.declared.outcome.ShownOutcome.TheVariants.{Tree as TreeOutcome}
-use Rattle.ts_print.specs.Written.{Adds, AddsValue, tokens_of}
+use Rattle.ts_print.specs.Written.{AddsTokens, AddsValue, tokens_of}
 
 -- ---- parts
 
-pub token_added : {E : Type 0} (t : Token) (old new : Written) → Writes {E = E} (Ok tt) old new t → Adds (t ∷ []) old new
+pub token_added : {E : Type 0} (t : Token) (old new : Written) → Writes {E = E} (Ok tt) old new t → AddsTokens (t ∷ []) old new
 token_added t old new w = record { tokens = w.ok; before = w.room.0 }
 
-pub joined : (ts us : List Token) (old mid new : Written) → Adds ts old mid → Adds us mid new → Adds (ts ++ us) old new
+pub joined : (ts us : List Token) (old mid new : Written) → AddsTokens ts old mid → AddsTokens us mid new → AddsTokens (ts ++ us) old new
 joined ts us old mid new first second = record {
   tokens = second.tokens ∙ ap (λ (xs : List Token). xs ++ us) first.tokens ∙ append_assoc old.tokens ts us;
   before = second.before ∙ first.before;
 }
 
-pub number_is : (n m : ℕ) (old new : Written) → n ≡ m → Adds (json.number (decimal n) ∷ []) old new → Adds (json.number (decimal m) ∷ []) old new
-number_is n m old new same added = subst (λ (k : ℕ). Adds (json.number (decimal k) ∷ []) old new) same added
+pub number_is : (n m : ℕ) (old new : Written) → n ≡ m → AddsTokens (json.number (decimal n) ∷ []) old new → AddsTokens (json.number (decimal m) ∷ []) old new
+number_is n m old new same added = subst (λ (k : ℕ). AddsTokens (json.number (decimal k) ∷ []) old new) same added
 
 -- ---- lists from a place on
 
@@ -51,19 +51,19 @@ names_left g fields = items_tokens (items_outline (items_of (map string (map (fi
 
 pub name_step : (g : FlatGrammar) (fields : List ℕ) (k : ℕ) (name : Bytes) (old mid end : Written)
     → k < length fields → name ≡ field_name g (get_or fields k 0)
-    → Adds (json.string name ∷ []) old mid → Adds (names_left g (drop (k + 1) fields)) mid end → Adds (names_left g (drop k fields)) old end
+    → AddsTokens (json.string name ∷ []) old mid → AddsTokens (names_left g (drop (k + 1) fields)) mid end → AddsTokens (names_left g (drop k fields)) old end
 name_step g fields k name old mid end within named added rest =
     let field : ℕ = get_or fields k 0 in
     let next : suc k ≡ k + 1 = omega arith in
     let here : drop k fields ≡ field ∷ drop (k + 1) fields = drop-cons fields k 0 within ∙ ap (λ (n : ℕ). field ∷ drop n fields) next in
-    subst (λ (fs : List ℕ). Adds (names_left g fs) old end) (sym here)
+    subst (λ (fs : List ℕ). AddsTokens (names_left g fs) old end) (sym here)
     (joined (json.string (field_name g field) ∷ []) (names_left g (drop (k + 1) fields)) old mid end
-    (subst (λ (s : Bytes). Adds (json.string s ∷ []) old mid) named added) rest)
+    (subst (λ (s : Bytes). AddsTokens (json.string s ∷ []) old mid) named added) rest)
 
 pub names_end : (g : FlatGrammar) (fields : List ℕ) (k : ℕ) (old end : Written)
-    → length fields ≤ k → Adds (json.end_array ∷ []) old end → Adds (names_left g (drop k fields)) old end
+    → length fields ≤ k → AddsTokens (json.end_array ∷ []) old end → AddsTokens (names_left g (drop k fields)) old end
 names_end g fields k old end past added =
-    subst (λ (fs : List ℕ). Adds (names_left g fs) old end) (sym (drop_all k fields past)) added
+    subst (λ (fs : List ℕ). AddsTokens (names_left g fs) old end) (sym (drop_all k fields past)) added
 
 -- the tokens of nodes from here on, with the end
 abbrev pub nodes_left : FlatGrammar → Bytes → List VisibleNode → List Token
@@ -71,17 +71,17 @@ nodes_left g text nodes = items_tokens (items_outline (node_items (map (shown g 
 
 pub node_step : (g : FlatGrammar) (text points : Bytes) (nodes : List VisibleNode) (k : ℕ) (node : VisibleNode) (old mid end : Written)
     → points ≡ text → slice_get nodes k ≡ Some node
-    → AddsValue (node_data (shown g points node)) old mid → Adds (nodes_left g text (drop (k + 1) nodes)) mid end → Adds (nodes_left g text (drop k nodes)) old end
+    → AddsValue (node_data (shown g points node)) old mid → AddsTokens (nodes_left g text (drop (k + 1) nodes)) mid end → AddsTokens (nodes_left g text (drop k nodes)) old end
 node_step g text points nodes k node old mid end same at added rest =
     let here : drop k nodes ≡ node ∷ drop (k + 1) nodes = from_here nodes k node (slice_get_within nodes k node at) (sym (get_or_from_slice_get nodes k node node at)) in
-    subst (λ (ns : List VisibleNode). Adds (nodes_left g text ns) old end) (sym here)
+    subst (λ (ns : List VisibleNode). AddsTokens (nodes_left g text ns) old end) (sym here)
     (joined (tokens_of (node_data (shown g text node))) (nodes_left g text (drop (k + 1) nodes)) old mid end
     (subst (λ (w : Bytes). AddsValue (node_data (shown g w node)) old mid) same added) rest)
 
 pub nodes_end : (g : FlatGrammar) (text : Bytes) (nodes : List VisibleNode) (k : ℕ) (old end : Written)
-    → length nodes ≤ k → Adds (json.end_array ∷ []) old end → Adds (nodes_left g text (drop k nodes)) old end
+    → length nodes ≤ k → AddsTokens (json.end_array ∷ []) old end → AddsTokens (nodes_left g text (drop k nodes)) old end
 nodes_end g text nodes k old end past added =
-    subst (λ (ns : List VisibleNode). Adds (nodes_left g text ns) old end) (sym (drop_all k nodes past)) added
+    subst (λ (ns : List VisibleNode). AddsTokens (nodes_left g text ns) old end) (sym (drop_all k nodes past)) added
 
 -- ---- nodes
 

@@ -13,13 +13,13 @@ abbrev pub tokens_of : Data → List Token
 tokens_of value = json_tokens (outline value)
 
 -- these tokens come to those before, and what stood before all tokens stays
-pub record Adds (more : List Token) (old new : Written) : Type 0 where
+pub record AddsTokens (more : List Token) (old new : Written) : Type 0 where
   pub tokens : new.tokens ≡ old.tokens ++ more
   pub before : new.before ≡ old.before
 
 -- a value comes to what is written before
 abbrev pub AddsValue : Data → Written → Written → Type 0
-AddsValue value = Adds (tokens_of value)
+AddsValue value = AddsTokens (tokens_of value)
 
 -- the visible node that is lent
 abbrev pub lent_node : Row → VisibleNode

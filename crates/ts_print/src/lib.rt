@@ -4,8 +4,6 @@
 
 mod laws;
 mod printing;
-#[cfg(test)]
-mod tests;
 mod tree;
 
 pub use laws::fresh_trees_lie_in_the_text;

@@ -1,5 +1,6 @@
-//! The line of a tree: a grammar, a text and a root go in, and the line of the nodes that show comes
-//! out. Each node is written as it stands in a cursor, so that no list of printed nodes is made.
+//! The line of a tree: a grammar, a text and a root go in, and the line of the nodes that show
+//! comes out. Each node is written as it stands in a cursor, so that no list of printed nodes is
+//! made.
 ghost use Rattle.std.specs.Prelude.{◌≡◌, ◌<◌, ◌≤◌, ◌++◌, ◌∷◌, [], Some, IfOk, OnOk, length, map, slice_get, codes, string_bytes, decimal};
 ghost use Rattle.json.specs.Print.{print};
 ghost use Rattle.json.specs.Token.{number};
@@ -10,7 +11,7 @@ ghost use Rattle.spec_trees.specs.Trees.{span_of};
 ghost use Rattle.spec_output.specs.Lines.{newline, text_list};
 ghost use Rattle.spec_output.specs.Outcomes.{node_data, node_items, outcome_members, parse_line};
 ghost use Rattle.spec_output.specs.declared.outcome.ShownOutcome.TheVariants.{Tree as TreeOutcome};
-ghost use Rattle.ts_print.specs.Written.{Adds, AddsValue, lent_node};
+ghost use Rattle.ts_print.specs.Written.{AddsTokens, AddsValue, lent_node};
 
 use json::Writer;
 use std::alloc::{AllocError, Global};
@@ -30,8 +31,8 @@ struct Row<'a> {
     end: u32,
 }
 
-/// The line of the visible tree of a root, which stands at the text's start, in time by the sizes of
-/// both.
+/// The line of the visible tree of a root, which stands at the text's start, in time by the sizes
+/// of both.
 ///
 /// # Errors
 ///
@@ -157,7 +158,7 @@ fn put_node(
 
 /// Writes a number.
 fn put_number(n: u32, out: &mut Writer) -> Result<(), AllocError>
-    ensures { OnOk result (Adds (number (decimal n) ∷ []) out.old out.new) }
+    ensures { OnOk result (AddsTokens (number (decimal n) ∷ []) out.old out.new) }
 {
     out.u64(u64::from(n))
 }

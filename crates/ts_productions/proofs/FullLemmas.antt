@@ -2,7 +2,7 @@
 use Rattle.std.proofs.Common.{◌≡◌, ◌∙◌, sym, ap, refl, subst, arith, ℕ, ◌+◌, ◌*◌, ◌<◌, ◌≤◌, ◌⊎◌, inl, inr, ⊎_elim, List, [], ◌∷◌, map, ◌++◌, length, take, set, get_or, slice_get, Option, Some, None, option_map, All}
 use Rattle.std.specs.List.{Contains}
 use Rattle.std.proofs.lemmas.Bool.{cases_eq}
-use Rattle.std.proofs.lemmas.List.{take_more, take_all, length-set, length-map}
+use Rattle.std.proofs.lemmas.List.{take_more, length-set, length-map}
 use Rattle.std.proofs.lemmas.List.Elements.{All-nil, All-cons, All-head, All-tail, All-weaker, All-contains_itself, Contains-append_cases, Contains-get_or}
 use Rattle.std.proofs.lemmas.Option.{slice_get_within, slice_get-get_or, slice_get-map, slice_get_cases}
 use Rattle.std.proofs.Math.Nat.{le-mul_of_pos_right, mul_comm}
@@ -101,12 +101,6 @@ usable_all s F t xs first full ordered sizes hold within =
     usable_by s F t s.order.now xs first full hold (agree_all s F (weights_of t) xs first full ordered sizes) within
     (everywhere (λ (x : Alternative). All (λ (step : NumberedStep). Known s s.order.now step.symbol) x.steps)
     (λ x. everywhere (λ (step : NumberedStep). Known s s.order.now step.symbol) (λ step j e lt. ordered.every j lt) x.steps) xs)
-
-pub full_begins : (s : Sources) (full : List Expansions) → length full ≡ length s.inlined.now → FullHold s [] full
-full_begins s full e = record { one_each = e; tell = λ F k found all has is within. absurd (let w = has.1 in omega (arith, w)) }
-
-pub full_ends : (s : Sources) (full : List Expansions) (i : ℕ) → length s.order.now ≤ i → FullHold s (take i s.order.now) full → FullHold s s.order.now full
-full_ends s full i past hold = subst (λ (done : List ℕ). FullHold s done full) (take_all i s.order.now past) hold
 
 full_more : (s : Sources) (t : Inlined) (place k d : ℕ) (tree : Tree) (size : Size) (new : Expansions) → AreOrderedSources s → t.first ≡ s.first_inlined → SizesHold s s.order.now t.sizes.now
     → FullHold s (take place s.order.now) t.full.now → place < length s.order.now → k ≡ get_or s.order.now place d → slice_get s.inlined.now k ≡ Some tree → slice_get t.sizes.now k ≡ Some size

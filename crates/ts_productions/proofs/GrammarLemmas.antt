@@ -13,7 +13,7 @@ use Rattle.ts_rules.specs.Productions.{AllBecome, Becomes, Stays, stays, replace
 use Rattle.ts_rules.specs.Sights.{NamedRule}
 use Rattle.ts_productions.specs.declared.sources.Sources.{Sources}
 use Rattle.ts_productions.specs.Grammars.{rule_tree, AreSourcesOf, repetition_alternatives, all_rule_alternatives, all_repetition_alternatives, symbol_alternatives, all_alternatives, IsCounted, CountsMany, CountsLong}
-use Rattle.ts_productions.specs.Limits.{Replaces, AllGive, AreMany, SomeIsLong}
+use Rattle.ts_productions.specs.Limits.{IsReplacedBy, AllGive, AreMany, SomeIsLong}
 use Rattle.ts_productions.specs.Roots.{whole, whole_all, repeated_all, roots_of, before_of}
 use Rattle.ts_productions.proofs.EntryLemmas.{entry_place, entry_there}
 use Rattle.ts_productions.proofs.MemberLemmas.{longest_has, has_longest}
@@ -74,7 +74,7 @@ module _ (n : Numbers) (x : Lists) (s : Sources) (of : AreSourcesOf n x s) where
       ∙ ap (option_map whole) (slice_get-map (rule_tree n) x.inlined k)
 
   -- the same symbols are replaced, by the same alternatives
-  pub inner_of : (symbol : ℕ) (inner : Alternatives) → Replaces s symbol inner → IsInner n x symbol inner
+  pub inner_of : (symbol : ℕ) (inner : Alternatives) → IsReplacedBy s symbol inner → IsInner n x symbol inner
   inner_of symbol inner is =
       let v = entry_place s.first_inlined (map whole s.inlined.now) symbol inner is in
       elim (slice_get_cases x.inlined v.0).1 [
@@ -88,16 +88,16 @@ module _ (n : Numbers) (x : Lists) (s : Sources) (of : AreSourcesOf n x s) where
         | inr u ↦ absurd (none_is inner (ap (λ (o : Option NamedRule). option_map whole (option_map (rule_tree n) o)) (sym u.1) ∙ sym (inlined_there v.0) ∙ v.2))
       ]
 
-  pub of_inner : (symbol : ℕ) (inner : Alternatives) → IsInner n x symbol inner → Replaces s symbol inner
+  pub of_inner : (symbol : ℕ) (inner : Alternatives) → IsInner n x symbol inner → IsReplacedBy s symbol inner
   of_inner symbol inner w =
       entry_there s.first_inlined (map whole s.inlined.now) symbol w.0 inner (w.3 ∙ ap (λ (first : ℕ). first + w.0) (sym of.inlined_from))
       (inlined_there w.0 ∙ ap (λ (o : Option NamedRule). option_map whole (option_map (rule_tree n) o)) w.2 ∙ ap Some (sym w.4))
 
-  pub become_of : (xs all : Alternatives) → AllBecome (Replaces s) xs all → AllBecome (IsInner n x) xs all
-  become_of xs all become = all_become (Replaces s) (IsInner n x) inner_of of_inner xs all become
+  pub become_of : (xs all : Alternatives) → AllBecome (IsReplacedBy s) xs all → AllBecome (IsInner n x) xs all
+  become_of xs all become = all_become (IsReplacedBy s) (IsInner n x) inner_of of_inner xs all become
 
-  pub of_become : (xs all : Alternatives) → AllBecome (IsInner n x) xs all → AllBecome (Replaces s) xs all
-  of_become xs all become = all_become (IsInner n x) (Replaces s) of_inner inner_of xs all become
+  pub of_become : (xs all : Alternatives) → AllBecome (IsInner n x) xs all → AllBecome (IsReplacedBy s) xs all
+  of_become xs all become = all_become (IsInner n x) (IsReplacedBy s) of_inner inner_of xs all become
 
   -- ---- limits
 

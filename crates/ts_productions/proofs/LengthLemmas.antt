@@ -15,7 +15,7 @@ use Rattle.ts_rules.specs.declared.tree.Around.{Around}
 use Rattle.ts_rules.specs.declared.tree.NumberedStep.{NumberedStep}
 use Rattle.ts_rules.specs.declared.tree.Tree.{Tree}
 use Rattle.ts_rules.specs.declared.tree.Tree.TheVariants as tree
-use Rattle.ts_rules.specs.Alternatives.{Alternatives, alternatives_of, blank, single, followed, joins, sequence, choice_of, members_of, in_field, in_alias, in_dynamic, in_group, in_sequence, is_last, left, last_left, group}
+use Rattle.ts_rules.specs.Alternatives.{Alternatives, alternatives_of, blank, single, followed, joins, sequence, choice_of, alternatives_each, in_field, in_alias, in_dynamic, in_group, in_sequence, is_last, left, last_left, group}
 use Rattle.ts_rules.specs.FirstSights.{Each, end, both}
 use Rattle.ts_rules.specs.Numbers.{Numbers, Numbered, inner_trees, tree_of, tree_step, outermost, is_blank, has_blank, has_steps, where_so, any_times, many_times, prec_of}
 use Rattle.ts_rules.specs.Sights.{alias}
@@ -101,15 +101,15 @@ group_tree p q assoc t u h a b =
     (alternatives_group p assoc t a) (alternatives_group q assoc u b)
     (lengths_group a (alternatives_of t (in_group p assoc a)) ∙ h (in_group p assoc a) (in_group q assoc b) ∙ sym (lengths_group b (alternatives_of u (in_group q assoc b))))
 
-members_same : (ts us : List Tree) → Each Same ts us → (a b : Around) → map lengths (members_of ts a) ≡ map lengths (members_of us b)
+members_same : (ts us : List Tree) → Each Same ts us → (a b : Around) → map lengths (alternatives_each ts a) ≡ map lengths (alternatives_each us b)
 members_same _ _ end a b = refl
 members_same _ _ (both t u ts us h rest) a b =
-    ap (λ (ks : List ℕ). ks ∷ map lengths (members_of ts a)) (h (in_sequence (is_last ts) a) (in_sequence (is_last us) b))
+    ap (λ (ks : List ℕ). ks ∷ map lengths (alternatives_each ts a)) (h (in_sequence (is_last ts) a) (in_sequence (is_last us) b))
     ∙ ap (λ (kss : List (List ℕ)). lengths (alternatives_of u (in_sequence (is_last us) b)) ∷ kss) (members_same ts us rest a b)
 
 seq_tree : (ts us : List Tree) → Each Same ts us → Same (tree.Seq ts) (tree.Seq us)
-seq_tree ts us all a b = carried (sequence (members_of ts a)) (sequence (members_of us b)) (alternatives_of (tree.Seq ts) a) (alternatives_of (tree.Seq us) b) (alternatives_seq ts a) (alternatives_seq us b)
-    (lengths_sequence (members_of ts a) ∙ ap all_sums (members_same ts us all a b) ∙ sym (lengths_sequence (members_of us b)))
+seq_tree ts us all a b = carried (sequence (alternatives_each ts a)) (sequence (alternatives_each us b)) (alternatives_of (tree.Seq ts) a) (alternatives_of (tree.Seq us) b) (alternatives_seq ts a) (alternatives_seq us b)
+    (lengths_sequence (alternatives_each ts a) ∙ ap all_sums (members_same ts us all a b) ∙ sym (lengths_sequence (alternatives_each us b)))
 
 branches_same : (ts us : List Tree) → Each Same ts us → (a b : Around) → lengths (choice_of ts a) ≡ lengths (choice_of us b)
 branches_same _ _ end a b = refl

@@ -16,7 +16,7 @@ use Rattle.ts_rules.specs.Productions.{AllBecome, production}
 use Rattle.ts_productions.specs.declared.sources.Sources.{Sources}
 use Rattle.ts_productions.specs.Expansions.{Expansions, Table, IsFull, plain, spread_all}
 use Rattle.ts_productions.specs.Flat.{aliased, flat}
-use Rattle.ts_productions.specs.Limits.{Replaces, AreMany, AreFewSources, SomeIsLong, AllAreShort, BecomeFew, AreInlinedProductions}
+use Rattle.ts_productions.specs.Limits.{IsReplacedBy, AreMany, AreFewSources, SomeIsLong, AllAreShort, BecomeFew, AreInlinedProductions}
 use Rattle.ts_productions.specs.Roots.{AreOrderedSources, StepsTo, whole, inlined_at, roots_of, before_of}
 use Rattle.ts_productions.specs.Sizes.{IsSizeOf, AreWithin, longest_in}
 use Rattle.ts_productions.proofs.BecomeLemmas.{expand_all, plain_all, all_became, all_become, deep, deep_full}
@@ -85,7 +85,7 @@ module _ (s : Sources) (ordered : AreOrderedSources s) where
       let w = ordered.every v.0 (slice_get_within s.inlined.now v.0 v.1 v.3) in
       (w.0, v.0, w.1, slice_get-get_or s.order.now w.0 v.0 w.1 ∙ ap (λ (m : ℕ). Some m) w.2, v.2)
 
-  same : (symbol : ℕ) (inner : Alternatives) → Replaces s symbol inner ↔ (inlined_at s symbol ≡ Some inner)
+  same : (symbol : ℕ) (inner : Alternatives) → IsReplacedBy s symbol inner ↔ (inlined_at s symbol ≡ Some inner)
   same symbol inner = (λ x. x, λ x. x)
 
   -- what replaces the inlined rules through and through
@@ -98,14 +98,14 @@ module _ (s : Sources) (ordered : AreOrderedSources s) where
   pub table_full : IsFull (inlined_at s) table
   table_full = full_table.1
 
-  pub gives : (xs : Alternatives) → AllBecome (Replaces s) xs (expand_all table xs)
+  pub gives : (xs : Alternatives) → AllBecome (IsReplacedBy s) xs (expand_all table xs)
   gives xs =
-      all_become (Replaces s) (inlined_at s) same table table_full Low low_zero low_step (length s.order.now) xs
+      all_become (IsReplacedBy s) (inlined_at s) same table table_full Low low_zero low_step (length s.order.now) xs
       (everywhere (λ (p : Alternative). All (Lower (length s.order.now)) p.steps)
       (λ p. everywhere (Lower (length s.order.now)) (λ t i is. all_low t.symbol i is) p.steps) xs)
 
-  pub only : (xs all : Alternatives) → AllBecome (Replaces s) xs all → all ≡ expand_all table xs
-  only xs all h = all_became (Replaces s) (inlined_at s) same table table_full xs all h
+  pub only : (xs all : Alternatives) → AllBecome (IsReplacedBy s) xs all → all ≡ expand_all table xs
+  only xs all h = all_became (IsReplacedBy s) (inlined_at s) same table table_full xs all h
 
   count_same : (xs : Alternatives) → length (expand_all table xs) ≡ length (spread_all table xs)
   count_same xs = ap (λ (ys : Alternatives). length ys) (sym (plain_all table xs)) ∙ length-map (spread_all table xs) plain

@@ -9,7 +9,7 @@ use Rattle.ts_rules.specs.declared.tree.Around.{Around}
 use Rattle.ts_rules.specs.declared.tree.NumberedStep.{NumberedStep}
 use Rattle.ts_rules.specs.declared.tree.Tree.{Tree}
 use Rattle.ts_rules.specs.declared.tree.Tree.TheVariants.{Step, Seq, Choice, Group}
-use Rattle.ts_rules.specs.Alternatives.{Alternatives, alternatives_of, sequence, members_of, choice_of, is_last, in_sequence, in_group, left, single, joins}
+use Rattle.ts_rules.specs.Alternatives.{Alternatives, alternatives_of, sequence, alternatives_each, choice_of, is_last, in_sequence, in_group, left, single, joins}
 use Rattle.ts_productions.specs.declared.weights.Weights.{Weights}
 use Rattle.ts_productions.specs.declared.measure.Measure.{Measure}
 use Rattle.ts_productions.specs.Sizes.{many_of, longest_by, weigh, total, blanks, heavy, reach, reach_together, IsMeasure, IsJoined, IsSmallMeasure}
@@ -60,11 +60,11 @@ joined_measure w parts j m is blank filled none some = record {
         let e : m.longest ≡ 0 = none (omega arith) in
         omega (arith, e, short)
 
-pub measured_seq : (w : Weights) (tree : Tree) (inner : List Tree) (j m : Measure) (around : Around) → tree ≡ Seq inner → IsJoined w (members_of inner around) j → m.blank ≡ j.blank → m.filled ≡ j.filled
+pub measured_seq : (w : Weights) (tree : Tree) (inner : List Tree) (j m : Measure) (around : Around) → tree ≡ Seq inner → IsJoined w (alternatives_each inner around) j → m.blank ≡ j.blank → m.filled ≡ j.filled
     → (j.blank + j.filled ≡ 0 → m.longest ≡ 0) → (1 ≤ j.blank + j.filled → m.longest ≡ j.longest) → IsMeasure w (alternatives_of tree around) m
 measured_seq w tree inner j m around e is blank filled none some =
     subst (λ (xs : Alternatives). IsMeasure w xs m) (sym (ap (λ (t : Tree). alternatives_of t around) e ∙ alternatives_seq inner around))
-    (joined_measure w (members_of inner around) j m is blank filled none some)
+    (joined_measure w (alternatives_each inner around) j m is blank filled none some)
 
 -- ---- members
 
@@ -133,18 +133,18 @@ joining_more w acc m new parts rest xs before is blank filled longest = record {
         (alike_times 65536 acc.blank acc.blank m.filled (heavy (many_of w) xs) refl (ap (min 65536) is.filled ∙ alike_cap 65536 (heavy (many_of w) xs)))
 
 pub joining_member : (w : Weights) (inner : List Tree) (i : ℕ) (tree : Tree) (acc m new : Measure) (around : Around) → i < length inner → tree ≡ get_or inner i tree
-    → ((a : Around) → IsMeasure w (alternatives_of tree a) m) → Joining w acc (members_of inner around) (members_of (drop i inner) around)
+    → ((a : Around) → IsMeasure w (alternatives_of tree a) m) → Joining w acc (alternatives_each inner around) (alternatives_each (drop i inner) around)
     → new.blank ≡ min 65536 (acc.blank * m.blank) → new.filled ≡ min 65536 (acc.filled * (m.blank + m.filled) + acc.blank * m.filled) → new.longest ≡ min 256 (acc.longest + m.longest)
-    → Joining w new (members_of inner around) (members_of (drop (i + 1) inner) around)
+    → Joining w new (alternatives_each inner around) (alternatives_each (drop (i + 1) inner) around)
 joining_member w inner i tree acc m new around lt at is before blank filled longest =
-    joining_more w acc m new (members_of inner around) (members_of (drop (i + 1) inner) around) (alternatives_of tree (in_sequence (is_last (drop (i + 1) inner)) around))
-    (subst (λ (ts : List Tree). Joining w acc (members_of inner around) (members_of ts around)) (next_of inner i tree lt at) before)
+    joining_more w acc m new (alternatives_each inner around) (alternatives_each (drop (i + 1) inner) around) (alternatives_of tree (in_sequence (is_last (drop (i + 1) inner)) around))
+    (subst (λ (ts : List Tree). Joining w acc (alternatives_each inner around) (alternatives_each ts around)) (next_of inner i tree lt at) before)
     (is (in_sequence (is_last (drop (i + 1) inner)) around)) blank filled longest
 
 pub joining_ends : (w : Weights) (inner : List Tree) (i : ℕ) (acc : Measure) (around : Around) → length inner ≤ i → IsSmallMeasure acc
-    → Joining w acc (members_of inner around) (members_of (drop i inner) around) → IsJoined w (members_of inner around) acc
+    → Joining w acc (alternatives_each inner around) (alternatives_each (drop i inner) around) → IsJoined w (alternatives_each inner around) acc
 joining_ends w inner i acc around past small before =
-    let done : Joining w acc (members_of inner around) [] = subst (λ (ts : List Tree). Joining w acc (members_of inner around) (members_of ts around)) (drop_all i inner past) before in
+    let done : Joining w acc (alternatives_each inner around) [] = subst (λ (ts : List Tree). Joining w acc (alternatives_each inner around) (alternatives_each ts around)) (drop_all i inner past) before in
     let f : acc.filled * 1 + acc.blank * 0 ≡ acc.filled = grind arith in
     let b : acc.blank * 1 ≡ acc.blank = grind arith in
     record {

@@ -14,7 +14,7 @@ use Rattle.ts_core.specs.declared.rule.Rule.TheVariants.{rolls-Literal, rolls-Pa
 use Rattle.ts_core.specs.declared.rule.Rule.TheViews.{roll-Rule, out-Rule, roll-out-Rule}
 use Rattle.ts_rules.specs.declared.tree.Tree.{Tree}
 use Rattle.ts_rules.specs.Alternatives.{alternatives_of}
-use Rattle.ts_rules.specs.Causes.{IsUndefined, Inlines, names_used, listed, joined, uses}
+use Rattle.ts_rules.specs.Causes.{IsUndefined, Inlines, names_used, listed, merged, uses}
 use Rattle.ts_rules.specs.FirstSights.{Not, Picks, taken, left, end, Clear}
 use Rattle.ts_rules.specs.Numbers.{Numbers, Lists, AreLists, AreNumbers, IsInlined, NamesSome, HasSymbol, IsRepeated, has_steps, tree_of, unnumbered, first_rule, first_inlined, outermost}
 use Rattle.ts_rules.specs.Sights.{NamedRule, Sight, sights, rule_sights, extra_sights, walk, tokens_in, token_at, if_token, is_token, is_token_layer, contents_in, content_at, content_layer, symbols_in, symbol_layer, ranked_rules}
@@ -67,9 +67,9 @@ module _ {X : Type 0} (P : X → Type 0) where
 
 symbol_used : (g : Grammar) (name : Bytes) → Contains (symbols_in (walk g)) name → Contains (names_used g) name
 symbol_used g name w =
-    Contains-append_left (symbols_in (walk g) ++ listed g.word ++ joined g.conflicts ++ ranked_rules g) g.supertypes name
-    (Contains-append_left (symbols_in (walk g) ++ listed g.word ++ joined g.conflicts) (ranked_rules g) name
-    (Contains-append_left (symbols_in (walk g) ++ listed g.word) (joined g.conflicts) name
+    Contains-append_left (symbols_in (walk g) ++ listed g.word ++ merged g.conflicts ++ ranked_rules g) g.supertypes name
+    (Contains-append_left (symbols_in (walk g) ++ listed g.word ++ merged g.conflicts) (ranked_rules g) name
+    (Contains-append_left (symbols_in (walk g) ++ listed g.word) (merged g.conflicts) name
     (Contains-append_left (symbols_in (walk g)) (listed g.word) name w)))
 
 -- ---- the numbers of what is not inlined

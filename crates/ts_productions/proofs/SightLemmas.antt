@@ -51,13 +51,6 @@ module _ {X : Type 0} where
   first_new seen x k unseen f =
       ⊎_elim (λ lt. absurd (unseen (there seen k x (sym (in_prefix seen (x ∷ []) k lt) ∙ f.at)))) (λ ge. ge) (cases_lt k (length seen))
 
-  pub sights_begin : AreFirstSights {X = X} [] []
-  sights_begin = record {
-    every = λ x w. w;
-    only = λ x w. w;
-    rising = λ m n j k x y lt e d f g. absurd (omega (arith, slice_get_within {A = X} [] m x e));
-  }
-
   -- what was seen before changes nothing
   pub sights_again : (seen found : List X) (x : X) → Contains found x → AreFirstSights seen found → AreFirstSights (seen ++ x ∷ []) found
   sights_again seen found x has before = record {

@@ -17,8 +17,8 @@ use Rattle.ts_rules.specs.declared.tree.Around.{Around}
 use Rattle.ts_rules.specs.declared.tree.NumberedStep.{NumberedStep}
 use Rattle.ts_rules.specs.declared.tree.Tree.{Tree}
 use Rattle.ts_rules.specs.declared.tree.Tree.TheVariants as tree
-use Rattle.ts_rules.specs.Alternatives.{Alternatives, alternatives_of, blank, single, step_at, followed, joins, sequence, choice_of, members_of, in_field, in_alias, in_dynamic, in_group, in_sequence, is_last, left, left_by, last_left, group}
-use Rattle.ts_rules.specs.Causes.{uses, uses_step, joined}
+use Rattle.ts_rules.specs.Alternatives.{Alternatives, alternatives_of, blank, single, step_at, followed, joins, sequence, choice_of, alternatives_each, in_field, in_alias, in_dynamic, in_group, in_sequence, is_last, left, left_by, last_left, group}
+use Rattle.ts_rules.specs.Causes.{uses, uses_step, merged}
 use Rattle.ts_rules.specs.Numbers.{Numbers, Numbered, inner_trees, tree_of, tree_step, has_blank, has_steps, where_so, any_times, many_times, prec_of}
 use Rattle.ts_rules.specs.Sights.{Sight, SeenBelow, seen_all, below, below_step, sights, alias}
 use Rattle.ts_productions.proofs.MemberLemmas.{none_in, head_in, tail_in, member_cases}
@@ -111,9 +111,9 @@ module _ (P : ℕ → Type 0) where
   abbrev AllOnly : List Tree → Type 0
   AllOnly ts = (t : Tree) → Contains ts t → TreeOnly P t
 
-  only_members : (ts : List Tree) → AllOnly ts → (a : Around) → Only P (sequence (members_of ts a))
+  only_members : (ts : List Tree) → AllOnly ts → (a : Around) → Only P (sequence (alternatives_each ts a))
   only_members [] h a = only_blank
-  only_members (t ∷ ts) h a = only_joins (alternatives_of t (in_sequence (is_last ts) a)) (sequence (members_of ts a))
+  only_members (t ∷ ts) h a = only_joins (alternatives_of t (in_sequence (is_last ts) a)) (sequence (alternatives_each ts a))
       (h t (head_in t ts) (in_sequence (is_last ts) a)) (only_members ts (λ u w. h u (tail_in t u ts w)) a)
 
   seq_only : (ts : List Tree) → AllOnly ts → TreeOnly P (tree.Seq ts)
@@ -193,13 +193,13 @@ module _ (n : Numbers) (top : ℕ) (Known : Bytes → Type 0) where
   seen_below r = (r, below r)
 
   all_told : (es : List Child) → BoundedAll (seen_all (map seen_below (map inner es)) false)
-      → (t : Tree) → Contains (inner_trees (map numbered (map inner es))) t → TreeOnly (Stands (joined (map uses (map inner es)))) t
+      → (t : Tree) → Contains (inner_trees (map numbered (map inner es))) t → TreeOnly (Stands (merged (map uses (map inner es)))) t
   all_told [] h t w = absurd (none_in t w)
   all_told (e ∷ es) h t w = ⊎_elim
-      (λ is. subst (TreeOnly (Stands (joined (map uses (map inner (e ∷ es)))))) (sym is)
-      (stands_wider (uses (inner e)) (joined (map uses (map inner (e ∷ es)))) (λ name u. Contains-append_left (uses (inner e)) (joined (map uses (map inner es))) name u) (tree_of n (inner e))
+      (λ is. subst (TreeOnly (Stands (merged (map uses (map inner (e ∷ es)))))) (sym is)
+      (stands_wider (uses (inner e)) (merged (map uses (map inner (e ∷ es)))) (λ name u. Contains-append_left (uses (inner e)) (merged (map uses (map inner es))) name u) (tree_of n (inner e))
       (told_of e (λ s v. h s (Contains-append_left (sights (inner e)) (seen_all (map seen_below (map inner es)) false) s v)))))
-      (λ later. stands_wider (joined (map uses (map inner es))) (joined (map uses (map inner (e ∷ es)))) (λ name u. Contains-append_right (uses (inner e)) (joined (map uses (map inner es))) name u) t
+      (λ later. stands_wider (merged (map uses (map inner es))) (merged (map uses (map inner (e ∷ es)))) (λ name u. Contains-append_right (uses (inner e)) (merged (map uses (map inner es))) name u) t
       (all_told es (λ s v. h s (Contains-append_right (sights (inner e)) (seen_all (map seen_below (map inner es)) false) s v)) t later))
       (member_cases (tree_of n (inner e)) t (inner_trees (map numbered (map inner es))) w)
 

@@ -11,7 +11,7 @@ use Rattle.ts_rules.specs.declared.tree.Around.{Around}
 use Rattle.ts_rules.specs.declared.tree.Tree.{Tree}
 use Rattle.ts_rules.specs.declared.tree.Tree.TheVariants as tree
 use Rattle.ts_rules.specs.Numbers.{outermost}
-use Rattle.ts_rules.specs.Alternatives.{Alternatives, alternative, alternatives_of, step_at, blank, followed, joins, sequence, choice_of, members_of, in_field, in_alias, in_dynamic, in_group, in_sequence, is_last, left, group}
+use Rattle.ts_rules.specs.Alternatives.{Alternatives, alternative, alternatives_of, step_at, blank, followed, joins, sequence, choice_of, alternatives_each, in_field, in_alias, in_dynamic, in_group, in_sequence, is_last, left, group}
 use Rattle.ts_rules.specs.FirstSights.{AreFirstSights, Each, end, both}
 use Rattle.ts_rules.specs.Productions.{filled, unless_blank, again}
 use Rattle.ts_productions.specs.Thin.{IsThin, AreOnlyBlank, IsThinTree, IsBlankTree, AreBlankTrees, AreThinBranches, HasBlankBranch, AreBranches}
@@ -124,31 +124,19 @@ last_same : (ts us : List Tree) → Each IsThinTree ts us → is_last ts ≡ is_
 last_same _ _ end = refl
 last_same _ _ (both t u ts us h rest) = refl
 
-thin_members : (ts us : List Tree) → Each IsThinTree ts us → (a : Around) → IsThin (sequence (members_of ts a)) (sequence (members_of us a))
+thin_members : (ts us : List Tree) → Each IsThinTree ts us → (a : Around) → IsThin (sequence (alternatives_each ts a)) (sequence (alternatives_each us a))
 thin_members _ _ end a = thin_refl (blank ∷ [])
 thin_members _ _ (both t u ts us h rest) a =
     let one : IsThin (alternatives_of t (in_sequence (is_last ts) a)) (alternatives_of u (in_sequence (is_last us) a)) =
     subst (λ (b : Bool). IsThin (alternatives_of t (in_sequence b a)) (alternatives_of u (in_sequence (is_last us) a))) (sym (last_same ts us rest)) (h (in_sequence (is_last us) a)) in
-    thin_joins (alternatives_of t (in_sequence (is_last ts) a)) (alternatives_of u (in_sequence (is_last us) a)) (sequence (members_of ts a)) (sequence (members_of us a))
+    thin_joins (alternatives_of t (in_sequence (is_last ts) a)) (alternatives_of u (in_sequence (is_last us) a)) (sequence (alternatives_each ts a)) (sequence (alternatives_each us a))
     one (thin_members ts us rest a)
 
 pub thin_seq : (ts us : List Tree) → Each IsThinTree ts us → IsThinTree (tree.Seq ts) (tree.Seq us)
-thin_seq ts us all a = carried (sequence (members_of ts a)) (sequence (members_of us a)) (alternatives_of (tree.Seq ts) a) (alternatives_of (tree.Seq us) a) (alternatives_seq ts a) (alternatives_seq us a) (thin_members ts us all a)
+thin_seq ts us all a = carried (sequence (alternatives_each ts a)) (sequence (alternatives_each us a)) (alternatives_of (tree.Seq ts) a) (alternatives_of (tree.Seq us) a) (alternatives_seq ts a) (alternatives_seq us a) (thin_members ts us all a)
 
 pub thin_choice : (ts us : List Tree) → AreThinBranches ts us → IsThinTree (tree.Choice ts) (tree.Choice us)
 thin_choice ts us h a = carried (choice_of ts a) (choice_of us a) (alternatives_of (tree.Choice ts) a) (alternatives_of (tree.Choice us) a) (alternatives_choice ts a) (alternatives_choice us a) (h a)
-
-pub thin_field : (field : ℕ) (t u : Tree) → IsThinTree t u → IsThinTree (tree.Field field t) (tree.Field field u)
-thin_field field t u h a = carried (alternatives_of t (in_field field a)) (alternatives_of u (in_field field a)) (alternatives_of (tree.Field field t) a) (alternatives_of (tree.Field field u) a)
-    (alternatives_field field t a) (alternatives_field field u a) (h (in_field field a))
-
-pub thin_alias : (number : ℕ) (t u : Tree) → IsThinTree t u → IsThinTree (tree.Alias number t) (tree.Alias number u)
-thin_alias number t u h a = carried (alternatives_of t (in_alias number a)) (alternatives_of u (in_alias number a)) (alternatives_of (tree.Alias number t) a) (alternatives_of (tree.Alias number u) a)
-    (alternatives_alias number t a) (alternatives_alias number u a) (h (in_alias number a))
-
-pub thin_dynamic : (value : ℤ) (t u : Tree) → IsThinTree t u → IsThinTree (tree.Dynamic value t) (tree.Dynamic value u)
-thin_dynamic value t u h a = carried (alternatives_of t (in_dynamic value a)) (alternatives_of u (in_dynamic value a)) (alternatives_of (tree.Dynamic value t) a) (alternatives_of (tree.Dynamic value u) a)
-    (alternatives_dynamic value t a) (alternatives_dynamic value u a) (h (in_dynamic value a))
 
 grouped : (a : Around) (xs ys : Alternatives) → IsThin xs ys → IsThin (group a xs) (group a ys)
 grouped a xs ys h = by a.at_end
@@ -210,13 +198,10 @@ blank_joins xs ys one two = subst AreOnlyBlank (sym (joins_flat xs ys)) (record 
     joined : (x : Alternative) → x ≡ blank → AreOnlyBlank (map (λ y. followed x y) ys)
     joined x e = subst (λ (p : Alternative). AreOnlyBlank (map (λ y. followed p y) ys)) (sym e) (mapped (λ y. followed blank y) ys refl two)
 
-blank_members : (ts : List Tree) → AreBlankTrees ts → (a : Around) → AreOnlyBlank (sequence (members_of ts a))
+blank_members : (ts : List Tree) → AreBlankTrees ts → (a : Around) → AreOnlyBlank (sequence (alternatives_each ts a))
 blank_members [] h a = blank_one
-blank_members (t ∷ ts) h a = blank_joins (alternatives_of t (in_sequence (is_last ts) a)) (sequence (members_of ts a))
+blank_members (t ∷ ts) h a = blank_joins (alternatives_of t (in_sequence (is_last ts) a)) (sequence (alternatives_each ts a))
     (h t (head_in t ts) (in_sequence (is_last ts) a)) (blank_members ts (λ u w. h u (tail_in t u ts w)) a)
-
-pub blank_leaf : IsBlankTree tree.Blank
-blank_leaf a = subst AreOnlyBlank (sym (alternatives_blank a)) blank_one
 
 pub blank_seq : (ts : List Tree) → AreBlankTrees ts → IsBlankTree (tree.Seq ts)
 blank_seq ts h a = subst AreOnlyBlank (sym (alternatives_seq ts a)) (blank_members ts h a)

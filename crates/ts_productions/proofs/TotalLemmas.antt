@@ -268,9 +268,6 @@ only_one x y w = one w.0 w.1 w.2
     one zero h e = sym e
     one (suc k) h e = absurd (omega arith)
 
-pub sizes_begin : (s : Sources) (sizes : List Size) → length sizes ≡ length s.inlined.now → SizesHold s [] sizes
-sizes_begin s sizes e = record { one_each = e; tell = λ F k found full has is. absurd (let w = has.1 in omega (arith, w)) }
-
 sizes_more : (s : Sources) (w : Weights) (place k d : ℕ) (tree : Tree) (z : Size) → AreOrderedSources s → w.first ≡ s.first_inlined → SizesHold s (take place s.order.now) w.sizes.now
     → place < length s.order.now → k ≡ get_or s.order.now place d → slice_get s.inlined.now k ≡ Some tree → IsSizeBy w (whole tree) z
     → SizesHold s (take (place + 1) s.order.now) (set w.sizes.now k z)
@@ -309,6 +306,3 @@ sizes_next s w place d z ordered first hold lt size = elim (slice_get_cases s.in
   | inl u ↦ sizes_more s w place (get_or s.order.now place d) d u.0 z ordered first hold lt refl u.2 (size u.0 u.2)
   | inr u ↦ absurd (let a = u.0 in let b = place_within s place d ordered lt in omega (arith, a, b))
 ]
-
-pub sizes_end : (s : Sources) (sizes : List Size) (i : ℕ) → length s.order.now ≤ i → SizesHold s (take i s.order.now) sizes → SizesHold s s.order.now sizes
-sizes_end s sizes i past hold = subst (λ (done : List ℕ). SizesHold s done sizes) (take_all i s.order.now past) hold

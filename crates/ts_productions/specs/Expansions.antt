@@ -1,5 +1,5 @@
--- Alternatives whose inlined steps are replaced through and through. Serves proofs alone: what
--- inlining gives is said by `Becomes`.
+-- Alternatives whose inlined steps are replaced through and through. Serves private clauses and
+-- proofs alone: what inlining gives is said by `Becomes`.
 use Rattle.std.specs.Prelude.{◌≡◌, ℕ, ◌-◌, nat_lt, if◌then◌else◌, List, [], ◌∷◌, ◌++◌, map, slice_get, Option, Some, None, option_map}
 use Rattle.std.specs.List.{flat_map}
 use lib.IntN.{ℤ}
@@ -9,9 +9,11 @@ use Rattle.ts_rules.specs.Alternatives.{Alternatives, alternative, stronger}
 use Rattle.ts_rules.specs.Productions.{marked_by, ended_by}
 use Rattle.ts_productions.specs.declared.expansion.Expansion.{Expansion}
 
+-- a list of expansions, in order
 abbrev pub Expansions : Type 0
 Expansions = List Expansion
 
+-- the expansion of a dynamic value, steps, and a last step or none
 abbrev pub expansion : ℤ → List NumberedStep → Option NumberedStep → Expansion
 expansion dynamic steps last = record { dynamic = dynamic; steps = steps; last = last }
 
@@ -20,6 +22,7 @@ abbrev pub close : List NumberedStep → Option NumberedStep → List NumberedSt
 close steps None = steps
 close steps (Some step) = steps ++ step ∷ []
 
+-- the expansion as an alternative, with its last step among its steps
 abbrev pub plain : Expansion → Alternative
 plain e = alternative e.dynamic (close e.steps e.last)
 
@@ -31,13 +34,14 @@ last_by step inner = ended_by step (marked_by step inner)
 abbrev pub Table : Type 0
 Table = ℕ → Option Expansions
 
+-- what a function gives of a value, where there is one, and else another value
 abbrev pub by_option : {A B : Type 0} → Option A → B → (A → B) → B
 by_option None other f = other
 by_option (Some x) other f = f x
 
 -- The expansions that begin with the steps, and go on with those that are left, each of which stays
--- or is replaced by each expansion of its symbol. The last step is told apart as long as it comes of
--- the last step of what is expanded.
+-- or is replaced by each expansion of its symbol. The last step is told apart as long as it comes
+-- of the last step of what is expanded.
 abbrev pub spread : Table → ℤ → List NumberedStep → Option NumberedStep → List NumberedStep
     → Expansions
 spread F dynamic steps last [] = expansion dynamic steps last ∷ []

@@ -16,11 +16,13 @@ use Rattle.ts_productions.specs.Roots.{whole}
 abbrev pub alias_in : List Alias → ℕ → Alias
 alias_in aliases place = get_or aliases place (alias [] false)
 
--- ---- serves proofs alone
+-- ---- how productions are made flat
 
+-- numbers that are all 0, and the aliases of the list in place of theirs
 abbrev pub aliased : List Alias → Numbers
 aliased aliases = record unnumbered { alias_at = alias_in aliases }
 
+-- the expansion as a production, with the aliases of the list
 abbrev pub flat : List Alias → Expansion → Production
 flat aliases e = production (aliased aliases) (plain e)
 
@@ -28,6 +30,7 @@ flat aliases e = production (aliased aliases) (plain e)
 abbrev pub AreExpanded : Table → List Alias → Alternatives → List Production → Type 0
 AreExpanded F aliases xs found = AreFirstSights (map (flat aliases) (spread_all F xs)) found
 
+-- For proofs alone: the productions of a repetition, each half by itself
 pub record AreRepeatedly (F : Table) (aliases : List Alias) (part : Alternatives × Alternatives)
     (found : List Production) : Type 0 where
   pub once : List Production

@@ -59,9 +59,11 @@ abbrev pub repetition_alternatives : Numbers → Rule → Alternatives
 repetition_alternatives n content =
     filled (alts n content) ++ again (n.repetition content) (filled (alts n content))
 
+-- those of rules, one after another
 abbrev pub all_rule_alternatives : Numbers → List NamedRule → Alternatives
 all_rule_alternatives n rules = flat_map (rule_alternatives n) rules
 
+-- those of repetitions, one after another
 abbrev pub all_repetition_alternatives : Numbers → List Rule → Alternatives
 all_repetition_alternatives n contents = flat_map (repetition_alternatives n) contents
 

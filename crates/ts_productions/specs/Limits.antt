@@ -16,25 +16,29 @@ use Rattle.ts_productions.specs.Roots.{whole, inlined_at, roots_of, before_of}
 use Rattle.ts_productions.specs.Sizes.{SizesHold, FullHold}
 
 -- the symbol is replaced by the alternatives
-abbrev pub Replaces : Sources → ℕ → Alternatives → Type 0
-Replaces s symbol inner = inlined_at s symbol ≡ Some inner
+abbrev pub IsReplacedBy : Sources → ℕ → Alternatives → Type 0
+IsReplacedBy s symbol inner = inlined_at s symbol ≡ Some inner
 
 -- what all alternatives become
 abbrev pub AllGive : Sources → Alternatives → Type 0
-AllGive s all = AllBecome (Replaces s) (roots_of s) all
+AllGive s all = AllBecome (IsReplacedBy s) (roots_of s) all
 
+-- there are more alternatives than may be, before inlining or after it
 abbrev pub AreMany : Sources → Type 0
 AreMany s = (most_productions < length (before_of s))
     ⊎ ((all : Alternatives) × AllGive s all × (most_productions < length all))
 
+-- there are no more alternatives than may be, before inlining and after it
 abbrev pub AreFewSources : Sources → Type 0
 AreFewSources s = (length (before_of s) ≤ most_productions)
     × ((all : Alternatives) × AllGive s all × (length all ≤ most_productions))
 
+-- some alternative has more steps than may be, before inlining or after it
 abbrev pub SomeIsLong : Sources → Type 0
 SomeIsLong s = (most_steps < longest_of (before_of s))
     ⊎ ((all : Alternatives) × AllGive s all × (most_steps < longest_of all))
 
+-- no alternative has more steps than may be, before inlining and after it
 abbrev pub AllAreShort : Sources → Type 0
 AllAreShort s = (longest_of (before_of s) ≤ most_steps)
     × ((all : Alternatives) × AllGive s all × (longest_of all ≤ most_steps))
@@ -46,7 +50,7 @@ pub record AreInlined (s : Sources) (rules : InlinedRules) : Type 0 where
 
 -- the alternatives become few, and short ones
 abbrev pub BecomeFew : Sources → Alternatives → Type 0
-BecomeFew s xs = (all : Alternatives) → AllBecome (Replaces s) xs all
+BecomeFew s xs = (all : Alternatives) → AllBecome (IsReplacedBy s) xs all
     → (length all ≤ most_productions) × (longest_of all ≤ most_steps)
 
 -- and so does each by itself
@@ -57,7 +61,7 @@ EachBecomesFew s xs = (x : Alternative) → Contains xs x → BecomeFew s (x ∷
 pub record AreInlinedProductions (s : Sources) (xs : Alternatives)
     (found : List Production) : Type 0 where
   pub all : Alternatives
-  pub become : AllBecome (Replaces s) xs all
+  pub become : AllBecome (IsReplacedBy s) xs all
   pub firsts : AreFirstSights (map (production (aliased s.aliases.now)) all) found
 
 -- the productions of a repetition with that number, each half by itself

@@ -1,4 +1,5 @@
--- The inlined rules with their ranks, as the code has them. Serves proofs alone.
+-- The inlined rules with their ranks, as the code has them. Serves private clauses and proofs
+-- alone.
 use Rattle.std.specs.Prelude.{◌≡◌, ℕ, Bool, true, false, List, [], ◌∷◌, map, slice_get, Some}
 use Rattle.ts_core.specs.declared.rule.Grammar.{Grammar}
 use Rattle.ts_rules.specs.FirstSights.{Not}
@@ -16,12 +17,15 @@ pub data PicksBoth {X Y : Type 0} (P : X → Type 0) : List X → List Y → Lis
       → PicksBoth P xs ys vs ws
       → PicksBoth P (x ∷ xs) (y ∷ ys) vs ws
 
+-- the rank of an inlined rule
 abbrev pub rank_of : Ranked → ℕ
 rank_of r = r.rank
 
+-- the place of an inlined rule among those that are inlined
 abbrev pub place_of : Ranked → ℕ
 place_of r = r.place
 
+-- a rule with its rank and place, where it is inlined
 abbrev pub ranked_if : Bool → ℕ → ℕ → List Ranked
 ranked_if true rank place = record { rank = rank; place = place } ∷ []
 ranked_if false rank place = []

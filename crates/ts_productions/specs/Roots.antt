@@ -34,14 +34,17 @@ pub record AreOrderedSources (s : Sources) : Type 0 where
       → Contains (take place s.order.now) to
   pub apart : s.first_repetition + length s.contents.now ≤ s.first_inlined
 
--- ---- serves proofs alone
+-- ---- the alternatives of all of them
 
+-- the alternatives of whole rules, one after another
 abbrev pub whole_all : List Tree → Alternatives
 whole_all = flat_map whole
 
+-- the alternatives of whole rules, without those that are empty
 abbrev pub filled_all : List Tree → Alternatives
 filled_all = flat_map (λ (tree : Tree). filled (whole tree))
 
+-- the alternatives of repetitions by their contents, from a number of a repetition on
 abbrev pub repeated_all : ℕ → List Tree → Alternatives
 repeated_all number [] = []
 repeated_all number (tree ∷ rest) = (filled (whole tree) ++ again number (filled (whole tree)))
@@ -51,6 +54,7 @@ repeated_all number (tree ∷ rest) = (filled (whole tree) ++ again number (fill
 abbrev pub roots_of : Sources → Alternatives
 roots_of s = whole_all s.rules.now ++ repeated_all s.first_repetition s.contents.now
 
+-- the alternatives of the inlined rules, and then those of all rules and repetitions
 abbrev pub before_of : Sources → Alternatives
 before_of s = whole_all s.inlined.now ++ roots_of s
 

@@ -1,4 +1,5 @@
--- How many expansions alternatives have, and how long the longest is. Serves proofs alone.
+-- How many expansions alternatives have, and how long the longest is. Serves private clauses and
+-- proofs alone.
 use Rattle.std.specs.Prelude.{◌≡◌, ℕ, zero, suc, ◌+◌, ◌*◌, ◌≤◌, min, max, List, [], ◌∷◌, map, length, slice_get, Some, All, ◌⊎◌, ◌≢◌}
 use Rattle.std.specs.List.{Contains}
 use Rattle.ts_rules.specs.declared.size.Size.{Size}
@@ -17,18 +18,23 @@ use Rattle.ts_productions.specs.Roots.{inlined_at}
 
 -- ---- what a symbol weighs
 
+-- the size of a symbol that stays: one expansion of one step
 abbrev pub one_step : Size
 one_step = record { many = 1; longest = 1 }
 
+-- the size of a symbol: the one of its place, or that of one step
 abbrev pub size_at : Weights → ℕ → Size
 size_at w symbol = by_option (entry_at w.first w.sizes.now symbol) one_step (λ (size : Size). size)
 
+-- how many expansions a symbol has by the weights
 abbrev pub many_of : Weights → ℕ → ℕ
 many_of w symbol = (size_at w symbol).many
 
+-- how long the longest expansion of a symbol is by the weights
 abbrev pub longest_by : Weights → ℕ → ℕ
 longest_by w symbol = (size_at w symbol).longest
 
+-- the most steps of one of the expansions
 abbrev pub longest_in : Expansions → ℕ
 longest_in found = longest_of (map plain found)
 
@@ -36,6 +42,7 @@ longest_in found = longest_of (map plain found)
 abbrev pub count_in : Table → ℕ → ℕ
 count_in F symbol = by_option (F symbol) 1 (λ (found : Expansions). length found)
 
+-- the most steps of one of a symbol's expansions; a symbol that stays has 1
 abbrev pub length_in : Table → ℕ → ℕ
 length_in F symbol = by_option (F symbol) 1 longest_in
 
@@ -51,42 +58,51 @@ abbrev pub span : (ℕ → ℕ) → List NumberedStep → ℕ
 span L [] = 0
 span L (step ∷ steps) = L step.symbol + span L steps
 
+-- the length, where the count is not 0, and else 0
 abbrev pub tall : ℕ → ℕ → ℕ
 tall zero length = 0
 tall (suc count) length = length
 
+-- 1 where there is no step, and else 0
 abbrev pub blank_of : List NumberedStep → ℕ
 blank_of [] = 1
 blank_of (step ∷ steps) = 0
 
+-- how many expansions there are of steps, and 0 where there is no step
 abbrev pub filled_of : (ℕ → ℕ) → List NumberedStep → ℕ
 filled_of W [] = 0
 filled_of W (step ∷ steps) = W step.symbol * weigh W steps
 
 -- ---- what alternatives weigh
 
+-- how many expansions alternatives have together
 abbrev pub total : (ℕ → ℕ) → Alternatives → ℕ
 total W [] = 0
 total W (x ∷ xs) = weigh W x.steps + total W xs
 
+-- how many of the alternatives have no step
 abbrev pub blanks : Alternatives → ℕ
 blanks [] = 0
 blanks (x ∷ xs) = blank_of x.steps + blanks xs
 
+-- how many expansions those with a step have together
 abbrev pub heavy : (ℕ → ℕ) → Alternatives → ℕ
 heavy W [] = 0
 heavy W (x ∷ xs) = filled_of W x.steps + heavy W xs
 
+-- how long the longest expansion of one of the alternatives is, and 0 where there is none
 abbrev pub reach : (ℕ → ℕ) → (ℕ → ℕ) → Alternatives → ℕ
 reach W L [] = 0
 reach W L (x ∷ xs) = max (tall (weigh W x.steps) (span L x.steps)) (reach W L xs)
 
+-- what `reach` is of each list, added up
 abbrev pub reach_together : (ℕ → ℕ) → (ℕ → ℕ) → List Alternatives → ℕ
 reach_together W L [] = 0
 reach_together W L (xs ∷ rest) = reach W L xs + reach_together W L rest
 
 -- ---- what the code counts
 
+-- blank alternatives, expansions of the others, and the longest length, each up to its bound
 pub record IsMeasure (w : Weights) (xs : Alternatives) (m : Measure) : Type 0 where
   pub blank : m.blank ≡ min many (blanks xs)
   pub filled : m.filled ≡ min many (heavy (many_of w) xs)
@@ -98,13 +114,16 @@ pub record IsJoined (w : Weights) (parts : List Alternatives) (m : Measure) : Ty
   pub filled : m.filled ≡ min many (heavy (many_of w) (sequence parts))
   pub longest : m.longest ≡ min long (reach_together (many_of w) (longest_by w) parts)
 
+-- none of the three is above its bound
 abbrev pub IsSmallMeasure : Measure → Type 0
 IsSmallMeasure m = (m.blank ≤ many) × (m.filled ≤ many) × (m.longest ≤ long)
 
+-- how many expansions alternatives have, and how long the longest is, each up to its bound
 pub record IsSizeBy (w : Weights) (xs : Alternatives) (size : Size) : Type 0 where
   pub many : size.many ≡ min many (total (many_of w) xs)
   pub longest : size.longest ≡ min long (reach (many_of w) (longest_by w) xs)
 
+-- neither of the two is above its bound
 abbrev pub IsSmallSize : Size → Type 0
 IsSmallSize size = (size.many ≤ many) × (size.longest ≤ long)
 
@@ -118,6 +137,7 @@ abbrev pub IsWeighed : Table → Weights → ℕ → Type 0
 IsWeighed F w symbol = (many_of w symbol ≡ min many (count_in F symbol))
     × (longest_by w symbol ≡ min long (length_in F symbol))
 
+-- For proofs alone: so does the symbol of each step of the alternatives
 abbrev pub AllAgree : Table → Weights → Alternatives → Type 0
 AllAgree F w =
     All (λ (x : Alternative). All (λ (step : NumberedStep). IsWeighed F w step.symbol) x.steps)
@@ -131,6 +151,7 @@ pub record SizesHold (s : Sources) (done : List ℕ) (sizes : List Size) : Type 
 
 -- ---- the expansions that are built
 
+-- the weights that are known beside the expansions that are built
 abbrev pub weights_of : Inlined → Weights
 weights_of t = record { first = t.first; sizes = t.sizes }
 
@@ -145,6 +166,7 @@ pub record IsUsable (F : Table) (t : Inlined) (x : Alternative) : Type 0 where
   pub built : 1 ≤ weigh (count_in F) x.steps
       → All (λ (step : NumberedStep). F step.symbol ≡ look t step.symbol) x.steps
 
+-- the expansions are few enough, and each is short enough
 abbrev pub AreWithin : Expansions → Type 0
 AreWithin found = (length found ≤ most_productions) × (longest_in found ≤ most_steps)
 
@@ -157,6 +179,7 @@ pub record FullHold (s : Sources) (done : List ℕ) (full : List Expansions) : T
 
 -- ---- the limits
 
+-- a size at a bound, before inlining or after it, passes a limit; that of counts is told first
 abbrev pub JudgesSize : Size → Size → Verdict → Type 0
 JudgesSize before after Verdict.Many = (before.many ≡ many) ⊎ (after.many ≡ many)
 JudgesSize before after Verdict.Long = (before.many ≢ many) × (after.many ≢ many)

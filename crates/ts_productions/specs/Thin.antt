@@ -1,5 +1,5 @@
 -- Lists of alternatives without some of those that stand earlier too, and rule trees with fewer
--- empty alternatives. Serves proofs alone.
+-- empty alternatives. Serves private clauses and proofs alone.
 use Rattle.std.specs.Prelude.{◌≡◌, List, ◌++◌, true}
 use Rattle.std.specs.List.{Contains, flat_map}
 use Rattle.ts_core.specs.declared.flat.Production.{Production}
@@ -27,9 +27,11 @@ pub record AreOnlyBlank (xs : Alternatives) : Type 0 where
 abbrev pub IsThinTree : Tree → Tree → Type 0
 IsThinTree t u = (around : Around) → IsThin (alternatives_of t around) (alternatives_of u around)
 
+-- the tree has the empty alternative alone, whatever stands round it
 abbrev pub IsBlankTree : Tree → Type 0
 IsBlankTree t = (around : Around) → AreOnlyBlank (alternatives_of t around)
 
+-- so has each of the trees
 abbrev pub AreBlankTrees : List Tree → Type 0
 AreBlankTrees ts = (t : Tree) → Contains ts t → IsBlankTree t
 
@@ -37,6 +39,7 @@ AreBlankTrees ts = (t : Tree) → Contains ts t → IsBlankTree t
 abbrev pub AreThinBranches : List Tree → List Tree → Type 0
 AreThinBranches ts us = (around : Around) → IsThin (choice_of ts around) (choice_of us around)
 
+-- some branch has the empty alternative, whatever stands round the CHOICE
 abbrev pub HasBlankBranch : List Tree → Type 0
 HasBlankBranch us = (around : Around) → Contains (choice_of us around) blank
 

@@ -17,8 +17,8 @@ ghost use Rattle.ts_rules.specs.Numbers.{AreLists, AreNumbers, Lists, Numbers, a
 ghost use Rattle.ts_rules.specs.Productions.{AllBecome, AreProductions, AreRepeated, IsInner, symbol};
 ghost use Rattle.ts_rules.specs.Sights.{NamedRule};
 
-/// The limits of sources are those of their grammar, inlining comes to an end, and what is within the
-/// limits does not pass them.
+/// The limits of sources are those of their grammar, inlining comes to an end, and what is within
+/// the limits does not pass them.
 pub fn limits_of_sources()
     ensures many { (n : Numbers) (x : Lists) (s : AnySources) → AreSourcesOf n x s
         → AreMany s ↔ CountsMany n x }

@@ -1,5 +1,5 @@
-//! The productions of a grammar in normal form: what comes in are the trees of its rules by numbers,
-//! and what goes out are the productions that come of them by inlining, each once.
+//! The productions of a grammar in normal form: what comes in are the trees of its rules by
+//! numbers, and what goes out are the productions that come of them by inlining, each once.
 #![tactic(auto)]
 
 mod expansion;

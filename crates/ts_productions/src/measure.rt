@@ -1,8 +1,8 @@
-//! How many alternatives a rule tree has once its inlined steps are replaced, and how long they are:
-//! what comes in is the tree and what its symbols weigh. No alternative is built.
+//! How many alternatives a rule tree has once its inlined steps are replaced, and how long they
+//! are: what comes in is the tree and what its symbols weigh. No alternative is built.
 
 ghost use Rattle.std.specs.Prelude.{◌≡◌, ◌+◌, ◌*◌, ◌≤◌, ◌∷◌, [], min, max};
-ghost use Rattle.ts_rules.specs.Alternatives.{alternatives_of, members_of, choice_of, single};
+ghost use Rattle.ts_rules.specs.Alternatives.{alternatives_of, alternatives_each, choice_of, single};
 ghost use Rattle.ts_rules.specs.Counts.{many, long};
 ghost use Rattle.ts_rules.specs.declared.tree.Around.{Around};
 ghost use Rattle.ts_productions.specs.Sizes.{IsMeasure, IsJoined, IsSmallMeasure};
@@ -123,7 +123,7 @@ pub(crate) fn measure_of(tree: &Tree, weights: &Weights) -> Measure
 #[cycle(measure)]
 fn sequence_measure(inner: &[Tree], weights: &Weights) -> Measure
     ensures measure { (around : Around)
-        → IsJoined weights.now (members_of inner.now around) result }
+        → IsJoined weights.now (alternatives_each inner.now around) result }
     ensures small { IsSmallMeasure result }
 {
     let mut all = Measure {

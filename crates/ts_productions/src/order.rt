@@ -78,7 +78,8 @@ fn places_of(alloc: Global, rules: &[Ranked]) -> Result<Vec<usize>, AllocError>
 }
 
 /// The places of the inlined rules among themselves, each after those of the inlined rules to which
-/// it steps. `ranks` has one for each rule of the file, and `inline` has the names that are inlined.
+/// it steps. `ranks` has one for each rule of the file, and `inline` has the names that are
+/// inlined.
 ///
 /// # Errors
 ///

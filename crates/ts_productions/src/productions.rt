@@ -1,5 +1,5 @@
-//! The productions of rules and repetitions: what comes in are the trees of a grammar and its inlined
-//! rules, and what goes out are the productions of one rule or repetition.
+//! The productions of rules and repetitions: what comes in are the trees of a grammar and its
+//! inlined rules, and what goes out are the productions of one rule or repetition.
 
 ghost use Rattle.std.specs.Prelude.{◌≡◌, ◌+◌, ◌++◌, ◌∷◌, ◌<◌, Some, length, slice_get, IfOk, OnOk};
 ghost use Rattle.std.specs.List.{flat_map};

@@ -53,8 +53,8 @@ fn judge(before: Size, after: Size) -> Verdict
 ///
 /// `Productions` exactly where there are more than 65,535 before inlining, those of the inlined
 /// rules among them, or after it; else `Steps` exactly where one has more than 255 steps before or
-/// after inlining; both before any is built and before equal ones are dropped. `Memory` where memory
-/// runs out.
+/// after inlining; both before any is built and before equal ones are dropped. `Memory` where
+/// memory runs out.
 pub fn inlined_rules(alloc: Global, sources: &Sources) -> Result<InlinedRules, ProductionFault>
     requires { AreOrderedSources sources.now }
     ensures inlined { IfOk result (AreInlined sources.now) }

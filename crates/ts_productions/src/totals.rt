@@ -78,7 +78,8 @@ fn filled_size(trees: &[Tree], weights: &Weights) -> Size
     all
 }
 
-/// The size of all productions of repetitions, by that of the filled alternatives of their contents.
+/// The size of all productions of repetitions, by that of the filled alternatives of their
+/// contents.
 fn repeated_size(filled: Size) -> Size
     requires { IsSmallSize filled }
     ensures many { result.many ≡ min many (filled.many + filled.many) }

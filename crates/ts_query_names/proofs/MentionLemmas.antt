@@ -1,9 +1,6 @@
 -- What the parts of a query name, part for part.
-use Rattle.std.proofs.Common.{◌≡◌, ◌∙◌, sym, ap, refl, ℕ, ◌+◌, ◌<◌, Bool, List, [], ◌∷◌, map, ◌++◌, length, get_or, take, append_assoc}
+use Rattle.std.proofs.Common.{◌≡◌, ◌∙◌, sym, ap, refl, Bool, List, [], ◌∷◌, map, ◌++◌, append_assoc}
 use Rattle.std.specs.Prelude.{Option}
-use Rattle.std.proofs.lemmas.List.{take_more, append-nil}
-use Rattle.std.proofs.lemmas.List.Concat.{flat_map-append}
-use Rattle.std.specs.List.{flat_map}
 use Rattle.ts_query_tree.specs.declared.tree.Written.{Written}
 use Rattle.ts_query_tree.specs.declared.tree.Mark.{Mark}
 use Rattle.ts_query_tree.specs.declared.tree.Head.{Head}
@@ -59,20 +56,5 @@ item_put f h ps qs m cs ds b r whole old x y z w new is round same also ex ey ez
     ex ey (ez ∙ ap (λ (q : Bool). y ++ mentions_in qs q) round ∙ ap (λ (us : List Part). y ++ mentions_in us (is_round h m)) same) ew
     (en ∙ ap (λ (us : List Written). w ++ map capture us) also)
     ∙ ap (λ (xs : List Mention). old ++ xs) (sym (of_item f h ps m cs b) ∙ ap (λ (p : Part). mentions p b) (sym is))
-
--- one more of a list
-pub more_of : {X Y : Type 0} (f : X → List Y) (all : List X) (i : ℕ) (x : X) (start now new : List Y) → i < length all → x ≡ get_or all i x
-    → now ≡ start ++ flat_map f (take i all) → new ≡ now ++ f x → new ≡ start ++ flat_map f (take (i + 1) all)
-more_of {X} {Y} f all i x start now new lt is before after =
-    after
-    ∙ ap (λ (xs : List Y). xs ++ f x) before
-    ∙ append_assoc start (flat_map f (take i all)) (f x)
-    ∙ ap (λ (xs : List Y). start ++ xs) step
-  where
-    step : flat_map f (take i all) ++ f x ≡ flat_map f (take (i + 1) all)
-    step =
-        ap (λ (xs : List Y). flat_map f (take i all) ++ xs) (sym (append-nil (f x)))
-        ∙ sym (flat_map-append f (take i all) (x ∷ []))
-        ∙ ap (flat_map f) (ap (λ (y : X). take i all ++ y ∷ []) is ∙ sym (take_more all i x lt))
 
 pub ruleset mention_laws = (of_item, of_anchor, of_without, of_predicate)

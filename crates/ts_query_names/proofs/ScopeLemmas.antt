@@ -65,9 +65,6 @@ same_kind (n, a) (m, b) h =
 pub known_kind : (x : KindName) (found kinds : List KindName) → found ≡ first_sights kind_eq kinds → list_any (kind_eq x) found ≡ list_any (kind_eq x) kinds
 known_kind x found kinds is = ap (list_any (kind_eq x)) is ∙ any_first kind_eq same_kind x kinds
 
-pub known_name : (x : Bytes) (found names : List Bytes) → found ≡ first_sights bytes_eq names → list_any (bytes_eq x) found ≡ list_any (bytes_eq x) names
-known_name x found names is = ap (list_any (bytes_eq x)) is ∙ any_first bytes_eq (λ a b. same_bytes a b) x names
-
 -- ---- checks one after another
 
 pub gives_stop : (cs ds : List Check) (f : Flaw) → BeginWith cs f → BeginWith (cs ++ ds) f

@@ -13,6 +13,7 @@ use Rattle.ts_query_names.specs.declared.asking.Asking.{Asking}
 
 -- ---- names
 
+-- a relation, whether it is negated, and whether one text or pair is enough
 abbrev pub asking : Relation → Bool → Bool → Asking
 asking relation negated some =
     record { relation = relation; negated = negated; some = some }
@@ -36,10 +37,12 @@ known_asking name =
 abbrev pub host_place : List Bytes → Bytes → Option ℕ
 host_place hosts name = position (bytes_eq name) hosts
 
+-- what a host's predicate asks, by its place, if there is one
 abbrev pub host_asking : Option ℕ → Option Asking
 host_asking None = None
 host_asking (Some place) = Some (asking (Host place) false false)
 
+-- the first of two, if there is one, or else the second
 abbrev pub known_or : Option Asking → Option Asking → Option Asking
 known_or None other = other
 known_or (Some known) other = Some known
@@ -52,29 +55,32 @@ asking_of hosts name = known_or (known_asking name) (host_asking (host_place hos
 
 -- The capture whose texts are asked for, and what they are compared with: a text, another
 -- capture's texts, some texts, an expression, or what a host knows.
-pub data Form : Type 0 where
-  text : Written → Written → Form
-  pair : Written → Written → Form
-  one_of : Written → List Written → Form
-  found : Written → Written → Form
-  host : Written → ℕ → Form
+pub data AskedForm : Type 0 where
+  text : Written → Written → AskedForm
+  pair : Written → Written → AskedForm
+  one_of : Written → List Written → AskedForm
+  found : Written → Written → AskedForm
+  host : Written → ℕ → AskedForm
 
-abbrev pub equal_to : Written → Operand → Option Form
+-- the form with an operand that the texts are to be equal to: a text or another capture
+abbrev pub equal_to : Written → Operand → Option AskedForm
 equal_to first (Capture name) = Some (pair first name)
 equal_to first (Text written) = Some (text first written)
 equal_to first (Name name) = None
 
-abbrev pub found_by : Written → Operand → Option Form
+-- the form with an operand that is to be found in the texts: an expression
+abbrev pub found_by : Written → Operand → Option AskedForm
 found_by first (Capture name) = None
 found_by first (Text written) = Some (found first written)
 found_by first (Name name) = None
 
 -- what one operand alone gives
-abbrev pub alone : (Operand → Option Form) → List Operand → Option Form
+abbrev pub alone : (Operand → Option AskedForm) → List Operand → Option AskedForm
 alone f [] = None
 alone f (o ∷ []) = f o
 alone f (o ∷ p ∷ os) = None
 
+-- the operand is a text
 abbrev pub is_text : Operand → Bool
 is_text (Capture name) = false
 is_text (Text written) = true
@@ -84,39 +90,44 @@ is_text (Name name) = false
 abbrev pub are_texts : List Operand → Bool
 are_texts os = not (is_nil os) && list_all is_text os
 
+-- the text, if the operand is one
 abbrev pub text_in : Operand → List Written
 text_in (Capture name) = []
 text_in (Text written) = written ∷ []
 text_in (Name name) = []
 
+-- the texts among operands, in their order
 abbrev pub texts_in : List Operand → List Written
 texts_in = flat_map text_in
 
-abbrev pub one_of_texts : Written → List Operand → Option Form
+-- the form with operands of which each text is to be one: texts alone, and at least one
+abbrev pub one_of_texts : Written → List Operand → Option AskedForm
 one_of_texts first os = if are_texts os then Some (one_of first (texts_in os)) else None
 
-abbrev pub with_host : Written → ℕ → List Operand → Option Form
+-- the form of a host's predicate, by its place: it has no operands behind the capture
+abbrev pub with_host : Written → ℕ → List Operand → Option AskedForm
 with_host first place os = if is_nil os then Some (host first place) else None
 
 -- the form of the operands behind the capture that comes first
-abbrev pub form_behind : Relation → Written → List Operand → Option Form
+abbrev pub form_behind : Relation → Written → List Operand → Option AskedForm
 form_behind Equal first os = alone (equal_to first) os
 form_behind Found first os = alone (found_by first) os
 form_behind OneOf first os = one_of_texts first os
 form_behind (Host place) first os = with_host first place os
 
-abbrev pub form_from : Relation → Operand → List Operand → Option Form
+-- the form of a first operand and those behind it: the first one is a capture
+abbrev pub form_from : Relation → Operand → List Operand → Option AskedForm
 form_from relation (Capture name) os = form_behind relation name os
 form_from relation (Text written) os = None
 form_from relation (Name name) os = None
 
 -- the form of a predicate's operands, where they are as it asks
-abbrev pub form_of : Relation → List Operand → Option Form
-form_of relation [] = None
-form_of relation (o ∷ os) = form_from relation o os
+abbrev pub form_of_operands : Relation → List Operand → Option AskedForm
+form_of_operands relation [] = None
+form_of_operands relation (o ∷ os) = form_from relation o os
 
 -- the captures of a form, as they are written
-abbrev pub form_captures : Form → List Written
+abbrev pub form_captures : AskedForm → List Written
 form_captures (text first written) = first ∷ []
 form_captures (pair first other) = first ∷ other ∷ []
 form_captures (one_of first all) = first ∷ []
@@ -124,7 +135,7 @@ form_captures (found first written) = first ∷ []
 form_captures (host first place) = first ∷ []
 
 -- its expression
-abbrev pub form_pattern : Form → List Written
+abbrev pub form_pattern : AskedForm → List Written
 form_pattern (text first written) = []
 form_pattern (pair first other) = []
 form_pattern (one_of first all) = []
@@ -132,6 +143,6 @@ form_pattern (found first written) = written ∷ []
 form_pattern (host first place) = []
 
 -- how a predicate is meant, where its name is known and its operands are as it asks
-abbrev pub asked_form : Option Asking → List Operand → Option Form
+abbrev pub asked_form : Option Asking → List Operand → Option AskedForm
 asked_form None operands = None
-asked_form (Some asking) operands = form_of asking.relation operands
+asked_form (Some asking) operands = form_of_operands asking.relation operands

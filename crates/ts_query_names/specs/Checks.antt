@@ -9,15 +9,16 @@ use Rattle.ts_query_tree.specs.declared.tree.Written.{Written}
 use Rattle.ts_query_tree.specs.declared.tree.Part.{Part}
 use Rattle.ts_query_names.specs.declared.flaw.Flaw.{Flaw}
 use Rattle.ts_query_names.specs.declared.flaw.Flaw.TheVariants.{UnknownNode, UnknownField, UnknownCapture, UnknownPredicate, NestedQuantifier}
-use Rattle.ts_query_names.specs.Asking.{Form, asking_of, asked_form, form_captures, form_pattern}
+use Rattle.ts_query_names.specs.Asking.{AskedForm, asking_of, asked_form, form_captures, form_pattern}
 use Rattle.ts_query_names.specs.Kinds.{kind_eq, first_sights, grammar_kinds}
-use Rattle.ts_query_names.specs.Mentions.{Mention, kind, field, capture, predicate, nested, named_by, item_captures}
+use Rattle.ts_query_names.specs.Mentions.{Mention, kind, field, capture, predicate, nested, mentioned_by, item_captures}
 
 -- a fault, or an expression that is built unless a fault stands before it
 pub data Check : Type 0 where
   wrong : Flaw → Check
   pattern : Written → Check
 
+-- the fault, unless it is known that there is none
 abbrev pub wrong_unless : Bool → Flaw → List Check
 wrong_unless known flaw = if known then [] else wrong flaw ∷ []
 
@@ -36,7 +37,8 @@ abbrev pub capture_checks : List Bytes → Written → List Check
 capture_checks own name =
     wrong_unless (list_any (bytes_eq name.text) own) (UnknownCapture name.at)
 
-abbrev pub form_checks : List Bytes → ℕ → Option Form → List Check
+-- of a predicate at this place: its captures and its expression, or that it has no form
+abbrev pub form_checks : List Bytes → ℕ → Option AskedForm → List Check
 form_checks own at None = wrong (UnknownPredicate at) ∷ []
 form_checks own at (Some form) =
     flat_map (capture_checks own) (form_captures form) ++ map pattern (form_pattern form)
@@ -52,12 +54,12 @@ mention_checks g hosts own (nested at) = wrong (NestedQuantifier at) ∷ []
 
 -- the captures that a pattern's items have
 abbrev pub pattern_captures : Part → List Bytes
-pattern_captures part = first_sights bytes_eq (item_captures (named_by part))
+pattern_captures part = first_sights bytes_eq (item_captures (mentioned_by part))
 
 -- of a pattern
 abbrev pub pattern_checks : FlatGrammar → List Bytes → Part → List Check
 pattern_checks g hosts part =
-    flat_map (mention_checks g hosts (pattern_captures part)) (named_by part)
+    flat_map (mention_checks g hosts (pattern_captures part)) (mentioned_by part)
 
 -- of a query
 abbrev pub checks : FlatGrammar → List Bytes → List Part → List Check

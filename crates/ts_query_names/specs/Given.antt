@@ -6,7 +6,7 @@ use Rattle.ts_query_tree.specs.declared.tree.Written.{Written}
 use Rattle.ts_query_names.specs.declared.flaw.Flaw.{Flaw}
 use Rattle.ts_query_names.specs.declared.numbers.Numbers.{Numbers}
 use Rattle.ts_query_names.specs.declared.wanted.Wanted.{Wanted}
-use Rattle.ts_query_names.specs.Asking.{asking_of, form_of, form_pattern, asked_form}
+use Rattle.ts_query_names.specs.Asking.{asking_of, form_of_operands, form_pattern, asked_form}
 use Rattle.ts_query_names.specs.Checks.{Check, wrong, pattern, form_checks}
 use Rattle.ts_query_names.specs.LentForms.{form_told}
 use Rattle.ts_query_names.specs.LentNames.{told, kinds_told}
@@ -25,7 +25,7 @@ Gives cs (Err flaw) = BeginWith cs flaw
 pub record IsWanted (hosts own : List Bytes) (name : Written) (operands : List Operand)
     (w : Wanted) : Type 0 where
   pub known : asking_of hosts name.text ≡ Some w.asking
-  pub formed : form_of w.asking.relation operands ≡ Some (form_told w.form)
+  pub formed : form_of_operands w.asking.relation operands ≡ Some (form_told w.form)
   pub right : form_checks own name.at (asked_form (asking_of hosts name.text) operands)
       ≡ map pattern (form_pattern (form_told w.form))
 

@@ -25,6 +25,7 @@ with_new eq found seen = fold (insert_key eq) found seen
 abbrev pub first_sights : {X : Type 0} → (X → X → Bool) → List X → List X
 first_sights eq seen = with_new eq [] seen
 
+-- two kinds are one: both have the same name, and both are named or neither is
 abbrev pub kind_eq : KindName → KindName → Bool
 kind_eq k l = bytes_eq k.0 l.0 && beq k.1 l.1
 
@@ -36,10 +37,12 @@ own_kind name Named = (name, true) ∷ []
 own_kind name Anonymous = (name, false) ∷ []
 own_kind name Hidden = []
 
+-- the kind of an alias, if there is one
 abbrev pub alias_kind : Option Alias → List KindName
 alias_kind None = []
 alias_kind (Some alias) = (alias.name, alias.named) ∷ []
 
+-- the kinds of the aliases in a production
 abbrev pub production_kinds : Production → List KindName
 production_kinds production = flat_map (λ (step : Step). alias_kind step.alias) production.steps
 
@@ -47,6 +50,7 @@ production_kinds production = flat_map (λ (step : Step). alias_kind step.alias)
 abbrev pub rule_kinds : FlatRule → List KindName
 rule_kinds rule = own_kind rule.name rule.kind ++ flat_map production_kinds rule.productions
 
+-- the kind of a token's nodes
 abbrev pub token_kind : TokenDef → List KindName
 token_kind token = own_kind token.name token.kind
 

@@ -12,5 +12,6 @@ mention_told (lent.Capture name) = capture name.now
 mention_told (lent.Predicate name operands) = predicate name.now operands.now
 mention_told (lent.Nested at) = nested at
 
+-- the mentions themselves
 abbrev pub mentions_told : List Lent → List Mention
 mentions_told = map mention_told

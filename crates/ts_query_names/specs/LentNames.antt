@@ -12,5 +12,6 @@ told = map (λ (name : Bor Bytes). name.now)
 abbrev pub kind_told : Bor Bytes × Bool → KindName
 kind_told entry = (entry.0.now, entry.1)
 
+-- the kinds themselves
 abbrev pub kinds_told : List (Bor Bytes × Bool) → List KindName
 kinds_told = map kind_told

@@ -29,6 +29,7 @@ pub data Mention : Type 0 where
 abbrev pub is_round : Head → Option Mark → Bool
 is_round head mark = is_group head && is_some mark
 
+-- a field, if there is one
 abbrev pub field_mentions : Option Written → List Mention
 field_mentions None = []
 field_mentions (Some name) = field name ∷ []
@@ -37,6 +38,7 @@ field_mentions (Some name) = field name ∷ []
 abbrev pub node_mentions : Written → List Mention
 node_mentions name = if is_wild name.text then [] else kind name true ∷ []
 
+-- the kind of a head, if it has one: a string is an anonymous kind
 abbrev pub head_mentions : Head → List Mention
 head_mentions (Any at) = []
 head_mentions (Text text) = kind text false ∷ []
@@ -48,6 +50,7 @@ head_mentions Choice = []
 abbrev pub nested_if : Bool → ℕ → List Mention
 nested_if in_round at = if in_round then nested at ∷ [] else []
 
+-- the same, if there is a quantifier
 abbrev pub mark_mentions : Bool → Option Mark → List Mention
 mark_mentions in_round None = []
 mark_mentions in_round (Some mark) = nested_if in_round mark.at
@@ -57,6 +60,7 @@ abbrev pub mentions_all : List (Bool → List Mention) → Bool → List Mention
 mentions_all [] in_round = []
 mentions_all (part ∷ rest) in_round = part in_round ++ mentions_all rest in_round
 
+-- what a part names, from what the parts in its bracket name
 abbrev pub mention_step : Part-F (Bool → List Mention) → Bool → List Mention
 mention_step (Part-F.Item item_field head parts mark captures) in_round =
     field_mentions item_field ++ (head_mentions head
@@ -75,10 +79,11 @@ mentions = fold-Part (Bool → List Mention) mention_step
 abbrev pub mentions_in : List Part → Bool → List Mention
 mentions_in parts in_round = flat_map (λ (part : Part). mentions part in_round) parts
 
--- what a pattern names, and what a query does
-abbrev pub named_by : Part → List Mention
-named_by pattern = mentions pattern false
+-- what a pattern names
+abbrev pub mentioned_by : Part → List Mention
+mentioned_by pattern = mentions pattern false
 
+-- what a query names
 abbrev pub named_in : List Part → List Mention
 named_in patterns = mentions_in patterns false
 
@@ -92,9 +97,11 @@ item_capture (capture name) = name.text ∷ []
 item_capture (predicate name operands) = []
 item_capture (nested at) = []
 
+-- the names of the captures of items, in the order of the mentions
 abbrev pub item_captures : List Mention → List Bytes
 item_captures = flat_map item_capture
 
+-- the name of a capture, if the operand is one
 abbrev pub operand_capture : Operand → List Bytes
 operand_capture (operand.Capture name) = name.text ∷ []
 operand_capture (operand.Text text) = []
@@ -108,6 +115,7 @@ any_capture (capture name) = name.text ∷ []
 any_capture (predicate name operands) = flat_map operand_capture operands
 any_capture (nested at) = []
 
+-- the names of all captures, in the order of the mentions
 abbrev pub any_captures : List Mention → List Bytes
 any_captures = flat_map any_capture
 
@@ -115,6 +123,7 @@ any_captures = flat_map any_capture
 abbrev pub KindName : Type 0
 KindName = Bytes × Bool
 
+-- the kind, if a mention is of one
 abbrev pub kind_named : Mention → List KindName
 kind_named (kind name named) = (name.text, named) ∷ []
 kind_named (field name) = []
@@ -122,5 +131,6 @@ kind_named (capture name) = []
 kind_named (predicate name operands) = []
 kind_named (nested at) = []
 
+-- the kinds among mentions, in their order
 abbrev pub kinds_named : List Mention → List KindName
 kinds_named = flat_map kind_named

@@ -15,11 +15,14 @@ pub record Names : Type 0 where
 abbrev pub number_in : {X : Type 0} → (X → X → Bool) → List X → X → ℕ
 number_in eq values x = unwrap_or (position (eq x) values) 0
 
+-- the number of a kind, by its name and whether it is named
 abbrev pub kind_number : Names → Bytes → Bool → ℕ
 kind_number names name named = number_in kind_eq names.kinds (name, named)
 
+-- the number of a capture
 abbrev pub capture_number : Names → Bytes → ℕ
 capture_number names name = number_in bytes_eq names.captures name
 
+-- the number of a field
 abbrev pub field_number : Names → Bytes → ℕ
 field_number names name = number_in bytes_eq names.fields name

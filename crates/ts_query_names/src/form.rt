@@ -3,7 +3,7 @@
 ghost use Rattle.std.specs.Prelude.{◌≡◌};
 ghost use Rattle.std.specs.List.{list_all};
 ghost use Rattle.ts_query_tree.specs.Trees.{is_nil};
-ghost use Rattle.ts_query_names.specs.Asking.{equal_to, found_by, alone, is_text, are_texts, one_of_texts, with_host, form_behind, form_from, form_of};
+ghost use Rattle.ts_query_names.specs.Asking.{equal_to, found_by, alone, is_text, are_texts, one_of_texts, with_host, form_behind, form_from, form_of_operands};
 ghost use Rattle.ts_query_names.specs.LentForms.{forms_told};
 
 use crate::asking::Relation;
@@ -131,7 +131,7 @@ fn form_from<'a>(relation: Relation, first: &'a Operand, rest: &'a [Operand]) ->
 /// The form of a predicate's operands, where they are as its name asks.
 #[tactic(auto, using(crate::proofs::FormLemmas::form_split))]
 pub fn form_of<'a>(relation: Relation, operands: &'a [Operand]) -> Option<Form<'a>>
-    ensures { forms_told result ≡ form_of relation operands.now }
+    ensures { forms_told result ≡ form_of_operands relation operands.now }
 {
     if is_nil(operands) {
         return None;

@@ -1,6 +1,6 @@
-//! What a tree query names: the parts of a query that is written and a grammar in normal form go in,
-//! and numbers of kinds, fields and captures, the forms of predicates and the faults of what is named
-//! come out.
+//! What a tree query names: the parts of a query that is written and a grammar in normal form go
+//! in, and numbers of kinds, fields and captures, the forms of predicates and the faults of what is
+//! named come out.
 #![tactic(auto)]
 
 mod asking;

@@ -1,9 +1,9 @@
-//! What the parts of a query name: parts go in, and a list of what they name comes out, in the order
-//! in which it is written.
+//! What the parts of a query name: parts go in, and a list of what they name comes out, in the
+//! order in which it is written.
 ghost use Rattle.std.specs.Prelude.{◌≡◌, ◌++◌, ◌∷◌, [], map, IfOk, OnOk};
 ghost use Rattle.ts_query_tree.specs.Words.{is_wild};
 ghost use Rattle.ts_query_names.specs.Lent.{mention_told, mentions_told};
-ghost use Rattle.ts_query_names.specs.Mentions.{is_round, field_mentions, node_mentions, head_mentions, nested_if, mark_mentions, mentions, mentions_in, named_by, named_in, capture};
+ghost use Rattle.ts_query_names.specs.Mentions.{is_round, field_mentions, node_mentions, head_mentions, nested_if, mark_mentions, mentions, mentions_in, mentioned_by, named_in, capture};
 
 use std::alloc::{AllocError, Global};
 use ts_base::{List, Str};
@@ -173,7 +173,7 @@ pub fn pattern_mentions<'a>(
     alloc: Global,
     pattern: &'a Part,
 ) -> Result<Vec<Mention<'a>>, AllocError>
-    ensures { IfOk result (λ found. mentions_told found.items ≡ named_by pattern.now) }
+    ensures { IfOk result (λ found. mentions_told found.items ≡ mentioned_by pattern.now) }
 {
     let mut found = Vec::new(alloc);
     add_part(&mut found, pattern, false)?;

@@ -1,5 +1,5 @@
-//! Numbers of kinds, captures and fields: what a query names and a grammar in normal form go in, and
-//! sets in which each name's place is its number come out.
+//! Numbers of kinds, captures and fields: what a query names and a grammar in normal form go in,
+//! and sets in which each name's place is its number come out.
 ghost use Rattle.std.specs.Prelude.{◌≡◌, ◌≤◌, ◌<◌, ◌^◌, length, position, IfOk, OnOk, IfSome};
 ghost use Rattle.std.specs.List.{flat_map, list_any};
 ghost use Rattle.std.specs.Str.{bytes_eq};
@@ -59,7 +59,8 @@ pub(crate) fn kinds_in<'a>(
 }
 
 fn add_name<'a>(found: &mut IndexSet<&'a Str>, name: &'a Str) -> Result<(), AllocError>
-    ensures { OnOk result (told found.new.keys ≡ insert_key bytes_eq (told found.old.keys) name.now) }
+    ensures { OnOk result (told found.new.keys
+        ≡ insert_key bytes_eq (told found.old.keys) name.now) }
 {
     found.insert(name)?;
     Ok(())

@@ -2,7 +2,7 @@
 //! fault, comes out.
 ghost use Rattle.std.specs.Prelude.{◌≡◌, ◌≤◌, ◌^◌, [], ◌∷◌, length, Some, None, IfOk, IfErr, IfSome, IfNone};
 ghost use Rattle.std.specs.List.{flat_map};
-ghost use Rattle.ts_query_names.specs.Asking.{asking_of, asked_form, form_of, form_captures};
+ghost use Rattle.ts_query_names.specs.Asking.{asking_of, asked_form, form_of_operands, form_captures};
 ghost use Rattle.ts_query_names.specs.Checks.{capture_checks, form_checks};
 ghost use Rattle.ts_query_names.specs.Given.{Gives, BeginWith, IsWanted};
 ghost use Rattle.ts_query_names.specs.LentForms.{form_told};
@@ -56,7 +56,7 @@ fn check_form(own: &IndexSet<&Str>, form: &Form) -> Result<(), Flaw>
 fn meant<'a>(hosts: &[Str], name: &Str, operands: &'a [Operand]) -> Option<Wanted<'a>>
     requires few { length hosts.now ≤ 2 ^ 32 }
     ensures some { IfSome result (λ w. (asking_of hosts.now name.now ≡ Some w.asking)
-        × (form_of w.asking.relation operands.now ≡ Some (form_told w.form))) }
+        × (form_of_operands w.asking.relation operands.now ≡ Some (form_told w.form))) }
     ensures none { IfNone result
         (asked_form (asking_of hosts.now name.now) operands.now ≡ None) }
 {
@@ -68,8 +68,8 @@ fn meant<'a>(hosts: &[Str], name: &Str, operands: &'a [Operand]) -> Option<Wante
 
 fn meant_by<'a>(asking: Asking, operands: &'a [Operand]) -> Option<Wanted<'a>>
     ensures some { IfSome result (λ w. (w.asking ≡ asking)
-        × (form_of asking.relation operands.now ≡ Some (form_told w.form))) }
-    ensures none { IfNone result (form_of asking.relation operands.now ≡ None) }
+        × (form_of_operands asking.relation operands.now ≡ Some (form_told w.form))) }
+    ensures none { IfNone result (form_of_operands asking.relation operands.now ≡ None) }
 {
     match form_of(asking.relation, operands) {
         Some(form) => Some(Wanted { asking, form }),

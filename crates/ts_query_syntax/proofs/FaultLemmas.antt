@@ -29,11 +29,6 @@ flaw_no_regex (flaw.UnknownCapture at) h = let no : fault.UnknownCapture at ≡ 
 flaw_no_regex (flaw.UnknownPredicate at) h = let no : fault.UnknownPredicate at ≡ fault.Regex h.0 = h.1 in cc
 flaw_no_regex (flaw.NestedQuantifier at) h = let no : fault.NestedQuantifier at ≡ fault.Regex h.0 = h.1 in cc
 
-tree_no_regex : (e : TreeFault) → IsRegex (tree_fault e) → ⊥
-tree_no_regex (tree.Syntax at) h = let no : fault.Syntax at ≡ fault.Regex h.0 = h.1 in cc
-tree_no_regex (tree.Deep at) h = let no : fault.Deep at ≡ fault.Regex h.0 = h.1 in cc
-tree_no_regex tree.Memory h = let no : fault.Memory ≡ fault.Regex h.0 = h.1 in cc
-
 pub stopped_rose : (cs : _) (s t : Kept) (e : QueryFault) → Stopped cs s t e → IsRegex e → HasRisen s.refusals t.refusals
 stopped_rose cs s t e (by_flaw f is first grew) h = absurd (flaw_no_regex f (h.0, sym is ∙ h.1))
 stopped_rose cs s t e (by_refusal n w is at grew rose) h = rose
@@ -175,19 +170,6 @@ module _ (laws : Laws) (g : FlatGrammar) (hosts : List Bytes) (w : Bytes) where
 
   pub tree_exact : (f : QueryFault) (e : TreeFault) → f ≢ fault.Memory → (IsRegex f → ⊥) → IsQueryFault g hosts w f → IsFault w e → Or f (tree_fault e)
   tree_exact f e m r h there = exact_by f e there (sorted g hosts w f m r h)
-
-pub tree_refused : (g : FlatGrammar) (hosts : List Bytes) (w : Bytes) (e : TreeFault) → IsFault w e → IsQueryFault g hosts w (tree_fault e)
-tree_refused g hosts w (tree.Syntax at) h = h
-tree_refused g hosts w (tree.Deep at) h = h
-tree_refused g hosts w tree.Memory h = tt
-
-pub tree_grew : (g : FlatGrammar) (hosts : List Bytes) (w : Bytes) (e : TreeFault) (s : List Bytes) → GrewWith g hosts w s s (tree_fault e)
-tree_grew g hosts w (tree.Syntax at) s = refl
-tree_grew g hosts w (tree.Deep at) s = refl
-tree_grew g hosts w tree.Memory s = inl refl
-
-pub tree_rose : (e : TreeFault) (P : Type 0) → IsRegex (tree_fault e) → P
-tree_rose e P h = absurd (tree_no_regex e h)
 
 pub later_from : (cs : List Check) (s t : Kept) (a : Option QueryFault) → Runs cs s t a → s.refusals ≤ t.refusals
 later_from cs s t a run = runs_later cs s t a run

@@ -2,7 +2,7 @@
 use Rattle.std.proofs.Common.{◌≡◌, ◌∙◌, sym, ap, subst, refl, ℕ, ◌+◌, ◌<◌, ◌≤◌, List, [], ◌∷◌, ◌++◌, length, get_or, take, Some}
 use Rattle.std.specs.Prelude.{Bool, not, ◌&&◌, Option, None, Result, Ok, Err, IsErrAnd}
 use Rattle.std.specs.List.{flat_map}
-use Rattle.std.proofs.lemmas.List.{take_more, take_all, map-append, append-nil}
+use Rattle.std.proofs.lemmas.List.{take_more, map-append}
 use Rattle.ts_base.specs.Bytes.{Bytes}
 use Rattle.ts_core.specs.declared.flat.FlatGrammar.{FlatGrammar}
 use Rattle.ts_query_tree.specs.declared.tree.Part.{Part}
@@ -14,7 +14,7 @@ use Rattle.ts_query_names.specs.Asking.{asking_of, asked_form}
 use Rattle.ts_query_names.specs.Checks.{Check, mention_checks, pattern_checks, checks, form_checks}
 use Rattle.ts_query_names.specs.Given.{BeginWith}
 use Rattle.ts_query_names.specs.Lent.{mention_told, mentions_told}
-use Rattle.ts_query_names.specs.Mentions.{Mention, named_by, item_captures}
+use Rattle.ts_query_names.specs.Mentions.{Mention, mentioned_by, item_captures}
 use Rattle.ts_query_names.specs.Kinds.{first_sights}
 use Rattle.std.specs.Str.{bytes_eq}
 use Rattle.ts_query_tree.specs.Trees.{is_nil}
@@ -29,7 +29,7 @@ use Rattle.ts_query_syntax.specs.declared.fault.QueryFault.TheVariants as fault
 use Rattle.ts_query_syntax.specs.declared.read_query.Predicate.{Predicate}
 use Rattle.ts_query_syntax.specs.declared.read_query.Pattern.{Pattern}
 use Rattle.ts_query_syntax.specs.Judging.{Kept, Runs, ends, flaw_fault, fault_in}
-use Rattle.ts_query_syntax.specs.Queries.{IsPredicate, ArePredicates, AddsPredicates, IsPattern, ArePatterns}
+use Rattle.ts_query_syntax.specs.Queries.{ArePredicates, AddsPredicates, IsPattern, ArePatterns}
 use Rattle.ts_query_syntax.proofs.JudgingLemmas.{runs_starved, runs_memory, runs_none, runs_wrong}
 use Rattle.ts_query_syntax.proofs.LoopLemmas.{runs_more, runs_end, runs_halt, runs_out, flat_told}
 use Rattle.ts_query_syntax.proofs.PredicateLemmas.{predicates_added, patterns_then}
@@ -81,10 +81,6 @@ module _ (g : FlatGrammar) (hosts own : List Bytes) (names : Names) (ms : List L
   sofar_runs i s t found le h =
       subst (λ (cs : List Check). Runs cs s t None) (flat_told (mention_checks g hosts own) mention_told ms) (runs_end checks_at ms i s t le h.0)
 
-  pub sofar_found : (i : ℕ) (s t : Kept) (found : List Predicate) → length ms ≤ i → Sofar s t i found
-      → ArePredicates hosts names (mentions_told ms) found
-  sofar_found i s t found le h = subst (λ (us : List Lent). ArePredicates hosts names (mentions_told us) found) (take_all i ms le) h.1
-
   pub sofar_halt : (i : ℕ) (x : Lent) (s m t : Kept) (e : QueryFault) (found : List Predicate) → i < length ms → x ≡ get_or ms i x → Sofar s m i found
       → Runs (mention_checks g hosts own (mention_told x)) m t (Some e) → Runs (flat_map (mention_checks g hosts own) (mentions_told ms)) s t (Some e)
   sofar_halt i x s m t e found lt is before next =
@@ -106,12 +102,6 @@ module _ (g : FlatGrammar) (hosts : List Bytes) (names : Names) (parts : List Pa
     subst (λ (us : List Part). ArePatterns hosts names us new) (ap (λ (y : Part). take i parts ++ y ∷ []) is ∙ sym (take_more parts i x lt))
         (subst (λ (ps : List Pattern). ArePatterns hosts names (take i parts ++ x ∷ []) ps) (sym pushed) (patterns_then hosts names (take i parts) x found p before.1 one)),
   )
-
-  pub done_runs : (i : ℕ) (s t : Kept) (found : List Pattern) → length parts ≤ i → Done s t i found → Runs (checks g hosts parts) s t None
-  done_runs i s t found le h = runs_end (pattern_checks g hosts) parts i s t le h.0
-
-  pub done_found : (i : ℕ) (s t : Kept) (found : List Pattern) → length parts ≤ i → Done s t i found → ArePatterns hosts names parts found
-  done_found i s t found le h = subst (λ (us : List Part). ArePatterns hosts names us found) (take_all i parts le) h.1
 
   pub done_halt : (i : ℕ) (x : Part) (s m t : Kept) (e : QueryFault) (found : List Pattern) → i < length parts → x ≡ get_or parts i x → Done s m i found
       → Runs (pattern_checks g hosts x) m t (Some e) → Runs (checks g hosts parts) s t (Some e)
@@ -135,33 +125,22 @@ module _ (g : FlatGrammar) (hosts own : List Bytes) (names : Names) (m x : Lent)
       → Runs (mention_checks g hosts own (mention_told m)) s s (fault_in r)
   told_flawed s f r at h = told_runs s s (fault_in r) (flawed (mention_checks g hosts own (mention_told x)) s f r at h)
 
-  pub told_adds : (old new : List Predicate) → AddsPredicates hosts names (mention_told x) old new → AddsPredicates hosts names (mention_told m) old new
-  told_adds old new adds = subst (λ (y : Lent). AddsPredicates hosts names (mention_told y) old new) (sym is) adds
-
 pub asked_runs : (g : FlatGrammar) (hosts own : List Bytes) (name : Written) (os us : List Operand) (s t : Kept) (a : Option QueryFault) → us ≡ os
     → Runs (form_checks own name.at (asked_form (asking_of hosts name.text) us)) s t a → Runs (mention_checks g hosts own (mention.predicate name os)) s t a
 asked_runs g hosts own name os us s t a same run =
     subst (λ (xs : List Operand). Runs (form_checks own name.at (asked_form (asking_of hosts name.text) xs)) s t a) same run
 
--- no predicate is put there
-pub adds_none : (hosts : List Bytes) (names : Names) (m : Mention) (old : List Predicate) → ArePredicates hosts names (m ∷ []) [] → AddsPredicates hosts names m old old
-adds_none hosts names m old none = ([], sym (append-nil old), none)
-
-pub adds_one : (hosts : List Bytes) (names : Names) (name : Written) (os : List Operand) (old new : List Predicate) (p : Predicate)
-    → IsPredicate hosts names name os p → new ≡ old ++ p ∷ [] → AddsPredicates hosts names (mention.predicate name os) old new
-adds_one hosts names name os old new p is pushed = (p ∷ [], pushed, (p, [], refl, is, refl))
-
 -- ---- a whole pattern, and a whole query
 
 module _ (g : FlatGrammar) (hosts : List Bytes) (part : Part) where
-  pub pattern_runs : (own : List Bytes) (us vs : List Mention) (s t : Kept) (a : Option QueryFault) → us ≡ named_by part → vs ≡ named_by part
+  pub pattern_runs : (own : List Bytes) (us vs : List Mention) (s t : Kept) (a : Option QueryFault) → us ≡ mentioned_by part → vs ≡ mentioned_by part
       → own ≡ first_sights bytes_eq (item_captures vs) → Runs (flat_map (mention_checks g hosts own) us) s t a → Runs (pattern_checks g hosts part) s t a
   pattern_runs own us vs s t a here there seen run =
-      subst (λ (os : List Bytes). Runs (flat_map (mention_checks g hosts os) (named_by part)) s t a) (seen ∙ ap (λ (ms : List Mention). first_sights bytes_eq (item_captures ms)) there)
+      subst (λ (os : List Bytes). Runs (flat_map (mention_checks g hosts os) (mentioned_by part)) s t a) (seen ∙ ap (λ (ms : List Mention). first_sights bytes_eq (item_captures ms)) there)
       (subst (λ (ms : List Mention). Runs (flat_map (mention_checks g hosts own) ms) s t a) here run)
 
 pub pattern_is : (hosts : List Bytes) (n : Names) (part : Part) (level : Level) (closed : Bool) (us : List Mention) (ps : List Predicate)
-    → level ≡ after empty_level (pieces n part) → closed ≡ (level.tied && not (is_nil level.items)) → us ≡ named_by part → ArePredicates hosts n us ps
+    → level ≡ after empty_level (pieces n part) → closed ≡ (level.tied && not (is_nil level.items)) → us ≡ mentioned_by part → ArePredicates hosts n us ps
     → IsPattern hosts n part (record { items = level.items; closed = closed; predicates = ps })
 pattern_is hosts n part level closed us ps within shut here are =
     let all = within ∙ after_is empty_level (pieces n part) in

@@ -15,10 +15,10 @@ use Rattle.ts_query_tree.specs.declared.tree.Part.TheFolds.{fold-roll-Part}
 use Rattle.ts_query_names.specs.Numbers.{Names, field_number}
 use Rattle.ts_query_syntax.specs.declared.read_query.Item.{Item}
 use Rattle.ts_query_syntax.specs.declared.level.Level.{Level}
-use Rattle.ts_query_syntax.specs.Items.{Piece, anchor, one, lacks, joined, piece_step, pieces, pieces_in, is_spliced, item_over, items_from, ends_tied, lacking}
+use Rattle.ts_query_syntax.specs.Items.{Piece, anchor, one, lacks, joined_pieces, piece_step, pieces, pieces_in, is_spliced, item_over, items_from, ends_tied, lacking}
 use Rattle.ts_query_syntax.specs.Levels.{empty_level, tied_level, level_with, level_lacking, after, item_of}
 
-joined_map : (n : Names) (ps : List Part) → joined (map (pieces n) ps) ≡ pieces_in n ps
+joined_map : (n : Names) (ps : List Part) → joined_pieces (map (pieces n) ps) ≡ pieces_in n ps
 joined_map n [] = refl
 joined_map n (p ∷ ps) = ap (λ (rest : List Piece). pieces n p ++ rest) (joined_map n ps)
 

@@ -4,8 +4,8 @@ use Rattle.ts_base.specs.Bytes.{Bytes}
 use Rattle.ts_query_syntax.specs.declared.builder.Builder.{Builder}
 
 -- the numbers of the calls that fail
-abbrev pub failing_of : Builder → List ℕ
-failing_of b = b.failing.items
+abbrev pub failing_calls : Builder → List ℕ
+failing_calls b = b.failing.items
 
 -- the texts of the expressions that were asked for
 abbrev pub sources_of : Builder → List Bytes

@@ -45,12 +45,14 @@ ends_tied tied (anchor ∷ rest) = ends_tied true rest
 ends_tied tied (one item ∷ rest) = ends_tied false rest
 ends_tied tied (lacks field ∷ rest) = ends_tied tied rest
 
+-- the fields that no child of the node round the list has
 abbrev pub lacking : List Piece → List ℕ
 lacking [] = []
 lacking (anchor ∷ rest) = lacking rest
 lacking (one item ∷ rest) = lacking rest
 lacking (lacks field ∷ rest) = field ∷ lacking rest
 
+-- the items, where no anchor stands before the pieces
 abbrev pub items_of : List Piece → List Item
 items_of pieces = items_from false pieces
 
@@ -60,11 +62,13 @@ is_closed pieces = ends_tied false pieces && not (is_nil (items_of pieces))
 
 -- ---- one item
 
+-- the quantity of a quantifier that is written
 abbrev pub times_of : Times → Quantity
 times_of times.Optional = Optional
 times_of times.Many = Many
 times_of times.Several = Several
 
+-- the quantity of an item: one, where it has no quantifier
 abbrev pub quantity_of : Option Mark → Quantity
 quantity_of None = One
 quantity_of (Some mark) = times_of mark.quantity
@@ -74,6 +78,7 @@ abbrev pub node_test : Names → Written → Test
 node_test names kind =
     if is_wild kind.text then Named else Kind (kind_number names kind.text true)
 
+-- what a head asks of a node, with kinds by their numbers
 abbrev pub test_of : Names → Head → Test
 test_of names (head.Any at) = Any
 test_of names (head.Text text) = Kind (kind_number names text.text false)
@@ -81,10 +86,12 @@ test_of names (head.Node kind) = node_test names kind
 test_of names head.Group = Round
 test_of names head.Choice = Choice
 
+-- the number of a field, if there is one
 abbrev pub field_of : Names → Option Written → Option ℕ
 field_of names None = None
 field_of names (Some name) = Some (field_number names name.text)
 
+-- the numbers of captures, in their order
 abbrev pub captures_of : Names → List Written → List ℕ
 captures_of names = map (λ (name : Written). capture_number names name.text)
 
@@ -111,13 +118,15 @@ is_spliced (head.Text text) mark = false
 is_spliced (head.Node kind) mark = false
 is_spliced head.Choice mark = false
 
-abbrev pub joined : List (List Piece) → List Piece
-joined = flat_map (λ (pieces : List Piece). pieces)
+-- the pieces of several parts, one part after another
+abbrev pub joined_pieces : List (List Piece) → List Piece
+joined_pieces = flat_map (λ (pieces : List Piece). pieces)
 
+-- what a part gives, from what the parts in its bracket give
 abbrev pub piece_step : Names → Part-F (List Piece) → List Piece
 piece_step names (Part-F.Item field head parts mark captures) =
-    if is_spliced head mark then joined parts
-    else one (item_over names field head (joined parts) mark captures) ∷ []
+    if is_spliced head mark then joined_pieces parts
+    else one (item_over names field head (joined_pieces parts) mark captures) ∷ []
 piece_step names Part-F.Anchor = anchor ∷ []
 piece_step names (Part-F.Without name) = lacks (field_number names name.text) ∷ []
 piece_step names (Part-F.Predicate name operands) = []

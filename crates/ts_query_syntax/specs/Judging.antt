@@ -28,6 +28,7 @@ pub record Kept : Type 0 where
   pub sources : List Bytes
   pub refusals : ℕ
 
+-- these texts, and so many refusals
 abbrev pub kept : List Bytes → ℕ → Kept
 kept sources refusals = record { sources = sources; refusals = refusals }
 

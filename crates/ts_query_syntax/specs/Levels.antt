@@ -10,15 +10,19 @@ use Rattle.ts_query_syntax.specs.declared.level.Level.{Level}
 use Rattle.ts_query_syntax.specs.declared.read_query.Item.TheViews.{roll-Item}
 use Rattle.ts_query_syntax.specs.Items.{Piece, anchor, one, lacks, quantity_of, field_of, captures_of, test_of}
 
+-- a list of siblings in which nothing stands yet
 abbrev pub empty_level : Level
 empty_level = record { items = []; tied = false; without = [] }
 
+-- the list with an anchor behind what stands there
 abbrev pub tied_level : Level → Level
 tied_level l = record { items = l.items; tied = true; without = l.without }
 
+-- the list with one more item
 abbrev pub level_with : Level → Item → Level
 level_with l item = record { items = l.items ++ item ∷ []; tied = false; without = l.without }
 
+-- the list with one more field that no child of the node round it has
 abbrev pub level_lacking : Level → ℕ → Level
 level_lacking l field = record { items = l.items; tied = l.tied; without = l.without ++ field ∷ [] }
 

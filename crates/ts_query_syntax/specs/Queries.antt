@@ -13,10 +13,10 @@ use Rattle.ts_query_tree.specs.Reads.{Reads, IsFault}
 use Rattle.ts_query_names.specs.declared.asking.Asking.{Asking}
 use Rattle.ts_query_syntax.specs.declared.fault.QueryFault.{QueryFault}
 use Rattle.ts_query_syntax.specs.declared.fault.QueryFault.TheVariants as fault
-use Rattle.ts_query_names.specs.Asking.{Form, text, pair, one_of, found, host, asking_of, form_of}
+use Rattle.ts_query_names.specs.Asking.{AskedForm, text, pair, one_of, found, host, asking_of, form_of_operands}
 use Rattle.ts_query_names.specs.Checks.{checks, first_wrong, built, sources_of}
 use Rattle.ts_query_names.specs.Kinds.{first_sights, kind_eq}
-use Rattle.ts_query_names.specs.Mentions.{Mention, kind, field, capture, predicate, nested, KindName, named_by, named_in, any_captures, kinds_named}
+use Rattle.ts_query_names.specs.Mentions.{Mention, kind, field, capture, predicate, nested, KindName, mentioned_by, named_in, any_captures, kinds_named}
 use Rattle.ts_query_syntax.specs.declared.read_query.Asked.{Asked}
 use Rattle.ts_query_syntax.specs.declared.read_query.Asked.TheVariants as asked
 use Rattle.ts_query_syntax.specs.declared.read_query.Predicate.{Predicate}
@@ -40,7 +40,7 @@ abbrev pub written_texts : List Written → List Bytes
 written_texts = map (λ (w : Written). w.text)
 
 -- what a form asks: an expression is the one that was built of its text
-abbrev pub AsksFor : Names → Form → Asked → Type 0
+abbrev pub AsksFor : Names → AskedForm → Asked → Type 0
 AsksFor names (text first written) a = a ≡ asked.Text written.text
 AsksFor names (pair first other) a = a ≡ asked.Capture (capture_number names other.text)
 AsksFor names (one_of first all) a = a ≡ asked.OneOf (written_texts all)
@@ -49,7 +49,7 @@ AsksFor names (found first written) a =
 AsksFor names (host first place) a = a ≡ asked.Host place
 
 -- the capture whose texts a form asks for
-abbrev pub subject : Form → Written
+abbrev pub subject : AskedForm → Written
 subject (text first written) = first
 subject (pair first other) = first
 subject (one_of first all) = first
@@ -57,12 +57,12 @@ subject (found first written) = first
 subject (host first place) = first
 
 -- a predicate as it is written, of a name that is known and operands of its form
-pub record IsPredicate (hosts : List Bytes) (names : Names) (name : Written) (operands : List Operand)
-    (p : Predicate) : Type 0 where
+pub record IsPredicate (hosts : List Bytes) (names : Names) (name : Written)
+    (operands : List Operand) (p : Predicate) : Type 0 where
   pub asking : Asking
-  pub form : Form
+  pub form : AskedForm
   pub known : asking_of hosts name.text ≡ Some asking
-  pub formed : form_of asking.relation operands ≡ Some form
+  pub formed : form_of_operands asking.relation operands ≡ Some form
   pub capture : p.capture ≡ capture_number names (subject form).text
   pub asked : AsksFor names form p.asked
   pub negated : p.negated ≡ asking.negated
@@ -90,7 +90,7 @@ AddsPredicates hosts names m old new =
 pub record IsPattern (hosts : List Bytes) (names : Names) (part : Part) (p : Pattern) : Type 0 where
   pub items : p.items ≡ items_of (pieces names part)
   pub closed : p.closed ≡ is_closed (pieces names part)
-  pub predicates : ArePredicates hosts names (named_by part) p.predicates
+  pub predicates : ArePredicates hosts names (mentioned_by part) p.predicates
 
 -- one pattern for each part
 abbrev pub ArePatterns : List Bytes → Names → List Part → List Pattern → Type 0
@@ -110,17 +110,20 @@ names_of g parts = record {
   fields = g.fields;
 }
 
+-- the name of a kind of a query, and whether it is named
 abbrev pub kind_name : QueryKind → KindName
 kind_name k = (k.name, k.named)
 
 -- the query that parts are by their names, whether or not they have a fault
-pub record IsNumbered (g : FlatGrammar) (hosts : List Bytes) (parts : List Part) (q : ReadQuery) : Type 0 where
+pub record IsNumbered (g : FlatGrammar) (hosts : List Bytes) (parts : List Part) (q : ReadQuery)
+    : Type 0 where
   pub patterns : ArePatterns hosts (names_of g parts) parts q.patterns
   pub captures : q.captures ≡ (names_of g parts).captures
   pub kinds : map kind_name q.kinds ≡ (names_of g parts).kinds
 
 -- the query that parts are, none of which has a fault
-pub record IsQueryOf (g : FlatGrammar) (hosts : List Bytes) (parts : List Part) (q : ReadQuery) : Type 0 where
+pub record IsQueryOf (g : FlatGrammar) (hosts : List Bytes) (parts : List Part) (q : ReadQuery)
+    : Type 0 where
   pub right : first_wrong (checks g hosts parts) ≡ None
   pub patterns : ArePatterns hosts (names_of g parts) parts q.patterns
   pub captures : q.captures ≡ (names_of g parts).captures
@@ -196,7 +199,8 @@ GrewUpTo g hosts w at old new =
 
 -- By how much the list of texts grew with a fault: by all expressions before it. Where the text is
 -- no query of any grammar none is built.
-abbrev pub GrewWith : FlatGrammar → List Bytes → Bytes → List Bytes → List Bytes → QueryFault → Type 0
+abbrev pub GrewWith : FlatGrammar → List Bytes → Bytes → List Bytes → List Bytes → QueryFault
+    → Type 0
 GrewWith g hosts w old new (fault.Syntax at) = new ≡ old
 GrewWith g hosts w old new (fault.Deep at) = new ≡ old
 GrewWith g hosts w old new (fault.UnknownNode at) = GrewByAll g hosts w old new

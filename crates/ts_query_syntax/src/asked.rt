@@ -1,5 +1,5 @@
-//! What predicates ask: a form that is written goes in, and what it asks, with its expression built,
-//! comes out.
+//! What predicates ask: a form that is written goes in, and what it asks, with its expression
+//! built, comes out.
 ghost use Rattle.std.specs.Prelude.{◌≡◌, ◌∷◌, ◌++◌, [], map, IfOk, OnOk};
 ghost use Rattle.ts_query_names.specs.Asking.{form_pattern, text_in, texts_in};
 ghost use Rattle.ts_query_names.specs.Checks.{pattern};

@@ -47,11 +47,11 @@ fn keep(alloc: Global, sources: &mut Vec<Str>, source: &str) -> Result<(), Alloc
 
 impl Builder {
     ghost use Rattle.std.specs.Prelude.{◌≡◌, []};
-    ghost use Rattle.ts_query_syntax.specs.Builders.{failing_of, sources_of, calls_of, refusals_of};
+    ghost use Rattle.ts_query_syntax.specs.Builders.{failing_calls, sources_of, calls_of, refusals_of};
 
     /// A builder whose calls of these numbers fail.
     pub fn new(alloc: Global, failing: Vec<u64>) -> Builder
-        ensures failing { failing_of result ≡ failing.items }
+        ensures failing { failing_calls result ≡ failing.items }
         ensures sources { sources_of result ≡ [] }
         ensures calls { calls_of result ≡ 0 }
         ensures refusals { refusals_of result ≡ 0 }
@@ -67,7 +67,7 @@ impl Builder {
 
 impl Patterns for Builder {
     ghost use Rattle.std.specs.Prelude.{◌≡◌, ◌≢◌, ◌≤◌, ◌++◌, ◌∷◌, ◌⊎◌, [], Err, IfOk, Contains};
-    ghost use Rattle.ts_query_syntax.specs.Builders.{failing_of, sources_of, calls_of, refusals_of};
+    ghost use Rattle.ts_query_syntax.specs.Builders.{failing_calls, sources_of, calls_of, refusals_of};
     ghost use Rattle.ts_query_syntax.specs.Refusals.{HasRisen, IsBuiltFrom, next_count};
 
     ghost sources = { sources_of };
@@ -84,12 +84,12 @@ impl Patterns for Builder {
             → HasRisen (refusals_of self.old) (refusals_of self.new) }
 
         // When it fails, and what it counts.
-        ensures fails { Contains (failing_of self.old) (calls_of self.old)
+        ensures fails { Contains (failing_calls self.old) (calls_of self.old)
             → (result ≡ Err BuildFault.Refused) ⊎ (result ≡ Err BuildFault.Memory) }
         ensures kept { result ≢ Err BuildFault.Refused
             → refusals_of self.new ≡ refusals_of self.old }
         ensures calls { calls_of self.new ≡ next_count (calls_of self.old) }
-        ensures failing { failing_of self.new ≡ failing_of self.old }
+        ensures failing { failing_calls self.new ≡ failing_calls self.old }
     {
         let number = self.calls;
         self.calls = number.saturating_add(1);

@@ -12,8 +12,6 @@ mod level;
 mod patterns;
 mod read_query;
 mod reader;
-#[cfg(test)]
-mod tests;
 
 pub use builder::Builder;
 pub use fault::QueryFault;

@@ -16,17 +16,18 @@ use Rattle.ts_query_tree.specs.declared.sign.Sign.TheVariants as sign
 use Rattle.ts_query_tree.specs.Trees.{Parts, empty, more, Part, item, predicate, wild, spelling, part_spelling, head_spelling, may_follow, is_fitting, is_filled}
 use Rattle.ts_query_tree.specs.Machine.{Open, frame_of, ready, flushed, holds_groups, is_due, within, put, next}
 use Rattle.ts_query_tree.proofs.Shapes.{Shape, shape, before_of, last_of, takes_mark, content_of, groups_at, asks_at, level_at, levels, open_at, shape_spelling, spelled, bracket_spelling, pending_spelling, holds, Formed, IsStarted}
-use Rattle.ts_query_tree.specs.Reads.{IsQuery, Begins}
+use Rattle.ts_query_tree.specs.Reads.{IsQueryTree, Begins}
 use Rattle.ts_query_tree.specs.Machine.{run_from, start}
 use Rattle.ts_query_tree.proofs.ShapeLemmas.{attach_part, attach_begun, spelled_more, unit_spells, flushed_all, content_predicate, field_in, with_unit, field_is, unit_added, started_more, unit_follows, wild_follows, group_follows}
-use Rattle.ts_query_tree.proofs.GrowLemmas.{fits, begins_node, begins_choice, ends, opened_empty, asked_follows, grows}
+use Rattle.ts_query_tree.proofs.SignLemmas.{fits, opened_empty}
+use Rattle.ts_query_tree.proofs.GrowLemmas.{begins_node, begins_choice, ends, asked_follows, grows}
 use Rattle.ts_query_tree.proofs.RunLemmas.{go, stepped, any_goes, run_query}
 
 -- some signs lead to a query
 pub record Closes (x : Shape) (os : List Shape) : Type 0 where
   pub rest : List Sign
   pub query : Parts
-  pub is : IsQuery query
+  pub is : IsQueryTree query
   pub spells : spelling query ≡ spelled x os ++ rest
   pub run : go x os rest ≡ Some (open_at (shape Top query pending.Nothing) [])
 

@@ -15,7 +15,7 @@ use Rattle.ts_query_tree.specs.declared.level.Level.{Level}
 use Rattle.ts_query_tree.specs.declared.sign.Sign.{Sign}
 use Rattle.ts_query_tree.specs.declared.sign.Sign.TheVariants as sign
 use Rattle.ts_query_tree.specs.Trees.{Parts, empty, more, Part, item, anchor, without, predicate, spelling, part_spelling, head_spelling, field_spelling, mark_spelling, operand_sign}
-use Rattle.ts_query_tree.specs.Reads.{nested, most_open, AreShallow}
+use Rattle.ts_query_tree.specs.Reads.{nested, most_open, StayShallow}
 use Rattle.ts_query_tree.specs.Machine.{Open, is_due, is_opened, is_opening, takes_unit, entered, next, run_from, start}
 use Rattle.ts_query_tree.proofs.Shapes.{Shape, shape, levels, level_at, shape_spelling, spelled, bracket_spelling, pending_spelling, Formed, Linked}
 use Rattle.ts_query_tree.proofs.CloseLemmas.{reaches}
@@ -187,19 +187,19 @@ others_stay (sign.Capture w) n i = omega arith
 others_stay (sign.Without w) n i = omega arith
 others_stay (sign.Predicate w) n i = omega arith
 
-pub shallow_last : (n : ℕ) (ss : List Sign) → AreShallow n ss → nests n ss ≤ most_open
+pub shallow_last : (n : ℕ) (ss : List Sign) → StayShallow n ss → nests n ss ≤ most_open
 shallow_last n [] h = h
 shallow_last n (s ∷ ss) h = shallow_last (nested n s) ss h.1
 
-pub shallow_push : (n : ℕ) (ss : List Sign) (s : Sign) → AreShallow n ss → nested (nests n ss) s ≤ most_open → AreShallow n (ss ++ s ∷ [])
+pub shallow_push : (n : ℕ) (ss : List Sign) (s : Sign) → StayShallow n ss → nested (nests n ss) s ≤ most_open → StayShallow n (ss ++ s ∷ [])
 shallow_push n [] s h le = (h, le)
 shallow_push n (t ∷ ss) s h le = (h.0, shallow_push (nested n t) ss s h.1 le)
 
-pub shallow_front : (n : ℕ) (ss ts : List Sign) → AreShallow n (ss ++ ts) → AreShallow n ss
+pub shallow_front : (n : ℕ) (ss ts : List Sign) → StayShallow n (ss ++ ts) → StayShallow n ss
 shallow_front n [] [] h = h
 shallow_front n [] (t ∷ ts) h = h.0
 shallow_front n (s ∷ ss) ts h = (h.0, shallow_front (nested n s) ss ts h.1)
 
-pub shallow_end : (n : ℕ) (ss : List Sign) (s : Sign) → AreShallow n (ss ++ s ∷ []) → nested (nests n ss) s ≤ most_open
+pub shallow_end : (n : ℕ) (ss : List Sign) (s : Sign) → StayShallow n (ss ++ s ∷ []) → nested (nests n ss) s ≤ most_open
 shallow_end n [] s h = h.1
 shallow_end n (t ∷ ss) s h = shallow_end (nested n t) ss s h.1

@@ -15,7 +15,7 @@ use Rattle.ts_query_tree.specs.declared.tree.Part.{Part as Value}
 use Rattle.ts_query_tree.specs.Words.{gap_end}
 use Rattle.ts_query_tree.specs.Signs.{sight, sight_of}
 use Rattle.ts_query_tree.specs.Trees.{Parts, spelling, values_of}
-use Rattle.ts_query_tree.specs.Reads.{Signs, IsQuery, IsQueryText, AreShallow, Reads, Begins, GoesWrong, strange, misplaced, misplaced_cut, nameless, ends, IsTooDeep, Stops, IsFault}
+use Rattle.ts_query_tree.specs.Reads.{Signs, IsQueryTree, IsQueryText, StayShallow, Reads, Begins, GoesWrong, strange, misplaced, misplaced_cut, nameless, ends, OpensTooDeep, Stops, IsFault}
 use Rattle.ts_query_tree.specs.Machine.{Open, run_from, start, finished}
 use Rattle.ts_query_tree.proofs.Shapes.{Shape, shape, level_at, open_at, spelled, Formed}
 use Rattle.ts_query_tree.proofs.ShapeLemmas.{flushed_all}
@@ -28,7 +28,7 @@ use Rattle.ts_query_tree.proofs.DepthLemmas.{shallow_front}
 -- what is finished is a query
 pub record IsWhole (ss : List Sign) (xs : List Value) : Type 0 where
   pub query : Parts
-  pub is : IsQuery query
+  pub is : IsQueryTree query
   pub spells : spelling query ≡ ss
   pub value : xs ≡ values_of query
 
@@ -55,15 +55,15 @@ whole ss z xs run e =
     let r = reaches ss z run in
     whole_inner r.inner r.round ss xs r.formed r.spells (subst (λ (y : Open). finished y.0 ≡ Some xs) r.same e)
 
-ran_whole : (ss : List Sign) (z : Open) (q : Parts) → run_from start ss ≡ Some z → IsQuery q → spelling q ≡ ss → finished z.0 ≡ Some (values_of q)
+ran_whole : (ss : List Sign) (z : Open) (q : Parts) → run_from start ss ≡ Some z → IsQueryTree q → spelling q ≡ ss → finished z.0 ≡ Some (values_of q)
 ran_whole ss z q run is e =
     let same : z ≡ open_at (shape Top q pending.Nothing) [] = same_Some _ _ (sym run ∙ ap (run_from start) (sym e) ∙ run_query q is) in
     ap (λ (y : Open). finished y.0) same ∙ ap (λ (xs : List Value). Some xs) (flushed_all q)
 
-pub unfinished : (ss : List Sign) (z : Open) → run_from start ss ≡ Some z → finished z.0 ≡ None → (q : Parts) → IsQuery q → spelling q ≡ ss → ⊥
+pub unfinished : (ss : List Sign) (z : Open) → run_from start ss ≡ Some z → finished z.0 ≡ None → (q : Parts) → IsQueryTree q → spelling q ≡ ss → ⊥
 unfinished ss z run n q is e = none-some (values_of q) (sym n ∙ ran_whole ss z q run is e)
 
-one_spelled : (p q : Parts) → IsQuery p → IsQuery q → spelling p ≡ spelling q → values_of p ≡ values_of q
+one_spelled : (p q : Parts) → IsQueryTree p → IsQueryTree q → spelling p ≡ spelling q → values_of p ≡ values_of q
 one_spelled p q a b e =
     same_Some _ _ (sym (ran_whole (spelling q) (open_at (shape Top q pending.Nothing) []) p (run_query q b) a e) ∙ ran_whole (spelling q) (open_at (shape Top q pending.Nothing) []) q (run_query q b) b refl)
 
@@ -135,7 +135,7 @@ module _ (w : Bytes) where
   right ss i _ s n (nameless t j e begins) there b = sees_cut i s t n j there e
   right ss i _ s n (ends e no_query) there b = sees_strange i s n there (at_end i e)
 
-  right_end : (ss : List Sign) (i p : ℕ) (q : Parts) → GoesWrong w ss i p → i ≡ length w → IsQuery q → spelling q ≡ ss → ⊥
+  right_end : (ss : List Sign) (i p : ℕ) (q : Parts) → GoesWrong w ss i p → i ≡ length w → IsQueryTree q → spelling q ≡ ss → ⊥
   right_end ss i _ q (strange lt e) end is signs = omega (arith, lt, end)
   right_end ss i _ q (misplaced t j e no_query) end is signs = sees_strange i t j e (at_end i end)
   right_end ss i _ q (misplaced_cut t j e no_query) end is signs = cut_strange i t j e (at_end i end)
@@ -172,14 +172,14 @@ module _ (w : Bytes) where
   -- what is wrong at a place, of either kind
   abbrev pub Wrong : ℕ ⊎ ℕ → List Sign → ℕ → Type 0
   Wrong (inl p) ss i = GoesWrong w ss i p
-  Wrong (inr p) ss i = IsTooDeep w ss i × (i ≡ p)
+  Wrong (inr p) ss i = OpensTooDeep w ss i × (i ≡ p)
 
-  goes_right : (k : ℕ ⊎ ℕ) (ss : List Sign) (j : ℕ) (ts : List Sign) → Wrong k ss (gap_end w j) → GoesOn ss ts j → Begins ts → AreShallow 0 ts → ⊥
+  goes_right : (k : ℕ ⊎ ℕ) (ss : List Sign) (j : ℕ) (ts : List Sign) → Wrong k ss (gap_end w j) → GoesOn ss ts j → Begins ts → StayShallow 0 ts → ⊥
   goes_right (inl p) ss j ts h g b a = right ss (gap_end w j) p g.sign g.behind h g.there (begins_front ss g.sign g.rest (subst Begins g.is b))
   goes_right (inr p) ss j ts h g b a =
       let e = one_seen (gap_end w j) g.sign h.0.bracket g.behind h.0.behind g.there h.0.there in
-      let shallow : AreShallow 0 (ss ++ g.sign ∷ []) = shallow_front 0 (ss ++ g.sign ∷ []) g.rest (subst (AreShallow 0) (g.is ∙ sym (append_assoc ss (g.sign ∷ []) g.rest)) a) in
-      h.0.deep (subst (λ (u : Sign). AreShallow 0 (ss ++ u ∷ [])) e.0 shallow)
+      let shallow : StayShallow 0 (ss ++ g.sign ∷ []) = shallow_front 0 (ss ++ g.sign ∷ []) g.rest (subst (StayShallow 0) (g.is ∙ sym (append_assoc ss (g.sign ∷ []) g.rest)) a) in
+      h.0.deep (subst (λ (u : Sign). StayShallow 0 (ss ++ u ∷ [])) e.0 shallow)
 
   stops_on : (k l : ℕ ⊎ ℕ) (ss ts : List Sign) (i : ℕ) → Wrong k ss i → Wrong l ss i → k ≡ l
   stops_on (inl p) (inl q) ss ts i a b = ap (λ (n : ℕ). inl n) (one_wrong ss i p q a b)
@@ -197,11 +197,11 @@ module _ (w : Bytes) where
       by (first_on g) = absurd (goes_right l b.signs b.behind a.signs b.here g a.begins a.shallow)
       by (second_on g) = absurd (goes_right k a.signs a.behind b.signs a.here g b.begins b.shallow)
 
-  wrong_end : (k : ℕ ⊎ ℕ) (ss : List Sign) (i : ℕ) (q : Parts) → Wrong k ss i → i ≡ length w → IsQuery q → spelling q ≡ ss → ⊥
+  wrong_end : (k : ℕ ⊎ ℕ) (ss : List Sign) (i : ℕ) (q : Parts) → Wrong k ss i → i ≡ length w → IsQueryTree q → spelling q ≡ ss → ⊥
   wrong_end (inl p) ss i q h end is signs = right_end ss i p q h end is signs
   wrong_end (inr p) ss i q h end is signs = sees_strange i h.0.bracket h.0.behind h.0.there (at_end i end)
 
-  pub stop_or_query : (k : ℕ ⊎ ℕ) (q : Parts) → Stops w (Wrong k) → IsQueryText w q → AreShallow 0 (spelling q) → ⊥
+  pub stop_or_query : (k : ℕ ⊎ ℕ) (q : Parts) → Stops w (Wrong k) → IsQueryText w q → StayShallow 0 (spelling q) → ⊥
   stop_or_query k q a t shallow = by (compared a.signs (spelling q) 0 a.behind t.1 a.lead t.2)
     where
       by : Compared a.signs (spelling q) a.behind t.1 → ⊥

@@ -1,5 +1,6 @@
 pub mod Shapes
 pub mod ShapeLemmas
+pub mod SignLemmas
 pub mod GrowLemmas
 pub mod WordLemmas
 pub mod RunLemmas

@@ -13,7 +13,7 @@ use Rattle.ts_query_tree.specs.declared.fault.TreeFault.TheVariants as fault
 use Rattle.ts_query_tree.specs.declared.tree.Part.{Part as Value}
 use Rattle.ts_query_tree.specs.Words.{gap, gap_end}
 use Rattle.ts_query_tree.specs.Signs.{sight}
-use Rattle.ts_query_tree.specs.Reads.{Signs, Begins, AreShallow, GoesWrong, strange, misplaced, misplaced_cut, nameless, ends, IsTooDeep, IsFault, IsOutcome, nested, most_open}
+use Rattle.ts_query_tree.specs.Reads.{Signs, Begins, StayShallow, GoesWrong, strange, misplaced, misplaced_cut, nameless, ends, OpensTooDeep, IsFault, IsOutcome, nested, most_open}
 use Rattle.ts_query_tree.specs.Machine.{Open, next, run_from, start, finished, Follows, is_opening, ready, new_frame}
 use Rattle.ts_query_tree.specs.States.{IsState, ended}
 use Rattle.ts_query_tree.proofs.CloseLemmas.{run_append, begins, stuck}
@@ -83,7 +83,7 @@ module _ (w : Bytes) (s : State) (h : IsState w s) (at : ℕ) (here : at ≡ gap
           begins = begins h.signs z h.run;
           shallow = h.shallow;
           here = (
-            subst (IsTooDeep w h.signs) here
+            subst (OpensTooDeep w h.signs) here
                 (record {
                   bracket = t;
                   behind = j;
@@ -97,7 +97,7 @@ module _ (w : Bytes) (s : State) (h : IsState w s) (at : ℕ) (here : at ≡ gap
         omega (arith, lt),
       )
 
-  stays_shallow : (t : Sign) (l : Level) (outer : List Level) → Follows (next s.level s.outer t) (Some l) outer → (k : Bool) → is_opening t ≡ k → (k ≡ true → length s.outer < 200) → AreShallow 0 (h.signs ++ t ∷ [])
+  stays_shallow : (t : Sign) (l : Level) (outer : List Level) → Follows (next s.level s.outer t) (Some l) outer → (k : Bool) → is_opening t ≡ k → (k ≡ true → length s.outer < 200) → StayShallow 0 (h.signs ++ t ∷ [])
   stays_shallow t l outer f true i lt = let d = depth_here t l outer i f in let few = lt refl in shallow_push 0 h.signs t h.shallow (omega (arith, d, few))
   stays_shallow t l outer f false i lt = let le = others_stay t (nests 0 h.signs) i in let last = shallow_last 0 h.signs h.shallow in shallow_push 0 h.signs t h.shallow (omega (arith, le, last))
 
@@ -116,7 +116,7 @@ module _ (w : Bytes) (s : State) (h : IsState w s) (at : ℕ) (here : at ≡ gap
       let q = whole h.signs z xs h.run f in (
         q.query,
         (q.is, s.at, subst (λ (ss : List Sign). Signs w 0 ss s.at) (sym q.spells) h.lead, sym here ∙ e),
-        subst (AreShallow 0) (sym q.spells) h.shallow,
+        subst (StayShallow 0) (sym q.spells) h.shallow,
         q.value,
       )
 

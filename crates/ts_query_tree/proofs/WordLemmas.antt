@@ -125,13 +125,6 @@ between_more w i j k a b c =
 between_same : (w : Bytes) (i : ℕ) → between w i i ≡ []
 between_same w i = let none : i - i ≡ 0 = omega arith in ap (λ (n : ℕ). take n (drop i w)) none
 
-pub piece_begins : (w : Bytes) (from : ℕ) → from ≤ length w → IsCharBoundary w from → IsPiece w from from from []
-piece_begins w from le b = record {
-  order = (omega arith, omega arith, le);
-  boundary = b;
-  is = sym (ap₂ (λ (s : Bytes) (n : ℕ). before s n (inside (drop from w))) (between_same w from) (omega arith) ∙ before_nothing (inside (drop from w)));
-}
-
 -- a piece of which more is written
 on : (w : Bytes) (from kept at : ℕ) (read : Bytes) (t : Bytes) (n : ℕ) → IsPiece w from kept at read → inside (drop at w) ≡ before t n (inside (drop (at + n) w)) →
     inside (drop from w) ≡ before ((read ++ between w kept at) ++ t) ((at + n) - from) (inside (drop (at + n) w))

@@ -11,13 +11,16 @@ use Rattle.ts_query_tree.specs.declared.tree.Part.{Part as Value}
 use Rattle.ts_query_tree.specs.declared.tree.Part.TheOpen.{Part-F}
 use Rattle.ts_query_tree.specs.declared.tree.Part.TheFolds.{fold-Part}
 
+-- the place of a name or a string
 abbrev pub place_of : Written → ℕ
 place_of written = written.at
 
+-- the place of a field, if there is one
 abbrev pub field_places : Option Written → List ℕ
 field_places None = []
 field_places (Some name) = name.at ∷ []
 
+-- the place of a head: of its `_`, its string or its kind; a group and a choice have none
 abbrev pub head_places : Head → List ℕ
 head_places (Any at) = at ∷ []
 head_places (Text text) = text.at ∷ []
@@ -25,18 +28,22 @@ head_places (Node kind) = kind.at ∷ []
 head_places Group = []
 head_places Choice = []
 
+-- the place of a quantifier, if there is one
 abbrev pub mark_places : Option Mark → List ℕ
 mark_places None = []
 mark_places (Some mark) = mark.at ∷ []
 
+-- the place of a predicate's operand
 abbrev pub operand_place : Operand → ℕ
 operand_place (operand.Capture name) = name.at
 operand_place (operand.Text text) = text.at
 operand_place (operand.Name name) = name.at
 
+-- the places of several lists, one list after another
 abbrev pub all_places : List (List ℕ) → List ℕ
 all_places = flat_map (λ (places : List ℕ). places)
 
+-- the places of a part, from those of the parts in its bracket
 abbrev pub place_step : Part-F (List ℕ) → List ℕ
 place_step (Part-F.Item field head parts mark captures) =
     field_places field ++ (head_places head

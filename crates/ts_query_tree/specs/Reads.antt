@@ -20,13 +20,13 @@ Signs w i [] j = i ≡ j
 Signs w i (s ∷ ss) j = (k : ℕ) × (sight w (gap_end w i) ≡ Sees s k) × Signs w k ss j
 
 -- a query: patterns, each an item
-abbrev pub IsQuery : Parts → Type 0
-IsQuery q = AreFormed Top q
+abbrev pub IsQueryTree : Parts → Type 0
+IsQueryTree q = AreFormed Top q
 
 -- the text spells the query, and nothing else
 abbrev pub IsQueryText : Bytes → Parts → Type 0
 IsQueryText w q =
-    IsQuery q × (j : ℕ) × Signs w 0 (spelling q) j × (gap_end w j ≡ length w)
+    IsQueryTree q × (j : ℕ) × Signs w 0 (spelling q) j × (gap_end w j ≡ length w)
 
 -- how many brackets are open behind a sign
 abbrev pub nested : ℕ → Sign → ℕ
@@ -48,18 +48,18 @@ abbrev pub most_open : ℕ
 most_open = 200
 
 -- where n brackets are open, no more than may be are open before and behind each of these signs
-abbrev pub AreShallow : ℕ → List Sign → Type 0
-AreShallow n [] = n ≤ most_open
-AreShallow n (s ∷ ss) = (n ≤ most_open) × AreShallow (nested n s) ss
+abbrev pub StayShallow : ℕ → List Sign → Type 0
+StayShallow n [] = n ≤ most_open
+StayShallow n (s ∷ ss) = (n ≤ most_open) × StayShallow (nested n s) ss
 
 -- the text spells a query that is not too deep, which is this value
 abbrev pub Reads : Bytes → List Value → Type 0
 Reads w x =
-    (q : Parts) × IsQueryText w q × AreShallow 0 (spelling q) × (x ≡ values_of q)
+    (q : Parts) × IsQueryText w q × StayShallow 0 (spelling q) × (x ≡ values_of q)
 
 -- some query begins with these signs
 abbrev pub Begins : List Sign → Type 0
-Begins ss = (rest : List Sign) × (q : Parts) × IsQuery q × (spelling q ≡ ss ++ rest)
+Begins ss = (rest : List Sign) × (q : Parts) × IsQueryTree q × (spelling q ≡ ss ++ rest)
 
 -- Behind the signs ss the text goes wrong at place i: nothing that a sign begins with stands
 -- there, or a sign that cannot follow, or the text ends and is no query. Or at place i a sign
@@ -72,15 +72,15 @@ pub data GoesWrong (w : Bytes) (ss : List Sign) (i : ℕ) : ℕ → Type 0 where
       → GoesWrong w ss i i
   nameless : (s : Sign) (j : ℕ) → sight w i ≡ Cut s j → Begins (ss ++ s ∷ [])
       → GoesWrong w ss i j
-  ends : i ≡ length w → ((q : Parts) → IsQuery q → spelling q ≡ ss → ⊥) → GoesWrong w ss i i
+  ends : i ≡ length w → ((q : Parts) → IsQueryTree q → spelling q ≡ ss → ⊥) → GoesWrong w ss i i
 
 -- the sign at place i can follow the signs ss, and opens one bracket too many
-pub record IsTooDeep (w : Bytes) (ss : List Sign) (i : ℕ) : Type 0 where
+pub record OpensTooDeep (w : Bytes) (ss : List Sign) (i : ℕ) : Type 0 where
   pub bracket : Sign
   pub behind : ℕ
   pub there : sight w i ≡ Sees bracket behind
   pub begins : Begins (ss ++ bracket ∷ [])
-  pub deep : AreShallow 0 (ss ++ bracket ∷ []) → ⊥
+  pub deep : StayShallow 0 (ss ++ bracket ∷ []) → ⊥
 
 -- some query that is not too deep so far begins with the signs that lead to a place, and at the
 -- next sign, or the end, it is so
@@ -89,13 +89,13 @@ pub record Stops (w : Bytes) (At : List Sign → ℕ → Type 0) : Type 0 where
   pub behind : ℕ
   pub lead : Signs w 0 signs behind
   pub begins : Begins signs
-  pub shallow : AreShallow 0 signs
+  pub shallow : StayShallow 0 signs
   pub here : At signs (gap_end w behind)
 
 -- the cause of each refusal; running out of memory has none
 abbrev pub IsFault : Bytes → TreeFault → Type 0
 IsFault w (fault.Syntax p) = Stops w (λ ss i. GoesWrong w ss i p)
-IsFault w (fault.Deep p) = Stops w (λ ss i. IsTooDeep w ss i × (i ≡ p))
+IsFault w (fault.Deep p) = Stops w (λ ss i. OpensTooDeep w ss i × (i ≡ p))
 IsFault w fault.Memory = ⊤
 
 -- what a text is

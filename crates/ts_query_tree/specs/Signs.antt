@@ -14,6 +14,7 @@ use Rattle.ts_query_tree.specs.Words.{is_name_start, begins_name, name_end, gap_
 abbrev pub written : Bytes → ℕ → ℕ → ℕ → Written
 written w i from to = record { at = i; text = take (to - from) (drop from w) }
 
+-- a name, which stands at place i
 abbrev pub name_at : Bytes → ℕ → Sight
 name_at w i = Sees (sign.Name (written w i i (name_end w i))) (name_end w i)
 
@@ -23,6 +24,7 @@ capture_from w i k =
     if begins_name w k then Sees (sign.Capture (written w i k (name_end w k))) (name_end w k)
     else Cut (sign.Capture (written w i i i)) k
 
+-- the same of an `@` at place i, with blanks and comments before the name
 abbrev pub capture_at : Bytes → ℕ → Sight
 capture_at w i = capture_from w i (gap_end w (i + 1))
 
@@ -32,6 +34,7 @@ without_from w i k =
     if begins_name w k then Sees (sign.Without (written w k k (name_end w k))) (name_end w k)
     else Cut (sign.Without (written w k i i)) k
 
+-- the same of a `!` at place i, with blanks and comments before the name
 abbrev pub without_at : Bytes → ℕ → Sight
 without_at w i = without_from w i (gap_end w (i + 1))
 
@@ -46,9 +49,11 @@ predicate_from w i k =
     then Sees (sign.Predicate (written w i k (name_end w k + 1))) (name_end w k + 1)
     else Cut (sign.Predicate (written w i i i)) k
 
+-- the same of a `#` at place i, with blanks and comments before the name
 abbrev pub predicate_at : Bytes → ℕ → Sight
 predicate_at w i = predicate_from w i (gap_end w (i + 1))
 
+-- a string at place i, of this text and with this place behind it, if it has an end
 abbrev pub string : ℕ → Option (Bytes × ℕ) → Sight
 string i None = Strange
 string i (Some x) = Sees (sign.Text (record { at = i; text = x.0 })) x.1
@@ -57,6 +62,7 @@ string i (Some x) = Sees (sign.Text (record { at = i; text = x.0 })) x.1
 abbrev pub text_at : Bytes → ℕ → Sight
 text_at w i = string i (quoted w (i + 1))
 
+-- a quantifier at place i
 abbrev pub mark_at : ℕ → Quantity → Sight
 mark_at i quantity = Sees (sign.Mark (record { at = i; quantity = quantity })) (i + 1)
 
@@ -79,6 +85,7 @@ sign_from w i c =
     else if is_name_start c then name_at w i
     else Strange
 
+-- what stands at place i, where this byte is, or the end of the text
 abbrev pub sight_of : Bytes → ℕ → Option ℕ → Sight
 sight_of w i None = Strange
 sight_of w i (Some c) = sign_from w i c

@@ -29,14 +29,17 @@ mutual
 
 -- ---- the signs that spell each
 
+-- the signs that spell a field, if there is one: its name and a colon
 abbrev pub field_spelling : Option Written → List Sign
 field_spelling None = []
 field_spelling (Some name) = sign.Name name ∷ sign.Colon ∷ []
 
+-- the sign that spells a quantifier, if there is one
 abbrev pub mark_spelling : Option Mark → List Sign
 mark_spelling None = []
 mark_spelling (Some mark) = sign.Mark mark ∷ []
 
+-- the sign that spells an operand of a predicate
 abbrev pub operand_sign : Operand → Sign
 operand_sign (operand.Capture w) = sign.Capture w
 operand_sign (operand.Text w) = sign.Text w
@@ -54,11 +57,13 @@ head_spelling (Node kind) inner = sign.Open ∷ sign.Name kind ∷ (inner ++ sig
 head_spelling Group inner = sign.Open ∷ (inner ++ sign.Close ∷ [])
 head_spelling Choice inner = sign.OpenChoice ∷ (inner ++ sign.CloseChoice ∷ [])
 
+-- the signs that spell parts, one after another
 abbrev mutual
   pub spelling : Parts → List Sign
   spelling empty = []
   spelling (more ps p) = spelling ps ++ part_spelling p
 
+  -- the signs that spell one part
   pub part_spelling : Part → List Sign
   part_spelling (item field head parts mark captures) =
       field_spelling field ++ (head_spelling head (spelling parts)
@@ -70,18 +75,21 @@ abbrev mutual
 
 -- ---- what may stand where
 
+-- the part is an item
 abbrev pub is_item : Part → Bool
 is_item (item field head parts mark captures) = true
 is_item anchor = false
 is_item (without name) = false
 is_item (predicate name operands) = false
 
+-- the part is an anchor
 abbrev pub is_anchor : Part → Bool
 is_anchor (item field head parts mark captures) = false
 is_anchor anchor = true
 is_anchor (without name) = false
 is_anchor (predicate name operands) = false
 
+-- the head is that of a group
 abbrev pub is_group : Head → Bool
 is_group (Any at) = false
 is_group (Text text) = false
@@ -89,10 +97,12 @@ is_group (Node kind) = false
 is_group Group = true
 is_group Choice = false
 
+-- there is no value
 abbrev pub is_none : {A : Type 0} → Option A → Bool
 is_none None = true
 is_none (Some x) = false
 
+-- the list is empty
 abbrev pub is_nil : {A : Type 0} → List A → Bool
 is_nil [] = true
 is_nil (x ∷ xs) = false
@@ -102,6 +112,7 @@ abbrev pub has_item : Parts → Bool
 has_item empty = false
 has_item (more ps p) = is_item p || has_item ps
 
+-- the part is an anchor or a group
 abbrev pub is_binding : Part → Bool
 is_binding (item field head parts mark captures) = is_group head
 is_binding anchor = true
@@ -113,6 +124,7 @@ abbrev pub is_loose : Parts → Bool
 is_loose empty = true
 is_loose (more ps p) = is_loose ps && not (is_binding p)
 
+-- the last part is an anchor
 abbrev pub ends_tied : Parts → Bool
 ends_tied empty = false
 ends_tied (more ps p) = is_anchor p
@@ -131,6 +143,7 @@ begins_group anchor = true
 begins_group (without name) = false
 begins_group (predicate name operands) = false
 
+-- the part is a field that no child has
 abbrev pub is_without : Part → Bool
 is_without (item field head parts mark captures) = false
 is_without anchor = false
@@ -180,6 +193,7 @@ abbrev mutual
   AreFormed b empty = ⊤
   AreFormed b (more ps p) = IsFormed p × (may_follow b ps p ≡ true) × AreFormed b ps
 
+  -- an item is filled and fitting, and each part in its bracket may stand there
   pub IsFormed : Part → Type 0
   IsFormed (item field head parts mark captures) =
       (is_filled head parts ≡ true) × (is_fitting field head parts mark captures ≡ true)
@@ -190,11 +204,13 @@ abbrev mutual
 
 -- ---- a tree as a value of the code
 
+-- the values of parts, in a list
 abbrev mutual
   pub values_of : Parts → List Value
   values_of empty = []
   values_of (more ps p) = values_of ps ++ value_of p ∷ []
 
+  -- the value of one part
   pub value_of : Part → Value
   value_of (item field head parts mark captures) =
       value.Item field head (values_of parts) mark captures

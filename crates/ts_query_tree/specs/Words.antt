@@ -11,12 +11,15 @@ is_name_start c =
     (nat_le 48 c && nat_le c 57) || (nat_le 65 c && nat_le c 90) || (c == 95)
     || (nat_le 97 c && nat_le c 122)
 
+-- a byte with which a name goes on: one that begins a name, `-` or `.`
 abbrev pub is_name_byte : ℕ → Bool
 is_name_byte c = is_name_start c || (c == 45) || (c == 46)
 
+-- a byte that stands for itself in a string: neither a quote nor a backslash
 abbrev pub is_plain : ℕ → Bool
 is_plain c = not (c == 34) && not (c == 92)
 
+-- the byte passes the test
 abbrev pub passes : Test → ℕ → Bool
 passes Name = is_name_byte
 passes Plain = is_plain
@@ -25,6 +28,7 @@ passes Plain = is_plain
 abbrev pub run : (ℕ → Bool) → Bytes → ℕ → ℕ
 run p w i = prefix_len p (drop i w)
 
+-- there is a byte, and p holds of it
 abbrev pub holds : (ℕ → Bool) → Option ℕ → Bool
 holds p None = false
 holds p (Some c) = p c
@@ -94,6 +98,7 @@ abbrev mutual
   escaped [] = None
   escaped (c ∷ w) = before (meaning (letter_of c) c ∷ []) 2 (inside w)
 
+-- a string's text, and the place behind it: as many bytes behind place i as it is written in
 abbrev pub ending : ℕ → Option (Bytes × ℕ) → Option (Bytes × ℕ)
 ending i None = None
 ending i (Some x) = Some (x.0, i + x.1)

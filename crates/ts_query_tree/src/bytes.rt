@@ -68,7 +68,8 @@ pub(crate) fn run(text: &str, at: usize, test: Test) -> usize
     rest.len()
 }
 
-/// Whether the byte is a space, a tab, a line feed, a vertical tab, a form feed or a carriage return.
+/// Whether the byte is a space, a tab, a line feed, a vertical tab, a form feed or a carriage
+/// return.
 fn is_blank(byte: u8) -> bool
     ensures { result ≡ is_blank byte }
 {

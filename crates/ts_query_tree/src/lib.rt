@@ -13,8 +13,6 @@ mod sign;
 mod stack;
 mod state;
 mod step;
-#[cfg(test)]
-mod tests;
 mod tree;
 
 pub use fault::TreeFault;

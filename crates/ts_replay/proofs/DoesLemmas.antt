@@ -137,17 +137,6 @@ module _ (client number : ℕ) where
   turn_within p _ _ _ (shows document outcome shown) = omega arith
   turn_within p _ _ _ (has_no_memory s) = omega arith
 
-  pub opening_stays : (p : Place) (s : ScriptStep) (r : Reply) (q : Place) → DoesStep client number p s r q → q.book.opening ≡ p.book.opening
-  opening_stays p _ _ _ (publishes document edit d room can is drafts has) = refl
-  opening_stays p _ _ _ (is_behind document edit can less) = refl
-  opening_stays p _ _ _ (out_of_range document edit out) = refl
-  opening_stays p _ _ _ (too_large document edit bytes over) = refl
-  opening_stays p _ _ _ (looks document) = refl
-  opening_stays p _ _ _ (waits document wanted there) = refl
-  opening_stays p _ _ _ (gives_up document wanted turn less all) = refl
-  opening_stays p _ _ _ (shows document outcome shown) = refl
-  opening_stays p _ _ _ (has_no_memory s) = refl
-
   -- room and entries together stay as many
   pub sum_stays : (p : Place) (s : ScriptStep) (r : Reply) (q : Place) → DoesStep client number p s r q
       → q.book.room + length q.book.entries ≡ p.book.room + length p.book.entries

@@ -9,7 +9,7 @@ use Rattle.ts_script.specs.declared.plan.Plan.{Plan}
 use Rattle.ts_script.specs.declared.plan.ScriptStep.{ScriptStep}
 use Rattle.ts_replies.specs.declared.reply.Reply.{Reply}
 use Rattle.ts_replies.specs.declared.reply.ShownResult.{ShownResult}
-use Rattle.spec_history.specs.Legal.{IsComplete, Legal}
+use Rattle.spec_history.specs.Legal.{IsCompleteHistory, Legal}
 use Rattle.spec_history.specs.Orders.{InOrder}
 use Rattle.ts_replay.specs.declared.document.Document.{Document}
 use Rattle.ts_replay.specs.declared.document.Client.{Client}
@@ -40,7 +40,7 @@ module _ {Finds : Bytes → List ℕ → List ShownResult → Type 0} (plan : Pl
   each_done : (k : ℕ) → HasNoStepLeft plan.clients (replies_of clients) k
   each_done k = is_done plan.clients clients at.running.steps_are k (λ c is. done k c (slice_get_within clients k c is) is)
 
-  complete : IsComplete (history_now plan table openings documents clients)
+  complete : IsCompleteHistory (history_now plan table openings documents clients)
   complete = record {
     openings = at.running.all_given ∙ at.running.all_open;
     journals = length-map (books_of documents) journal_of ∙ length-map documents (λ (x : Document). x.book) ∙ at.running.all_open;

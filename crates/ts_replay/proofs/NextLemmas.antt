@@ -18,7 +18,7 @@ use Rattle.std.specs.Option.{option_and_then}
 use Rattle.ts_core.specs.declared.flat.FlatGrammar.{FlatGrammar}
 use Rattle.ts_script.specs.declared.plan.Plan.{Plan}
 use Rattle.spec_history.specs.Orders.{TakesTurns, tells, rests, gave_up}
-use Rattle.ts_replay.specs.Runs.{SoFar, with_own_reply, next_history, PublishesNothing, GrowsBy, stays, grows, IsNextReply}
+use Rattle.ts_replay.specs.Runs.{SoFar, with_own_reply, next_history, PublishesNothing, GrowsBy, stays, grows, IsOneMoreReply}
 use Rattle.ts_replay.proofs.ReplyLemmas.{stands, own_after, others_after, new_stands, old_stands, reply_cases, earlier_same, length_paired, paired_push, take_push, held_push, share, accounted_next}
 use Rattle.ts_replay.proofs.JournalLemmas.{still_right}
 
@@ -221,7 +221,7 @@ record IsNewTurn (c : ℕ) (own : List Reply) (s : ScriptStep) (r : Reply) (d k 
   pub told : turn_told r ≡ Some turn
 
 module _ {Finds : Bytes → List ℕ → List ShownResult → Type 0} (h : History) (over now : ℕ → ℕ) (c : ℕ) (own : List Reply) (s : ScriptStep) (r : Reply)
-    (journals : List (List JournalEntry)) (next : IsNextReply Finds h over now c own s r journals) where
+    (journals : List (List JournalEntry)) (next : IsOneMoreReply Finds h over now c own s r journals) where
   asked : asked_at h.plan c (length own) ≡ Some s
   asked = ap (λ (o : Option (List ScriptStep)). option_and_then (λ (steps : List ScriptStep). slice_get steps (length own)) o) next.steps_are ∙ next.step_is
 

@@ -25,7 +25,7 @@ use Rattle.ts_replay.specs.declared.document.Client.{Client}
 use Rattle.spec_history.specs.Books.{journal_entry_of, journal_of}
 use Rattle.ts_replay.specs.Replays.{history_of}
 use Rattle.ts_replay.specs.Steps.{place, NeedsRoom}
-use Rattle.ts_replay.specs.Runs.{SoFar, with_own_reply, next_history, IsNextReply, weight_left, edits_on, RunsInOrder}
+use Rattle.ts_replay.specs.Runs.{SoFar, with_own_reply, next_history, IsOneMoreReply, weight_left, edits_on, RunsInOrder}
 use Rattle.ts_replay.specs.Running.{books_of, replies_of, client_steps, over_in, history_now, IsOpen, HoldsVersion, IsRunning, MayTakeStep, IsStepTaken}
 use Rattle.ts_replay.proofs.ReplyLemmas.{own_after, others_after, left_next, length_one_more, length_paired, paired_push, held_push}
 use Rattle.ts_replay.proofs.AskLemmas.{does_grow, does_take, turn_within, sum_stays, room_within, does_rise, held_within, text_stays, held_now, latest_now, versions_now, does_right}
@@ -244,7 +244,7 @@ module _ {Finds : Bytes → List ℕ → List ShownResult → Type 0} (plan : Pl
     over_there : (k : ℕ) → (k ≡ document_of t.step → ⊥) → over_in after k ≡ over_in documents k
     over_there k other = ap (λ (o : Option Document). unwrap_or (option_map (λ (x : Document). x.turn) o) 0) (after_there k other)
 
-    is_next : IsNextReply Finds (history_now plan table openings documents clients) (over_in documents) (over_in after) c client.replies.items t.step t.reply (map journal_of (books_of after))
+    is_next : IsOneMoreReply Finds (history_now plan table openings documents clients) (over_in documents) (over_in after) c client.replies.items t.step t.reply (map journal_of (books_of after))
     is_next = record {
       steps = client.steps.now;
       steps_are = plan_steps;

@@ -13,7 +13,7 @@ use Rattle.ts_script.specs.declared.said.Action.{Action}
 use Rattle.ts_script.specs.declared.said.Action.TheVariants as action
 use Rattle.ts_script.specs.declared.said.Said.{Said}
 use Rattle.ts_script.specs.declared.said.Said.TheVariants.{Text, Path, Load, Step}
-use Rattle.ts_script.specs.Rules.{InOrder, WithinLimits, most_clients, most_documents, most_steps, AsksBelow, queries, query_in, sources, source_in, steps, steps_of, step_in, step_of, step_of_client, clients_in, client_count}
+use Rattle.ts_script.specs.Rules.{StandsRight, WithinLimits, most_clients, most_documents, most_script_steps, AsksBelow, queries, query_in, sources, source_in, steps, steps_of, step_in, step_of, step_of_client, clients_in, client_count}
 use Rattle.ts_script.specs.Script.{Follows, blank, says, Reads, at_end, next, IsScript}
 use Rattle.spec_history.specs.Replies.{document_of}
 use Rattle.ts_replay.specs.Replays.{AsksAmong, MayReplay}
@@ -22,7 +22,7 @@ use Rattle.ts_replay.specs.Replays.{AsksAmong, MayReplay}
 record AreSaid (said : List Said) : Type 0 where
   pub clients : client_count said ≤ most_clients
   pub documents : length (sources said) ≤ most_documents
-  pub few : length (steps said) ≤ most_steps
+  pub few : length (steps said) ≤ most_script_steps
   pub short : (c : ℕ) → length (steps_of c said) ≤ length (steps said)
   pub on : (c k : ℕ) (s : ScriptStep) → slice_get (steps_of c said) k ≡ Some s → document_of s < length (sources said)
   pub asks : (c k : ℕ) (s : ScriptStep) → slice_get (steps_of c said) k ≡ Some s → AsksAmong (length (queries said)) s
@@ -74,7 +74,7 @@ own_short c (Step client document act) = by (nat_eq c client)
     by true = omega arith
     by false = omega arith
 
-own_on : (c : ℕ) (before : List Said) (s : Said) → InOrder before s → (k : ℕ) (x : ScriptStep) → slice_get (step_of_client c s) k ≡ Some x → document_of x < length (sources before)
+own_on : (c : ℕ) (before : List Said) (s : Said) → StandsRight before s → (k : ℕ) (x : ScriptStep) → slice_get (step_of_client c s) k ≡ Some x → document_of x < length (sources before)
 own_on c before (Text t) order k x h = absurd (let f : None ≡ Some x = h in cc)
 own_on c before (Path t) order k x h = absurd (let f : None ≡ Some x = h in cc)
 own_on c before (Load t) order k x h = absurd (let f : None ≡ Some x = h in cc)
@@ -87,7 +87,7 @@ own_on c before (Step client document act) order k x h = by (nat_eq c client) k 
     by true (suc k) e = absurd (let f : None ≡ Some x = e in cc)
     by false k e = absurd (let f : None ≡ Some x = e in cc)
 
-own_asks : (c : ℕ) (before : List Said) (s : Said) → InOrder before s → (k : ℕ) (x : ScriptStep) → slice_get (step_of_client c s) k ≡ Some x → AsksAmong (length (queries before)) x
+own_asks : (c : ℕ) (before : List Said) (s : Said) → StandsRight before s → (k : ℕ) (x : ScriptStep) → slice_get (step_of_client c s) k ≡ Some x → AsksAmong (length (queries before)) x
 own_asks c before (Text t) order k x h = absurd (let f : None ≡ Some x = h in cc)
 own_asks c before (Path t) order k x h = absurd (let f : None ≡ Some x = h in cc)
 own_asks c before (Load t) order k x h = absurd (let f : None ≡ Some x = h in cc)
@@ -106,7 +106,7 @@ clients_small before (Path t) within = omega arith
 clients_small before (Load t) within = omega arith
 clients_small before (Step client document act) within = within.0
 
-steps_few : (before : List Said) (s : Said) → WithinLimits before s → length (steps before) ≤ most_steps → length (steps before) + length (step_in s) ≤ most_steps
+steps_few : (before : List Said) (s : Said) → WithinLimits before s → length (steps before) ≤ most_script_steps → length (steps before) + length (step_in s) ≤ most_script_steps
 steps_few before (Text t) within few = omega (arith, few)
 steps_few before (Path t) within few = omega (arith, few)
 steps_few before (Load t) within few = omega (arith, few)
@@ -123,7 +123,7 @@ at_either [] ys k x h = inr (k, h)
 at_either (y ∷ xs) ys zero x h = inl (0, h)
 at_either (y ∷ xs) ys (suc k) x h = ⊎_elim (λ w. inl (suc w.0, w.1)) (λ w. inr w) (at_either xs ys k x h)
 
-one_more : (before : List Said) (s : Said) → InOrder before s → WithinLimits before s → AreSaid before → AreSaid (before ++ s ∷ [])
+one_more : (before : List Said) (s : Said) → StandsRight before s → WithinLimits before s → AreSaid before → AreSaid (before ++ s ∷ [])
 one_more before s order within are = record {
   clients = clients_few before s are.clients (clients_small before s within);
   documents =
@@ -131,7 +131,7 @@ one_more before s order within are = record {
       let f : length (source_in s ++ []) ≡ length (source_in s) + 0 = length-append (source_in s) [] in
       let few : length (sources before) + length (source_in s) ≤ most_documents = documents_few before s within are.documents in
       omega (arith, e, f, few);
-  few = let e = count in let few : length (steps before) + length (step_in s) ≤ most_steps = steps_few before s within are.few in omega (arith, e, few);
+  few = let e = count in let few : length (steps before) + length (step_in s) ≤ most_script_steps = steps_few before s within are.few in omega (arith, e, few);
   short = λ c.
       let e : length (steps_of c (before ++ s ∷ [])) ≡ length (steps_of c before) + length (step_of_client c s ++ []) = ap length (flat_map-append (step_of_client c) before (s ∷ [])) ∙ length-append (steps_of c before) (step_of_client c s ++ []) in
       let f : length (step_of_client c s ++ []) ≡ length (step_of_client c s) + 0 = length-append (step_of_client c s) [] in

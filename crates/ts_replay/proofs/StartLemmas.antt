@@ -17,7 +17,7 @@ use Rattle.ts_docs.specs.Steps.{newest}
 use Rattle.ts_script.specs.declared.plan.Plan.{Plan}
 use Rattle.ts_script.specs.declared.plan.ScriptStep.{ScriptStep}
 use Rattle.ts_script.specs.declared.plan.ScriptStep.TheVariants as step
-use Rattle.ts_script.specs.Rules.{most_steps}
+use Rattle.ts_script.specs.Rules.{most_script_steps}
 use Rattle.ts_replies.specs.declared.reply.ShownResult.{ShownResult}
 use Rattle.ts_replies.specs.declared.reply.Reply.{Reply}
 use Rattle.ts_replies.specs.declared.reply.Reply.TheVariants as reply
@@ -122,22 +122,22 @@ left_none w (ss ∷ clients) (rs ∷ replies) none =
     ap (λ (l : List Reply). weight_of w (drop (length l) ss) + weight_left w clients replies) (none 0 rs refl)
     ∙ ap (λ (n : ℕ). weight_of w ss + n) (left_none w clients replies (λ k. none (suc k)))
 
-looks_left : (clients : List (List ScriptStep)) → ((k : ℕ) (ss : List ScriptStep) → slice_get clients k ≡ Some ss → length ss ≤ most_steps)
+looks_left : (clients : List (List ScriptStep)) → ((k : ℕ) (ss : List ScriptStep) → slice_get clients k ≡ Some ss → length ss ≤ most_script_steps)
     → weight_left (λ (s : ScriptStep). most_looks) clients [] ≤ 1000000000000 * length clients
 looks_left [] few = omega arith
 looks_left (ss ∷ clients) few =
     let rest : weight_left (λ (s : ScriptStep). most_looks) clients [] ≤ 1000000000000 * length clients = looks_left clients (λ k. few (suc k)) in
     let first : weight_of (λ (s : ScriptStep). most_looks) ss ≡ 10000000 * length ss = looks_weigh ss in
-    let short : length ss ≤ most_steps = few 0 ss refl in
+    let short : length ss ≤ most_script_steps = few 0 ss refl in
     omega (arith, rest, first, short)
 
-pub edits_left : (d : ℕ) (clients : List (List ScriptStep)) → ((k : ℕ) (ss : List ScriptStep) → slice_get clients k ≡ Some ss → length ss ≤ most_steps)
+pub edits_left : (d : ℕ) (clients : List (List ScriptStep)) → ((k : ℕ) (ss : List ScriptStep) → slice_get clients k ≡ Some ss → length ss ≤ most_script_steps)
     → weight_left (edits_on d) clients [] ≤ 100000 * length clients
 edits_left d [] few = omega arith
 edits_left d (ss ∷ clients) few =
     let rest : weight_left (edits_on d) clients [] ≤ 100000 * length clients = edits_left d clients (λ k. few (suc k)) in
     let first : weight_of (edits_on d) ss ≤ length ss = edits_weigh d ss in
-    let short : length ss ≤ most_steps = few 0 ss refl in
+    let short : length ss ≤ most_script_steps = few 0 ss refl in
     omega (arith, rest, first, short)
 
 -- ---- the beginning
@@ -229,9 +229,6 @@ module _ (Finds : Bytes → List ℕ → List ShownResult → Type 0) (plan : Pl
 
 -- ---- one more document, one more client
 
-pub opened_none : (plan : Plan) (table : ParseTable) → AreOpened plan table [] []
-opened_none plan table = record { count = refl; each = λ k d opening is given. absurd (let f : None ≡ Some d = is in cc) }
-
 pub opened_push : (plan : Plan) (table : ParseTable) (openings : List Bytes) (text : Bytes) (documents : List Document) (d : Document)
     → AreOpened plan table openings documents → IsFresh plan table text (length documents) d → AreOpened plan table (openings ++ text ∷ []) (documents ++ d ∷ [])
 opened_push plan table openings text documents d are is_fresh = record {
@@ -250,13 +247,6 @@ opened_push plan table openings text documents d are is_fresh = record {
       (λ v. subst (λ (t : Bytes). IsFresh plan table t k x) v.1 (subst (λ (y : Document). IsFresh plan table text k y) w.1 (subst (λ (n : ℕ). IsFresh plan table text n d) (sym w.0) is_fresh)))
       (push_cases openings text k opening given))
       (push_cases documents d k x x_is);
-}
-
-pub begun_none : (documents : List Document) → AreClientsBegun [] documents []
-begun_none documents = record {
-  steps_are = refl;
-  none = λ k c is. absurd (let f : None ≡ Some c = is in cc);
-  held = λ k c is. absurd (let f : None ≡ Some c = is in cc);
 }
 
 pub begun_push : (steps : List (List ScriptStep)) (own : List ScriptStep) (documents : List Document) (clients : List Client) (c : Client)

@@ -7,7 +7,7 @@ use Rattle.ts_shelf.specs.declared.journal.Entry.{Entry}
 use Rattle.ts_docs.specs.declared.parsed.Drafted.{Drafted}
 use Rattle.ts_docs.specs.declared.parsed.Pages.{Pages}
 use Rattle.ts_docs.specs.Versions.{IsTextOf}
-use Rattle.ts_script.specs.Rules.{most_clients, most_documents, most_steps}
+use Rattle.ts_script.specs.Rules.{most_clients, most_documents, most_script_steps}
 use Rattle.ts_script.specs.declared.plan.Plan.{Plan}
 use Rattle.ts_script.specs.declared.plan.ScriptStep.{ScriptStep}
 use Rattle.ts_script.specs.declared.plan.ScriptStep.TheVariants as step
@@ -43,7 +43,7 @@ pub record MayReplay (plan : Plan) : Type 0 where
   pub documents : length plan.documents ≤ most_documents
   pub clients : length plan.clients ≤ most_clients
   pub few : (client : ℕ) (steps : List ScriptStep) → slice_get plan.clients client ≡ Some steps
-      → length steps ≤ most_steps
+      → length steps ≤ most_script_steps
   pub on : (client number : ℕ) (s : ScriptStep) → asked_at plan client number ≡ Some s
       → document_of s < length plan.documents
   pub asks : (client number : ℕ) (s : ScriptStep) → asked_at plan client number ≡ Some s

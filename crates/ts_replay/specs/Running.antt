@@ -1,4 +1,4 @@
--- Documents and clients in the middle of a run. It serves proofs alone.
+-- Documents and clients in the middle of a run. It serves private clauses and proofs alone.
 use Rattle.std.specs.Prelude.{◌≡◌, ℕ, ◌+◌, ◌-◌, ◌<◌, ◌≤◌, ◌^◌, List, [], ◌∷◌, ◌++◌, length, map, slice_get, slice_set, unwrap_or, option_map, Some}
 use Rattle.ts_base.specs.Bytes.{Bytes}
 use Rattle.ts_shelf.specs.Entries.{most_turns, RisesWithin}
@@ -20,12 +20,15 @@ use Rattle.ts_replay.specs.Replays.{AsksAmong, MayReplay, HasVersions, history_o
 use Rattle.ts_replay.specs.Steps.{place, MayStep, NeedsRoom, Does}
 use Rattle.ts_replay.specs.Runs.{SoFar, weight_left, edits_on, RunsInOrder}
 
+-- the journal of each document
 abbrev pub books_of : List Document → List Pages
 books_of documents = map (λ (d : Document). d.book) documents
 
+-- the replies to each client so far
 abbrev pub replies_of : List Client → List (List Reply)
 replies_of clients = map (λ (c : Client). c.replies.items) clients
 
+-- the steps of each client
 abbrev pub client_steps : List Client → List (List ScriptStep)
 client_steps clients = map (λ (c : Client). c.steps.now) clients
 
@@ -33,6 +36,7 @@ client_steps clients = map (λ (c : Client). c.steps.now) clients
 abbrev pub over_in : List Document → ℕ → ℕ
 over_in documents k = unwrap_or (option_map (λ (d : Document). d.turn) (slice_get documents k)) 0
 
+-- what has happened so far, as a history of the plan
 abbrev pub history_now : Plan → ParseTable → List Bytes → List Document → List Client → History
 history_now plan table openings documents clients =
     history_of plan table.grammar openings (books_of documents) (replies_of clients)
@@ -46,8 +50,8 @@ pub record IsOpen (plan : Plan) (table : ParseTable) (opening : Bytes) (d : Docu
   pub rises : RisesWithin 0 d.turn d.book.entries
 
 -- among the versions that are held the document's is that of this number
-pub record HoldsVersion (plan : Plan) (table : ParseTable) (opening : Bytes) (d : Document) (number : ℕ)
-    (held : List ParsedText) (k : ℕ) : Type 0 where
+pub record HoldsVersion (plan : Plan) (table : ParseTable) (opening : Bytes) (d : Document)
+    (number : ℕ) (held : List ParsedText) (k : ℕ) : Type 0 where
   pub version : ParsedText
   pub is : slice_get held k ≡ Some version
   pub text : IsTextOf table number (version_text plan opening (journal_of d.book) number) version
@@ -66,8 +70,9 @@ pub record IsRunning (Finds : Bytes → List ℕ → List ShownResult → Type 0
   pub holds : (client k : ℕ) (c : Client) (d : Document) (opening : Bytes)
       → slice_get clients client ≡ Some c → slice_get documents k ≡ Some d
       → slice_get openings k ≡ Some opening
-      → HoldsVersion plan table opening d (held_before (history_now plan table openings documents clients)
-      client (length c.replies.items) k) c.held.items k
+      → HoldsVersion plan table opening d
+      (held_before (history_now plan table openings documents clients) client
+      (length c.replies.items) k) c.held.items k
   -- no client has more replies than steps
   pub short : (client : ℕ) (c : Client) → slice_get clients client ≡ Some c
       → length c.replies.items ≤ length c.steps.now

@@ -1,4 +1,4 @@
--- Runs that may not be over. It serves proofs alone.
+-- Runs that may not be over. It serves private clauses and proofs alone.
 use Rattle.std.specs.Prelude.{◌≡◌, ℕ, suc, ◌+◌, ◌<◌, ◌≤◌, ◌==◌, if◌then◌else◌, List, [], ◌∷◌, ◌++◌, length, drop, slice_get, slice_set, unwrap_or, Some}
 use Rattle.ts_base.specs.Bytes.{Bytes}
 use Rattle.ts_shelf.specs.Entries.{most_turns}
@@ -65,7 +65,7 @@ pub data GrowsBy (client number : ℕ) (entries : List JournalEntry)
       (entries ++ record { turn = turn; client = client; step = number } ∷ [])
 
 -- the client, which had these replies, has one more, to its next step
-pub record IsNextReply (Finds : Bytes → List ℕ → List ShownResult → Type 0)
+pub record IsOneMoreReply (Finds : Bytes → List ℕ → List ShownResult → Type 0)
     (h : History) (over now_over : ℕ → ℕ) (client : ℕ) (own : List Reply) (s : ScriptStep)
     (r : Reply) (journals : List (List JournalEntry)) : Type 0 where
   pub steps : List ScriptStep
@@ -103,7 +103,8 @@ weight_of w (s ∷ ss) = w s + weight_of w ss
 abbrev pub weight_left : (ScriptStep → ℕ) → List (List ScriptStep) → List (List Reply) → ℕ
 weight_left w [] replies = 0
 weight_left w (ss ∷ clients) [] = weight_of w ss + weight_left w clients []
-weight_left w (ss ∷ clients) (rs ∷ replies) = weight_of w (drop (length rs) ss) + weight_left w clients replies
+weight_left w (ss ∷ clients) (rs ∷ replies) =
+    weight_of w (drop (length rs) ss) + weight_left w clients replies
 
 -- one for an edit of the document
 abbrev pub edits_on : ℕ → ScriptStep → ℕ
@@ -126,7 +127,8 @@ abbrev pub AllBegin : List (List Reply) → List (List Reply) → Type 0
 AllBegin [] [] = Unit {0}
 AllBegin [] (bs ∷ all) = ⊥
 AllBegin (rs ∷ replies) [] = ⊥
-AllBegin (rs ∷ replies) (bs ∷ all) = ((more : List Reply) × (bs ≡ rs ++ more)) × AllBegin replies all
+AllBegin (rs ∷ replies) (bs ∷ all) =
+    ((more : List Reply) × (bs ≡ rs ++ more)) × AllBegin replies all
 
 -- The steps so far ran in the order, of which these numbers are left: however the replies go on, if
 -- those to come take the next turns in the order of the rest, then all replies are in the order.
@@ -140,4 +142,5 @@ RunsInOrder order rest clients replies over = (all : List (List Reply)) → AllB
 -- the client of this number has no step without a reply
 abbrev pub HasNoStepLeft : List (List ScriptStep) → List (List Reply) → ℕ → Type 0
 HasNoStepLeft clients replies client =
-    length (unwrap_or (slice_get clients client) []) ≤ length (unwrap_or (slice_get replies client) [])
+    length (unwrap_or (slice_get clients client) [])
+    ≤ length (unwrap_or (slice_get replies client) [])

@@ -1,4 +1,4 @@
--- One step of a client, on its document. It serves proofs alone.
+-- One step of a client, on its document. It serves private clauses and proofs alone.
 use Rattle.std.specs.Prelude.{◌≡◌, ℕ, suc, ◌+◌, ◌<◌, ◌≤◌, ◌^◌, List, [], ◌∷◌, ◌++◌, length}
 use Rattle.ts_base.specs.Bytes.{Bytes}
 use Rattle.ts_shelf.specs.Entries.{most_turns, RisesWithin}
@@ -26,6 +26,7 @@ pub record Place : Type 0 where
   pub book : Pages
   pub held : ParsedText
 
+-- a place, by its turns that are over, its journal and the held version
 abbrev pub place : ℕ → Pages → ParsedText → Place
 place turn book held = record { turn = turn; book = book; held = held }
 
@@ -38,8 +39,8 @@ with_entry b turn d room =
 abbrev pub after_looks : ℕ → Place → Place
 after_looks looks p = place (p.turn + looks) p.book (newest p.book)
 
--- What the client's step of this number does at a place where it asks no queries, or finds no memory:
--- the reply to it, and the place after it.
+-- What the client's step of this number does at a place where it asks no queries, or finds no
+-- memory: the reply to it, and the place after it.
 pub data DoesStep (client number : ℕ) (before : Place) : ScriptStep → Reply → Place → Type 0 where
   publishes : (document : ℕ) (edit : TextEdit) (d : Drafted) (room : ℕ)
       → CanEdit before.held.text edit → before.held.number ≡ length before.book.entries
@@ -78,8 +79,8 @@ pub data DoesStep (client number : ℕ) (before : Place) : ScriptStep → Reply 
 -- the same for each step
 pub data Does (Finds : Bytes → List ℕ → List ShownResult → Type 0) (client number : ℕ)
     (before : Place) : ScriptStep → Reply → Place → Type 0 where
-  asks_nothing : (s : ScriptStep) (r : Reply) (after : Place) → DoesStep client number before s r after
-      → Does Finds client number before s r after
+  asks_nothing : (s : ScriptStep) (r : Reply) (after : Place)
+      → DoesStep client number before s r after → Does Finds client number before s r after
   finds : (document : ℕ) (queries : List ℕ) (results : List ShownResult)
       → HasTree before.held.table.grammar before.held.text
       → Finds before.held.text queries results

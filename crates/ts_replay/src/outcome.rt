@@ -8,7 +8,8 @@ use ts_core::FlatGrammar;
 use ts_docs::Version;
 use ts_print::{fresh_trees_lie_in_the_text, outcome_shown};
 
-/// What a version's text comes to, as its line tells it. The grammar is that of the version's table.
+/// What a version's text comes to, as its line tells it. The grammar is that of the version's
+/// table.
 ///
 /// # Errors
 ///

@@ -1,5 +1,5 @@
-//! A script and the texts of its documents in; the journals and the replies of its steps in an order
-//! out.
+//! A script and the texts of its documents in; the journals and the replies of its steps in an
+//! order out.
 ghost use Rattle.std.specs.Prelude.{◌≡◌, ◌<◌, ◌≤◌, ◌^◌, [], length, IfOk};
 ghost use Rattle.ts_lexer.specs.Lexers.{IsLexerOf};
 ghost use Rattle.spec_history.specs.Legal.{Legal};
@@ -7,7 +7,7 @@ ghost use Rattle.spec_history.specs.Orders.{InOrder};
 ghost use Rattle.ts_replay.specs.Replays.{MayReplay, AreBooks, history_of};
 ghost use Rattle.ts_replay.specs.Runs.{weight_of, weight_left, edits_on};
 ghost use Rattle.ts_replay.specs.Running.{books_of, replies_of, IsFresh, AreOpened, first_versions, AreClientsBegun};
-ghost use Rattle.ts_script.specs.Rules.{most_steps};
+ghost use Rattle.ts_script.specs.Rules.{most_script_steps};
 
 use crate::document::{Client, Document};
 use crate::running::run;
@@ -35,10 +35,10 @@ pub struct Replayed {
 /// then come the steps that are left, those of the first client first. The finder answers the
 /// queries of the script, which have the finder's numbers.
 ///
-/// All memory that a journal and a list of replies needs is taken first. A step that finds no memory
-/// for itself is answered so, and the others are run. It takes time by the steps, the texts of the
-/// versions, what is told of them and what the finder takes; an await that waits for what does not
-/// come takes no more than a look.
+/// All memory that a journal and a list of replies needs is taken first. A step that finds no
+/// memory for itself is answered so, and the others are run. It takes time by the steps, the texts
+/// of the versions, what is told of them and what the finder takes; an await that waits for what
+/// does not come takes no more than a look.
 ///
 /// # Errors
 ///
@@ -140,7 +140,7 @@ fn edits_of(plan: &Plan, document: u32) -> u32
 
 /// How many of the steps are edits of a document.
 fn edits_in(steps: &[ScriptStep], document: u32) -> u32
-    requires { length steps.now ≤ most_steps }
+    requires { length steps.now ≤ most_script_steps }
     ensures { result ≡ weight_of (edits_on document) steps.now }
 {
     let mut edits = 0;

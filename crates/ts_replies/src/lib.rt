@@ -1,5 +1,5 @@
-//! The lines that tell versions of documents, the replies to the steps of clients, and the faults of
-//! scripts: what they say comes in, and compact JSON objects with a newline go out.
+//! The lines that tell versions of documents, the replies to the steps of clients, and the faults
+//! of scripts: what they say comes in, and compact JSON objects with a newline go out.
 #![tactic(auto)]
 
 mod fault;
@@ -7,8 +7,6 @@ mod line;
 mod member;
 mod reply;
 mod result;
-#[cfg(test)]
-mod tests;
 mod told;
 mod version;
 

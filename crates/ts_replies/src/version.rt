@@ -22,7 +22,8 @@ struct Version<'a> {
 }
 
 impl Described for Version<'_> {
-    ghost writes = { λ version. SendsValue (object (head_members version.head version.outcome.now)) };
+    ghost writes = { λ version. SendsValue (object (head_members version.head
+        version.outcome.now)) };
 }
 
 impl Serialize for Version<'_> {

@@ -2,7 +2,7 @@
 use Rattle.std.proofs.Common.{◌≡◌, ◌∙◌, sym, ap, refl, arith, ℕ, ◌+◌, ◌*◌, ◌<◌, min, Bool, true, false, if◌then◌else◌, List, [], ◌∷◌, map, ◌++◌, length, get_or, drop}
 use Rattle.std.proofs.lemmas.List.{drop_more, length-append, length-map}
 use Rattle.std.proofs.Math.Nat.{mul_comm, mul_assoc}
-use Rattle.ts_rules.specs.Alternatives.{Alternatives, alternatives_of, sequence, members_of, choice_of, is_last, in_sequence, in_group, joins, followed, left}
+use Rattle.ts_rules.specs.Alternatives.{Alternatives, alternatives_of, sequence, alternatives_each, choice_of, is_last, in_sequence, in_group, joins, followed, left}
 use Rattle.ts_rules.specs.declared.tree.Around.{Around}
 use Rattle.ts_core.specs.declared.flat.Assoc.{Assoc}
 use Rattle.ts_core.specs.declared.flat.Prec.{Prec}
@@ -39,14 +39,14 @@ capped_factor all n x r h =
 
 pub counted_member : (inner : List Tree) (i : ℕ) (tree : Tree) (all n : ℕ) (around : Around) → i < length inner → tree ≡ get_or inner i tree
     → ((a : Around) → n ≡ min 65536 (length (alternatives_of tree a)))
-    → min 65536 (min 65536 (all * n) * length (sequence (members_of (drop (i + 1) inner) around))) ≡ min 65536 (all * length (sequence (members_of (drop i inner) around)))
+    → min 65536 (min 65536 (all * n) * length (sequence (alternatives_each (drop (i + 1) inner) around))) ≡ min 65536 (all * length (sequence (alternatives_each (drop i inner) around)))
 counted_member inner i tree all n around lt at h =
-    capped_factor all n (length (alternatives_of tree (in_sequence (is_last (drop (i + 1) inner)) around))) (length (sequence (members_of (drop (i + 1) inner) around))) (h (in_sequence (is_last (drop (i + 1) inner)) around))
-    ∙ ap (λ (k : ℕ). min 65536 (all * k)) (sym (length_joins (alternatives_of tree (in_sequence (is_last (drop (i + 1) inner)) around)) (sequence (members_of (drop (i + 1) inner) around))))
-    ∙ ap (λ (ts : List Tree). min 65536 (all * length (sequence (members_of ts around)))) (sym (split_at inner i tree lt at))
+    capped_factor all n (length (alternatives_of tree (in_sequence (is_last (drop (i + 1) inner)) around))) (length (sequence (alternatives_each (drop (i + 1) inner) around))) (h (in_sequence (is_last (drop (i + 1) inner)) around))
+    ∙ ap (λ (k : ℕ). min 65536 (all * k)) (sym (length_joins (alternatives_of tree (in_sequence (is_last (drop (i + 1) inner)) around)) (sequence (alternatives_each (drop (i + 1) inner) around))))
+    ∙ ap (λ (ts : List Tree). min 65536 (all * length (sequence (alternatives_each ts around)))) (sym (split_at inner i tree lt at))
 
 pub counted_seq : (tree : Tree) (inner : List Tree) (n : ℕ) (around : Around) → tree ≡ Seq inner
-    → n ≡ min 65536 (length (sequence (members_of inner around))) → n ≡ min 65536 (length (alternatives_of tree around))
+    → n ≡ min 65536 (length (sequence (alternatives_each inner around))) → n ≡ min 65536 (length (alternatives_of tree around))
 counted_seq tree inner n around e h =
     h ∙ ap (λ (xs : Alternatives). min 65536 (length xs)) (sym (ap (λ (t : Tree). alternatives_of t around) e ∙ alternatives_seq inner around))
 

@@ -1,7 +1,7 @@
 -- The first SYMBOL inside a token.
 use Rattle.std.proofs.Common.{◌≡◌, ◌∙◌, sym, ap, refl, ℕ, zero, suc, ◌+◌, ◌<◌, ◌≤◌, List, [], ◌∷◌, ◌++◌, length, get_or, take, drop}
 use Rattle.std.specs.Borrow.{Bor}
-use Rattle.std.proofs.lemmas.List.{take_more, take_all, drop_more, map-append}
+use Rattle.std.proofs.lemmas.List.{take_all, drop_more, map-append}
 use Rattle.std.proofs.lemmas.List.Concat.{flat_map-append}
 use Rattle.ts_base.specs.Bytes.{Bytes}
 use Rattle.ts_rules.specs.declared.sights.Spot.{Spot}
@@ -30,15 +30,6 @@ inside_first spots i spot name lt at is before = (
       ∙ ap (λ (xs : List Bytes). xs ++ symbols_inside (sight_of spot ∷ seen_trees (drop (i + 1) spots))) before
       ∙ ap (λ (xs : List Bytes). xs ++ symbols_inside (seen_trees (drop (i + 1) spots))) (sym is),
 )
-
-pub inside_more : (spots : List Spot) (i : ℕ) (spot : Spot) → i < length spots → spot ≡ get_or spots i spot
-    → [] ≡ symbol_inside spot.tree.now spot.inside → symbols_inside (seen_trees (take i spots)) ≡ [] → symbols_inside (seen_trees (take (i + 1) spots)) ≡ []
-inside_more spots i spot lt at is before =
-    ap (λ (xs : List Spot). symbols_inside (seen_trees xs)) (take_more spots i spot lt ∙ ap (λ (y : Spot). take i spots ++ y ∷ []) (sym at))
-    ∙ ap symbols_inside (map-append sight_of (take i spots) (spot ∷ []))
-    ∙ flat_map-append (λ (sight : Sight). symbol_inside sight.tree sight.inside) (seen_trees (take i spots)) (sight_of spot ∷ [])
-    ∙ ap (λ (xs : List Bytes). xs ++ symbols_inside (sight_of spot ∷ [])) before
-    ∙ ap (λ (xs : List Bytes). xs ++ []) (sym is)
 
 pub inside_none : (spots : List Spot) (i : ℕ) → length spots ≤ i → symbols_inside (seen_trees (take i spots)) ≡ [] → symbols_inside (seen_trees spots) ≡ []
 inside_none spots i ge before = ap (λ (xs : List Spot). symbols_inside (seen_trees xs)) (sym (take_all i spots ge)) ∙ before

@@ -1,7 +1,7 @@
 -- How long the longest of alternatives is.
 use Rattle.std.proofs.Common.{◌≡◌, ◌∙◌, sym, ap, refl, arith, ℕ, zero, suc, ◌+◌, ◌*◌, ◌<◌, ◌≤◌, min, max, ◌⊎◌, inl, inr, Bool, true, false, if◌then◌else◌, List, [], ◌∷◌, map, ◌++◌, length, get_or, drop}
 use Rattle.std.proofs.lemmas.List.{drop_more, length-append, length-map}
-use Rattle.ts_rules.specs.Alternatives.{Alternatives, alternatives_of, sequence, members_of, choice_of, is_last, in_sequence, in_group, joins, followed, left, last_left, longest_of, longest_together}
+use Rattle.ts_rules.specs.Alternatives.{Alternatives, alternatives_of, sequence, alternatives_each, choice_of, is_last, in_sequence, in_group, joins, followed, left, last_left, longest_of, longest_together}
 use Rattle.ts_rules.specs.declared.tree.Around.{Around}
 use Rattle.ts_core.specs.declared.flat.Assoc.{Assoc}
 use Rattle.ts_core.specs.declared.flat.Prec.{Prec}
@@ -82,23 +82,23 @@ none_longest [] e = refl
 none_longest (x ∷ xs) e = absurd (omega arith)
 
 pub measured_seq : (tree : Tree) (inner : List Tree) (many longest n : ℕ) (around : Around) → tree ≡ Seq inner
-    → many ≡ min 65536 (length (sequence (members_of inner around))) → n ≡ min 256 (longest_together (members_of inner around))
+    → many ≡ min 65536 (length (sequence (alternatives_each inner around))) → n ≡ min 256 (longest_together (alternatives_each inner around))
     → (many ≡ 0 → longest ≡ 0) → (1 ≤ many → longest ≡ n) → longest ≡ min 256 (longest_of (alternatives_of tree around))
 measured_seq tree inner many longest n around e m h none some = by many refl
   where
-    same : longest_of (alternatives_of tree around) ≡ longest_of (sequence (members_of inner around))
+    same : longest_of (alternatives_of tree around) ≡ longest_of (sequence (alternatives_each inner around))
     same = ap longest_of (ap (λ (t : Tree). alternatives_of t around) e ∙ alternatives_seq inner around)
 
     by : (k : ℕ) → many ≡ k → longest ≡ min 256 (longest_of (alternatives_of tree around))
     by zero is =
-        let zero_length : length (sequence (members_of inner around)) ≡ 0 = omega arith in
-        let nothing : longest_of (sequence (members_of inner around)) ≡ 0 = none_longest (sequence (members_of inner around)) zero_length in
+        let zero_length : length (sequence (alternatives_each inner around)) ≡ 0 = omega arith in
+        let nothing : longest_of (sequence (alternatives_each inner around)) ≡ 0 = none_longest (sequence (alternatives_each inner around)) zero_length in
         let l : longest ≡ 0 = none is in
         let s = same in
         omega arith
     by (suc k) is =
-        let some_length : 1 ≤ length (sequence (members_of inner around)) = omega arith in
-        let total : longest_of (sequence (members_of inner around)) ≡ longest_together (members_of inner around) = longest_sequence (members_of inner around) some_length in
+        let some_length : 1 ≤ length (sequence (alternatives_each inner around)) = omega arith in
+        let total : longest_of (sequence (alternatives_each inner around)) ≡ longest_together (alternatives_each inner around) = longest_sequence (alternatives_each inner around) some_length in
         let l : longest ≡ n = some (omega arith) in
         let s = same in
         omega arith
@@ -113,12 +113,12 @@ split_at inner i tree lt at = drop_more inner i tree lt ∙ ap (λ (y : Tree). y
 
 pub measured_member : (inner : List Tree) (i : ℕ) (tree : Tree) (all n whole : ℕ) (around : Around) → i < length inner → tree ≡ get_or inner i tree
     → ((a : Around) → n ≡ min 256 (longest_of (alternatives_of tree a)))
-    → min 256 (all + longest_together (members_of (drop i inner) around)) ≡ min 256 whole
-    → min 256 (min 256 (all + n) + longest_together (members_of (drop (i + 1) inner) around)) ≡ min 256 whole
+    → min 256 (all + longest_together (alternatives_each (drop i inner) around)) ≡ min 256 whole
+    → min 256 (min 256 (all + n) + longest_together (alternatives_each (drop (i + 1) inner) around)) ≡ min 256 whole
 measured_member inner i tree all n whole around lt at h before =
     let here = h (in_sequence (is_last (drop (i + 1) inner)) around) in
-    let split : longest_together (members_of (drop i inner) around) ≡ longest_of (alternatives_of tree (in_sequence (is_last (drop (i + 1) inner)) around)) + longest_together (members_of (drop (i + 1) inner) around) =
-    ap (λ (ts : List Tree). longest_together (members_of ts around)) (split_at inner i tree lt at) in
+    let split : longest_together (alternatives_each (drop i inner) around) ≡ longest_of (alternatives_of tree (in_sequence (is_last (drop (i + 1) inner)) around)) + longest_together (alternatives_each (drop (i + 1) inner) around) =
+    ap (λ (ts : List Tree). longest_together (alternatives_each ts around)) (split_at inner i tree lt at) in
     omega arith
 
 pub measured_branch : (inner : List Tree) (i : ℕ) (tree : Tree) (all n whole : ℕ) (around : Around) → i < length inner → tree ≡ get_or inner i tree

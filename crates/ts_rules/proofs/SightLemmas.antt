@@ -1,8 +1,6 @@
 -- What stands in a rule tree, by its type.
-use Rattle.std.proofs.Common.{◌≡◌, ◌∙◌, sym, ap, refl, ℕ, ◌+◌, ◌<◌, Bool, true, List, [], ◌∷◌, map, ◌++◌, length, get_or, take, append_assoc}
-use Rattle.std.proofs.lemmas.List.{take_more, append-nil, map-append}
-use Rattle.std.proofs.lemmas.List.Concat.{flat_map-append}
-use Rattle.std.specs.List.{flat_map}
+use Rattle.std.proofs.Common.{◌≡◌, ◌∙◌, sym, ap, refl, Bool, true, List, [], ◌∷◌, map, ◌++◌}
+use Rattle.std.proofs.lemmas.List.{append-nil}
 use lib.IntN.{ℤ}
 use Rattle.ts_base.specs.Bytes.{Bytes}
 use Rattle.ts_core.specs.declared.rule.PrecValue.{PrecValue}
@@ -11,8 +9,7 @@ use Rattle.ts_core.specs.declared.rule.Rule.TheOpen.{Rule-F}
 use Rattle.ts_core.specs.declared.rule.Rule.TheVariants as rule
 use Rattle.ts_core.specs.declared.rule.Rule.TheVariants.{rolls-Blank, rolls-Literal, rolls-Pattern, rolls-Symbol, rolls-Seq, rolls-Choice, rolls-Repeat, rolls-Repeat1, rolls-Token, rolls-ImmediateToken, rolls-Field, rolls-Alias, rolls-Prec, rolls-PrecLeft, rolls-PrecRight, rolls-PrecDynamic}
 use Rattle.ts_core.specs.declared.rule.Rule.TheFolds.{para-roll-Rule}
-use Rattle.ts_rules.specs.Sights.{NamedRule, Sight, seen_all, below_step, below, sights, sights_within, all_seen, seen_rules, seen_trees, sight_of}
-use Rattle.ts_rules.specs.declared.sights.Spot.{Spot}
+use Rattle.ts_rules.specs.Sights.{Sight, seen_all, below_step, below, sights_within, all_seen}
 
 abbrev Below : Type 0
 Below = Bool → List Sight
@@ -70,46 +67,6 @@ pub below_choice : (ts : List Rule) (inside : Bool) → below (rule.Choice ts) i
 below_choice ts inside = ap (λ (f : Below). f inside) (ap {B = Below} below (sym (rolls-Choice ts)) ∙ para-roll-Rule Below below_step (Rule-F.Choice ts)) ∙ all_map ts inside
 
 -- ---- lists
-
--- one more tree of a list
-pub seen_more : (all : List Rule) (i : ℕ) (t : Rule) (inside : Bool) (start now new : List Sight) → i < length all → t ≡ get_or all i t
-    → now ≡ start ++ all_seen (take i all) inside → new ≡ now ++ sights_within t inside → new ≡ start ++ all_seen (take (i + 1) all) inside
-seen_more all i t inside start now new lt is before after =
-    after
-    ∙ ap (λ (xs : List Sight). xs ++ sights_within t inside) before
-    ∙ append_assoc start (all_seen (take i all) inside) (sights_within t inside)
-    ∙ ap (λ (xs : List Sight). start ++ xs) (step (λ (tree : Rule). sights_within tree inside))
-  where
-    step : (f : Rule → List Sight) → flat_map f (take i all) ++ f t ≡ flat_map f (take (i + 1) all)
-    step f =
-        ap (λ (xs : List Sight). flat_map f (take i all) ++ xs) (sym (append-nil (f t)))
-        ∙ sym (flat_map-append f (take i all) (t ∷ []))
-        ∙ ap (flat_map f) (ap (λ (y : Rule). take i all ++ y ∷ []) is ∙ sym (take_more all i t lt))
-
--- one more rule of a list
-pub rules_more : (all : List NamedRule) (i : ℕ) (rule : NamedRule) (start now new : List Sight) → i < length all → rule ≡ get_or all i rule
-    → now ≡ start ++ seen_rules (take i all) → new ≡ now ++ sights rule.1 → new ≡ start ++ seen_rules (take (i + 1) all)
-rules_more all i rule start now new lt is before after =
-    after
-    ∙ ap (λ (xs : List Sight). xs ++ sights rule.1) before
-    ∙ append_assoc start (seen_rules (take i all)) (sights rule.1)
-    ∙ ap (λ (xs : List Sight). start ++ xs) (step (λ (r : NamedRule). sights r.1))
-  where
-    step : (f : NamedRule → List Sight) → flat_map f (take i all) ++ f rule ≡ flat_map f (take (i + 1) all)
-    step f =
-        ap (λ (xs : List Sight). flat_map f (take i all) ++ xs) (sym (append-nil (f rule)))
-        ∙ sym (flat_map-append f (take i all) (rule ∷ []))
-        ∙ ap (flat_map f) (ap (λ (y : NamedRule). take i all ++ y ∷ []) is ∙ sym (take_more all i rule lt))
-
--- a tree and what is below it
-pub seen_here : (old mid new : List Spot) (spot : Spot) (tree : Rule) (inside : Bool) → mid ≡ old ++ spot ∷ [] → sight_of spot ≡ record { tree = tree; inside = inside }
-    → seen_trees new ≡ seen_trees mid ++ below tree inside → seen_trees new ≡ seen_trees old ++ sights_within tree inside
-seen_here old mid new spot tree inside pushed same after =
-    after
-    ∙ ap (λ (xs : List Spot). seen_trees xs ++ below tree inside) pushed
-    ∙ ap (λ (xs : List Sight). xs ++ below tree inside) (map-append sight_of old (spot ∷ []))
-    ∙ append_assoc (seen_trees old) (sight_of spot ∷ []) (below tree inside)
-    ∙ ap (λ (s : Sight). seen_trees old ++ (s ∷ below tree inside)) same
 
 pub ruleset below_laws = (below_blank, below_literal, below_pattern, below_symbol, below_repeat, below_repeat1, below_token, below_immediate_token, below_field, below_alias, below_prec, below_prec_left, below_prec_right, below_prec_dynamic, below_seq, below_choice)
 

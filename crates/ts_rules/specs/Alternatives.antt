@@ -20,6 +20,7 @@ stronger first second = if nat_lt (unsigned_abs first) (unsigned_abs second) the
 
 -- ---- one alternative
 
+-- the alternative of a dynamic value and steps
 abbrev pub alternative : ℤ → List NumberedStep → Alternative
 alternative dynamic steps = record { dynamic = dynamic; steps = steps }
 
@@ -37,14 +38,17 @@ step_at symbol around = record {
   field = around.field;
 }
 
+-- the alternative of one step, with the dynamic value round it
 abbrev pub single : ℕ → Around → Alternative
 single symbol around = alternative around.dynamic (step_at symbol around ∷ [])
 
 -- ---- lists of alternatives
 
+-- alternatives, in order
 abbrev pub Alternatives : Type 0
 Alternatives = List Alternative
 
+-- the steps of both, one after the other, and the stronger dynamic value
 abbrev pub followed : Alternative → Alternative → Alternative
 followed x y = alternative (stronger x.dynamic y.dynamic) (x.steps ++ y.steps)
 
@@ -65,12 +69,15 @@ choice (xs ∷ rest) = xs ++ choice rest
 
 -- ---- what stands round the inner trees
 
+-- round the content of a FIELD stands its field
 abbrev pub in_field : ℕ → Around → Around
 in_field field around = record around { field = Some field }
 
+-- round the content of an ALIAS stands its alias
 abbrev pub in_alias : ℕ → Around → Around
 in_alias alias around = record around { alias = Some alias }
 
+-- round the content of a PREC_DYNAMIC stands the stronger of the value outside and its own
 abbrev pub in_dynamic : ℤ → Around → Around
 in_dynamic value around = record around { dynamic = stronger around.dynamic value }
 
@@ -80,9 +87,11 @@ inner_assoc Absent outer = outer
 inner_assoc Left outer = Left
 inner_assoc Right outer = Right
 
+-- round the content of a group stands its precedence, and its associativity where it has one
 abbrev pub in_group : Prec → Assoc → Around → Around
 in_group prec assoc around = record around { prec = prec; assoc = inner_assoc assoc around.assoc }
 
+-- whether no member comes after
 abbrev pub is_last : {X : Type 0} → List X → Bool
 is_last [] = true
 is_last (x ∷ xs) = false
@@ -96,6 +105,7 @@ abbrev pub members : List (Around → Alternatives) → Around → List Alternat
 members [] around = []
 members (inner ∷ rest) around = inner (in_sequence (is_last rest) around) ∷ members rest around
 
+-- what the branches of a CHOICE have, all in the same place
 abbrev pub branches : List (Around → Alternatives) → Around → List Alternatives
 branches [] around = []
 branches (inner ∷ rest) around = inner around ∷ branches rest around
@@ -106,19 +116,23 @@ branches (inner ∷ rest) around = inner around ∷ branches rest around
 abbrev pub left_by : Around → NumberedStep → NumberedStep
 left_by around step = record step { prec = around.prec; assoc = around.assoc }
 
+-- the steps, the last of which takes the precedence and associativity round the group
 abbrev pub last_left : Around → List NumberedStep → List NumberedStep
 last_left around [] = []
 last_left around (step ∷ []) = left_by around step ∷ []
 last_left around (step ∷ next ∷ steps) = step ∷ last_left around (next ∷ steps)
 
+-- the alternative, whose last step takes them
 abbrev pub left : Around → Alternative → Alternative
 left around x = alternative x.dynamic (last_left around x.steps)
 
+-- a group's alternatives: at the production's end they stay, and else their last steps take them
 abbrev pub group : Around → Alternatives → Alternatives
 group around xs = if around.at_end then xs else map (left around) xs
 
 -- ---- a rule tree
 
+-- the alternatives of a tree, by those of its inner trees
 abbrev pub layer : Tree-F (Around → Alternatives) → Around → Alternatives
 layer Tree-F.Blank around = blank ∷ []
 layer (Tree-F.Step symbol) around = single symbol around ∷ []
@@ -136,10 +150,10 @@ alternatives_of = fold-Tree (Around → Alternatives) layer
 -- ---- what a SEQ and a CHOICE have, by their inner trees
 
 -- each member's alternatives, in its place
-abbrev pub members_of : List Tree → Around → List Alternatives
-members_of [] around = []
-members_of (tree ∷ rest) around = alternatives_of tree (in_sequence (is_last rest) around)
-    ∷ members_of rest around
+abbrev pub alternatives_each : List Tree → Around → List Alternatives
+alternatives_each [] around = []
+alternatives_each (tree ∷ rest) around = alternatives_of tree (in_sequence (is_last rest) around)
+    ∷ alternatives_each rest around
 
 -- one list after another
 abbrev pub choice_of : List Tree → Around → Alternatives

@@ -12,20 +12,23 @@ use Rattle.ts_rules.specs.FirstSights.{Not}
 use Rattle.ts_rules.specs.Numbers.{IsRule, IsInlined, NamesSome, start_of}
 use Rattle.ts_rules.specs.Sights.{NamedRule, sights, walk, symbols_in, ranked_rules}
 
+-- a name, where there is one
 abbrev pub listed : Option Bytes → List Bytes
 listed None = []
 listed (Some name) = name ∷ []
 
-abbrev pub joined : List (List Bytes) → List Bytes
-joined = flat_map (λ (names : List Bytes). names)
+-- the lists, one after another
+abbrev pub merged : List (List Bytes) → List Bytes
+merged = flat_map (λ (names : List Bytes). names)
 
 -- ---- Undefined
 
 -- the SYMBOLs of the walk, the word, and the entries of conflicts, precedences and supertypes
 abbrev pub names_used : Grammar → List Bytes
-names_used g = symbols_in (walk g) ++ listed g.word ++ joined g.conflicts ++ ranked_rules g
+names_used g = symbols_in (walk g) ++ listed g.word ++ merged g.conflicts ++ ranked_rules g
     ++ g.supertypes
 
+-- no rule has the name
 abbrev pub IsUndefined : Grammar → Bytes → Type 0
 IsUndefined g name = Not (IsRule g name)
 
@@ -37,8 +40,8 @@ uses_step Rule-F.Blank = []
 uses_step (Rule-F.Literal text) = []
 uses_step (Rule-F.Pattern value ignore_case) = []
 uses_step (Rule-F.Symbol name) = name ∷ []
-uses_step (Rule-F.Seq members) = joined members
-uses_step (Rule-F.Choice members) = joined members
+uses_step (Rule-F.Seq members) = merged members
+uses_step (Rule-F.Choice members) = merged members
 uses_step (Rule-F.Repeat content) = []
 uses_step (Rule-F.Repeat1 content) = []
 uses_step (Rule-F.Token content) = []
@@ -50,6 +53,7 @@ uses_step (Rule-F.PrecLeft value content) = content
 uses_step (Rule-F.PrecRight value content) = content
 uses_step (Rule-F.PrecDynamic value content) = content
 
+-- the rules that a whole tree steps to, outside its tokens and repetitions
 abbrev pub uses : Rule → List Bytes
 uses = fold-Rule (List Bytes) uses_step
 
@@ -70,14 +74,17 @@ pub record IsBadInline (g : Grammar) (name : Bytes) : Type 0 where
   pub inlined : IsInlined g name
   pub cause : (start_of g.rules ≡ Some name) ⊎ (NamesSome g name ⊎ Leads g name name)
 
+-- the names of rules, in order
 abbrev pub names_of : List NamedRule → List Bytes
 names_of rules = map (λ (rule : NamedRule). rule.0) rules
 
+-- the names of all rules, in file order
 abbrev pub rule_names : Grammar → List Bytes
 rule_names g = names_of g.rules
 
 -- ---- BadWord, NonTerminalExtra
 
+-- the word names no token
 abbrev pub IsBadWord : Grammar → Bytes → Type 0
 IsBadWord g name = Not (NamesSome g name)
 
@@ -85,6 +92,7 @@ IsBadWord g name = Not (NamesSome g name)
 abbrev pub ExtraSymbol : Type 0
 ExtraSymbol = Bytes × Bool
 
+-- the SYMBOLs of one extra, by its type: a SYMBOL is the whole extra, and any other has them inside
 abbrev pub extra_symbols_by : Rule → Rule-F Rule → List ExtraSymbol
 extra_symbols_by tree (Rule-F.Symbol name) = (name, true) ∷ []
 extra_symbols_by tree layer = map (λ (name : Bytes). (name, false)) (symbols_in (sights tree))

@@ -15,6 +15,7 @@ use Rattle.ts_rules.specs.Sights.{NamedRule, Sight, walk}
 abbrev pub most_rules : ℕ
 most_rules = 4096
 
+-- the name of a precedence is short, if it has one
 abbrev pub HasShortName : PrecValue → Type 0
 HasShortName (PrecValue.Number value) = Unit {0}
 HasShortName (PrecValue.Name name) = IsShort name
@@ -38,13 +39,16 @@ IsSmallLayer (Rule-F.PrecLeft value content) = HasShortName value
 IsSmallLayer (Rule-F.PrecRight value content) = HasShortName value
 IsSmallLayer (Rule-F.PrecDynamic value content) = Unit {0}
 
+-- so it is with the type of a tree that is seen
 abbrev pub IsSmallSight : Sight → Type 0
 IsSmallSight sight = IsSmallLayer (out-Rule sight.tree)
 
+-- the name in an entry of an ordering is short
 abbrev pub HasShortEntry : Ranked → Type 0
 HasShortEntry (Ranked.Name name) = IsShort name
 HasShortEntry (Ranked.Rule name) = IsShort name
 
+-- the word is short, if there is one
 abbrev pub HasShortWord : Option Bytes → Type 0
 HasShortWord None = Unit {0}
 HasShortWord (Some name) = IsShort name

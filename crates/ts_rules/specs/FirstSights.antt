@@ -3,6 +3,7 @@
 use Rattle.std.specs.Prelude.{◌≡◌, ℕ, ◌<◌, ◌≤◌, List, [], ◌∷◌, ◌++◌, slice_get, Some, All}
 use Rattle.std.specs.List.{Contains}
 
+-- it does not hold
 abbrev pub Not : Type 0 → Type 0
 Not P = P → ⊥
 

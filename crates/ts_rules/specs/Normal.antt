@@ -16,7 +16,7 @@ use Rattle.ts_rules.specs.FirstSights.{Not, Picks, Each, First}
 use Rattle.ts_rules.specs.Numbers.{Numbers, Lists, AreLists, AreNumbers, IsInlined, alts, start_of}
 use Rattle.ts_rules.specs.Productions.{AreProductions, AreRepeated, symbol}
 use Rattle.ts_rules.specs.Sights.{NamedRule, Source, sights, walk, rule_sights, tokens_in, contents_in, patterns_in}
-use Rattle.ts_rules.specs.Tokens.{Patterns, IsTokenDef, IsKind, re_of}
+use Rattle.ts_rules.specs.Tokens.{Patterns, IsTokenDef, IsKind, tree_re}
 
 -- ---- rules
 
@@ -56,30 +56,36 @@ abbrev pub IsExtra : Numbers → Rule → Symbol → Type 0
 IsExtra n tree s = ((name : Bytes) × (tree ≡ rule.Symbol name) × (s ≡ symbol (n.rule name)))
     ⊎ (((name : Bytes) → Not (tree ≡ rule.Symbol name)) × (s ≡ symbol (n.token tree)))
 
+-- the extras that are separators, in order
 abbrev pub AreSeparators : Grammar → List Rule → Type 0
 AreSeparators g trees = Picks (λ (tree : Rule). Not (IsTokenExtra g tree)) g.extras trees
 
 -- ---- conflicts and precedences, without the inlined rules
 
+-- the symbols of names, in order, but for those of inlined rules
 abbrev pub AreSymbols : Grammar → Numbers → List Bytes → List Symbol → Type 0
 AreSymbols g n names symbols =
     (kept : List Bytes) × Picks (λ (name : Bytes). Not (IsInlined g name)) names kept
     × (symbols ≡ map (λ (name : Bytes). symbol (n.rule name)) kept)
 
+-- an entry of an ordering by numbers
 abbrev pub entry : Numbers → Ranked → Entry
 entry n (Ranked.Name name) = Entry.Name (n.prec name)
 entry n (Ranked.Rule name) = Entry.Rule (symbol (n.rule name))
 
+-- the entry is no inlined rule
 abbrev pub IsKeptEntry : Grammar → Ranked → Type 0
 IsKeptEntry g (Ranked.Name name) = Unit {0}
 IsKeptEntry g (Ranked.Rule name) = Not (IsInlined g name)
 
+-- the entries of an ordering by numbers, in order, but for inlined rules
 abbrev pub AreEntries : Grammar → Numbers → List Ranked → List Entry → Type 0
 AreEntries g n entries found =
     (kept : List Ranked) × Picks (IsKeptEntry g) entries kept × (found ≡ map (entry n) kept)
 
 -- ---- supertypes
 
+-- the symbol of a supertype that is not inlined
 abbrev pub IsSupertype : Grammar → Numbers → Symbol → Type 0
 IsSupertype g n s = (name : Bytes) × Contains g.supertypes name × Not (IsInlined g name)
     × (s ≡ symbol (n.rule name))
@@ -118,7 +124,7 @@ pub record IsNormal (Reads : Reading) (g : Grammar) (f : FlatGrammar) : Type 0 w
   pub are_own : Each (IsOwnRule g numbers lists) lists.rules own
   pub are_repetitions : Each (IsRepetition g numbers lists) lists.contents repetitions
   pub separators : (trees : List Rule) × AreSeparators g trees
-      × (f.separators ≡ map (re_of pattern) trees)
+      × (f.separators ≡ map (tree_re pattern) trees)
   pub extras : (trees : List Rule) × Picks (IsTokenExtra g) g.extras trees
       × Each (IsExtra numbers) trees f.extras
   pub word : f.word ≡ option_map (λ (name : Bytes). symbol (numbers.rule name)) g.word

@@ -44,6 +44,7 @@ outermost = record {
   at_end = true;
 }
 
+-- whether the list is empty
 abbrev pub is_blank : {X : Type 0} → List X → Bool
 is_blank [] = true
 is_blank (x ∷ xs) = false
@@ -58,6 +59,7 @@ abbrev pub has_steps : Tree → Bool
 has_steps content = list_any (λ (x : Alternative). not (is_blank x.steps))
     (alternatives_of content outermost)
 
+-- the tree, where it is so
 abbrev pub where_so : Bool → Tree → List Tree
 where_so true tree = tree ∷ []
 where_so false tree = []
@@ -74,6 +76,7 @@ many_times repetition content =
     tree.Choice (where_so (has_steps content) (tree.Step repetition) ++ where_so
     (has_blank content) tree.Blank)
 
+-- a precedence, by the number of its name if it has one
 abbrev pub prec_of : Numbers → PrecValue → Prec
 prec_of n (PrecValue.Number value) = Prec.Number value
 prec_of n (PrecValue.Name name) = Prec.Name (n.prec name)
@@ -82,9 +85,11 @@ prec_of n (PrecValue.Name name) = Prec.Name (n.prec name)
 abbrev pub Numbered : Type 0
 Numbered = Rule × Tree
 
+-- the trees by numbers of some rule trees
 abbrev pub inner_trees : List Numbered → List Tree
 inner_trees = map (λ (inner : Numbered). inner.1)
 
+-- a rule tree by numbers, by its inner trees, each beside its tree by numbers
 abbrev pub tree_step : Numbers → Rule-F Numbered → Tree
 tree_step n Rule-F.Blank = tree.Blank
 tree_step n (Rule-F.Literal text) = tree.Step (n.token (Literal text))
@@ -113,6 +118,7 @@ alts n rule = alternatives_of (tree_of n rule) outermost
 
 -- ---- which rules have symbols
 
+-- some rule has the name
 abbrev pub IsRule : Grammar → Bytes → Type 0
 IsRule g name = (tree : Rule) × Contains g.rules (name, tree)
 
@@ -129,6 +135,7 @@ pub record NamesToken (g : Grammar) (name : Bytes) (tree : Rule) : Type 0 where
   pub token : is_token tree ≡ true
   pub once : Once (tokens_in (rule_sights g)) tree
 
+-- the rule names some token
 abbrev pub NamesSome : Grammar → Bytes → Type 0
 NamesSome g name = (tree : Rule) × NamesToken g name tree
 
@@ -160,6 +167,7 @@ IsRepeated content = has_steps (tree_of unnumbered content) ≡ true
 
 -- ---- the lists behind the numbers, in their orders
 
+-- the tokens, rules, contents, inlined rules, field names and precedence names of a grammar
 pub record Lists : Type 0 where
   pub tokens : List Rule
   pub rules : List NamedRule
@@ -182,6 +190,7 @@ pub record AreLists (g : Grammar) (x : Lists) : Type 0 where
 abbrev pub first_rule : Lists → ℕ
 first_rule x = suc (length x.tokens)
 
+-- then come the rules, and behind them the repetitions
 abbrev pub first_repetition : Lists → ℕ
 first_repetition x = first_rule x + length x.rules
 

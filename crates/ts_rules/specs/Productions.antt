@@ -22,6 +22,7 @@ abbrev pub or_else : {X : Type 0} → Option X → Option X → Option X
 or_else None other = other
 or_else (Some x) other = Some x
 
+-- the first precedence, where there is one, and else the other
 abbrev pub prec_or : Prec → Prec → Prec
 prec_or prec.Absent other = other
 prec_or (prec.Number value) other = prec.Number value
@@ -82,13 +83,16 @@ mutual
 
 -- ---- productions
 
+-- the symbol of a number
 abbrev pub symbol : ℕ → Symbol
 symbol number = record { 0 = number }
 
+-- the alias of a number, where there is one
 abbrev pub alias_of : Numbers → Option ℕ → Option Alias
 alias_of n None = None
 alias_of n (Some number) = Some (n.alias_at number)
 
+-- a step as the flat grammar has it, with the alias itself
 abbrev pub flat_step : Numbers → NumberedStep → Step
 flat_step n s =
     record {
@@ -99,6 +103,7 @@ flat_step n s =
       field = s.field;
     }
 
+-- an alternative as a production of the flat grammar
 abbrev pub production : Numbers → Alternative → Production
 production n p = record { dynamic = p.dynamic; steps = map (flat_step n) p.steps }
 
@@ -111,6 +116,7 @@ pub record AreProductions (n : Numbers) (x : Lists) (from : Alternatives)
 
 -- ---- a repetition
 
+-- the alternative, unless it has no steps
 abbrev pub unless_blank : Alternative → List NumberedStep → Alternatives
 unless_blank p [] = []
 unless_blank p (s ∷ ss) = p ∷ []

@@ -74,9 +74,11 @@ sights tree = sights_within tree false
 abbrev pub seen_rules : List NamedRule → List Sight
 seen_rules rules = flat_map (λ (rule : NamedRule). sights rule.1) rules
 
+-- what is seen in the rules of a grammar, in file order
 abbrev pub rule_sights : Grammar → List Sight
 rule_sights g = seen_rules g.rules
 
+-- what is seen in the extras of a grammar, in order
 abbrev pub extra_sights : Grammar → List Sight
 extra_sights g = flat_map sights g.extras
 
@@ -105,9 +107,11 @@ is_token_layer (Rule-F.PrecLeft value content) = false
 is_token_layer (Rule-F.PrecRight value content) = false
 is_token_layer (Rule-F.PrecDynamic value content) = false
 
+-- whether the tree is a STRING, PATTERN, TOKEN or IMMEDIATE_TOKEN
 abbrev pub is_token : Rule → Bool
 is_token tree = is_token_layer (out-Rule tree)
 
+-- the tree, where it is a token
 abbrev pub if_token : Rule → Bool → List Rule
 if_token tree true = tree ∷ []
 if_token tree false = []
@@ -117,32 +121,39 @@ abbrev pub token_at : Rule → Bool → List Rule
 token_at tree true = []
 token_at tree false = if_token tree (is_token tree)
 
+-- all tokens that are seen, in order
 abbrev pub tokens_in : List Sight → List Rule
 tokens_in = flat_map (λ (sight : Sight). token_at sight.tree sight.inside)
 
 -- ---- contents of REPEAT and REPEAT1 outside tokens
 
+-- the content of a REPEAT or REPEAT1, and nothing of any other type
 abbrev pub content_layer : Rule-F Rule → List Rule
 content_layer (Rule-F.Repeat content) = content ∷ []
 content_layer (Rule-F.Repeat1 content) = content ∷ []
 content_layer layer = []
 
+-- the same of a tree, and nothing where it stands inside a token
 abbrev pub content_at : Rule → Bool → List Rule
 content_at tree true = []
 content_at tree false = content_layer (out-Rule tree)
 
+-- all such contents that are seen, in order
 abbrev pub contents_in : List Sight → List Rule
 contents_in = flat_map (λ (sight : Sight). content_at sight.tree sight.inside)
 
 -- ---- SYMBOLs
 
+-- the name of a SYMBOL, and nothing of any other type
 abbrev pub symbol_layer : Rule-F Rule → List Bytes
 symbol_layer (Rule-F.Symbol name) = name ∷ []
 symbol_layer layer = []
 
+-- the names of all SYMBOLs that are seen, in order
 abbrev pub symbols_in : List Sight → List Bytes
 symbols_in = flat_map (λ (sight : Sight). symbol_layer (out-Rule sight.tree))
 
+-- the name of a SYMBOL that stands inside a token
 abbrev pub symbol_inside : Rule → Bool → List Bytes
 symbol_inside tree true = symbol_layer (out-Rule tree)
 symbol_inside tree false = []
@@ -153,33 +164,41 @@ symbols_inside = flat_map (λ (sight : Sight). symbol_inside sight.tree sight.in
 
 -- ---- field names, aliases, precedence names, patterns
 
+-- the name of a FIELD, and nothing of any other type
 abbrev pub field_layer : Rule-F Rule → List Bytes
 field_layer (Rule-F.Field name content) = name ∷ []
 field_layer layer = []
 
+-- the names of all FIELDs that are seen, in order
 abbrev pub fields_in : List Sight → List Bytes
 fields_in = flat_map (λ (sight : Sight). field_layer (out-Rule sight.tree))
 
+-- the alias of a name, which is named or not
 abbrev pub alias : Bytes → Bool → Alias
 alias name named = record { name = name; named = named }
 
+-- the alias of an ALIAS, and nothing of any other type
 abbrev pub alias_layer : Rule-F Rule → List Alias
 alias_layer (Rule-F.Alias content named value) = alias value named ∷ []
 alias_layer layer = []
 
+-- the aliases of all ALIASes that are seen, in order
 abbrev pub aliases_in : List Sight → List Alias
 aliases_in = flat_map (λ (sight : Sight). alias_layer (out-Rule sight.tree))
 
+-- the name of a precedence, if it has one
 abbrev pub name_in : PrecValue → List Bytes
 name_in (Number value) = []
 name_in (Name name) = name ∷ []
 
+-- the name in a PREC, PREC_LEFT or PREC_RIGHT, if it has one
 abbrev pub prec_layer : Rule-F Rule → List Bytes
 prec_layer (Rule-F.Prec value content) = name_in value
 prec_layer (Rule-F.PrecLeft value content) = name_in value
 prec_layer (Rule-F.PrecRight value content) = name_in value
 prec_layer layer = []
 
+-- the names of all such precedences that are seen, in order
 abbrev pub precs_in : List Sight → List Bytes
 precs_in = flat_map (λ (sight : Sight). prec_layer (out-Rule sight.tree))
 
@@ -187,19 +206,23 @@ precs_in = flat_map (λ (sight : Sight). prec_layer (out-Rule sight.tree))
 abbrev pub Source : Type 0
 Source = Bytes × Bool
 
+-- the source of a PATTERN, and nothing of any other type
 abbrev pub pattern_layer : Rule-F Rule → List Source
 pattern_layer (Rule-F.Pattern value ignore_case) = (value, ignore_case) ∷ []
 pattern_layer layer = []
 
+-- the sources of all PATTERNs that are seen, in order
 abbrev pub patterns_in : List Sight → List Source
 patterns_in = flat_map (λ (sight : Sight). pattern_layer (out-Rule sight.tree))
 
 -- ---- the names and the rules in the orderings of precedences
 
+-- the name of an entry, where it is a precedence name
 abbrev pub ranked_name : Ranked → List Bytes
 ranked_name (Ranked.Name name) = name ∷ []
 ranked_name (Ranked.Rule name) = []
 
+-- the name of an entry, where it is a rule
 abbrev pub ranked_rule : Ranked → List Bytes
 ranked_rule (Ranked.Name name) = []
 ranked_rule (Ranked.Rule name) = name ∷ []
@@ -208,6 +231,7 @@ ranked_rule (Ranked.Rule name) = name ∷ []
 abbrev pub names_ranked : List (List Ranked) → List Bytes
 names_ranked lists = flat_map (λ (entries : List Ranked). flat_map ranked_name entries) lists
 
+-- the precedence names in all orderings of a grammar
 abbrev pub ranked_names : Grammar → List Bytes
 ranked_names g = names_ranked g.precedences
 
@@ -215,14 +239,17 @@ ranked_names g = names_ranked g.precedences
 abbrev pub rules_ranked : List (List Ranked) → List Bytes
 rules_ranked lists = flat_map (λ (entries : List Ranked). flat_map ranked_rule entries) lists
 
+-- the rules in all orderings of a grammar
 abbrev pub ranked_rules : Grammar → List Bytes
 ranked_rules g = rules_ranked g.precedences
 
 -- ---- as the code lists them
 
+-- a tree that the code sees, and whether it stands inside a token
 abbrev pub sight_of : Spot → Sight
 sight_of spot = record { tree = spot.tree.now; inside = spot.inside }
 
+-- all trees that the code sees, in order
 abbrev pub seen_trees : List Spot → List Sight
 seen_trees = map sight_of
 

@@ -35,6 +35,7 @@ alt_of [] = re.Alt []
 alt_of (r ∷ []) = r
 alt_of (r ∷ s ∷ rs) = re.Alt (r ∷ s ∷ rs)
 
+-- a set of one character
 abbrev pub one_char : ℕ → Re
 one_char c = re.Set ((c, c) ∷ [])
 
@@ -61,8 +62,9 @@ re_step pattern (Rule-F.PrecLeft value content) = content
 re_step pattern (Rule-F.PrecRight value content) = content
 re_step pattern (Rule-F.PrecDynamic value content) = content
 
-abbrev pub re_of : Patterns → Rule → Re
-re_of pattern = fold-Rule Re (re_step pattern)
+-- the expression of a whole tree
+abbrev pub tree_re : Patterns → Rule → Re
+tree_re pattern = fold-Rule Re (re_step pattern)
 
 -- ---- its precedence
 
@@ -80,9 +82,11 @@ under_step (Rule-F.PrecLeft value content) = number_of value
 under_step (Rule-F.PrecRight value content) = number_of value
 under_step layer = pos 0
 
+-- the same value of a whole tree, and 0 where there is none
 abbrev pub under : Rule → ℤ
 under = fold-Rule ℤ under_step
 
+-- the precedence under a TOKEN or IMMEDIATE_TOKEN, and 0 of any other type
 abbrev pub lexical_layer : Rule-F Rule → ℤ
 lexical_layer (Rule-F.Token content) = under content
 lexical_layer (Rule-F.ImmediateToken content) = under content
@@ -92,10 +96,12 @@ lexical_layer layer = pos 0
 abbrev pub lexical_precedence : Rule → ℤ
 lexical_precedence tree = lexical_layer (out-Rule tree)
 
+-- whether the type is IMMEDIATE_TOKEN
 abbrev pub immediate_layer : Rule-F Rule → Bool
 immediate_layer (Rule-F.ImmediateToken content) = true
 immediate_layer layer = false
 
+-- whether a token is an IMMEDIATE_TOKEN
 abbrev pub is_immediate : Rule → Bool
 is_immediate tree = immediate_layer (out-Rule tree)
 
@@ -107,6 +113,7 @@ pub data Core : Type 0 where
   source : Bytes → Core
   other : Core
 
+-- what is left of a tree, by what is left of its content
 abbrev pub core_step : Rule-F Core → Core
 core_step (Rule-F.Literal value) = text value
 core_step (Rule-F.Pattern value ignore_case) = source value
@@ -118,6 +125,7 @@ core_step (Rule-F.PrecRight value content) = content
 core_step (Rule-F.PrecDynamic value content) = content
 core_step layer = other
 
+-- what is left of a whole tree
 abbrev pub core : Rule → Core
 core = fold-Rule Core core_step
 
@@ -127,16 +135,19 @@ core_seen (CoreTree.Text value) = text value.now
 core_seen (CoreTree.Source value) = source value.now
 core_seen CoreTree.Other = other
 
+-- whether a STRING is left
 abbrev pub is_text : Core → Bool
 is_text (text value) = true
 is_text (source value) = false
 is_text other = false
 
+-- the text of a STRING, the source of a PATTERN, and else the empty name
 abbrev pub core_name : Core → Bytes
 core_name (text value) = value
 core_name (source value) = value
 core_name other = []
 
+-- anonymous where a STRING is left, and else hidden
 abbrev pub core_kind : Core → Kind
 core_kind (text value) = Kind.Anonymous
 core_kind (source value) = Kind.Hidden
@@ -147,6 +158,7 @@ abbrev pub BeginsLow : Bytes → Type 0
 BeginsLow [] = ⊥
 BeginsLow (byte ∷ bytes) = byte ≡ 95
 
+-- the name begins with `_`, or it is that of a supertype
 abbrev pub IsHidden : Grammar → Bytes → Type 0
 IsHidden g name = BeginsLow name ⊎ Contains g.supertypes name
 
@@ -177,13 +189,14 @@ pub record IsKeyword (pattern : Patterns) (g : Grammar) (tree : Rule) : Type 0 w
   pub names : NamesToken g word word_tree
   pub is_string : tree ≡ Literal text
   pub not_it : Not (tree ≡ word_tree)
-  pub matched : Word (regular_of (re_of pattern word_tree)) (chars text)
+  pub matched : Word (regular_of (tree_re pattern word_tree)) (chars text)
 
 -- ---- the whole
 
+-- the token as the flat grammar has it
 pub record IsTokenDef (pattern : Patterns) (g : Grammar) (tree : Rule) (d : TokenDef) : Type 0 where
   pub named : IsNamedBy g tree d ⊎ IsUnnamed g tree d
-  pub re : d.re ≡ re_of pattern tree
+  pub re : d.re ≡ tree_re pattern tree
   pub prec : d.prec ≡ lexical_precedence tree
   pub literal : d.literal ≡ is_text (core tree)
   pub immediate : d.immediate ≡ is_immediate tree

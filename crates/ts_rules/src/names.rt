@@ -97,7 +97,7 @@ fn add_names<'a>(names: &mut Vec<&'a Str>, more: &'a [Str]) -> Result<(), AllocE
 
 /// Puts the names of all lists at the end.
 fn add_lists<'a>(names: &mut Vec<&'a Str>, lists: &'a [List<Str>]) -> Result<(), AllocError>
-    ensures { OnOk result (told names.new.items ≡ told names.old.items ++ causes.joined lists.now) }
+    ensures { OnOk result (told names.new.items ≡ told names.old.items ++ causes.merged lists.now) }
 {
     for list in lists {
         add_names(names, list.as_slice())?;

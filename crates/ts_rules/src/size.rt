@@ -2,7 +2,7 @@
 //! and what goes out are two counts. No alternative is built.
 
 ghost use Rattle.std.specs.Prelude.{◌≡◌, ◌*◌, ◌+◌, ◌≤◌, min, max, length};
-ghost use Rattle.ts_rules.specs.Alternatives.{alternatives_of, members_of, choice_of, sequence, longest_of, longest_together};
+ghost use Rattle.ts_rules.specs.Alternatives.{alternatives_of, alternatives_each, choice_of, sequence, longest_of, longest_together};
 ghost use Rattle.ts_rules.specs.Counts.{many, long};
 ghost use Rattle.ts_rules.specs.declared.tree.Around.{Around};
 
@@ -103,9 +103,9 @@ fn filled_size(size: Size) -> Size
 #[cycle(size)]
 fn joined_size(inner: &[Tree]) -> Size
     ensures many { (around : Around) → result.many
-        ≡ min many (length (sequence (members_of inner.now around))) }
+        ≡ min many (length (sequence (alternatives_each inner.now around))) }
     ensures longest { (around : Around) → result.longest
-        ≡ min long (longest_together (members_of inner.now around)) }
+        ≡ min long (longest_together (alternatives_each inner.now around)) }
     ensures few { (result.many ≤ many) × (result.longest ≤ long) }
 {
     let mut all = 1;

@@ -2,7 +2,7 @@
 //! alternatives.
 
 ghost use Rattle.std.specs.Prelude.{◌≡◌, ◌++◌, ◌∷◌, [], map, IfOk, OnOk};
-ghost use Rattle.ts_rules.specs.Alternatives.{alternatives_of, blank, joins, sequence, single, stronger, choice_of, members_of, in_field, in_alias, in_group, in_dynamic, in_sequence, group, left, left_by, last_left, step_at, followed};
+ghost use Rattle.ts_rules.specs.Alternatives.{alternatives_of, blank, joins, sequence, single, stronger, choice_of, alternatives_each, in_field, in_alias, in_group, in_dynamic, in_sequence, group, left, left_by, last_left, step_at, followed};
 
 use crate::tree::{Alternative, Around, NumberedStep, Tree};
 use std::alloc::{AllocError, Global};
@@ -221,7 +221,8 @@ fn round_group(around: &Around, prec: Prec, assoc: Assoc) -> Around
 {
     let assoc = match assoc {
         Assoc::Absent => around.assoc,
-        _ => assoc,
+        Assoc::Left => Assoc::Left,
+        Assoc::Right => Assoc::Right,
     };
     Around {
         prec,
@@ -282,7 +283,7 @@ fn member_alternatives(
     inner: &[Tree],
     around: &Around,
 ) -> Result<List<List<Alternative>>, AllocError>
-    ensures { IfOk result (λ parts. parts ≡ members_of inner.now around.now) }
+    ensures { IfOk result (λ parts. parts ≡ alternatives_each inner.now around.now) }
 {
     let mut parts = List::new(alloc);
     for member in inner {

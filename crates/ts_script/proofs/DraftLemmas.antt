@@ -15,20 +15,13 @@ use Rattle.ts_script.specs.declared.said.Said.{Said}
 use Rattle.ts_script.specs.declared.said.Said.TheVariants.{Text, Path, Load, Step}
 use Rattle.ts_script.specs.Cut.{CutsAt}
 use Rattle.ts_script.specs.Drafts.{IsDraft, IsAccepted, IsRefused, out_of_order, too_much, HaveSteps, Extends, with_step, Goes, GoesOn}
-use Rattle.ts_script.specs.Lines.{AreLines, IsBlank}
+use Rattle.ts_script.specs.Lines.{AreLines, IsBlankLine}
 use Rattle.ts_script.specs.Said.{Says}
 use Rattle.ts_script.specs.Rules.{Asks, most_script_bytes, sources, queries, steps, steps_of, source_in, query_in, step_in, step_of, step_of_client, clients_in, client_count}
-use Rattle.ts_script.specs.Script.{Follows, blank, says, FailsAt, no_order, over, Reads, at_end, next, Fails, here, later, IsScript, IsFault, in_line}
+use Rattle.ts_script.specs.Script.{Follows, blank, says, FailsAt, no_order, over, Reads, at_end, next, FailsIn, here, later, IsScript, IsFault, in_line}
 use Rattle.ts_script.proofs.LineLemmas.{some_list, cut_and_rest}
 
 -- ---- lines
-
-pub begins : (bytes : Bytes) (draft : Draft) → IsDraft [] draft → Goes bytes bytes 1 draft
-begins bytes draft is = record {
-  said = [];
-  is = is;
-  on = λ lines cut. record { all = lines; cut = cut; reads = λ end h. h; fails = λ f h. h };
-}
 
 pub goes_on : (bytes rest line after : Bytes) (n : ℕ) (old new : Draft) → CutsAt rest line after → Goes bytes rest n old
     → ((before : List Said) → IsDraft before old → (end : List Said) × Follows before line end × IsDraft end new)
@@ -45,7 +38,7 @@ goes_on bytes rest line after n old new cuts goes read =
             all = above.all;
             cut = above.cut;
             reads = λ end h. above.reads end (next step.1 h);
-            fails = λ f h. above.fails f (later step.1 (subst (λ (k : ℕ). Fails step.0 k lines f) (sym more) h));
+            fails = λ f h. above.fails f (later step.1 (subst (λ (k : ℕ). FailsIn step.0 k lines f) (sym more) h));
           };
     }
 
@@ -72,14 +65,14 @@ is_script bytes n draft plan small goes asks =
 
 -- ---- one line
 
-pub accepted : (before : List Said) (line : Bytes) (said : Said) (old new : Draft) → (IsBlank line → ⊥) → Says line said → IsDraft before old
+pub accepted : (before : List Said) (line : Bytes) (said : Said) (old new : Draft) → (IsBlankLine line → ⊥) → Says line said → IsDraft before old
     → ((above : List Said) → IsDraft above old → IsAccepted above said × IsDraft (above ++ said ∷ []) new)
     → (end : List Said) × Follows before line end × IsDraft end new
 accepted before line said old new filled read is judged =
     let all = judged before is in
     (before ++ said ∷ [], says filled read all.0.0 all.0.1, all.1)
 
-pub refused : (before : List Said) (line : Bytes) (said : Said) (n : ℕ) (f : SFault) → (IsBlank line → ⊥) → Says line said
+pub refused : (before : List Said) (line : Bytes) (said : Said) (n : ℕ) (f : SFault) → (IsBlankLine line → ⊥) → Says line said
     → IsRefused before said n f → FailsAt before line n f
 refused before line said n f filled read (out_of_order h) = no_order filled read h
 refused before line said n f filled read (too_much o h) = over filled read o h

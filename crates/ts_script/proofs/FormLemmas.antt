@@ -1,20 +1,16 @@
 -- What is found in one form of a line, as what is found of all that has the form.
-use Rattle.std.proofs.Common.{◌≡◌, ◌∙◌, sym, ap, refl, subst, ℕ, List, [], ◌∷◌, ◌++◌, map, All, Option, Some, None, MatchOption, codes}
+use Rattle.std.proofs.Common.{◌≡◌, ◌∙◌, sym, ap, refl, subst, ℕ, List, [], ◌∷◌, ◌++◌, map, All, codes}
 use Rattle.serde_json.specs.Data.{Data, Items, no_items, item, array, object, string, Members, no_members, member}
 use Rattle.serde_json.specs.View.{view, items_of, items_view}
 use Rattle.serde_json.specs.declared.value.Value.{Value}
 use Rattle.ts_base.specs.Bytes.{Bytes}
 use Rattle.ts_script.specs.declared.said.Action.{Action}
 use Rattle.ts_script.specs.declared.said.Action.TheVariants as action
-use Rattle.ts_script.specs.declared.said.ActionForm.{ActionForm}
 use Rattle.ts_script.specs.declared.said.ActionForm.TheVariants as step
 use Rattle.ts_script.specs.declared.said.Form.{Form}
-use Rattle.ts_script.specs.declared.said.Form.TheVariants as form
 use Rattle.ts_script.specs.declared.said.Piece.{Piece}
-use Rattle.ts_script.specs.declared.said.Said.{Said}
-use Rattle.ts_script.specs.declared.said.Said.TheVariants.{Text, Path, Load, Step}
-use Rattle.ts_script.specs.Forms.{form_of, action_form, with_list, IsWritten, FindsForm, IsActed, AreAll}
-use Rattle.ts_script.specs.Said.{IsNumber, HasPlaces, whole, piece_data, members_of, action_members}
+use Rattle.ts_script.specs.Forms.{action_form, with_list, IsActed, AreAll}
+use Rattle.ts_script.specs.Said.{IsNumber, HasPlaces, whole, piece_data, action_members}
 use Rattle.ts_script.proofs.SaidLemmas.{items_once, none_of_no_items}
 
 -- ---- lists
@@ -34,11 +30,6 @@ not_empty f (x ∷ xs) some h = let e : f x ∷ map f xs ≡ [] = h in cc
 
 -- ---- steps
 
-pub no_queries : (ms : Members) → ((list : List Data) → (list ≡ [] → ⊥) → ms ≡ with_list (codes "query") (codes "queries") (items_of list) → ⊥)
-    → (act : Action) → action_form act ≡ step.Query → IsActed ms act → ⊥
-no_queries ms never (action.Query qs) f (fits, h) = never (map whole qs) (not_empty whole qs fits.0) h
-no_queries ms never act f h = cc
-
 pub no_parts : (ms : Members) → ((list : List Data) → (list ≡ [] → ⊥) → ms ≡ with_list (codes "edit") (codes "parts") (items_of list) → ⊥)
     → (act : Action) → action_form act ≡ step.Changes → IsActed ms act → ⊥
 no_parts ms never (action.Changes ps) f (fits, h) = never (map piece_data ps) (not_empty piece_data ps fits.0) h
@@ -57,40 +48,3 @@ pub no_pieces : (ms : Members) (vs : List Value) → ms ≡ with_list (codes "ed
 no_pieces ms vs is never (action.Changes ps) f (fits, h) =
     never ps (fits.1, items_once (map view vs) (map piece_data ps) (list_once (codes "edit") (codes "parts") _ _ (sym is ∙ h)))
 no_pieces ms vs is never act f h = cc
-
--- ---- lines
-
-no_text : (ms : Members) → ((text : Bytes) → ms ≡ members_of (Text text) → ⊥) → (s : Said) → form_of s ≡ form.Text → IsWritten ms s → ⊥
-no_text ms never (Text text) f h = never text h.1
-no_text ms never s f h = cc
-
-pub text_form : (ms : Members) (o : Option Said) → MatchOption o ((text : Bytes) → ms ≡ members_of (Text text) → ⊥) (IsWritten ms) → FindsForm form.Text ms o
-text_form ms None h = no_text ms h
-text_form ms (Some s) h = h
-
-no_path : (ms : Members) → ((path : Bytes) → ms ≡ members_of (Path path) → ⊥) → (s : Said) → form_of s ≡ form.Path → IsWritten ms s → ⊥
-no_path ms never (Path path) f h = never path h.1
-no_path ms never s f h = cc
-
-pub path_form : (ms : Members) (o : Option Said) → MatchOption o ((path : Bytes) → ms ≡ members_of (Path path) → ⊥) (IsWritten ms) → FindsForm form.Path ms o
-path_form ms None h = no_path ms h
-path_form ms (Some s) h = h
-
-no_load : (ms : Members) → ((source : Bytes) → ms ≡ members_of (Load source) → ⊥) → (s : Said) → form_of s ≡ form.Load → IsWritten ms s → ⊥
-no_load ms never (Load source) f h = never source h.1
-no_load ms never s f h = cc
-
-pub load_form : (ms : Members) (o : Option Said) → MatchOption o ((source : Bytes) → ms ≡ members_of (Load source) → ⊥) (IsWritten ms) → FindsForm form.Load ms o
-load_form ms None h = no_load ms h
-load_form ms (Some s) h = h
-
-no_step : (ms : Members) (f : ActionForm) → ((client document : ℕ) (act : Action) → action_form act ≡ f → IsWritten ms (Step client document act) → ⊥)
-    → (s : Said) → form_of s ≡ form.Step f → IsWritten ms s → ⊥
-no_step ms f never (Step client document act) e h = never client document act (let same : action_form act ≡ f = cc in same) h
-no_step ms f never s e h = cc
-
-pub step_form : (ms : Members) (f : ActionForm) (o : Option Said)
-    → MatchOption o ((client document : ℕ) (act : Action) → action_form act ≡ f → IsWritten ms (Step client document act) → ⊥) (IsWritten ms)
-    → FindsForm (form.Step f) ms o
-step_form ms f None h = no_step ms f h
-step_form ms f (Some s) h = h

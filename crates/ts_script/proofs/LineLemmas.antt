@@ -5,7 +5,7 @@ use Rattle.std.specs.Prelude.{nat_eq}
 use Rattle.memchr.specs.Find.{is_byte, Passes, NoneBefore, Nowhere}
 use Rattle.ts_base.specs.Bytes.{Bytes}
 use Rattle.ts_script.specs.Cut.{CutsAt}
-use Rattle.ts_script.specs.Lines.{newline, HasNoNewline, BeginsWith, IsLastLine, AreLines}
+use Rattle.ts_script.specs.Lines.{newline, HasNoNewline, BeginsWithLine, IsLastLine, AreLines}
 
 abbrev NoNewline : ℕ → Type 0
 NoNewline b = b ≡ newline → ⊥
@@ -96,7 +96,7 @@ cut_and_rest bytes line after lines (inr (last, end)) rest =
 -- ---- what a search for a newline tells
 
 pub cut_at : (bytes : Bytes) (k : ℕ) → NoneBefore (Passes (is_byte newline) bytes) 0 (length bytes) k → Passes (is_byte newline) bytes k
-    → BeginsWith bytes (take k bytes) (drop (k + 1) bytes)
+    → BeginsWithLine bytes (take k bytes) (drop (k + 1) bytes)
 cut_at [] k p q = let high = p.high in absurd (let f : ⊥ = omega (arith, high) in f)
 cut_at (b ∷ bytes) zero p q =
     record { cut = All-nil NoNewline; whole = ap (λ (x : ℕ). x ∷ bytes) (is_newline b q) }

@@ -14,8 +14,8 @@ use Rattle.ts_script.specs.declared.said.Form.TheVariants as form
 use Rattle.ts_script.specs.declared.said.Piece.{Piece}
 use Rattle.ts_script.specs.declared.said.Said.{Said}
 use Rattle.ts_script.specs.declared.said.Said.TheVariants.{Text, Path, Load, Step}
-use Rattle.ts_script.specs.Forms.{form_of, action_form, form_named, action_named}
-use Rattle.ts_script.specs.Said.{Says, whole, piece_data, members_of, action_members}
+use Rattle.ts_script.specs.Forms.{line_form, action_form, form_named, action_named}
+use Rattle.ts_script.specs.Said.{Says, whole, piece_data, said_members, action_members}
 
 -- ---- the form
 
@@ -25,7 +25,7 @@ form_in d =
     option_and_then (λ (word : Bytes). form_named word (is_some (get (codes "path") d)) (is_some (get (codes "parts") d)))
     (option_and_then as_str (get (codes "op") d))
 
-pub tells_form : (said : Said) → form_in (object (members_of said)) ≡ Some (form_of said)
+pub tells_form : (said : Said) → form_in (object (said_members said)) ≡ Some (line_form said)
 tells_form (Text text) = refl
 tells_form (Path path) = refl
 tells_form (Load source) = refl
@@ -89,7 +89,7 @@ action_once action.Tree action.Tree f h = refl
 action_once (action.Await v) (action.Await w) f h = let e : v ≡ w = cc in ap action.Await e
 action_once a b f h = cc
 
-said_once : (s t : Said) → form_of s ≡ form_of t → members_of s ≡ members_of t → s ≡ t
+said_once : (s t : Said) → line_form s ≡ line_form t → said_members s ≡ said_members t → s ≡ t
 said_once (Text s) (Text t) f h = let e : s ≡ t = cc in ap Text e
 said_once (Path s) (Path t) f h = let e : s ≡ t = cc in ap Path e
 said_once (Load s) (Load t) f h = let e : s ≡ t = cc in ap Load e
@@ -102,15 +102,15 @@ said_once (Step c d a) (Step k e b) f h =
     let same : Step c d a ≡ Step k e b = cc in same
 said_once s t f h = cc
 
-pub one_object : (s t : Said) → object (members_of s) ≡ object (members_of t) → s ≡ t
+pub one_object : (s t : Said) → object (said_members s) ≡ object (said_members t) → s ≡ t
 one_object s t h =
-    let form : Some (form_of s) ≡ Some (form_of t) = sym (tells_form s) ∙ ap form_in h ∙ tells_form t in
-    said_once s t (let e : form_of s ≡ form_of t = cc in e) (let e : members_of s ≡ members_of t = cc in e)
+    let form : Some (line_form s) ≡ Some (line_form t) = sym (tells_form s) ∙ ap form_in h ∙ tells_form t in
+    said_once s t (let e : line_form s ≡ line_form t = cc in e) (let e : said_members s ≡ said_members t = cc in e)
 
 pub one_said : (line : Bytes) (s t : Said) → Says line s → Says line t → s ≡ t
 one_said line s t p q =
-    let e : Some (object (members_of s)) ≡ Some (object (members_of t)) = sym p.written ∙ q.written in
-    one_object s t (let f : object (members_of s) ≡ object (members_of t) = cc in f)
+    let e : Some (object (said_members s)) ≡ Some (object (said_members t)) = sym p.written ∙ q.written in
+    one_object s t (let f : object (said_members s) ≡ object (said_members t) = cc in f)
 
 pub none_of_no_items : (list : List Data) → items_of list ≡ no_items → list ≡ []
 none_of_no_items [] h = refl

@@ -1,5 +1,5 @@
 -- A script asks for one thing, or has one first fault.
-use Rattle.std.proofs.Common.{◌≡◌, ◌∙◌, sym, ap, refl, subst, ℕ, suc, ◌<◌, ◌≤◌, ◌≢◌, ◌⊎◌, inl, inr, ⊎_elim, Result, Ok, Err, IfOk, IfErr, IsErrAnd, List, [], ◌∷◌, ◌++◌, Option, Some, None, length, slice_get, arith}
+use Rattle.std.proofs.Common.{◌≡◌, ◌∙◌, sym, ap, refl, subst, ℕ, suc, ◌<◌, ◌≤◌, ◌≢◌, Result, Ok, Err, IfErr, List, [], ◌∷◌, ◌++◌, Option, Some, None, length, slice_get, arith}
 use Rattle.ts_base.specs.Bytes.{Bytes}
 use Rattle.ts_script.specs.declared.fault.SFault.{SFault}
 use Rattle.ts_script.specs.declared.fault.SFault.TheVariants as fault
@@ -7,10 +7,10 @@ use Rattle.ts_script.specs.declared.plan.Plan.{Plan}
 use Rattle.ts_script.specs.declared.plan.ScriptStep.{ScriptStep}
 use Rattle.ts_script.specs.declared.plan.Source.{Source}
 use Rattle.ts_script.specs.declared.said.Said.{Said}
-use Rattle.ts_script.specs.Lines.{AreLines, IsBlank}
+use Rattle.ts_script.specs.Lines.{AreLines, IsBlankLine}
 use Rattle.ts_script.specs.Said.{Says}
-use Rattle.ts_script.specs.Rules.{InOrder, WithinLimits, Asks, sources, queries, steps_of, client_count}
-use Rattle.ts_script.specs.Script.{Follows, blank, says, FailsAt, no_line, no_order, over, Reads, at_end, next, Fails, here, later, IsScript, IsFault, too_large, in_line}
+use Rattle.ts_script.specs.Rules.{StandsRight, WithinLimits, Asks, sources, queries, steps_of, client_count}
+use Rattle.ts_script.specs.Script.{Follows, blank, says, FailsAt, no_line, no_order, over, Reads, at_end, next, FailsIn, here, later, IsScript, IsFault, too_large, in_line}
 use Rattle.ts_script.proofs.LineLemmas.{one_list}
 use Rattle.ts_script.proofs.SaidLemmas.{one_said}
 
@@ -29,17 +29,17 @@ fails_once before line n f g (no_line filled p) (over {said = t} nos q o w) = ab
 fails_once before line n f g (no_order {said = s} filled p o) (no_line nos q) = absurd (q s p)
 fails_once before line n f g (no_order filled p o) (no_order nos q os) = refl
 fails_once before line n f g (no_order {said = s} filled p o) (over {said = t} nos q os w) =
-    absurd (o (subst (InOrder before) (sym (one_said line s t p q)) os))
+    absurd (o (subst (StandsRight before) (sym (one_said line s t p q)) os))
 fails_once before line n f g (over {said = s} filled p o w) (no_line nos q) = absurd (q s p)
 fails_once before line n f g (over {said = s} filled p o w) (no_order {said = t} nos q os) =
-    absurd (os (subst (InOrder before) (one_said line s t p q) o))
+    absurd (os (subst (StandsRight before) (one_said line s t p q) o))
 fails_once before line n f g (over filled p o w) (over nos q os ws) = refl
 
 not_both : (before : List Said) (line : Bytes) (n : ℕ) (f : SFault) (after : List Said) → FailsAt before line n f → Follows before line after → ⊥
 not_both before line n f after (no_line filled p) (blank q) = filled q
 not_both before line n f after (no_line filled p) (says {said = t} nos q o w) = p t q
 not_both before line n f after (no_order filled p o) (blank q) = filled q
-not_both before line n f after (no_order {said = s} filled p o) (says {said = t} nos q os w) = o (subst (InOrder before) (sym (one_said line s t p q)) os)
+not_both before line n f after (no_order {said = s} filled p o) (says {said = t} nos q os w) = o (subst (StandsRight before) (sym (one_said line s t p q)) os)
 not_both before line n f after (over filled p o w) (blank q) = filled q
 not_both before line n f after (over {said = s} filled p o w) (says {said = t} nos q os ws) = w (subst (WithinLimits before) (sym (one_said line s t p q)) ws)
 
@@ -50,15 +50,15 @@ reads_once before [] a b at_end at_end = refl
 reads_once before (line ∷ lines) a b (next {mid = m} p ps) (next {mid = k} q qs) =
     reads_once m lines a b ps (subst (λ (x : List Said). Reads x lines b) (follows_once before line k m q p) qs)
 
-faults_once : (before : List Said) (n : ℕ) (lines : List Bytes) (f g : SFault) → Fails before n lines f → Fails before n lines g → f ≡ g
+faults_once : (before : List Said) (n : ℕ) (lines : List Bytes) (f g : SFault) → FailsIn before n lines f → FailsIn before n lines g → f ≡ g
 faults_once before n [] f g p q = elim p [ ]
 faults_once before n (line ∷ lines) f g (here p) (here q) = fails_once before line n f g p q
 faults_once before n (line ∷ lines) f g (here p) (later {mid = k} q qs) = absurd (not_both before line n f k p q)
 faults_once before n (line ∷ lines) f g (later {mid = m} p ps) (here q) = absurd (not_both before line n g m q p)
 faults_once before n (line ∷ lines) f g (later {mid = m} p ps) (later {mid = k} q qs) =
-    faults_once m (suc n) lines f g ps (subst (λ (x : List Said). Fails x (suc n) lines g) (follows_once before line k m q p) qs)
+    faults_once m (suc n) lines f g ps (subst (λ (x : List Said). FailsIn x (suc n) lines g) (follows_once before line k m q p) qs)
 
-fault_or_read : (before : List Said) (n : ℕ) (lines : List Bytes) (f : SFault) (a : List Said) → Fails before n lines f → Reads before lines a → ⊥
+fault_or_read : (before : List Said) (n : ℕ) (lines : List Bytes) (f : SFault) (a : List Said) → FailsIn before n lines f → Reads before lines a → ⊥
 fault_or_read before n [] f a p q = elim p [ ]
 fault_or_read before n (line ∷ lines) f a (here p) (next {mid = k} q qs) = not_both before line n f k p q
 fault_or_read before n (line ∷ lines) f a (later {mid = m} p ps) (next {mid = k} q qs) =
@@ -102,7 +102,7 @@ one_fault bytes f g (too_large p) (too_large q) = refl
 one_fault bytes f g (too_large p) (in_line small cut q) = absurd (let e : ⊥ = omega (arith, p, small) in e)
 one_fault bytes f g (in_line small cut p) (too_large q) = absurd (let e : ⊥ = omega (arith, q, small) in e)
 one_fault bytes f g (in_line {lines = ls} small cut p) (in_line {lines = ms} tiny cuts q) =
-    faults_once [] 1 ls f g p (subst (λ (x : List Bytes). Fails [] 1 x g) (one_list bytes ms ls cuts cut) q)
+    faults_once [] 1 ls f g p (subst (λ (x : List Bytes). FailsIn [] 1 x g) (one_list bytes ms ls cuts cut) q)
 
 pub refused : (bytes : Bytes) (f : SFault) (plan : Plan) → IsFault bytes f → IsScript bytes plan → ⊥
 refused bytes f plan (too_large p) script = let small = script.small in let e : ⊥ = omega (arith, p, small) in e
@@ -116,14 +116,3 @@ pub complete_of : (bytes : Bytes) (r : Result Plan SFault) → IfErr r (λ e. e 
     → IfErr r (λ e. e ≢ fault.Memory → (plan : Plan) → IsScript bytes plan → ⊥)
 complete_of bytes (Ok plan) h = tt
 complete_of bytes (Err e) h = λ other plan script. refused bytes e plan (h other) script
-
-memory_or : (e : SFault) → (e ≡ fault.Memory) ⊎ (e ≢ fault.Memory)
-memory_or (fault.Line n) = inr (λ e. cc)
-memory_or (fault.Order n) = inr (λ e. cc)
-memory_or (fault.Limit n) = inr (λ e. cc)
-memory_or fault.Memory = inl refl
-
-pub exact_of : (bytes : Bytes) (r : Result Plan SFault) → IfOk r (λ plan. IsScript bytes plan) → IfErr r (λ e. e ≢ fault.Memory → IsFault bytes e)
-    → (f : SFault) → IsFault bytes f → IsErrAnd r (λ e. (e ≡ f) ⊎ (e ≡ fault.Memory))
-exact_of bytes (Ok plan) script h f is = absurd (refused bytes f plan is script)
-exact_of bytes (Err e) none h f is = ⊎_elim (λ memory. inr memory) (λ other. inl (one_fault bytes e f (h other) is)) (memory_or e)

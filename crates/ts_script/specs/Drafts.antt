@@ -1,4 +1,4 @@
--- What a draft keeps of the lines above; for proofs alone.
+-- What a draft keeps of the lines above; for private clauses and proofs alone.
 use Rattle.std.specs.Prelude.{ℕ, ◌≡◌, ◌<◌, ◌≤◌, List, ◌∷◌, [], ◌++◌, length, slice_get, Some, if◌then◌else◌, nat_eq}
 use Rattle.ts_text.specs.Text.{most_bytes}
 use Rattle.ts_base.specs.Bytes.{Bytes}
@@ -9,8 +9,8 @@ use Rattle.ts_script.specs.declared.plan.ScriptStep.{ScriptStep}
 use Rattle.ts_script.specs.declared.said.Said.{Said}
 use Rattle.ts_script.specs.declared.said.Said.TheVariants.{Text, Path, Load, Step}
 use Rattle.ts_script.specs.Lines.{AreLines}
-use Rattle.ts_script.specs.Rules.{sources, queries, steps, steps_of, client_count, most_clients, most_steps, IsSmallAction, InOrder, WithinLimits}
-use Rattle.ts_script.specs.Script.{Reads, Fails}
+use Rattle.ts_script.specs.Rules.{sources, queries, steps, steps_of, client_count, most_clients, most_script_steps, IsSmallAction, StandsRight, WithinLimits}
+use Rattle.ts_script.specs.Script.{Reads, FailsIn}
 
 -- the clients below the length have these steps
 abbrev pub HaveSteps : (ℕ → List ScriptStep) → List (List ScriptStep) → Type 0
@@ -42,16 +42,16 @@ IsSmall above (Text text) = length text ≤ most_bytes
 IsSmall above (Path path) = Unit {0}
 IsSmall above (Load text) = Unit {0}
 IsSmall above (Step client document act) =
-    (client < most_clients) × (above < most_steps) × IsSmallAction act
+    (client < most_clients) × (above < most_script_steps) × IsSmallAction act
 
 -- what is said may stand there
 abbrev pub IsAccepted : List Said → Said → Type 0
-IsAccepted before said = InOrder before said × WithinLimits before said
+IsAccepted before said = StandsRight before said × WithinLimits before said
 
 -- it may not
 pub data IsRefused (before : List Said) (said : Said) (n : ℕ) : SFault → Type 0 where
-  out_of_order : (InOrder before said → ⊥) → IsRefused before said n (Order n)
-  too_much : InOrder before said → (WithinLimits before said → ⊥)
+  out_of_order : (StandsRight before said → ⊥) → IsRefused before said n (Order n)
+  too_much : StandsRight before said → (WithinLimits before said → ⊥)
       → IsRefused before said n (Limit n)
 
 -- reading these lines on is reading those of the bytes
@@ -59,7 +59,7 @@ pub record GoesOn (bytes : Bytes) (said : List Said) (n : ℕ) (lines : List Byt
   pub all : List Bytes
   pub cut : AreLines bytes all
   pub reads : (end : List Said) → Reads said lines end → Reads [] all end
-  pub fails : (f : SFault) → Fails said n lines f → Fails [] 1 all f
+  pub fails : (f : SFault) → FailsIn said n lines f → FailsIn [] 1 all f
 
 -- the lines of the rest, read on from a draft, are those of the bytes
 pub record Goes (bytes rest : Bytes) (n : ℕ) (draft : Draft) : Type 0 where

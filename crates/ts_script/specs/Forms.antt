@@ -1,4 +1,4 @@
--- Which form each line has, and what is found of a form; for proofs alone.
+-- Which form each line has, and what is found of a form; for private clauses and proofs alone.
 use Rattle.std.specs.Prelude.{ℕ, ◌≡◌, Bool, List, map, All, Option, Some, None, option_map, MatchOption, if◌then◌else◌, codes}
 use Rattle.std.specs.Str.{bytes_eq}
 use Rattle.serde_json.specs.Data.{Data, array, object, Items, Members, no_members, member}
@@ -12,8 +12,9 @@ use Rattle.ts_script.specs.declared.said.Form.TheVariants as form
 use Rattle.ts_script.specs.declared.said.Piece.{Piece}
 use Rattle.ts_script.specs.declared.said.Said.{Said}
 use Rattle.ts_script.specs.declared.said.Said.TheVariants.{Text, Path, Load, Step}
-use Rattle.ts_script.specs.Said.{IsSaid, IsAction, members_of, action_members, with_op, whole}
+use Rattle.ts_script.specs.Said.{IsSaid, IsAction, said_members, action_members, with_op, whole}
 
+-- the form of what a step does
 abbrev pub action_form : Action → ActionForm
 action_form (action.Change p) = step.Change
 action_form (action.Changes ps) = step.Changes
@@ -22,29 +23,31 @@ action_form (action.Query qs) = step.Query
 action_form action.Tree = step.Tree
 action_form (action.Await version) = step.Await
 
-abbrev pub form_of : Said → Form
-form_of (Text text) = form.Text
-form_of (Path path) = form.Path
-form_of (Load source) = form.Load
-form_of (Step client document act) = form.Step (action_form act)
+-- the form of what a line says
+abbrev pub line_form : Said → Form
+line_form (Text text) = form.Text
+line_form (Path path) = form.Path
+line_form (Load source) = form.Load
+line_form (Step client document act) = form.Step (action_form act)
 
 -- what P holds of was found, or P holds of nothing
-abbrev pub Finds : {X : Type 0} → (X → Type 0) → Option X → Type 0
-Finds P found = MatchOption found ((x : _) → P x → ⊥) P
+abbrev pub FindsOne : {X : Type 0} → (X → Type 0) → Option X → Type 0
+FindsOne P found = MatchOption found ((x : _) → P x → ⊥) P
 
 -- the object with these members says it
 abbrev pub IsWritten : Members → Said → Type 0
-IsWritten ms said = IsSaid said × (ms ≡ members_of said)
+IsWritten ms said = IsSaid said × (ms ≡ said_members said)
 
 -- the same, for what is said in the form
 abbrev pub FindsForm : Form → Members → Option Said → Type 0
 FindsForm form ms found =
-    MatchOption found ((said : Said) → form_of said ≡ form → IsWritten ms said → ⊥) (IsWritten ms)
+    MatchOption found ((said : Said) → line_form said ≡ form → IsWritten ms said → ⊥) (IsWritten ms)
 
 -- these members say what the step does
 abbrev pub IsActed : Members → Action → Type 0
 IsActed ms act = IsAction act × (ms ≡ action_members act)
 
+-- what a step does in the form was found, or the members say no such thing
 abbrev pub FindsAction : ActionForm → Members → Option Action → Type 0
 FindsAction form ms found =
     MatchOption found ((act : Action) → action_form act ≡ form → IsActed ms act → ⊥) (IsActed ms)

@@ -6,11 +6,12 @@ use Rattle.ts_base.specs.Bytes.{Bytes}
 abbrev pub newline : ℕ
 newline = 10
 
+-- no byte of the line is a newline
 abbrev pub HasNoNewline : Bytes → Type 0
 HasNoNewline line = All (λ (b : ℕ). b ≡ newline → ⊥) line
 
 -- the bytes are a line, its newline, and what comes after
-pub record BeginsWith (bytes line after : Bytes) : Type 0 where
+pub record BeginsWithLine (bytes line after : Bytes) : Type 0 where
   pub cut : HasNoNewline line
   pub whole : bytes ≡ line ++ newline ∷ after
 
@@ -24,9 +25,9 @@ pub record IsLastLine (bytes line : Bytes) : Type 0 where
 abbrev pub AreLines : Bytes → List Bytes → Type 0
 AreLines bytes [] = bytes ≡ []
 AreLines bytes (line ∷ lines) =
-    ((after : Bytes) × BeginsWith bytes line after × AreLines after lines)
+    ((after : Bytes) × BeginsWithLine bytes line after × AreLines after lines)
     ⊎ (IsLastLine bytes line × (lines ≡ []))
 
 -- the line has spaces and tabs alone
-abbrev pub IsBlank : Bytes → Type 0
-IsBlank line = All (λ (b : ℕ). (b ≡ 32) ⊎ (b ≡ 9)) line
+abbrev pub IsBlankLine : Bytes → Type 0
+IsBlankLine line = All (λ (b : ℕ). (b ≡ 32) ⊎ (b ≡ 9)) line

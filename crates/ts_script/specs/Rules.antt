@@ -17,29 +17,37 @@ use Rattle.ts_script.specs.declared.said.Said.TheVariants.{Text, Path, Load, Ste
 
 -- ---- limits
 
+-- the most bytes of a script
 abbrev pub most_script_bytes : ℕ
 most_script_bytes = 16777216
 
+-- the most clients of a script
 abbrev pub most_clients : ℕ
 most_clients = 16
 
+-- the most documents that a script opens
 abbrev pub most_documents : ℕ
 most_documents = 16
 
+-- the most queries that a script loads
 abbrev pub most_queries : ℕ
 most_queries = 64
 
+-- the most bytes of the text of a query
 abbrev pub most_query_bytes : ℕ
 most_query_bytes = 65536
 
+-- the most queries that one step asks
 abbrev pub most_asked : ℕ
 most_asked = 64
 
+-- the most ranges of one edit
 abbrev pub most_parts : ℕ
 most_parts = 1000
 
-abbrev pub most_steps : ℕ
-most_steps = 100000
+-- the most steps of all clients together
+abbrev pub most_script_steps : ℕ
+most_script_steps = 100000
 
 -- ---- what lines ask for
 
@@ -57,6 +65,7 @@ query_in (Path path) = []
 query_in (Load text) = text ∷ []
 query_in (Step client document act) = []
 
+-- a range with what comes in its place, as part of an edit
 abbrev pub part_of : Piece → Part
 part_of p = record { start = p.start; end = p.end; new = p.new }
 
@@ -95,15 +104,19 @@ clients_in (Path path) = 0
 clients_in (Load text) = 0
 clients_in (Step client document act) = suc client
 
+-- the documents that the lines open, in order
 abbrev pub sources : List Said → List Source
 sources said = flat_map source_in said
 
+-- the queries that the lines load, in order
 abbrev pub queries : List Said → List Bytes
 queries said = flat_map query_in said
 
+-- the steps in the lines, in order
 abbrev pub steps : List Said → List ScriptStep
 steps said = flat_map step_in said
 
+-- those of one client
 abbrev pub steps_of : ℕ → List Said → List ScriptStep
 steps_of client said = flat_map (step_of_client client) said
 
@@ -131,18 +144,20 @@ AsksBelow loaded action.Tree = Unit {0}
 AsksBelow loaded (action.Await version) = Unit {0}
 
 -- Documents and queries stand above all steps, and a step names those that are there.
-abbrev pub InOrder : List Said → Said → Type 0
-InOrder before (Text text) = steps before ≡ []
-InOrder before (Path path) = steps before ≡ []
-InOrder before (Load text) = steps before ≡ []
-InOrder before (Step client document act) =
+abbrev pub StandsRight : List Said → Said → Type 0
+StandsRight before (Text text) = steps before ≡ []
+StandsRight before (Path path) = steps before ≡ []
+StandsRight before (Load text) = steps before ≡ []
+StandsRight before (Step client document act) =
     (document < length (sources before)) × AsksBelow (length (queries before)) act
 
 -- ---- limits of lines
 
+-- what comes in the place of the range is no longer than a text may be
 abbrev pub IsSmallPiece : Piece → Type 0
 IsSmallPiece p = length p.new ≤ most_bytes
 
+-- the step passes no limit of bytes, ranges or queries
 abbrev pub IsSmallAction : Action → Type 0
 IsSmallAction (action.Change p) = IsSmallPiece p
 IsSmallAction (action.Changes ps) = (length ps ≤ most_parts) × All IsSmallPiece ps
@@ -159,4 +174,4 @@ WithinLimits before (Path path) = length (sources before) < most_documents
 WithinLimits before (Load text) =
     (length (queries before) < most_queries) × (length text ≤ most_query_bytes)
 WithinLimits before (Step client document act) =
-    (client < most_clients) × (length (steps before) < most_steps) × IsSmallAction act
+    (client < most_clients) × (length (steps before) < most_script_steps) × IsSmallAction act

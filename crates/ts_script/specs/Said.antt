@@ -33,7 +33,8 @@ action_members (action.Change p) =
     member (codes "end") (whole p.end) (member (codes "new") (string p.new)
     (with_op (codes "edit") (member (codes "start") (whole p.start) no_members)))
 action_members (action.Changes ps) =
-    with_op (codes "edit") (member (codes "parts") (array (items_of (map piece_data ps))) no_members)
+    with_op (codes "edit")
+    (member (codes "parts") (array (items_of (map piece_data ps))) no_members)
 action_members action.Look = with_op (codes "look") no_members
 action_members (action.Query qs) =
     with_op (codes "query") (member (codes "queries") (array (items_of (map whole qs))) no_members)
@@ -43,12 +44,12 @@ action_members (action.Await version) =
 
 -- The members of the object that says it. They stand here in the order of their names' bytes, as
 -- `serde_json` gives them; a line may have them in any order.
-abbrev pub members_of : Said → Members
-members_of (Text text) = with_op (codes "open") (member (codes "text") (string text) no_members)
-members_of (Path path) = with_op (codes "open") (member (codes "path") (string path) no_members)
-members_of (Load source) =
+abbrev pub said_members : Said → Members
+said_members (Text text) = with_op (codes "open") (member (codes "text") (string text) no_members)
+said_members (Path path) = with_op (codes "open") (member (codes "path") (string path) no_members)
+said_members (Load source) =
     with_op (codes "load") (member (codes "source") (string source) no_members)
-members_of (Step client document act) =
+said_members (Step client document act) =
     member (codes "client") (whole client) (member (codes "document") (whole document)
     (action_members act))
 
@@ -71,6 +72,7 @@ IsAction (action.Query qs) = (qs ≡ [] → ⊥) × All IsNumber qs
 IsAction action.Tree = Unit {0}
 IsAction (action.Await version) = IsNumber version
 
+-- each number of the line fits, and there is a range or a query where its step lists them
 abbrev pub IsSaid : Said → Type 0
 IsSaid (Text text) = Unit {0}
 IsSaid (Path path) = Unit {0}
@@ -83,5 +85,5 @@ IsSaid (Step client document act) = IsNumber client × IsNumber document × IsAc
 -- has its last value.
 pub record Says (line : Bytes) (said : Said) : Type 0 where
   pub utf8 : IsUtf8 line
-  pub written : read line ≡ Some (object (members_of said))
+  pub written : read line ≡ Some (object (said_members said))
   pub fits : IsSaid said

@@ -1,6 +1,6 @@
 //! Bytes in; their first line and the bytes after it out.
 ghost use Rattle.std.specs.Prelude.{◌≡◌, ◌<◌, ◌↔◌, [], length, IsTrue};
-ghost use Rattle.ts_script.specs.Lines.{BeginsWith, IsLastLine, IsBlank};
+ghost use Rattle.ts_script.specs.Lines.{BeginsWithLine, IsLastLine, IsBlankLine};
 ghost use Rattle.ts_script.specs.Cut.{CutsAt};
 
 use memchr::memchr;
@@ -19,7 +19,7 @@ pub(crate) fn first_line(bytes: &[u8]) -> (&[u8], &[u8])
 
 /// Whether the line has spaces and tabs alone.
 pub(crate) fn is_blank(line: &[u8]) -> bool
-    ensures { IsTrue result ↔ IsBlank line.now }
+    ensures { IsTrue result ↔ IsBlankLine line.now }
 {
     line.iter().all(|byte| *byte == b' ' || *byte == b'\t')
 }

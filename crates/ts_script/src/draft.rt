@@ -7,7 +7,7 @@ ghost use Rattle.ts_script.specs.declared.said.Action.{Action as AnyAction};
 ghost use Rattle.ts_script.specs.declared.said.Said.TheVariants as spec;
 ghost use Rattle.ts_script.specs.Drafts.{IsDraft, IsSmall, IsAccepted, IsRefused, HaveSteps, Extends, with_step};
 ghost use Rattle.ts_script.specs.Rules as rules;
-ghost use Rattle.ts_script.specs.Rules.{InOrder, WithinLimits, AsksBelow, IsSmallAction, IsSmallPiece, Asks};
+ghost use Rattle.ts_script.specs.Rules.{StandsRight, WithinLimits, AsksBelow, IsSmallAction, IsSmallPiece, Asks};
 ghost use Rattle.ts_script.specs.Script.{Follows, FailsAt};
 
 use crate::cut::is_blank;
@@ -131,7 +131,7 @@ impl Draft {
 
     fn is_in_order(&self, said: &Said) -> bool
         ensures { (before : AnyList AnySaid) → IsDraft before self.now
-            → (IsTrue result ↔ InOrder before said.now) }
+            → (IsTrue result ↔ StandsRight before said.now) }
     {
         match said {
             Said::Text(_) | Said::Path(_) | Said::Load(_) => self.steps == 0,
@@ -225,7 +225,7 @@ impl Draft {
     /// Adds a step of a client.
     fn add(&mut self, alloc: Global, client: usize, step: ScriptStep) -> Result<(), AllocError>
         requires client { client < rules.most_clients }
-        requires steps { self.old.steps < rules.most_steps }
+        requires steps { self.old.steps < rules.most_script_steps }
         ensures { OnOk result ((before : AnyList AnySaid) (document : ℕ) (act : AnyAction)
             → IsDraft before self.old → step ≡ rules.step_of document act
             → IsDraft (before ++ spec.Step client document act ∷ []) self.new) }

@@ -4,9 +4,9 @@ ghost use Rattle.serde_json.specs.Data.{Data, Items, Members as AnyMembers, no_m
 ghost use Rattle.serde_json.specs.View.{view, members_view, items_view, items_of};
 ghost use Rattle.ts_base.specs.Bytes.{Bytes};
 ghost use Rattle.ts_script.specs.Said as spec;
-ghost use Rattle.ts_script.specs.Said.{Says, IsNumber, HasPlaces, whole, piece_data, members_of, with_op, action_members};
+ghost use Rattle.ts_script.specs.Said.{Says, IsNumber, HasPlaces, whole, piece_data, said_members, with_op, action_members};
 ghost use Rattle.ts_script.specs.Forms as forms;
-ghost use Rattle.ts_script.specs.Forms.{Finds, IsWritten, FindsForm, FindsAction, AreAll};
+ghost use Rattle.ts_script.specs.Forms.{FindsOne, IsWritten, FindsForm, FindsAction, AreAll};
 ghost use Rattle.ts_script.specs.declared.said.Action.{Action as AnyAction};
 ghost use Rattle.ts_script.specs.declared.said.Said.{Said as AnySaid};
 ghost use Rattle.ts_script.specs.declared.said.Said.TheVariants as said;
@@ -24,7 +24,7 @@ use ts_core::{List, Str};
 ///
 /// `AllocError` where memory runs out.
 pub(crate) fn said(alloc: Global, line: &[u8]) -> Result<Option<Said>, AllocError>
-    ensures { IfOk result (Finds (Says line.now)) }
+    ensures { IfOk result (FindsOne (Says line.now)) }
 {
     match Value::from_slice(alloc, line) {
         Ok(value) => in_value(alloc, value),
@@ -41,7 +41,7 @@ pub(crate) fn said(alloc: Global, line: &[u8]) -> Result<Option<Said>, AllocErro
 /// What a value says.
 fn in_value(alloc: Global, value: Value) -> Result<Option<Said>, AllocError>
     ensures { IfOk result
-        (Finds (λ said. spec.IsSaid said × (view value ≡ object (members_of said)))) }
+        (FindsOne (λ said. spec.IsSaid said × (view value ≡ object (said_members said)))) }
 {
     match form_of(&value) {
         Some(form) => of_form(alloc, value, form),
@@ -52,9 +52,9 @@ fn in_value(alloc: Global, value: Value) -> Result<Option<Said>, AllocError>
 /// What a value of this form says.
 fn of_form(alloc: Global, value: Value, form: Form) -> Result<Option<Said>, AllocError>
     ensures { IfOk result (λ found. MatchOption found
-        ((said : AnySaid) → forms.form_of said ≡ form → spec.IsSaid said
-        → view value ≡ object (members_of said) → ⊥)
-        (λ said. spec.IsSaid said × (view value ≡ object (members_of said)))) }
+        ((said : AnySaid) → forms.line_form said ≡ form → spec.IsSaid said
+        → view value ≡ object (said_members said) → ⊥)
+        (λ said. spec.IsSaid said × (view value ≡ object (said_members said)))) }
 {
     match value {
         Value::Object(map) => in_form(alloc, map.into_iter(), form),
@@ -64,8 +64,8 @@ fn of_form(alloc: Global, value: Value, form: Form) -> Result<Option<Said>, Allo
 
 /// The form that a value may have, by its member `op`.
 fn form_of(value: &Value) -> Option<Form>
-    ensures { (said : AnySaid) → view value.now ≡ object (members_of said)
-        → result ≡ Some (forms.form_of said) }
+    ensures { (said : AnySaid) → view value.now ≡ object (said_members said)
+        → result ≡ Some (forms.line_form said) }
 {
     let has_path = value.get("path").is_some();
     let has_parts = value.get("parts").is_some();
@@ -120,7 +120,7 @@ fn in_form(alloc: Global, mut members: Members, form: Form) -> Result<Option<Sai
 
 fn opening(members: &mut Members) -> Option<Said>
     ensures { MatchOption result
-        ((text : Bytes) → members_view members.old ≡ members_of (said.Text text) → ⊥)
+        ((text : Bytes) → members_view members.old ≡ said_members (said.Text text) → ⊥)
         (IsWritten (members_view members.old)) }
 {
     let text = only_text(members, "open", "text")?;
@@ -129,7 +129,7 @@ fn opening(members: &mut Members) -> Option<Said>
 
 fn opening_at(members: &mut Members) -> Option<Said>
     ensures { MatchOption result
-        ((path : Bytes) → members_view members.old ≡ members_of (said.Path path) → ⊥)
+        ((path : Bytes) → members_view members.old ≡ said_members (said.Path path) → ⊥)
         (IsWritten (members_view members.old)) }
 {
     let path = only_text(members, "open", "path")?;
@@ -138,7 +138,7 @@ fn opening_at(members: &mut Members) -> Option<Said>
 
 fn load(members: &mut Members) -> Option<Said>
     ensures { MatchOption result
-        ((source : Bytes) → members_view members.old ≡ members_of (said.Load source) → ⊥)
+        ((source : Bytes) → members_view members.old ≡ said_members (said.Load source) → ⊥)
         (IsWritten (members_view members.old)) }
 {
     let source = only_text(members, "load", "source")?;
@@ -147,7 +147,7 @@ fn load(members: &mut Members) -> Option<Said>
 
 /// The text under this name, where the word of `op` is the one other member.
 fn only_text(members: &mut Members, word: &str, name: &str) -> Option<Str>
-    ensures { Finds (λ (text : Bytes). members_view members.old
+    ensures { FindsOne (λ (text : Bytes). members_view members.old
         ≡ with_op word.now (member name.now (string text) no_members)) result }
 {
     if !members::has_op(members, word) {
@@ -335,7 +335,7 @@ fn only_items(members: &mut Members, word: &str, name: &str) -> Option<Vec<Value
 
 /// What each of several values has as a range and what comes in its place.
 fn pieces(alloc: Global, values: Vec<Value>) -> Result<Option<List<Piece>>, AllocError>
-    ensures { IfOk result (Finds (AreAll HasPlaces piece_data (map view values.items))) }
+    ensures { IfOk result (FindsOne (AreAll HasPlaces piece_data (map view values.items))) }
 {
     let mut found = List::new(alloc);
     for value in values {
@@ -348,7 +348,7 @@ fn pieces(alloc: Global, values: Vec<Value>) -> Result<Option<List<Piece>>, Allo
 }
 
 fn piece(value: Value) -> Option<Piece>
-    ensures { Finds (λ (p : AnyPiece). HasPlaces p × (view value ≡ piece_data p)) result }
+    ensures { FindsOne (λ (p : AnyPiece). HasPlaces p × (view value ≡ piece_data p)) result }
 {
     match value {
         Value::Object(map) => piece_in(map),
@@ -357,7 +357,7 @@ fn piece(value: Value) -> Option<Piece>
 }
 
 fn piece_in(map: Map<String, Value>) -> Option<Piece>
-    ensures { Finds (λ (p : AnyPiece). HasPlaces p
+    ensures { FindsOne (λ (p : AnyPiece). HasPlaces p
         × (object (members_view map.entries) ≡ piece_data p)) result }
 {
     let mut members = map.into_iter();
@@ -373,7 +373,7 @@ fn piece_in(map: Map<String, Value>) -> Option<Piece>
 
 /// The number that each of several values is.
 fn numbers(alloc: Global, values: Vec<Value>) -> Result<Option<List<u32>>, AllocError>
-    ensures { IfOk result (Finds (AreAll IsNumber whole (map view values.items))) }
+    ensures { IfOk result (FindsOne (AreAll IsNumber whole (map view values.items))) }
 {
     let mut found = List::new(alloc);
     for value in values {

@@ -11,8 +11,6 @@ mod members;
 mod plan;
 mod reader;
 mod said;
-#[cfg(test)]
-mod tests;
 
 pub use fault::SFault;
 pub use laws::{one_fault, one_plan, refused_is_no_script};

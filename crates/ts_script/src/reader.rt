@@ -22,8 +22,8 @@ pub const MOST_SCRIPT_BYTES: usize = 16_777_216;
 ///
 /// # Errors
 ///
-/// `Limit(0)` above `MOST_SCRIPT_BYTES` bytes; else the fault of the first line that has one, `Line`
-/// before `Order` before `Limit`; `Memory` where memory runs out.
+/// `Limit(0)` above `MOST_SCRIPT_BYTES` bytes; else the fault of the first line that has one,
+/// `Line` before `Order` before `Limit`; `Memory` where memory runs out.
 pub fn script(alloc: Global, bytes: &[u8]) -> Result<Plan, SFault>
     ensures ok { IfOk result (λ plan. IsScript bytes.now plan) }
     ensures refused { IfErr result (λ e. e ≢ SFault.Memory → IsFault bytes.now e) }

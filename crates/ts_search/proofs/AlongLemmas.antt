@@ -1,8 +1,8 @@
 -- Captures of siblings, one after another.
-use Rattle.std.proofs.Common.{◌≡◌, ◌∙◌, sym, ap, refl, subst, ℕ, zero, suc, ◌+◌, ◌-◌, ◌<◌, ◌≤◌, ⊎_elim, List, [], ◌∷◌, ◌++◌, append_assoc, length, slice_get, Some, Bool, arith, ◌↔◌}
+use Rattle.std.proofs.Common.{◌≡◌, ◌∙◌, sym, ap, refl, subst, ℕ, zero, suc, ◌+◌, ◌-◌, ◌<◌, ◌≤◌, ⊎_elim, List, [], ◌∷◌, ◌++◌, append_assoc, Bool, arith, ◌↔◌}
 use Rattle.std.specs.List.{Contains}
 use Rattle.spec_matches.specs.declared.found.Capture.{Capture}
-use Rattle.ts_search.specs.Adding.{Finds}
+use Rattle.ts_search.specs.Adding.{FindsMost}
 use Rattle.ts_search.specs.Steps.{AreBare, Before, Joins}
 use Rattle.ts_search.specs.Table.{Takes}
 use Rattle.spec_matches.specs.Embedding.{Along, offset}
@@ -16,11 +16,11 @@ module _ (takes : ℕ → ℕ → ℕ → List Capture → Type 0) (k : ℕ) whe
   abbrev TakenFirst : ℕ → ℕ → List (List Capture) → List Capture → Type 0
   TakenFirst o p backs c = (u : List Capture) × takes k o p u × Before backs u c
 
-  pub longer_none : (o p : ℕ) (backs : List (List Capture)) (w : Bool) (cs : List (List Capture)) → cs ≡ [] → ((c : List Capture) → takes k o p c → ⊥) → Finds (TakenFirst o p backs) w w cs
+  pub longer_none : (o p : ℕ) (backs : List (List Capture)) (w : Bool) (cs : List (List Capture)) → cs ≡ [] → ((c : List Capture) → takes k o p c → ⊥) → FindsMost (TakenFirst o p backs) w w cs
   longer_none o p backs w cs e nothing = finds_nothing (TakenFirst o p backs) w cs e (λ c h. nothing h.0 h.1)
 
-  pub longer_some : (o p : ℕ) (fronts backs : List (List Capture)) (u v : Bool) (cs : List (List Capture)) → Finds (Joins fronts backs) u v cs → ((c : List Capture) → takes k o p c ↔ Contains fronts c)
-      → Finds (TakenFirst o p backs) u v cs
+  pub longer_some : (o p : ℕ) (fronts backs : List (List Capture)) (u v : Bool) (cs : List (List Capture)) → FindsMost (Joins fronts backs) u v cs → ((c : List Capture) → takes k o p c ↔ Contains fronts c)
+      → FindsMost (TakenFirst o p backs) u v cs
   longer_some o p fronts backs u v cs finds are =
       finds_same (Joins fronts backs) (TakenFirst o p backs) u v cs finds (λ c h. (h.0, (are h.0).1 h.1, h.2)) (λ c h. (h.0, (are h.0).0 h.1, h.2))
 
@@ -63,12 +63,12 @@ module _ (takes : ℕ → ℕ → ℕ → List Capture → Type 0) (k : ℕ) (i 
           )
 
   pub along_halves : (from middle to : ℕ) (u v w x : Bool) (fronts backs cs : List (List Capture)) → from ≤ middle → middle ≤ to
-      → Finds (Along takes k i first (middle - from) from) u v fronts → Finds (Along takes k i first (to - middle) middle) v w backs
-      → Finds (Joins fronts backs) w x cs → Finds (Along takes k i first (to - from) from) u x cs
+      → FindsMost (Along takes k i first (middle - from) from) u v fronts → FindsMost (Along takes k i first (to - middle) middle) v w backs
+      → FindsMost (Joins fronts backs) w x cs → FindsMost (Along takes k i first (to - from) from) u x cs
   along_halves from middle to u v w x fronts backs cs low high one two joins =
       let sum : to - from ≡ (middle - from) + (to - middle) = omega arith in
       let place : from + (middle - from) ≡ middle = omega arith in
-      subst (λ (n : ℕ). Finds (Along takes k i first n from) u x cs) (sym sum) (record {
+      subst (λ (n : ℕ). FindsMost (Along takes k i first n from) u x cs) (sym sum) (record {
         only = λ c h.
             let j = joins.only c h in
             subst (λ (l : List Capture). Along takes k i first ((middle - from) + (to - middle)) from l) (sym j.2.2)
@@ -84,14 +84,14 @@ module _ (takes : ℕ → ℕ → ℕ → List Capture → Type 0) (k : ℕ) (i 
       })
 
   pub along_one : (p : ℕ) (lists : List (List Capture)) (u v : Bool) (cs : List (List Capture)) → lists ≡ [] ∷ []
-      → Finds (λ (c : List Capture). (u : List Capture) × takes k (offset i first p) p u × Before lists u c) u v cs → Finds (Along takes k i first 1 p) u v cs
+      → FindsMost (λ (c : List Capture). (u : List Capture) × takes k (offset i first p) p u × Before lists u c) u v cs → FindsMost (Along takes k i first 1 p) u v cs
   along_one p lists u v cs e finds =
       finds_same (λ (c : List Capture). (u : List Capture) × takes k (offset i first p) p u × Before lists u c) (Along takes k i first 1 p) u v cs finds
       (λ c w. (w.0, w.2.0, w.2.2, w.1, one_in [] w.2.0 (subst (λ (l : List (List Capture)). Contains l w.2.0) e w.2.1)))
       (λ c h. (h.0, h.3, (h.1, subst (λ (l : List (List Capture)). Contains l h.1) (sym e) (in_one [] h.1 h.4), h.2)))
 
-  pub along_at : (n m p : ℕ) (u v : Bool) (cs : List (List Capture)) → n ≡ m → Finds (Along takes k i first m p) u v cs → Finds (Along takes k i first n p) u v cs
-  along_at n m p u v cs e h = subst (λ (j : ℕ). Finds (Along takes k i first j p) u v cs) (sym e) h
+  pub along_at : (n m p : ℕ) (u v : Bool) (cs : List (List Capture)) → n ≡ m → FindsMost (Along takes k i first m p) u v cs → FindsMost (Along takes k i first n p) u v cs
+  along_at n m p u v cs e h = subst (λ (j : ℕ). FindsMost (Along takes k i first j p) u v cs) (sym e) h
 
   pub along_zero : (n p : ℕ) (cs : List (List Capture)) → n ≡ 0 → cs ≡ [] ∷ [] → (c : List Capture) → Contains cs c ↔ Along takes k i first n p c
   along_zero n p cs z e c =
@@ -119,14 +119,6 @@ bare_ways ways e T are c = (
   (λ h. one_in [] c (subst (λ (l : List (List Capture)). Contains l c) e ((are c).0 h))),
   (λ h. (are c).1 (subst (λ (l : List (List Capture)). Contains l c) (sym e) (in_one [] c h))),
 )
-
-pub only_one : (ways : List (List Capture)) (w : List Capture) → length ways ≡ 1 → slice_get ways 0 ≡ Some w → w ≡ [] → ways ≡ [] ∷ []
-only_one [] w n is e = absurd (omega (arith, n))
-only_one (v ∷ []) w n is e =
-    let same : Some v ≡ Some w = is in
-    let x : v ≡ w = cc in
-    ap (λ (l : List Capture). l ∷ []) (x ∙ e)
-only_one (v ∷ u ∷ us) w n is e = absurd (omega (arith, n))
 
 pub bare_more : (table : List (List (List (List (List Capture))))) (k : ℕ) (i : Slot) (first p : ℕ) → AreBare table k i first p → ((c : List Capture) → Takes table k (offset i first p) p c ↔ (c ≡ []))
     → AreBare table k i first (p + 1)

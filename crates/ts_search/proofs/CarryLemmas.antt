@@ -4,11 +4,11 @@ use Rattle.spec_matches.specs.declared.placing.Slot.{Slot}
 use Rattle.spec_matches.specs.declared.placing.Run.{Run}
 use Rattle.spec_matches.specs.declared.found.Capture.{Capture}
 use Rattle.spec_matches.specs.declared.placing.Placing.{Placing}
-use Rattle.spec_matches.specs.Embedding.{offset, Fits, Embeds, Along, Gives, IsWay}
+use Rattle.spec_matches.specs.Embedding.{offset, IsItemRun, Embeds, Along, GivesCaptures, IsWayFrom}
 
 -- where one takes anything the other takes something
 module _ (t u : ℕ → ℕ → ℕ → List Capture → Type 0) (any : (k o p : ℕ) (c : List Capture) → t k o p c → (d : List Capture) × u k o p d) where
-  fits_to : (n k : ℕ) (i : Slot) (r : Run) → Fits t n i k r → Fits u n i k r
+  fits_to : (n k : ℕ) (i : Slot) (r : Run) → IsItemRun t n i k r → IsItemRun u n i k r
   fits_to n k i r f = record {
     some = f.some;
     inside = f.inside;
@@ -29,7 +29,7 @@ module _ (t u : ℕ → ℕ → ℕ → List Capture → Type 0) (to : (k o p : 
   along_to k i first zero p c e = e
   along_to k i first (suc n) p c e = (e.0, e.1, e.2, to k (offset i first p) p e.0 e.3, along_to k i first n (p + 1) e.1 e.4)
 
-  pub gives_to : (is : List Slot) (k : ℕ) (rs : List (Option Run)) (c : List Capture) → Gives t is k rs c → Gives u is k rs c
+  pub gives_to : (is : List Slot) (k : ℕ) (rs : List (Option Run)) (c : List Capture) → GivesCaptures t is k rs c → GivesCaptures u is k rs c
   gives_to [] k rs c e = e
   gives_to (i ∷ is) k [] c e = e
   gives_to (i ∷ is) k (None ∷ rs) c e = gives_to is (k + 1) rs c e
@@ -44,7 +44,7 @@ module _ (t : ℕ → ℕ → ℕ → List Capture → Type 0) where
       let rest = along_any k i first n (p + 1) (λ q low below. covers q (omega arith) (omega arith)) in
       (one.0 ++ rest.0, (one.0, rest.0, refl, one.1, rest.1))
 
-  pub gives_any : (named : List Bool) (closed : Bool) (is : List Slot) (k lo : ℕ) (b : Bool) (rs : List (Option Run)) → Embeds t named closed is k lo b rs → (c : List Capture) × Gives t is k rs c
+  pub gives_any : (named : List Bool) (closed : Bool) (is : List Slot) (k lo : ℕ) (b : Bool) (rs : List (Option Run)) → Embeds t named closed is k lo b rs → (c : List Capture) × GivesCaptures t is k rs c
   gives_any named closed [] k lo b rs e = ([], refl)
   gives_any named closed (i ∷ is) k lo b [] e = absurd e
   gives_any named closed (i ∷ is) k lo b (None ∷ rs) e = gives_any named closed is (k + 1) lo false rs e.1
@@ -55,7 +55,7 @@ module _ (t : ℕ → ℕ → ℕ → List Capture → Type 0) where
       (one.0 ++ rest.0, (one.0, rest.0, refl, one.1, rest.1))
 
 module _ (t u : ℕ → ℕ → ℕ → List Capture → Type 0) (back : (k o p : ℕ) (c : List Capture) → u k o p c → (d : List Capture) × t k o p d) where
-  pub way_to : ((k o p : ℕ) (c : List Capture) → t k o p c → u k o p c) → (named : List Bool) (closed : Bool) (is : List Slot) (f : Placing) → IsWay t named closed is 0 0 true f → IsWay u named closed is 0 0 true f
+  pub way_to : ((k o p : ℕ) (c : List Capture) → t k o p c → u k o p c) → (named : List Bool) (closed : Bool) (is : List Slot) (f : Placing) → IsWayFrom t named closed is 0 0 true f → IsWayFrom u named closed is 0 0 true f
   way_to to named closed is f w = record {
     runs = w.runs;
     full = record {
@@ -68,8 +68,8 @@ module _ (t u : ℕ → ℕ → ℕ → List Capture → Type 0) (back : (k o p 
   }
 
   -- where there is a way there is one in what the other takes
-  pub way_any : ((k o p : ℕ) (c : List Capture) → t k o p c → (d : List Capture) × u k o p d) → (named : List Bool) (closed : Bool) (is : List Slot) (f : Placing) → IsWay t named closed is 0 0 true f
-      → (g : Placing) × IsWay u named closed is 0 0 true g
+  pub way_any : ((k o p : ℕ) (c : List Capture) → t k o p c → (d : List Capture) × u k o p d) → (named : List Bool) (closed : Bool) (is : List Slot) (f : Placing) → IsWayFrom t named closed is 0 0 true f
+      → (g : Placing) × IsWayFrom u named closed is 0 0 true g
   way_any any named closed is f w =
       let embeds = embeds_to t u any named closed is 0 0 true w.runs w.full.embeds in
       let c = gives_any u named closed is 0 0 true w.runs embeds in

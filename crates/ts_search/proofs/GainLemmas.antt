@@ -3,7 +3,7 @@ use Rattle.std.proofs.Common.{◌≡◌, ◌∙◌, sym, ap, subst, ℕ, ◌+◌
 use Rattle.std.specs.List.{Contains}
 use Rattle.std.proofs.lemmas.List.{append-nil, take_more, take_all, take-append-drop}
 use Rattle.std.proofs.lemmas.List.Elements.{Contains-append_left, Contains-append_cases, Contains-push, Contains-push_cases}
-use Rattle.ts_search.specs.Adding.{Adds, Finds, Gains, OfSome}
+use Rattle.ts_search.specs.Adding.{Adds, FindsMost, Gains, OfSome}
 use Rattle.ts_search.proofs.PlaceLemmas.{none_in_nil}
 
 pub not_both : (b : Bool) → b ≡ true → b ≡ false → ⊥
@@ -48,26 +48,26 @@ module _ {X : Type 0} where
   gains_same P Q u v a b p to from = record { more = p.more; is = p.is; only = λ i h. to i (p.only i h); earlier = p.earlier; added = λ e i q. p.added e i (from i q) }
 
   -- from the empty list these are what is found
-  pub gains_finds : (P : X → Type 0) (u v : Bool) (b : List X) → Gains P u v [] b → Finds P u v b
+  pub gains_finds : (P : X → Type 0) (u v : Bool) (b : List X) → Gains P u v [] b → FindsMost P u v b
   gains_finds P u v b p = record { only = λ i h. p.only i (subst (λ (l : List X). Contains l i) p.is h); earlier = p.earlier; all = λ e i h. p.added e i h }
 
-  pub finds_cut : (P R : X → Type 0) (u v w : Bool) (b : List X) → Gains P u v [] b → w ≡ true → ((i : X) → P i → R i) → Finds R u w b
+  pub finds_cut : (P R : X → Type 0) (u v w : Bool) (b : List X) → Gains P u v [] b → w ≡ true → ((i : X) → P i → R i) → FindsMost R u w b
   finds_cut P R u v w b p cut to = gains_finds R u w b (gains_cut P R u v w [] b p cut to)
 
-  pub finds_exact : (P : X → Type 0) (w : Bool) (b : List X) → ((i : X) → Contains b i ↔ P i) → Finds P w w b
+  pub finds_exact : (P : X → Type 0) (w : Bool) (b : List X) → ((i : X) → Contains b i ↔ P i) → FindsMost P w w b
   finds_exact P w b are = record { only = λ i. (are i).0; earlier = λ e. e; all = λ e i. (are i).1 }
 
-  pub finds_nothing : (P : X → Type 0) (w : Bool) (b : List X) → b ≡ [] → ((i : X) → P i → ⊥) → Finds P w w b
+  pub finds_nothing : (P : X → Type 0) (w : Bool) (b : List X) → b ≡ [] → ((i : X) → P i → ⊥) → FindsMost P w w b
   finds_nothing P w b e none = record { only = λ i h. absurd (none_in_nil i (subst (λ (l : List X). Contains l i) e h)); earlier = λ f. f; all = λ f i p. absurd (none i p) }
 
-  pub finds_same : (P Q : X → Type 0) (u v : Bool) (b : List X) → Finds P u v b → ((i : X) → P i → Q i) → ((i : X) → Q i → P i) → Finds Q u v b
+  pub finds_same : (P Q : X → Type 0) (u v : Bool) (b : List X) → FindsMost P u v b → ((i : X) → P i → Q i) → ((i : X) → Q i → P i) → FindsMost Q u v b
   finds_same P Q u v b p to from = record { only = λ i h. to i (p.only i h); earlier = p.earlier; all = λ e i q. p.all e i (from i q) }
 
   -- the same elements in another list
-  pub finds_each : (P : X → Type 0) (u v : Bool) (b c : List X) → Finds P u v b → ((i : X) → Contains c i ↔ Contains b i) → Finds P u v c
+  pub finds_each : (P : X → Type 0) (u v : Bool) (b c : List X) → FindsMost P u v b → ((i : X) → Contains c i ↔ Contains b i) → FindsMost P u v c
   finds_each P u v b c p each = record { only = λ i h. p.only i ((each i).0 h); earlier = p.earlier; all = λ e i q. (each i).1 (p.all e i q) }
 
-  pub finds_later : (P : X → Type 0) (u v w : Bool) (b : List X) → Finds P u v b → (w ≡ false → v ≡ false) → Finds P w w b
+  pub finds_later : (P : X → Type 0) (u v w : Bool) (b : List X) → FindsMost P u v b → (w ≡ false → v ≡ false) → FindsMost P w w b
   finds_later P u v w b p step = record { only = p.only; earlier = λ e. e; all = λ e. p.all (step e) }
 
 -- one more of the elements that a loop goes over

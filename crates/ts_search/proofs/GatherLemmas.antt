@@ -54,9 +54,6 @@ module _ {Y : Type 0} (S : Y → Match → Type 0) where
       let e : take (n + 1) ys ≡ take n ys ++ y ∷ [] = take_more ys n y below ∙ ap (λ (z : Y). take n ys ++ z ∷ []) (sym is) in
       subst (λ (l : List Y). Gathers (OfSome S l) a c) (sym e) (push_more (take n ys) y a b c before one)
 
-  pub hits_more_at : (ys : List Y) (n : ℕ) (d : Y) (a b c : BTreeSet Match) → n < length ys → Gathers (OfSome S (take n ys)) a b → Gathers (S (get_or ys n d)) b c → Gathers (OfSome S (take (n + 1) ys)) a c
-  hits_more_at ys n d a b c below before one = subst (λ (l : List Y). Gathers (OfSome S l) a c) (sym (take_more ys n d below)) (push_more (take n ys) (get_or ys n d) a b c before one)
-
   pub hits_all : (ys : List Y) (n : ℕ) (a b : BTreeSet Match) → length ys ≤ n → Gathers (OfSome S (take n ys)) a b → Gathers (OfSome S ys) a b
   hits_all ys n a b past h = subst (λ (l : List Y). Gathers (OfSome S l) a b) (take_all n ys past) h
 

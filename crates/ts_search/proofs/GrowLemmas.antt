@@ -8,7 +8,7 @@ use Rattle.ts_search.specs.declared.stand.Stand.{Stand}
 use Rattle.ts_search.specs.declared.stand.Siblings.{Siblings}
 use Rattle.spec_matches.specs.Embedding.{Covers, Placed, Rounds, offset}
 use Rattle.ts_search.specs.Table.{Takes}
-use Rattle.ts_search.specs.Steps.{Allows, BeginsLate, GoesPast, Grows, IsPlainMany, TakesAt, Widens}
+use Rattle.ts_search.specs.Steps.{Allows, BeginsLate, GoesPast, CanWiden, IsPlainMany, TakesAt, Widens}
 use Rattle.ts_search.proofs.PlaceLemmas.{cases_lt_or_eq}
 use Rattle.ts_search.proofs.RunLemmas.{covers_more}
 
@@ -90,15 +90,15 @@ module _ (s : Siblings) (is : List Slot) (at : Stand) where
   one_round d few r = ⊎_elim (λ m. absurd (not_both at.slot.many m few)) (λ e. e) r.1
 
   -- a run of an item that is taken once doesn't grow
-  pub no_growth : at.slot.many ≡ false → (r : Run) (t : Placing) → Grows s is at r t → ⊥
+  pub no_growth : at.slot.many ≡ false → (r : Run) (t : Placing) → CanWiden s is at r t → ⊥
   no_growth few r t (inl late) = not_both at.slot.many late.many.0 few
   no_growth few r t (inr (inl on)) = not_both at.slot.many on.on.many.0 few
   no_growth few r t (inr (inr g)) = not_both at.slot.many g.many few
 
-  pub grows_iff : (r : Run) (t : Placing) → Place r → Allows s.named s.closed is r.past t.first t.near → Grows s is at r t ↔ Widens s is at (Some r) t
+  pub grows_iff : (r : Run) (t : Placing) → Place r → Allows s.named s.closed is r.past t.first t.near → CanWiden s is at r t ↔ Widens s is at (Some r) t
   grows_iff r t placed allowed = (to, from)
     where
-      to : Grows s is at r t → Widens s is at (Some r) t
+      to : CanWiden s is at r t → Widens s is at (Some r) t
       to (inl late) = record {
         quantified = inr late.many.0;
         run = record { first = r.first - 1; past = r.past };
@@ -115,7 +115,7 @@ module _ (s : Siblings) (is : List Slot) (at : Stand) where
       }
       to (inr (inr g)) = g.widens
 
-      few : at.slot.many ≡ false → (w : Widens s is at (Some r) t) → Grows s is at r t
+      few : at.slot.many ≡ false → (w : Widens s is at (Some r) t) → CanWiden s is at r t
       few e w =
           let one = one_round (r.past - r.first) e placed.fits.rounds in
           let two = one_round (w.run.past - w.run.first) e w.by.placed.fits.rounds in
@@ -124,7 +124,7 @@ module _ (s : Siblings) (is : List Slot) (at : Stand) where
           let right = w.by.wider.1 in
           absurd (⊎_elim (λ lt. omega arith) (λ lt. omega arith) w.by.wider.2)
 
-      plain : IsPlainMany at.slot → (w : Widens s is at (Some r) t) → Grows s is at r t
+      plain : IsPlainMany at.slot → (w : Widens s is at (Some r) t) → CanWiden s is at r t
       plain m w =
           let some = placed.fits.some in
           let left = w.by.wider.0 in
@@ -147,13 +147,13 @@ module _ (s : Siblings) (is : List Slot) (at : Stand) where
           })))
           w.by.wider.2
 
-      by_more : at.slot.many ≡ true → (n : ℕ) → at.slot.more ≡ n → (w : Widens s is at (Some r) t) → Grows s is at r t
+      by_more : at.slot.many ≡ true → (n : ℕ) → at.slot.more ≡ n → (w : Widens s is at (Some r) t) → CanWiden s is at r t
       by_more m zero e w = plain (m, e) w
       by_more m (suc n) e w = inr (inr (record { many = m; group = λ z. let f : 0 ≡ suc n = sym z ∙ e in omega (arith, f); widens = w }))
 
-      by_many : (b : Bool) → at.slot.many ≡ b → (w : Widens s is at (Some r) t) → Grows s is at r t
+      by_many : (b : Bool) → at.slot.many ≡ b → (w : Widens s is at (Some r) t) → CanWiden s is at r t
       by_many true e w = by_more e at.slot.more refl w
       by_many false e w = few e w
 
-      from : Widens s is at (Some r) t → Grows s is at r t
+      from : Widens s is at (Some r) t → CanWiden s is at r t
       from w = by_many at.slot.many refl w

@@ -7,8 +7,8 @@ use Rattle.spec_matches.specs.declared.placing.Run.{Run}
 use Rattle.ts_search.specs.declared.stand.Stand.{Stand}
 use Rattle.ts_search.specs.declared.stand.Siblings.{Siblings}
 use Rattle.spec_matches.specs.declared.placing.Placing.{Placing}
-use Rattle.ts_search.specs.Adding.{Adds, Finds, Gains, OfSome}
-use Rattle.spec_matches.specs.Embedding.{Rounds, Unnamed, Placed, Full, Gives, Along, IsWay, first_of, near_of}
+use Rattle.ts_search.specs.Adding.{Adds, FindsMost, Gains, OfSome}
+use Rattle.spec_matches.specs.Embedding.{Rounds, Unnamed, Placed, Full, GivesCaptures, Along, IsWayFrom, first_sibling_taken, near_of}
 use Rattle.ts_search.specs.Table.{Takes}
 use Rattle.ts_search.specs.declared.stand.Wanted.{Wanted}
 use Rattle.ts_search.specs.declared.stand.Wanted.TheVariants.{All, Captures, Here}
@@ -23,11 +23,11 @@ use Rattle.ts_search.proofs.WayLemmas.{ahead_from, ahead_to, none_from, none_to,
 
 module _ (s : Siblings) (is : List Slot) (at : Stand) where
   abbrev After : ℕ → Bool → Placing → Type 0
-  After lo b = IsWay (Takes s.table) s.named s.closed is (at.number + 1) lo b
+  After lo b = IsWayFrom (Takes s.table) s.named s.closed is (at.number + 1) lo b
 
   module _ (r : Run) (wanted : Wanted) (suits : Suits s at r.past wanted) (u v : Bool) (tails : List Placing)
-      (are : Finds (Told wanted r.past (After r.past true)) u v tails) (placed : Placed (Takes s.table) s.named at.slot at.number at.lo at.beside r) where
-    pub adds_head_run : (w x : Bool) (fronts : List (List Capture)) (a b : List (List Capture)) → Finds (Along (Takes s.table) at.number at.slot r.first (r.past - r.first) r.first) v w fronts
+      (are : FindsMost (Told wanted r.past (After r.past true)) u v tails) (placed : Placed (Takes s.table) s.named at.slot at.number at.lo at.beside r) where
+    pub adds_head_run : (w x : Bool) (fronts : List (List Capture)) (a b : List (List Capture)) → FindsMost (Along (Takes s.table) at.number at.slot r.first (r.past - r.first) r.first) v w fronts
         → Gains (OfSome (RunBefore s is at r fronts) tails) w x a b → Gains (HeadTaken s is at r) u x a b
     adds_head_run w x fronts a b fits gains = record {
       more = gains.more;
@@ -48,7 +48,7 @@ module _ (s : Siblings) (is : List Slot) (at : Stand) where
   begun_told true lo W t = ((λ h. (h.0, (λ e. h.1))), (λ h. (h.0, h.1 refl)))
   begun_told false lo W t = ((λ h. (h, (λ e. let f : false ≡ true = e in cc))), (λ h. h.0))
 
-  pub adds_head_none : (here : Bool) (u v : Bool) (tails a b : List Placing) → Finds (Told (cond here Here All) at.lo (After at.lo false)) u v tails → at.slot.optional ≡ true
+  pub adds_head_none : (here : Bool) (u v : Bool) (tails a b : List Placing) → FindsMost (Told (cond here Here All) at.lo (After at.lo false)) u v tails → at.slot.optional ≡ true
       → Adds (OfSome (NoneBefore s is at) tails) a b → Gains (HeadNone s is at here) u v a b
   adds_head_none here u v tails a b are optional adds = record {
     more = adds.more;
@@ -76,15 +76,15 @@ module _ (s : Siblings) (is : List Slot) (at : Stand) where
       (λ f h. (h.0, omega (arith, h.1), h.2)) (λ f h. (last + 1, omega arith, h))
       (λ f h. ⊎_elim (λ lt. inl (h.0, omega arith, h.2)) (λ e. inr (subst (λ (p : ℕ). HeadTaken s is at (record { first = first; past = p }) f) e h.2)) (cases_lt_or_eq h.0 (last + 1) (omega (arith, h.1))))
 
-  pub up_to_all : (first last end : ℕ) (u v : Bool) (b : List (List Capture)) → end ≤ last → Reaches s at first end → Gains (TakenUpTo first last) u v [] b → Finds (TakenFrom s is at first) u v b
+  pub up_to_all : (first last end : ℕ) (u v : Bool) (b : List (List Capture)) → end ≤ last → Reaches s at first end → Gains (TakenUpTo first last) u v [] b → FindsMost (TakenFrom s is at first) u v b
   up_to_all first last end u v b past reaches before =
       gains_finds (TakenFrom s is at first) u v b
       (gains_same (TakenUpTo first last) (TakenFrom s is at first) u v [] b before (λ f h. (h.0, h.2)) (λ f h. (h.0, (let le = ((reaches h.0).0 h.1.full.embeds.0.fits).1 in omega arith), h.1)))
 
-  pub up_to_part : (first last : ℕ) (u v w : Bool) (b : List (List Capture)) → w ≡ true → Gains (TakenUpTo first last) u v [] b → Finds (TakenFrom s is at first) u w b
+  pub up_to_part : (first last : ℕ) (u v w : Bool) (b : List (List Capture)) → w ≡ true → Gains (TakenUpTo first last) u v [] b → FindsMost (TakenFrom s is at first) u w b
   up_to_part first last u v w b cut before = finds_cut (TakenUpTo first last) (TakenFrom s is at first) u v w b before cut (λ f h. (h.0, h.2))
 
-  pub adds_first : (first : ℕ) (u v : Bool) (lists kept : List (List Capture)) (a b : List Placing) → Finds (TakenFrom s is at first) u v lists → ((c : List Capture) → Contains kept c ↔ Contains lists c)
+  pub adds_first : (first : ℕ) (u v : Bool) (lists kept : List (List Capture)) (a b : List Placing) → FindsMost (TakenFrom s is at first) u v lists → ((c : List Capture) → Contains kept c ↔ Contains lists c)
       → Adds (OfSome (Shown (Some first) true) kept) a b → Gains (HeadFrom s is at first) u v a b
   adds_first first u v lists kept a b all each adds = record { more = adds.more; is = adds.is; only = λ f h. to f (adds.only f h); earlier = all.earlier; added = λ e f h. adds.added f (from e f h) }
     where
@@ -175,20 +175,20 @@ module _ (s : Siblings) (is : List Slot) (at : Stand) where
       from_begun (w, it) = below it ((way_heads s is at f).0 w)
 
   pub below_all : (here : Bool) (first end : ℕ) (u v : Bool) (b : List Placing) → end ≤ first → ((p : ℕ) → at.lo ≤ p → p < length s.named → (here ≡ true → p ≡ at.lo) → p < end) → Gains (HeadBelow here first) u v [] b
-      → Finds (Begun here at.lo (WaysOf s (at.slot ∷ is) at.number at.lo at.beside)) u v b
+      → FindsMost (Begun here at.lo (WaysOf s (at.slot ∷ is) at.number at.lo at.beside)) u v b
   below_all here first end u v b past ends before =
       finds_same (HeadBelow here first) (Begun here at.lo (WaysOf s (at.slot ∷ is) at.number at.lo at.beside)) u v b (gains_finds (HeadBelow here first) u v b before)
       (begins here first) (λ f. from_begun here first f end past ends)
 
-  pub below_part : (here : Bool) (first : ℕ) (u v w : Bool) (b : List Placing) → w ≡ true → Gains (HeadBelow here first) u v [] b → Finds (Begun here at.lo (WaysOf s (at.slot ∷ is) at.number at.lo at.beside)) u w b
+  pub below_part : (here : Bool) (first : ℕ) (u v w : Bool) (b : List Placing) → w ≡ true → Gains (HeadBelow here first) u v [] b → FindsMost (Begun here at.lo (WaysOf s (at.slot ∷ is) at.number at.lo at.beside)) u w b
   below_part here first u v w b cut before = finds_cut (HeadBelow here first) (Begun here at.lo (WaysOf s (at.slot ∷ is) at.number at.lo at.beside)) u v w b before cut (begins here first)
 
 -- the ways of no items
 pub end_way : (s : Siblings) (k lo : ℕ) (b : Bool) → (s.closed ≡ true → b ≡ true → Unnamed s.named lo (length s.named))
-    → (f : Placing) → Contains (record { first = None; near = false; captures = [] } ∷ []) f ↔ IsWay (Takes s.table) s.named s.closed [] k lo b f
+    → (f : Placing) → Contains (record { first = None; near = false; captures = [] } ∷ []) f ↔ IsWayFrom (Takes s.table) s.named s.closed [] k lo b f
 end_way s k lo b may f = (to, from)
   where
-    to : Contains (record { first = None; near = false; captures = [] } ∷ []) f → IsWay (Takes s.table) s.named s.closed [] k lo b f
+    to : Contains (record { first = None; near = false; captures = [] } ∷ []) f → IsWayFrom (Takes s.table) s.named s.closed [] k lo b f
     to h =
         let is_it = one_in (record { first = None; near = false; captures = [] }) f h in
         record {
@@ -199,15 +199,15 @@ end_way s k lo b may f = (to, from)
           near = ap (λ (g : Placing). g.near) is_it;
         }
 
-    by : (runs : List (Option Run)) → Full (Takes s.table) s.named s.closed [] k lo b runs → Gives (Takes s.table) [] k runs f.captures → f.first ≡ first_of runs → f.near ≡ near_of runs → f ≡ record { first = None; near = false; captures = [] }
+    by : (runs : List (Option Run)) → Full (Takes s.table) s.named s.closed [] k lo b runs → GivesCaptures (Takes s.table) [] k runs f.captures → f.first ≡ first_sibling_taken runs → f.near ≡ near_of runs → f ≡ record { first = None; near = false; captures = [] }
     by [] full gives first near = λ i. record { first = first i; near = near i; captures = gives i }
     by (r ∷ rs) full gives first near = absurd full.embeds
 
-    from : IsWay (Takes s.table) s.named s.closed [] k lo b f → Contains (record { first = None; near = false; captures = [] } ∷ []) f
+    from : IsWayFrom (Takes s.table) s.named s.closed [] k lo b f → Contains (record { first = None; near = false; captures = [] } ∷ []) f
     from w = in_one (record { first = None; near = false; captures = [] }) f (by w.runs w.full w.gives w.first w.near)
 
 pub no_end : (s : Siblings) (k lo : ℕ) (b : Bool) → ((s.closed ≡ true → b ≡ true → Unnamed s.named lo (length s.named)) → ⊥)
-    → (f : Placing) → Contains [] f ↔ IsWay (Takes s.table) s.named s.closed [] k lo b f
+    → (f : Placing) → Contains [] f ↔ IsWayFrom (Takes s.table) s.named s.closed [] k lo b f
 no_end s k lo b fails f = ((λ h. absurd (none_in_nil f h)), (λ w. absurd (by w.runs w.full)))
   where
     by : (runs : List (Option Run)) → Full (Takes s.table) s.named s.closed [] k lo b runs → ⊥
@@ -225,7 +225,7 @@ none_is a e = cc
 pub no_here : (s : Siblings) (k lo : ℕ) (b here : Bool) → here ≡ true → (f : Placing) → Contains [] f ↔ Begun here lo (WaysOf s [] k lo b) f
 no_here s k lo b here e f = ((λ h. absurd (none_in_nil f h)), (λ w. absurd (by w.0.runs w.0.full w.0.first (w.1 e))))
   where
-    by : (runs : List (Option Run)) → Full (Takes s.table) s.named s.closed [] k lo b runs → f.first ≡ first_of runs → f.first ≡ Some lo → ⊥
+    by : (runs : List (Option Run)) → Full (Takes s.table) s.named s.closed [] k lo b runs → f.first ≡ first_sibling_taken runs → f.first ≡ Some lo → ⊥
     by [] full first it = none_is lo (sym first ∙ it)
     by (r ∷ rs) full first it = full.embeds
 
@@ -235,16 +235,16 @@ begun_all here e lo W f = ((λ h. (h, (λ (t : here ≡ true). let x : true ≡ 
 
 -- ways as they are asked for
 module _ (lo : ℕ) (W : Placing → Type 0) (u v : Bool) (found : List Placing) where
-  pub told_all : Finds (Begun false lo W) u v found → Finds (Told All lo W) u v found
+  pub told_all : FindsMost (Begun false lo W) u v found → FindsMost (Told All lo W) u v found
   told_all are = finds_same (Begun false lo W) (Told All lo W) u v found are (λ f h. h.0) (λ f h. (begun_all false refl lo W f).0 h)
 
-  pub of_all : Finds (Told All lo W) u v found → Finds W u v found
+  pub of_all : FindsMost (Told All lo W) u v found → FindsMost W u v found
   of_all are = finds_same (Told All lo W) W u v found are (λ f h. h) (λ f h. h)
 
-  pub told_here : Finds (Begun true lo W) u v found → Finds (Told Here lo W) u v found
+  pub told_here : FindsMost (Begun true lo W) u v found → FindsMost (Told Here lo W) u v found
   told_here are = finds_same (Begun true lo W) (Told Here lo W) u v found are (λ f h. (h.0, h.1 refl)) (λ f h. (h.0, (λ e. h.1)))
 
-  pub told_bare : (bares : List Placing) → Finds (Begun false lo W) u v found → ((f : Placing) → Contains bares f ↔ OfSome IsBare found f) → Finds (Told Captures lo W) u v bares
+  pub told_bare : (bares : List Placing) → FindsMost (Begun false lo W) u v found → ((f : Placing) → Contains bares f ↔ OfSome IsBare found f) → FindsMost (Told Captures lo W) u v bares
   told_bare bares are bare = record {
     only = λ f h. let x = (bare f).0 h in (x.0, (are.only x.0 x.1).0, x.2);
     earlier = are.earlier;
@@ -252,11 +252,11 @@ module _ (lo : ℕ) (W : Placing → Type 0) (u v : Bool) (found : List Placing)
   }
 
 -- the same for an equal wish, and for equal items
-pub told_at : (lo : ℕ) (W : Placing → Type 0) (u v : Bool) (found : List Placing) (asked it : Wanted) → asked ≡ it → Finds (Told it lo W) u v found → Finds (Told asked lo W) u v found
-told_at lo W u v found asked it e h = subst (λ (w : Wanted). Finds (Told w lo W) u v found) (sym e) h
+pub told_at : (lo : ℕ) (W : Placing → Type 0) (u v : Bool) (found : List Placing) (asked it : Wanted) → asked ≡ it → FindsMost (Told it lo W) u v found → FindsMost (Told asked lo W) u v found
+told_at lo W u v found asked it e h = subst (λ (w : Wanted). FindsMost (Told w lo W) u v found) (sym e) h
 
-pub begun_at : (s : Siblings) (slots it : List Slot) (k lo : ℕ) (b here : Bool) (u v : Bool) (found : List Placing) → slots ≡ it → Finds (Begun here lo (WaysOf s it k lo b)) u v found → Finds (Begun here lo (WaysOf s slots k lo b)) u v found
-begun_at s slots it k lo b here u v found e h = subst (λ (l : List Slot). Finds (Begun here lo (WaysOf s l k lo b)) u v found) (sym e) h
+pub begun_at : (s : Siblings) (slots it : List Slot) (k lo : ℕ) (b here : Bool) (u v : Bool) (found : List Placing) → slots ≡ it → FindsMost (Begun here lo (WaysOf s it k lo b)) u v found → FindsMost (Begun here lo (WaysOf s slots k lo b)) u v found
+begun_at s slots it k lo b here u v found e h = subst (λ (l : List Slot). FindsMost (Begun here lo (WaysOf s l k lo b)) u v found) (sym e) h
 
 pub begun_iff : (here : Bool) → here ≡ false → (lo : ℕ) (W : Placing → Type 0) (v : List Placing) (f : Placing) → Contains v f ↔ W f → Contains v f ↔ Begun here lo W f
 begun_iff here e lo W v f are = let x = begun_all here e lo W f in ((λ h. x.0 (are.0 h)), (λ h. are.1 (x.1 h)))

@@ -1,12 +1,12 @@
 -- What is kept of a search.
-use Rattle.std.proofs.Common.{◌≡◌, ◌∙◌, sym, ap, refl, subst, ℕ, ◌+◌, List, ◌∷◌, drop, Option, Some, None, Bool, true, false, cond, arith}
+use Rattle.std.proofs.Common.{◌≡◌, ◌∙◌, sym, ap, refl, subst, ℕ, ◌+◌, List, ◌∷◌, drop, Option, Some, Bool, true, false, cond, arith}
 use Rattle.std.proofs.lemmas.Bool.Decides.{nat_tests}
 use Rattle.std.proofs.lemmas.List.{drop-drop}
 use Rattle.spec_matches.specs.declared.placing.Slot.{Slot}
 use Rattle.ts_search.specs.declared.stand.Key.{Key}
 use Rattle.ts_search.specs.declared.stand.Siblings.{Siblings}
 use Rattle.spec_matches.specs.declared.placing.Placing.{Placing}
-use Rattle.ts_search.specs.Adding.{Finds}
+use Rattle.ts_search.specs.Adding.{FindsMost}
 use Rattle.ts_search.specs.Memory.{key_eq, IsMemo, Told, WaysOf}
 use Rattle.ts_search.proofs.GainLemmas.{finds_later}
 
@@ -19,13 +19,7 @@ some_is a b e = cc
 module _ (s : Siblings) (all : List Slot) where
   -- these are ways that a key asks for
   abbrev pub Exact : List Slot → Key → Bool → Bool → List Placing → Type 0
-  Exact slots key u v found = Finds (Told key.wanted key.lo (WaysOf s slots key.number key.lo key.beside)) u v found
-
-  pub memo_empty : (w : Bool) (look : Key → Option (List Placing)) → ((k : Key) → look k ≡ None) → IsMemo s all w look
-  memo_empty w look none k v e = absurd (not_none (sym (none k) ∙ e))
-    where
-      not_none : None ≡ Some v → ⊥
-      not_none f = cc
+  Exact slots key u v found = FindsMost (Told key.wanted key.lo (WaysOf s slots key.number key.lo key.beside)) u v found
 
   -- what is left out later
   pub memo_later : (u v : Bool) (look : Key → Option (List Placing)) → (v ≡ false → u ≡ false) → IsMemo s all u look → IsMemo s all v look

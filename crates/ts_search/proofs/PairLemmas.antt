@@ -9,7 +9,7 @@ use Rattle.spec_matches.specs.declared.placing.Slot.{Slot}
 use Rattle.spec_matches.specs.declared.placing.Placing.{Placing}
 use Rattle.spec_matches.specs.declared.scene.Scene.{Scene}
 use Rattle.spec_matches.specs.Siblings.{nameds}
-use Rattle.spec_matches.specs.Embedding.{IsWay}
+use Rattle.spec_matches.specs.Embedding.{IsWayFrom}
 use Rattle.spec_matches.specs.Taking.{On, Embedded, shapes_of, slots_of}
 use Rattle.ts_search.specs.Table.{Takes}
 use Rattle.ts_search.specs.Adding.{Holds, Yields}
@@ -31,9 +31,6 @@ module _ {X Y : Type 0} (P : X → Y → Type 0) where
 
   pub pairs_more_at : (xs : List X) (n : ℕ) (d : X) (ys : List Y) (y : Y) → n < length xs → Pairs P (take n xs) ys → P (get_or xs n d) y → Pairs P (take (n + 1) xs) (ys ++ y ∷ [])
   pairs_more_at xs n d ys y below before one = subst (λ (l : List X). Pairs P l (ys ++ y ∷ [])) (sym (take_more xs n d below)) (push (take n xs) ys (get_or xs n d) y before one)
-
-  pub pairs_all : (xs : List X) (n : ℕ) (ys : List Y) → length xs ≤ n → Pairs P (take n xs) ys → Pairs P xs ys
-  pairs_all xs n ys past h = subst (λ (l : List X). Pairs P l ys) (take_all n xs past) h
 
   left : (xs : List X) (ys : List Y) (k : ℕ) (y : Y) → Pairs P xs ys → slice_get ys k ≡ Some y → (x : X) × (slice_get xs k ≡ Some x) × P x y
   left [] [] k y h e = absurd (nothing k e)
@@ -190,7 +187,7 @@ module _ (scene : Scene) (is : List Item) (siblings : List ℕ) (table : Table) 
   Taken = On (TakenOf scene is) siblings
 
   pub fully_are : (u v x : Bool) → HasTable scene siblings is u v table → (closed : Bool) (named : List Bool) (slots : List Slot) (found : List Placing) → named ≡ nameds scene.nodes siblings → slots ≡ map slot_of is
-      → Yields (IsWay (Takes table) named closed slots 0 0 true) v x found → Yields (Embedded scene is closed siblings) u x found
+      → Yields (IsWayFrom (Takes table) named closed slots 0 0 true) v x found → Yields (Embedded scene is closed siblings) u x found
   fully_are u v x has closed named slots found en er yields = record {
     part = record { only = only; any = λ f w. let g = way_any Taken (Takes table) back (any has.holds) named closed slots f (in_of f w) in yields.part.any g.0 g.1 };
     finds = record {
@@ -206,11 +203,11 @@ module _ (scene : Scene) (is : List Item) (siblings : List ℕ) (table : Table) 
       back : (k o p : ℕ) (c : List Capture) → Takes table k o p c → (d : List Capture) × Taken k o p d
       back k o p c t = (c, to has.holds k o p c t)
 
-      in_of : (f : Placing) → Embedded scene is closed siblings f → IsWay Taken named closed slots 0 0 true f
-      in_of f w = subst (λ (b : List Bool). IsWay Taken b closed slots 0 0 true f) (sym en) (subst (λ (l : List Slot). IsWay Taken (nameds scene.nodes siblings) closed l 0 0 true f) same w)
+      in_of : (f : Placing) → Embedded scene is closed siblings f → IsWayFrom Taken named closed slots 0 0 true f
+      in_of f w = subst (λ (b : List Bool). IsWayFrom Taken b closed slots 0 0 true f) (sym en) (subst (λ (l : List Slot). IsWayFrom Taken (nameds scene.nodes siblings) closed l 0 0 true f) same w)
 
-      of_in : (f : Placing) → IsWay Taken named closed slots 0 0 true f → Embedded scene is closed siblings f
-      of_in f w = subst (λ (l : List Slot). IsWay Taken (nameds scene.nodes siblings) closed l 0 0 true f) (sym same) (subst (λ (b : List Bool). IsWay Taken b closed slots 0 0 true f) en w)
+      of_in : (f : Placing) → IsWayFrom Taken named closed slots 0 0 true f → Embedded scene is closed siblings f
+      of_in f w = subst (λ (l : List Slot). IsWayFrom Taken (nameds scene.nodes siblings) closed l 0 0 true f) (sym same) (subst (λ (b : List Bool). IsWayFrom Taken b closed slots 0 0 true f) en w)
 
       only : (f : Placing) → Contains found f → Embedded scene is closed siblings f
       only f h = of_in f (way_to (Takes table) Taken (any has.holds) (to has.holds) named closed slots f (yields.part.only f h))

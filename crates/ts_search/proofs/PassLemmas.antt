@@ -1,5 +1,5 @@
 -- The ways in which an item takes a node.
-use Rattle.std.proofs.Common.{◌≡◌, ◌∙◌, sym, refl, subst, ℕ, ◌<◌, ◌≤◌, List, [], ◌++◌, map, length, Some, None, Bool, slice_get, true, ◌↔◌, IsTrue, arith}
+use Rattle.std.proofs.Common.{◌≡◌, ◌∙◌, sym, refl, subst, ℕ, ◌<◌, ◌≤◌, List, [], ◌++◌, map, length, Some, None, Bool, slice_get, true, ◌↔◌, arith}
 use Rattle.std.specs.List.{Contains}
 use Rattle.std.proofs.lemmas.Option.{slice_get_within}
 use Rattle.spec_trees.specs.declared.visible.VisibleNode.{VisibleNode}
@@ -11,7 +11,7 @@ use Rattle.spec_matches.specs.declared.found.Capture.{Capture}
 use Rattle.spec_matches.specs.declared.placing.Placing.{Placing}
 use Rattle.spec_matches.specs.declared.scene.Scene.{Scene}
 use Rattle.spec_matches.specs.Siblings.{AreChildren}
-use Rattle.spec_matches.specs.Embedding.{first_of, near_of}
+use Rattle.spec_matches.specs.Embedding.{first_sibling_taken, near_of}
 use Rattle.spec_matches.specs.Taking.{Embedded, Fully, IsField, IsOfKind, NoneHas, captured, shapes_of, slots_of}
 use Rattle.ts_search.specs.Adding.{Adds, OfSome, Yields}
 use Rattle.ts_search.specs.Steps.{Before}
@@ -28,16 +28,6 @@ pub in_none : (cs : List (List Capture)) (c : List Capture) → cs ≡ [] → Co
 in_none cs c e h = none_in_nil c (subst (λ (l : List (List Capture)). Contains l c) e h)
 
 -- ---- fields of several nodes
-
-pub one_none : (nodes : List VisibleNode) (without : List ℕ) (n : ℕ) → slice_get nodes n ≡ None → HasOne nodes without n → ⊥
-one_none nodes without n e h = let f : None ≡ Some h.1 = sym e ∙ h.2 in cc
-
-pub one_of : (nodes : List VisibleNode) (without : List ℕ) (n : ℕ) (node : VisibleNode) (b : Bool) → slice_get nodes n ≡ Some node
-    → (IsTrue b ↔ ((f : ℕ) × Contains without f × Contains node.fields f)) → IsTrue b ↔ HasOne nodes without n
-one_of nodes without n node b at e = (
-  (λ h. let w = e.0 h in (w.0, node, at, w.1, w.2)),
-  (λ h. e.1 (h.0, h.3, subst (λ (m : VisibleNode). Contains m.fields h.0) (same_at nodes n h.1 node h.2 at) h.4)),
-)
 
 -- none of some nodes, in two forms
 pub none_of : (nodes : List VisibleNode) (without numbers : List ℕ) → ((n : ℕ) → Contains numbers n → HasOne nodes without n → ⊥) → NoneHas nodes without numbers
@@ -57,7 +47,7 @@ module _ (scene : Scene) (i : Item) (n : ℕ) where
     inside_from c h =
         let same : h.children ≡ children = same_children scene.nodes n h.children children h.are_children kids in
         let w = subst (λ (l : List ℕ). Fully (TakenOf scene (parts_of i)) (slots_of (shapes_of (parts_of i))) (out-Item i).closed scene.nodes l c) same h.fully in
-        (record { first = first_of w.runs; near = near_of w.runs; captures = c }, record { runs = w.runs; full = w.full; gives = w.gives; first = refl; near = refl }, refl)
+        (record { first = first_sibling_taken w.runs; near = near_of w.runs; captures = c }, record { runs = w.runs; full = w.full; gives = w.gives; first = refl; near = refl }, refl)
 
     pub inside_are : (u v : Bool) (found : List Placing) (cs : List (List Capture)) → NoneHas scene.nodes (out-Item i).without children
         → Yields (Embedded scene (parts_of i) (out-Item i).closed children) u v found → cs ≡ map (λ (f : Placing). f.captures) found → Yields (InsideOf scene i n) u v cs
@@ -101,15 +91,6 @@ module _ (scene : Scene) (i : Item) (n : ℕ) where
 
     pub passes_any : (out-Item i).test ≡ Any → ((c : List Capture) → Contains cs c ↔ (c ≡ [])) → Yields (PassesOf scene i (out-Item i).test n node) w w cs
     passes_any e are = subst Passing1 (sym e) (yields_exact (PassesOf scene i Any n node) w cs are)
-
-    pub not_named : (out-Item i).test ≡ Named → cs ≡ [] → (node.named ≡ true → ⊥) → Yields (PassesOf scene i (out-Item i).test n node) w w cs
-    not_named e none fails = subst Passing1 (sym e) (yields_nothing (PassesOf scene i Named n node) w cs none (λ c h. fails h.0))
-
-    pub not_kind : (kind : ℕ) → (out-Item i).test ≡ Kind kind → cs ≡ [] → (IsOfKind scene.kinds kind node → ⊥) → Yields (PassesOf scene i (out-Item i).test n node) w w cs
-    not_kind kind e none fails = subst Passing1 (sym e) (yields_nothing (PassesOf scene i (Kind kind) n node) w cs none (λ c h. fails h.0))
-
-    pub passes_round : (out-Item i).test ≡ Round → cs ≡ [] → Yields (PassesOf scene i (out-Item i).test n node) w w cs
-    passes_round e none = subst Passing1 (sym e) (yields_nothing (PassesOf scene i Round n node) w cs none (λ c h. h))
 
   pub no_node : (w : Bool) (cs : List (List Capture)) → cs ≡ [] → slice_get scene.nodes n ≡ None → Yields (PlainOf scene i n) w w cs
   no_node w cs none e = yields_nothing (PlainOf scene i n) w cs none (λ c h. let f : None ≡ Some h.node = sym e ∙ h.is_node in cc)

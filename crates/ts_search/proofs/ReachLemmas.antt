@@ -1,9 +1,9 @@
 -- How far the runs of an item go.
-use Rattle.std.proofs.Common.{◌≡◌, refl, ℕ, ◌+◌, ◌-◌, ◌<◌, ◌≤◌, ◌⊎◌, inl, inr, ⊎_elim, length, true, arith}
+use Rattle.std.proofs.Common.{◌≡◌, ℕ, ◌+◌, ◌-◌, ◌<◌, ◌≤◌, ◌⊎◌, inl, inr, ⊎_elim, length, true, arith}
 use Rattle.std.proofs.lemmas.Bool.{cases_lt}
 use Rattle.ts_search.specs.declared.stand.Stand.{Stand}
 use Rattle.ts_search.specs.declared.stand.Siblings.{Siblings}
-use Rattle.spec_matches.specs.Embedding.{Covers, Fits, Rounds}
+use Rattle.spec_matches.specs.Embedding.{Covers, IsItemRun, Rounds}
 use Rattle.ts_search.specs.Table.{Takes}
 use Rattle.ts_search.specs.Steps.{GoesOn, Reaches}
 use Rattle.ts_search.proofs.RunLemmas.{covers_more}
@@ -16,9 +16,6 @@ pub record Reaching (s : Siblings) (at : Stand) (first end : ℕ) : Type 0 where
   pub covers : Covers (Takes s.table) at.number at.slot (record { first = first; past = end })
 
 module _ (s : Siblings) (at : Stand) (first : ℕ) where
-  pub reach_begins : Reaching s at first first
-  reach_begins = record { low = omega arith; inside = inl refl; size = inr (omega arith); covers = λ p from below. absurd (omega arith) }
-
   pub reach_more : (end : ℕ) → GoesOn s at first end → Reaching s at first end → Reaching s at first (end + 1)
   reach_more end on before = record {
     low = let l = before.low in omega arith;
@@ -34,7 +31,7 @@ module _ (s : Siblings) (at : Stand) (first : ℕ) where
       room (whole, inl m) low lt = inl m
       room (whole, inr e) low lt = inr (omega (arith, e))
 
-      to : Fits (Takes s.table) (length s.named) at.slot at.number (record { first = first; past = past }) → (first < past) × (past ≤ end) × Rounds at.slot (past - first)
+      to : IsItemRun (Takes s.table) (length s.named) at.slot at.number (record { first = first; past = past }) → (first < past) × (past ≤ end) × Rounds at.slot (past - first)
       to f = (
         f.some,
         ⊎_elim
@@ -47,7 +44,7 @@ module _ (s : Siblings) (at : Stand) (first : ℕ) where
       inside_of a b (inl e) = absurd (omega arith)
       inside_of a b (inr e) = omega arith
 
-      from : (first < past) × (past ≤ end) × Rounds at.slot (past - first) → Fits (Takes s.table) (length s.named) at.slot at.number (record { first = first; past = past })
+      from : (first < past) × (past ≤ end) × Rounds at.slot (past - first) → IsItemRun (Takes s.table) (length s.named) at.slot at.number (record { first = first; past = past })
       from h = record {
         some = h.0;
         inside = inside_of h.0 h.1 r.inside;

@@ -10,7 +10,7 @@ use Rattle.ts_query_syntax.specs.declared.read_query.Item.TheFolds.{fold_out-Ite
 use Rattle.spec_matches.specs.declared.found.Capture.{Capture}
 use Rattle.spec_matches.specs.declared.placing.Slot.{Slot}
 use Rattle.spec_matches.specs.declared.scene.Scene.{Scene}
-use Rattle.spec_matches.specs.Taking.{Head, Shape, item, is_many, is_optional, more_of, shape_step, shape_of, shapes_of, slots_of, InRound, Taken}
+use Rattle.spec_matches.specs.Taking.{Head, Shape, item, is_many, is_optional, more_of, shape_step, shape_of, shapes_of, slots_of, InRound, TakenByItems}
 use Rattle.ts_search.specs.Ways.{head_of, slot_of, parts_of, size_by, size_of, TakenOf, ItemTakes, PlainOf}
 
 -- an item but for its parts, where these are so many
@@ -36,7 +36,7 @@ module _ (scene : Scene) where
   -- an item takes as its test says
   item_takes : (i : Item) (o n : ℕ) (c : List Capture)
       → ItemTakes scene i o n c ↔ InRound scene (TakenOf scene (parts_of i)) (slots_of (shapes_of (parts_of i))) (head_of i) (out-Item i).test 0 o n c
-  item_takes i o n c = (subst (λ (s : Shape). Taken scene s 0 o n c) (shape_is i), subst (λ (s : Shape). Taken scene s 0 o n c) (sym (shape_is i)))
+  item_takes i o n c = (subst (λ (s : Shape). TakenByItems scene s 0 o n c) (shape_is i), subst (λ (s : Shape). TakenByItems scene s 0 o n c) (sym (shape_is i)))
 
   -- an item among others
   pub taken_at : (is : List Item) (k o n : ℕ) (c : List Capture) → TakenOf scene is k o n c ↔ ((i : Item) × (slice_get is k ≡ Some i) × ItemTakes scene i o n c)

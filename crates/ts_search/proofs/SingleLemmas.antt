@@ -14,7 +14,7 @@ use Rattle.spec_matches.specs.declared.placing.Run.{Run}
 use Rattle.spec_matches.specs.declared.placing.Placing.{Placing}
 use Rattle.spec_matches.specs.declared.scene.Scene.{Scene}
 use Rattle.spec_matches.specs.Siblings.{named_at, nameds}
-use Rattle.spec_matches.specs.Embedding.{offset, Rounds, Covers, Placed, Embeds, Widened, Full, Along, Gives, IsWay, IsQuantified, first_of, near_of}
+use Rattle.spec_matches.specs.Embedding.{offset, Rounds, Covers, Placed, Embeds, Widened, Full, Along, GivesCaptures, IsWayFrom, IsQuantified, first_sibling_taken, near_of}
 use Rattle.spec_matches.specs.Taking.{On, Embedded}
 use Rattle.spec_matches.specs.Matches.{capture_cmp}
 use Rattle.ts_search.specs.Adding.{OfSome}
@@ -60,10 +60,10 @@ module _ (s : Slot) (o : IsOne s) where
       pub inside : place_of < length named
       pub takes_it : takes 0 0 place_of f.captures
 
-    to_at : (f : Placing) → IsWay takes named false (s ∷ []) 0 0 true f → At f
+    to_at : (f : Placing) → IsWayFrom takes named false (s ∷ []) 0 0 true f → At f
     to_at f w = by w.runs w.full w.gives w.first w.near
       where
-        by : (runs : List (Option Run)) → Full takes named false (s ∷ []) 0 0 true runs → Gives takes (s ∷ []) 0 runs f.captures → f.first ≡ first_of runs → f.near ≡ near_of runs → At f
+        by : (runs : List (Option Run)) → Full takes named false (s ∷ []) 0 0 true runs → GivesCaptures takes (s ∷ []) 0 runs f.captures → f.first ≡ first_sibling_taken runs → f.near ≡ near_of runs → At f
         by [] full gives first near = absurd full.embeds
         by (None ∷ rs) full gives first near = absurd (not_both s.optional o.one full.embeds.0)
         by (Some r ∷ rs) full gives first near =
@@ -78,10 +78,10 @@ module _ (s : Slot) (o : IsOne s) where
             let c : f.captures ≡ along.0 = gives.2 ∙ ap (λ (l : List Capture). gives.0 ++ l) v ∙ append-nil gives.0 ∙ u in
             record { place_of = r.first; first = first; near = near; inside = omega arith; takes_it = subst (takes 0 0 r.first) (sym c) taken }
           where
-            nothing : (rs : List (Option Run)) (v : List Capture) → Gives takes [] (0 + 1) rs v → v ≡ []
+            nothing : (rs : List (Option Run)) (v : List Capture) → GivesCaptures takes [] (0 + 1) rs v → v ≡ []
             nothing rs v h = h
 
-    from_at : (f : Placing) → At f → IsWay takes named false (s ∷ []) 0 0 true f
+    from_at : (f : Placing) → At f → IsWayFrom takes named false (s ∷ []) 0 0 true f
     from_at f a = record {
       runs = Some run ∷ [];
       full = record { embeds = (placed, (λ c b. absurd (not_both false refl c))); widest = widest };
@@ -123,7 +123,7 @@ module _ (s : Slot) (o : IsOne s) where
         along : Along takes 0 s a.place_of ((a.place_of + 1) - a.place_of) a.place_of f.captures
         along = subst (λ (n : ℕ). Along takes 0 s a.place_of n a.place_of f.captures) (sym one) (f.captures, [], sym (append-nil f.captures), takes_there, refl)
 
-    pub one_way : (f : Placing) → IsWay takes named false (s ∷ []) 0 0 true f ↔ At f
+    pub one_way : (f : Placing) → IsWayFrom takes named false (s ∷ []) 0 0 true f ↔ At f
     one_way f = (to_at f, from_at f)
 
 module _ (scene : Scene) (kept : Match → Type 0) (k : ℕ) (i : Item) (single : IsSingle i) where
@@ -140,7 +140,7 @@ module _ (scene : Scene) (kept : Match → Type 0) (k : ℕ) (i : Item) (single 
       is_way f =
           subst (λ (is : List Item). Embedded scene is pattern.closed siblings f ↔ At (slot_of i) is_one (Here siblings) (nameds scene.nodes siblings) f) (sym items)
           (subst (λ (b : Bool). Embedded scene (i ∷ []) b siblings f ↔ At (slot_of i) is_one (Here siblings) (nameds scene.nodes siblings) f) (sym unclosed)
-          (subst (λ (l : List Slot). IsWay (Here siblings) (nameds scene.nodes siblings) false l 0 0 true f ↔ At (slot_of i) is_one (Here siblings) (nameds scene.nodes siblings) f) (sym (slots_are (i ∷ []))) (one_way (slot_of i) is_one (Here siblings) (nameds scene.nodes siblings) f)))
+          (subst (λ (l : List Slot). IsWayFrom (Here siblings) (nameds scene.nodes siblings) false l 0 0 true f ↔ At (slot_of i) is_one (Here siblings) (nameds scene.nodes siblings) f) (sym (slots_are (i ∷ []))) (one_way (slot_of i) is_one (Here siblings) (nameds scene.nodes siblings) f)))
 
       to : (m : Match) → OfSome (HitsAt scene kept k i) siblings m → HitsIn scene kept k pattern siblings m
       to m (n, inside, (c, takes, hit)) =

@@ -9,11 +9,6 @@ module _ {X : Type 0} where
   pub take_push : (xs : List X) (n : ℕ) (x : X) → n < length xs → x ≡ get_or xs n x → take (n + 1) xs ≡ take n xs ++ x ∷ []
   take_push xs n x below is = take_more xs n x below ∙ ap (λ (z : X). take n xs ++ z ∷ []) (sym is)
 
-  pub none_more : (P : X → Type 0) (xs : List X) (n : ℕ) (x : X) → n < length xs → x ≡ get_or xs n x → ((y : X) → Contains (take n xs) y → P y → ⊥) → (P x → ⊥)
-      → (y : X) → Contains (take (n + 1) xs) y → P y → ⊥
-  none_more P xs n x below is before one y there p =
-      ⊎_elim (λ h. before y h p) (λ e. one (subst P (sym e) p)) (Contains-push_cases (take n xs) x y (subst (λ (l : List X). Contains l y) (take_push xs n x below is) there))
-
   pub none_more_at : (P : X → Type 0) (xs : List X) (n : ℕ) (d : X) → n < length xs → ((y : X) → Contains (take n xs) y → P y → ⊥) → (P (get_or xs n d) → ⊥)
       → (y : X) → Contains (take (n + 1) xs) y → P y → ⊥
   none_more_at P xs n d below before one y there p =
@@ -27,6 +22,3 @@ module _ {X : Type 0} where
 
 pub no_truth : false ≡ true → ⊥
 no_truth h = cc
-
-pub read_there : {X : Type 0} (xs : List X) (n : ℕ) (x : X) → n < length xs → x ≡ get_or xs n x → Contains xs x
-read_there xs n x below is = (n, below, sym is)

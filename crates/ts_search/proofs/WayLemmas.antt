@@ -8,12 +8,12 @@ use Rattle.ts_search.specs.declared.stand.Stand.{Stand}
 use Rattle.ts_search.specs.declared.stand.Siblings.{Siblings}
 use Rattle.spec_matches.specs.declared.placing.Placing.{Placing}
 use Rattle.ts_search.specs.Adding.{OfSome}
-use Rattle.spec_matches.specs.Embedding.{Placed, Embeds, Full, Gives, Along, Widened, IsWay, first_of, near_of}
+use Rattle.spec_matches.specs.Embedding.{Placed, Embeds, Full, GivesCaptures, Along, Widened, IsWayFrom, first_sibling_taken, near_of}
 use Rattle.ts_search.specs.Table.{Takes}
 use Rattle.ts_search.specs.declared.stand.Wanted.{Wanted}
 use Rattle.ts_search.specs.declared.stand.Wanted.TheVariants.{All, Here, Captures}
 use Rattle.ts_search.specs.Memory.{Begun, Told}
-use Rattle.ts_search.specs.Steps.{Allows, Grows, HeadNone, HeadTaken, HeadWay, NoneBefore, Suits, Widens}
+use Rattle.ts_search.specs.Steps.{Allows, CanWiden, HeadNone, HeadTaken, HeadWay, NoneBefore, Suits, Widens}
 use Rattle.ts_search.proofs.GrowLemmas.{begins_at, grows_iff, no_growth}
 
 not_true : false ≡ true → ⊥
@@ -31,7 +31,7 @@ module _ (takes : ℕ → ℕ → ℕ → List Capture → Type 0) (named : List
   far i is x (Some g) = ((λ u h e. subst (λ (n : ℕ). x ≤ n) (some_is g h e) u.0), (λ f. (f g refl, (λ e. absurd (not_true e)))))
 
   -- an embedding that begins beside nothing, from another place on
-  moves_far : (is : List Slot) (k lo x : ℕ) (rs : List (Option Run)) → Embeds takes named closed is k lo false rs → Embeds takes named closed is k x false rs ↔ ((h : ℕ) → first_of rs ≡ Some h → x ≤ h)
+  moves_far : (is : List Slot) (k lo x : ℕ) (rs : List (Option Run)) → Embeds takes named closed is k lo false rs → Embeds takes named closed is k x false rs ↔ ((h : ℕ) → first_sibling_taken rs ≡ Some h → x ≤ h)
   moves_far [] k lo x [] e = ((λ m h f. absurd (none_is h f)), (λ h c b. absurd (not_true b)))
   moves_far [] k lo x (r ∷ rs) e = absurd e
   moves_far (i ∷ is) k lo x [] e = absurd e
@@ -43,13 +43,13 @@ module _ (takes : ℕ → ℕ → ℕ → List Capture → Type 0) (named : List
 
   -- an embedding, after a run that ends at another place
   pub moves : (is : List Slot) (k lo : ℕ) (b : Bool) (x : ℕ) (rs : List (Option Run)) → Embeds takes named closed is k lo b rs
-      → Embeds takes named closed is k x true rs ↔ Allows named closed is x (first_of rs) (near_of rs)
+      → Embeds takes named closed is k x true rs ↔ Allows named closed is x (first_sibling_taken rs) (near_of rs)
   moves [] k lo b x [] e = ((λ m c. m c refl), (λ a c t. a c))
   moves [] k lo b x (r ∷ rs) e = absurd e
   moves (i ∷ is) k lo b x [] e = absurd e
   moves (i ∷ is) k lo b x (None ∷ rs) e =
       let rest = moves_far is (k + 1) lo x rs e.1 in
-      let other = far i is x (first_of rs) in
+      let other = far i is x (first_sibling_taken rs) in
       ((λ m. other.1 (rest.0 m.1)), (λ a. (e.0, rest.1 (other.0 a))))
   moves (i ∷ is) k lo b x (Some r ∷ rs) e = (
     (λ m. (m.0.after, (λ n t. m.0.anchored t refl))),
@@ -61,7 +61,7 @@ module _ (s : Siblings) (is : List Slot) (at : Stand) where
   T = Takes s.table
 
   abbrev WayAfter : ℕ → Bool → Placing → Type 0
-  WayAfter lo b = IsWay T s.named s.closed is (at.number + 1) lo b
+  WayAfter lo b = IsWayFrom T s.named s.closed is (at.number + 1) lo b
 
   abbrev E : List (Option Run) → Type 0
   E rs = Embeds T s.named s.closed (at.slot ∷ is) at.number at.lo at.beside rs
@@ -99,7 +99,7 @@ module _ (s : Siblings) (is : List Slot) (at : Stand) where
       let head : HeadWay s is at None f = record {
         rest = w.runs;
         full = record { embeds = (optional, w.full.embeds); widest = widest_none t w n.fixed };
-        gives = subst (λ (g : Placing). Gives T is (at.number + 1) w.runs g.captures) (sym n.is_it) w.gives;
+        gives = subst (λ (g : Placing). GivesCaptures T is (at.number + 1) w.runs g.captures) (sym n.is_it) w.gives;
         first = ap (λ (g : Placing). g.first) n.is_it ∙ w.first;
         near = ap (λ (g : Placing). g.near) n.is_it;
       } in
@@ -108,7 +108,7 @@ module _ (s : Siblings) (is : List Slot) (at : Stand) where
   pub none_from : (here : Bool) (tails : List Placing) → ((t : Placing) → Begun here at.lo (WayAfter at.lo false) t → Contains tails t)
       → (f : Placing) → HeadNone s is at here f → OfSome (NoneBefore s is at) tails f
   none_from here tails all f (h, begins) =
-      let t : Placing = record { first = first_of h.rest; near = near_of h.rest; captures = f.captures } in
+      let t : Placing = record { first = first_sibling_taken h.rest; near = near_of h.rest; captures = f.captures } in
       let w : WayAfter at.lo false t = record {
         runs = h.rest;
         full = record { embeds = h.full.embeds.1; widest = λ ws more e. h.full.widest (None ∷ ws) (inr (refl, more)) (h.full.embeds.0, e) };
@@ -124,14 +124,14 @@ module _ (s : Siblings) (is : List Slot) (at : Stand) where
         },
       )
 
-  told_to : (r : Run) (wanted : Wanted) → Suits s at r.past wanted → (t : Placing) → Told wanted r.past (WayAfter r.past true) t → (Grows s is at r t → ⊥)
-      → (g : Placing) × WayAfter r.past true g × (g.captures ≡ t.captures) × (Grows s is at r g → ⊥)
+  told_to : (r : Run) (wanted : Wanted) → Suits s at r.past wanted → (t : Placing) → Told wanted r.past (WayAfter r.past true) t → (CanWiden s is at r t → ⊥)
+      → (g : Placing) × WayAfter r.past true g × (g.captures ≡ t.captures) × (CanWiden s is at r g → ⊥)
   told_to r All suits t w stays = (t, w, refl, stays)
   told_to r Here suits t w stays = (t, w.0, refl, stays)
   told_to r Captures suits t (g, w, bare) stays = (g, w, ap (λ (f : Placing). f.captures) (sym bare), no_growth s is at suits r g)
 
-  told_from : (r : Run) (wanted : Wanted) → Suits s at r.past wanted → (g : Placing) → WayAfter r.past true g → (Grows s is at r g → ⊥)
-      → (t : Placing) × Told wanted r.past (WayAfter r.past true) t × (t.captures ≡ g.captures) × (Grows s is at r t → ⊥)
+  told_from : (r : Run) (wanted : Wanted) → Suits s at r.past wanted → (g : Placing) → WayAfter r.past true g → (CanWiden s is at r g → ⊥)
+      → (t : Placing) × Told wanted r.past (WayAfter r.past true) t × (t.captures ≡ g.captures) × (CanWiden s is at r t → ⊥)
   told_from r All suits g w stays = (g, w, refl, stays)
   told_from r Here suits g w stays =
       let near_it : g.first ≡ Some r.past =
@@ -143,10 +143,10 @@ module _ (s : Siblings) (is : List Slot) (at : Stand) where
 
   -- the captures of a run, and then those of a tail before which it stays
   abbrev pub Ahead : Run → List Placing → List Capture → Type 0
-  Ahead r tails c = (t : Placing) × Contains tails t × (Grows s is at r t → ⊥) × (u : List Capture) × Along T at.number at.slot r.first (r.past - r.first) r.first u × (c ≡ u ++ t.captures)
+  Ahead r tails c = (t : Placing) × Contains tails t × (CanWiden s is at r t → ⊥) × (u : List Capture) × Along T at.number at.slot r.first (r.past - r.first) r.first u × (c ≡ u ++ t.captures)
 
   module _ (r : Run) (wanted : Wanted) (suits : Suits s at r.past wanted) (tails : List Placing) (placed : Placed T s.named at.slot at.number at.lo at.beside r) where
-    ahead_of : (g : Placing) (w : WayAfter r.past true g) → (Grows s is at r g → ⊥) → (u c : List Capture) → Along T at.number at.slot r.first (r.past - r.first) r.first u → c ≡ u ++ g.captures → HeadTaken s is at r c
+    ahead_of : (g : Placing) (w : WayAfter r.past true g) → (CanWiden s is at r g → ⊥) → (u c : List Capture) → Along T at.number at.slot r.first (r.past - r.first) r.first u → c ≡ u ++ g.captures → HeadTaken s is at r c
     ahead_of g w free u c along e = record {
       rest = w.runs;
       full = record {
@@ -168,7 +168,7 @@ module _ (s : Siblings) (is : List Slot) (at : Stand) where
         let u : List Capture = h.gives.0 in
         let v : List Capture = h.gives.1 in
         let same : c ≡ u ++ v = h.gives.2 in
-        let g : Placing = record { first = first_of h.rest; near = near_of h.rest; captures = v } in
+        let g : Placing = record { first = first_sibling_taken h.rest; near = near_of h.rest; captures = v } in
         let w : WayAfter r.past true g = record {
           runs = h.rest;
           full = record { embeds = h.full.embeds.1; widest = λ ws more e. h.full.widest (Some r ∷ ws) (inr (refl, more)) (h.full.embeds.0, e) };
@@ -182,18 +182,18 @@ module _ (s : Siblings) (is : List Slot) (at : Stand) where
         (t.0, all t.0 t.1, t.3, u, h.gives.3, same ∙ ap (λ (l : List Capture). u ++ l) (sym t.2))
 
   -- the first item takes nothing or a run
-  pub way_heads : (f : Placing) → IsWay T s.named s.closed (at.slot ∷ is) at.number at.lo at.beside f ↔ (HeadWay s is at None f ⊎ ((r : Run) × HeadWay s is at (Some r) f))
+  pub way_heads : (f : Placing) → IsWayFrom T s.named s.closed (at.slot ∷ is) at.number at.lo at.beside f ↔ (HeadWay s is at None f ⊎ ((r : Run) × HeadWay s is at (Some r) f))
   way_heads f = (to, from)
     where
-      by : (runs : List (Option Run)) → Full T s.named s.closed (at.slot ∷ is) at.number at.lo at.beside runs → Gives T (at.slot ∷ is) at.number runs f.captures → f.first ≡ first_of runs → f.near ≡ near_of runs
+      by : (runs : List (Option Run)) → Full T s.named s.closed (at.slot ∷ is) at.number at.lo at.beside runs → GivesCaptures T (at.slot ∷ is) at.number runs f.captures → f.first ≡ first_sibling_taken runs → f.near ≡ near_of runs
           → HeadWay s is at None f ⊎ ((r : Run) × HeadWay s is at (Some r) f)
       by [] full gives first near = absurd full.embeds
       by (None ∷ rs) full gives first near = inl (record { rest = rs; full = full; gives = gives; first = first; near = near })
       by (Some r ∷ rs) full gives first near = inr (r, record { rest = rs; full = full; gives = gives; first = first; near = near })
 
-      to : IsWay T s.named s.closed (at.slot ∷ is) at.number at.lo at.beside f → HeadWay s is at None f ⊎ ((r : Run) × HeadWay s is at (Some r) f)
+      to : IsWayFrom T s.named s.closed (at.slot ∷ is) at.number at.lo at.beside f → HeadWay s is at None f ⊎ ((r : Run) × HeadWay s is at (Some r) f)
       to w = by w.runs w.full w.gives w.first w.near
 
-      from : HeadWay s is at None f ⊎ ((r : Run) × HeadWay s is at (Some r) f) → IsWay T s.named s.closed (at.slot ∷ is) at.number at.lo at.beside f
+      from : HeadWay s is at None f ⊎ ((r : Run) × HeadWay s is at (Some r) f) → IsWayFrom T s.named s.closed (at.slot ∷ is) at.number at.lo at.beside f
       from (inl h) = record { runs = None ∷ h.rest; full = h.full; gives = h.gives; first = h.first; near = h.near }
       from (inr (r, h)) = record { runs = Some r ∷ h.rest; full = h.full; gives = h.gives; first = h.first; near = h.near }

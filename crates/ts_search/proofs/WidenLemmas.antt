@@ -1,5 +1,5 @@
 -- When an item could take more than it took.
-use Rattle.std.proofs.Common.{◌≡◌, sym, refl, subst, ℕ, ◌+◌, ◌-◌, ◌%◌, ◌<◌, ◌≤◌, ⊎_elim, List, [], ◌∷◌, length, Option, Some, arith}
+use Rattle.std.proofs.Common.{◌≡◌, sym, subst, ℕ, ◌+◌, ◌-◌, ◌%◌, ◌<◌, ◌≤◌, ⊎_elim, List, Option, arith}
 use Rattle.std.proofs.Math.Nat.{zero-mod}
 use Rattle.spec_matches.specs.declared.placing.Slot.{Slot}
 use Rattle.spec_matches.specs.declared.placing.Run.{Run}
@@ -7,7 +7,7 @@ use Rattle.ts_search.specs.declared.stand.Stand.{Stand}
 use Rattle.ts_search.specs.declared.stand.Siblings.{Siblings}
 use Rattle.spec_matches.specs.declared.placing.Placing.{Placing}
 use Rattle.ts_search.specs.Table.{Takes}
-use Rattle.ts_search.specs.Steps.{Allows, NoneTaken, Reaches, SomeFrom, SomeIn, TakesAt, Widens, WidensBy}
+use Rattle.ts_search.specs.Steps.{NoneTaken, SomeFrom, SomeIn, TakesAt, Widens, WidensBy}
 use Rattle.ts_search.proofs.PlaceLemmas.{cases_lt_or_eq}
 
 pub none_more : (P : ℕ → Type 0) (from n : ℕ) → (SomeIn P from n → ⊥) → (P n → ⊥) → SomeIn P from (n + 1) → ⊥
@@ -41,31 +41,6 @@ module _ (s : Siblings) (is : List Slot) (at : Stand) (taken : Option Run) (tail
   none_widens first end past ends nothing w =
       let low = ends at w.run w.by in
       nothing (w.run.first, w.by.placed.after, omega arith, widens_of w.run w.by)
-
-  -- a run that widens ends within the reach of its first place
-  pub one_from : (first last : ℕ) → first ≤ last → By (record { first = first; past = last + 1 }) → From first
-  one_from first last low w = (last, low, (let inside = w.placed.fits.inside in omega arith), w)
-
-  pub none_from : (first last end : ℕ) → end ≤ last → Reaches s at first end → (SomeIn (λ p. By (record { first = first; past = p + 1 })) first last → ⊥) → From first → ⊥
-  none_from first last end past reaches nothing (p, low, inside, w) =
-      let within = ((reaches (p + 1)).0 w.placed.fits).1 in
-      nothing (p, low, omega arith, w)
-
--- a run that the items after allow begins before what they take
-pub ends_in : (s : Siblings) (is : List Slot) (at : Stand) (taken : Option Run) (tail : Placing) (run : Run) → WidensBy s is at taken tail run → run.first < length s.named
-ends_in s is at taken tail run w = let some = w.placed.fits.some in let inside = w.placed.fits.inside in omega arith
-
-pub ends_before : (s : Siblings) (is : List Slot) (at : Stand) (taken : Option Run) (tail : Placing) (h : ℕ) (run : Run) → (is ≡ [] → ⊥) → tail.first ≡ Some h → WidensBy s is at taken tail run → run.first < h
-ends_before s is at taken tail h run some e w =
-    let within = subst (λ (o : Option ℕ). Allows s.named s.closed is run.past o tail.near) e w.allowed in
-    by is some within
-  where
-    by : (is : List Slot) → (is ≡ [] → ⊥) → Allows s.named s.closed is run.past (Some h) tail.near → run.first < h
-    by [] none a = absurd (none refl)
-    by (i ∷ is) none a = let le = a.0 in let low = w.placed.fits.some in omega arith
-
-pub ends_at : (s : Siblings) (is : List Slot) (at : Stand) (r : Run) (tail : Placing) (run : Run) → WidensBy s is at (Some r) tail run → run.first < r.first + 1
-ends_at s is at r tail run w = let left = w.wider.0 in omega arith
 
 pub none_taken_more : (s : Siblings) (at : Stand) (p : ℕ) → NoneTaken s at p → (TakesAt s at p → ⊥) → NoneTaken s at (p + 1)
 none_taken_more s at p none here q low below t = ⊎_elim (λ lt. none q low lt t) (λ e. here (subst (TakesAt s at) e t)) (cases_lt_or_eq q p below)

@@ -3,7 +3,7 @@ use Rattle.std.proofs.Common.{◌≡◌, ◌∙◌, sym, ap, refl, subst, ℕ, �
 use Rattle.std.specs.List.{Contains}
 use Rattle.std.proofs.lemmas.List.{take_more, take_all}
 use Rattle.std.proofs.lemmas.List.Elements.{Contains-append_left, Contains-append_cases, Contains-push, Contains-push_cases}
-use Rattle.ts_search.specs.Adding.{Adds, Finds, Holds, OfSome, Yields}
+use Rattle.ts_search.specs.Adding.{Adds, FindsMost, Holds, OfSome, Yields}
 use Rattle.ts_search.proofs.GainLemmas.{finds_each, finds_exact, finds_same, late, not_both}
 use Rattle.ts_search.proofs.PlaceLemmas.{none_in_nil}
 
@@ -71,7 +71,7 @@ module _ {X : Type 0} where
   some_in (x ∷ xs) fails = (x, Contains-append_left (x ∷ []) xs x (Contains-push [] x))
 
   -- some were left out of those that are found, and one at least is there
-  pub yields_cut : (P : X → Type 0) (u v w now : Bool) (xs : List X) → Finds P v w xs → now ≡ true → (xs ≡ [] → ⊥) → Yields P u now xs
+  pub yields_cut : (P : X → Type 0) (u v w now : Bool) (xs : List X) → FindsMost P v w xs → now ≡ true → (xs ≡ [] → ⊥) → Yields P u now xs
   yields_cut P u v w now xs finds cut fails = record {
     part = record { only = finds.only; any = λ i p. some_in xs fails };
     finds = record { only = finds.only; earlier = late u now cut; all = λ e. absurd (not_both now cut e) };

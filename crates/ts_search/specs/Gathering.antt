@@ -26,7 +26,8 @@ pub record Gathers (P : Match → Type 0) (old new : BTreeSet Match) : Type 0 wh
   pub all : (IsFull new → ⊥) → (m : Match) → P m → Has new m
 
 -- .. but for what was left out: two signs say whether anything was left out before, and by now
-pub record GathersSome (P : Match → Type 0) (was now : Bool) (old new : BTreeSet Match) : Type 0 where
+pub record GathersSome (P : Match → Type 0) (was now : Bool) (old new : BTreeSet Match)
+    : Type 0 where
   pub only : (m : Match) → Has new m → Has old m ⊎ P m
   pub stays : (m : Match) → Has old m → Has new m
   pub full : IsFull old → IsFull new
@@ -34,7 +35,8 @@ pub record GathersSome (P : Match → Type 0) (was now : Bool) (old new : BTreeS
   pub all : now ≡ false → (IsFull new → ⊥) → (m : Match) → P m → Has new m
 
 -- the match of a pattern that an embedding gives, where it is kept
-pub record Hits (kept : Match → Type 0) (k : ℕ) (siblings : List ℕ) (f : Placing) (m : Match) : Type 0 where
+pub record Hits (kept : Match → Type 0) (k : ℕ) (siblings : List ℕ) (f : Placing) (m : Match)
+    : Type 0 where
   pub pattern : m.pattern ≡ k
   pub comes : Comes siblings f m
   pub keeps : kept m
@@ -42,17 +44,20 @@ pub record Hits (kept : Match → Type 0) (k : ℕ) (siblings : List ℕ) (f : P
 -- .. one of some embeddings, in some siblings
 abbrev pub HitsIn : Scene → (Match → Type 0) → ℕ → Pattern → List ℕ → Match → Type 0
 HitsIn scene kept k pattern siblings m =
-    (f : Placing) × Embedded scene pattern.items pattern.closed siblings f × Hits kept k siblings f m
+    (f : Placing) × Embedded scene pattern.items pattern.closed siblings f
+    × Hits kept k siblings f m
 
 -- .. in the children of a node
 abbrev pub HitsUnder : Scene → (Match → Type 0) → ℕ → Pattern → ℕ → Match → Type 0
 HitsUnder scene kept k pattern n m =
-    (siblings : List ℕ) × AreChildren scene.nodes n siblings × HitsIn scene kept k pattern siblings m
+    (siblings : List ℕ) × AreChildren scene.nodes n siblings
+    × HitsIn scene kept k pattern siblings m
 
 -- .. in the root alone, or in the children of a node below a number
 abbrev pub HitsUpTo : Scene → (Match → Type 0) → ℕ → Pattern → ℕ → Match → Type 0
 HitsUpTo scene kept k pattern n m =
-    HitsIn scene kept k pattern (0 ∷ []) m ⊎ ((j : ℕ) × (j < n) × HitsUnder scene kept k pattern j m)
+    HitsIn scene kept k pattern (0 ∷ []) m
+    ⊎ ((j : ℕ) × (j < n) × HitsUnder scene kept k pattern j m)
 
 -- .. in any siblings
 abbrev pub HitsOf : Scene → (Match → Type 0) → ℕ → Pattern → Match → Type 0
@@ -62,9 +67,11 @@ HitsOf scene kept k pattern m =
 -- .. of the patterns below a number
 abbrev pub HitsBelow : Scene → (Match → Type 0) → List Pattern → ℕ → Match → Type 0
 HitsBelow scene kept patterns n m =
-    (k : ℕ) × (k < n) × (pattern : Pattern) × (slice_get patterns k ≡ Some pattern) × HitsOf scene kept k pattern m
+    (k : ℕ) × (k < n) × (pattern : Pattern) × (slice_get patterns k ≡ Some pattern)
+    × HitsOf scene kept k pattern m
 
 -- all matches of patterns that are kept, unless there are too many
-pub record IsGathered (scene : Scene) (kept : Match → Type 0) (patterns : List Pattern) (out : BTreeSet Match) : Type 0 where
+pub record IsGathered (scene : Scene) (kept : Match → Type 0) (patterns : List Pattern)
+    (out : BTreeSet Match) : Type 0 where
   pub only : (m : Match) → Has out m → OfPatterns scene patterns m × kept m
   pub all : (IsFull out → ⊥) → (m : Match) → OfPatterns scene patterns m → kept m → Has out m

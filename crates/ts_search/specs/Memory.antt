@@ -7,16 +7,17 @@ use Rattle.ts_search.specs.declared.stand.Wanted.{Wanted}
 use Rattle.ts_search.specs.declared.stand.Wanted.TheVariants.{All, Here, Captures}
 use Rattle.spec_matches.specs.declared.placing.Placing.{Placing}
 use Rattle.ts_search.specs.contracts.stand.KeyPartialEq.TheImpl as derived
-use Rattle.spec_matches.specs.Embedding.{IsWay}
-use Rattle.ts_search.specs.Adding.{Finds}
+use Rattle.spec_matches.specs.Embedding.{IsWayFrom}
+use Rattle.ts_search.specs.Adding.{FindsMost}
 use Rattle.ts_search.specs.Table.{Takes}
 
+-- two keys are equal
 abbrev pub key_eq : Key → Key → Bool
 key_eq = (derived.eq-value).it
 
 -- the ways to embed items from a number on in some siblings from a place on
 abbrev pub WaysOf : Siblings → List Slot → ℕ → ℕ → Bool → Placing → Type 0
-WaysOf s slots number lo beside = IsWay (Takes s.table) s.named s.closed slots number lo beside
+WaysOf s slots number lo beside = IsWayFrom (Takes s.table) s.named s.closed slots number lo beside
 
 -- a way without its places
 abbrev pub IsBare : Placing → Placing → Type 0
@@ -35,4 +36,5 @@ Told Captures lo W f = (g : Placing) × W g × IsBare g f
 -- each list that is kept has ways that its key asks for, and all of them but for what was left out
 abbrev pub IsMemo : Siblings → List Slot → Bool → (Key → Option (List Placing)) → Type 0
 IsMemo s all cut look = (key : Key) (v : List Placing) → look key ≡ Some v
-    → Finds (Told key.wanted key.lo (WaysOf s (drop key.number all) key.number key.lo key.beside)) cut cut v
+    → FindsMost (Told key.wanted key.lo (WaysOf s (drop key.number all) key.number key.lo key.beside))
+    cut cut v

@@ -17,7 +17,8 @@ pub record IsSingle (i : Item) : Type 0 where
   pub alone : (slot_of i).more ≡ 0
 
 -- the match at a node with these captures, where it is kept
-pub record HitAt (kept : Match → Type 0) (k n : ℕ) (captures : List Capture) (m : Match) : Type 0 where
+pub record HitAt (kept : Match → Type 0) (k n : ℕ) (captures : List Capture) (m : Match)
+    : Type 0 where
   pub pattern : m.pattern ≡ k
   pub root : m.root ≡ n
   pub members : (c : Capture) → Contains m.captures c ↔ Contains captures c

@@ -10,15 +10,17 @@ use Rattle.spec_matches.specs.declared.found.Capture.{Capture}
 use Rattle.spec_matches.specs.declared.placing.Slot.{Slot}
 use Rattle.spec_matches.specs.declared.scene.Scene.{Scene}
 use Rattle.ts_search.specs.Adding.{Holds, Partly}
-use Rattle.spec_matches.specs.Taking.{Head, head_by, shape_of, shapes_of, slots_of, Taken, Inside, Passes, Plainly}
+use Rattle.spec_matches.specs.Taking.{Head, head_by, shape_of, shapes_of, slots_of, TakenByItems, Inside, PassesTest, Plainly}
 
--- an item but for its parts, and what it asks beside its test
+-- an item but for its parts
 abbrev pub head_of : Item → Head
 head_of i = head_by (out-Item i)
 
+-- what an item asks beside its test
 abbrev pub slot_of : Item → Slot
 slot_of i = (head_of i).slot
 
+-- the parts of an item
 abbrev pub parts_of : Item → List Item
 parts_of i = (out-Item i).parts
 
@@ -30,25 +32,32 @@ size_by (Kind kind) parts = 1
 size_by Choice parts = 1
 size_by Round parts = parts
 
+-- how many siblings a round of the item takes
 abbrev pub size_of : Item → ℕ
 size_of i = size_by (out-Item i).test (length (parts_of i))
 
 -- what some items take
 abbrev pub TakenOf : Scene → List Item → ℕ → ℕ → ℕ → List Capture → Type 0
-TakenOf scene is = Taken scene (shapes_of is)
+TakenOf scene is = TakenByItems scene (shapes_of is)
 
 -- an item takes a node at a place in its round
 abbrev pub ItemTakes : Scene → Item → ℕ → ℕ → List Capture → Type 0
-ItemTakes scene i o n c = Taken scene (shape_of i) 0 o n c
+ItemTakes scene i o n c = TakenByItems scene (shape_of i) 0 o n c
 
+-- a node is as the test of an item asks, and these are the captures inside
 abbrev pub PassesOf : Scene → Item → Test → ℕ → VisibleNode → List Capture → Type 0
-PassesOf scene i = Passes scene (TakenOf scene (parts_of i)) (slots_of (shapes_of (parts_of i))) (head_of i)
+PassesOf scene i =
+    PassesTest scene (TakenOf scene (parts_of i)) (slots_of (shapes_of (parts_of i))) (head_of i)
 
+-- the parts of an item embed in a node's children with these captures
 abbrev pub InsideOf : Scene → Item → ℕ → List Capture → Type 0
-InsideOf scene i = Inside scene (TakenOf scene (parts_of i)) (slots_of (shapes_of (parts_of i))) (head_of i)
+InsideOf scene i =
+    Inside scene (TakenOf scene (parts_of i)) (slots_of (shapes_of (parts_of i))) (head_of i)
 
+-- an item that is no group takes a node with these captures
 abbrev pub PlainOf : Scene → Item → ℕ → List Capture → Type 0
-PlainOf scene i = Plainly scene (TakenOf scene (parts_of i)) (slots_of (shapes_of (parts_of i))) (head_of i)
+PlainOf scene i =
+    Plainly scene (TakenOf scene (parts_of i)) (slots_of (shapes_of (parts_of i))) (head_of i)
 
 -- one of some items takes a node
 abbrev pub AnyTakes : Scene → List Item → ℕ → List Capture → Type 0
@@ -92,21 +101,32 @@ IsTable scene siblings is table = Pairs (AreRowsOf scene siblings) is table
 abbrev pub SomeWays : Scene → Item → ℕ → ℕ → List (List Capture) → Type 0
 SomeWays scene i o n ways = Partly (ItemTakes scene i o n) ways
 
+-- some of the ways of an item at each of some siblings, for one place in its round
 abbrev pub SomeRow : Scene → Item → ℕ → List ℕ → List (List (List Capture)) → Type 0
 SomeRow scene i o siblings row = Pairs (SomeWays scene i o) siblings row
 
+-- some of the ways of an item at each of some siblings, for each place in its round
 abbrev pub SomeRows : Scene → List ℕ → Item → List (List (List (List Capture))) → Type 0
 SomeRows scene siblings i rows = Numbered (λ o row. SomeRow scene i o siblings row) (size_of i) rows
 
-abbrev pub SomeTable : Scene → List ℕ → List Item → List (List (List (List (List Capture)))) → Type 0
+-- some of the ways of each of some items at each of some siblings
+abbrev pub SomeTable : Scene → List ℕ → List Item → List (List (List (List (List Capture))))
+    → Type 0
 SomeTable scene siblings is table = Pairs (SomeRows scene siblings) is table
 
 -- .. and of all ways but for what was left out
 abbrev pub HasRow : Scene → Item → ℕ → List ℕ → Bool → Bool → List (List (List Capture)) → Type 0
-HasRow scene i o siblings was now row = Holds (SomeRow scene i o siblings row) (IsRow scene i o siblings row) was now
+HasRow scene i o siblings was now row =
+    Holds (SomeRow scene i o siblings row) (IsRow scene i o siblings row) was now
 
-abbrev pub HasRows : Scene → List ℕ → Item → Bool → Bool → List (List (List (List Capture))) → Type 0
-HasRows scene siblings i was now rows = Holds (SomeRows scene siblings i rows) (AreRowsOf scene siblings i rows) was now
+-- the same for each place in an item's round
+abbrev pub HasRows : Scene → List ℕ → Item → Bool → Bool → List (List (List (List Capture)))
+    → Type 0
+HasRows scene siblings i was now rows =
+    Holds (SomeRows scene siblings i rows) (AreRowsOf scene siblings i rows) was now
 
-abbrev pub HasTable : Scene → List ℕ → List Item → Bool → Bool → List (List (List (List (List Capture)))) → Type 0
-HasTable scene siblings is was now table = Holds (SomeTable scene siblings is table) (IsTable scene siblings is table) was now
+-- the same of each of some items
+abbrev pub HasTable : Scene → List ℕ → List Item → Bool → Bool
+    → List (List (List (List (List Capture)))) → Type 0
+HasTable scene siblings is was now table =
+    Holds (SomeTable scene siblings is table) (IsTable scene siblings is table) was now

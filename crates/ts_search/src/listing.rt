@@ -97,7 +97,8 @@ fn add_embedded<K: Keep>(
     pattern: &Pattern,
     siblings: &[u32],
 ) -> Result<(), AllocError>
-    ensures { OnOk result (GathersSome (HitsIn sight.now (K.kept keep.now) number pattern.now siblings.now)
+    ensures { OnOk result (GathersSome
+        (HitsIn sight.now (K.kept keep.now) number pattern.now siblings.now)
         limit.old.cut limit.new.cut out.old out.new) }
 {
     let found = fully(
@@ -124,7 +125,8 @@ fn add_limited<K: Keep>(
     pattern: &Pattern,
     siblings: &[u32],
 ) -> Result<(), AllocError>
-    ensures { OnOk result (GathersSome (HitsIn sight.now (K.kept keep.now) number pattern.now siblings.now)
+    ensures { OnOk result (GathersSome
+        (HitsIn sight.now (K.kept keep.now) number pattern.now siblings.now)
         limit.old.cut limit.new.cut out.old out.new) }
 {
     if let Some(item) = single(pattern) {
@@ -147,10 +149,12 @@ fn add_up_to<K: Keep>(
     pattern: &Pattern,
     siblings: &[u32],
 ) -> Result<bool, AllocError>
-    ensures some { OnOk result (GathersSome (HitsIn sight.now (K.kept keep.now) number pattern.now siblings.now)
+    ensures some { OnOk result (GathersSome
+        (HitsIn sight.now (K.kept keep.now) number pattern.now siblings.now)
         true true out.old out.new) }
     ensures all { IfOk result (λ done. IsTrue done
-        → Gathers (HitsIn sight.now (K.kept keep.now) number pattern.now siblings.now) out.old out.new) }
+        → Gathers (HitsIn sight.now (K.kept keep.now) number pattern.now siblings.now)
+        out.old out.new) }
 {
     let mut limit = Limit { most, cut: false };
     add_limited(
@@ -173,7 +177,8 @@ fn add_siblings<K: Keep>(
     pattern: &Pattern,
     siblings: &[u32],
 ) -> Result<(), AllocError>
-    ensures { OnOk result (Gathers (HitsIn sight.now (K.kept keep.now) number pattern.now siblings.now)
+    ensures { OnOk result (Gathers
+        (HitsIn sight.now (K.kept keep.now) number pattern.now siblings.now)
         out.old out.new) }
 {
     if is_full(out) {

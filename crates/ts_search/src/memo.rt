@@ -1,3 +1,5 @@
+//! What is kept while a search goes on: a key and some ways go in, and for a key a copy of the ways
+//! that are kept for it comes out.
 ghost use Rattle.std.specs.Prelude.{◌≡◌, ℕ, IfOk, IfSome, OnOk, Some};
 ghost use Rattle.std.specs.HashMap.{get, Updates};
 ghost use Rattle.ts_search.specs.Memory.{key_eq};

@@ -1,8 +1,11 @@
+//! Where the runs of items may stand: a list of siblings, an item and a run or a place go in, and
+//! whether the run may stand there, how far it may reach, or whether it could be a wider one comes
+//! out.
 ghost use Rattle.std.specs.Prelude.{◌≡◌, ℕ, ◌<◌, ◌≤◌, ◌↔◌, List as Values, Option as Maybe, IsTrue, length, true, slice_get, Some};
 ghost use Rattle.std.specs.List.{Contains};
-ghost use Rattle.spec_matches.specs.Embedding.{offset, Rounds, Unnamed, Covers, Fits, Placed, Wider, IsQuantified};
+ghost use Rattle.spec_matches.specs.Embedding.{offset, Rounds, Unnamed, Covers, IsItemRun, Placed, Wider, IsQuantified};
 ghost use Rattle.ts_search.specs.Table.{Takes};
-ghost use Rattle.ts_search.specs.Steps.{Allows, Widens, WidensBy, SomeFrom, GoesOn, Reaches, NoneTaken, IsPlainMany, BeginsLate, GoesPast, GrowsOn, GroupWidens, Grows, Suits, TakesAt};
+ghost use Rattle.ts_search.specs.Steps.{Allows, Widens, WidensBy, SomeFrom, GoesOn, Reaches, NoneTaken, IsPlainMany, BeginsLate, GoesPast, GrowsOn, GroupWidens, CanWiden, Suits, TakesAt};
 ghost use Rattle.ts_search.specs.declared.stand.Stand.{Stand as At};
 ghost use Rattle.spec_matches.specs.declared.placing.Run.{Run as Stretch};
 ghost use Rattle.spec_matches.specs.declared.found.Capture.{Capture as Mark};
@@ -48,7 +51,8 @@ pub(crate) fn are_rounds(slot: Slot, count: usize) -> bool
 
 /// Whether a row takes the sibling at a place.
 fn is_in_row(row: &[List<List<Capture>>], place: usize) -> bool
-    ensures { IsTrue result ↔ ((c : Values Mark) × (ways : Values (Values Mark)) × (slice_get row.now place ≡ Some ways) × Contains ways c) }
+    ensures { IsTrue result ↔ ((c : Values Mark) × (ways : Values (Values Mark))
+        × (slice_get row.now place ≡ Some ways) × Contains ways c) }
 {
     if place >= row.len() {
         return false;
@@ -96,7 +100,7 @@ pub(crate) fn fits(
     k: usize,
     run: Run,
 ) -> bool
-    ensures { IsTrue result ↔ Fits (Takes table.now) count slot k run }
+    ensures { IsTrue result ↔ IsItemRun (Takes table.now) count slot k run }
 {
     if run.first >= run.past || run.past > count {
         return false;
@@ -119,7 +123,8 @@ pub(crate) fn is_anchored(named: &[bool], slot: Slot, lo: usize, beside: bool, f
 
 /// Whether a run may stand after `lo`.
 pub(crate) fn is_placed(siblings: &Siblings, at: Stand, run: Run) -> bool
-    ensures { IsTrue result ↔ Placed (Takes siblings.now.table) siblings.now.named at.slot at.number at.lo at.beside run }
+    ensures { IsTrue result ↔ Placed (Takes siblings.now.table) siblings.now.named
+        at.slot at.number at.lo at.beside run }
 {
     if at.lo > run.first {
         return false;
@@ -164,7 +169,8 @@ pub(crate) fn allows(
     first: Option<usize>,
     near: bool,
 ) -> bool
-    ensures { IsTrue result ↔ Allows siblings.now.named siblings.now.closed rest.now past first near }
+    ensures { IsTrue result
+        ↔ Allows siblings.now.named siblings.now.closed rest.now past first near }
 {
     if rest.is_empty() {
         return !siblings.closed
@@ -357,7 +363,7 @@ fn group_widens(siblings: &Siblings, rest: &[Slot], at: Stand, run: Run, tail: &
 
 /// Whether the item could take more than a run.
 pub(crate) fn grows(siblings: &Siblings, rest: &[Slot], at: Stand, run: Run, tail: &Placing) -> bool
-    ensures { IsTrue result ↔ Grows siblings.now rest.now at run tail.now }
+    ensures { IsTrue result ↔ CanWiden siblings.now rest.now at run tail.now }
 {
     if begins_late(siblings, at, run.first) {
         return true;

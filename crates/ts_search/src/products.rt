@@ -1,6 +1,8 @@
+//! The captures of several siblings: those of each way in which an item takes one sibling go in,
+//! and the lists that come of them, one sibling after another, come out.
 ghost use Rattle.std.specs.Prelude.{◌≡◌, ◌++◌, ◌∷◌, ◌+◌, ◌-◌, ◌<◌, ◌≤◌, [], IfOk, IsTrue, OnOk, MatchOption, ◌↔◌, List as Values};
 ghost use Rattle.std.specs.List.{Contains};
-ghost use Rattle.ts_search.specs.Adding.{Adds, Finds, OfSome};
+ghost use Rattle.ts_search.specs.Adding.{Adds, FindsMost, OfSome};
 ghost use Rattle.spec_matches.specs.Embedding.{Along};
 ghost use Rattle.ts_search.specs.Table.{Takes};
 ghost use Rattle.ts_search.specs.Steps.{AreBare, Joined, JoinedTo, Before, Joins, TakenBefore};
@@ -61,7 +63,8 @@ pub(crate) fn add_behind(
     fronts: &[List<Capture>],
     back: &[Capture],
 ) -> Result<(), AllocError>
-    ensures { OnOk result (Adds (OfSome (JoinedTo back.now) fronts.now) out.old.items out.new.items) }
+    ensures { OnOk result (Adds (OfSome (JoinedTo back.now) fronts.now)
+        out.old.items out.new.items) }
 {
     for front in fronts {
         add(alloc, out, front.as_slice(), back)?;
@@ -76,7 +79,8 @@ pub(crate) fn product(
     fronts: &[List<Capture>],
     backs: &[List<Capture>],
 ) -> Result<Vec<List<Capture>>, AllocError>
-    ensures { IfOk result (λ cs. Finds (Joins fronts.now backs.now) limit.old.cut limit.new.cut cs.items) }
+    ensures { IfOk result (λ cs. FindsMost (Joins fronts.now backs.now)
+        limit.old.cut limit.new.cut cs.items) }
 {
     let mut out = Vec::new(alloc);
     for front in fronts {
@@ -95,7 +99,8 @@ fn ways(
     at: usize,
     place: usize,
 ) -> Option<&List<List<Capture>>>
-    ensures { MatchOption result ((c : Values Mark) → Takes table.now k at place c → ⊥) (λ ways. (c : Values Mark) → Takes table.now k at place c ↔ Contains ways.now c) }
+    ensures { MatchOption result ((c : Values Mark) → Takes table.now k at place c → ⊥)
+        (λ ways. (c : Values Mark) → Takes table.now k at place c ↔ Contains ways.now c) }
 {
     if k < table.len() && at < table[k].len() && place < table[k].get(at).len() {
         return Some(table[k].get(at).get(place));
@@ -122,7 +127,7 @@ fn longer(
     place: usize,
     backs: &[List<Capture>],
 ) -> Result<Vec<List<Capture>>, AllocError>
-    ensures { IfOk result (λ cs. Finds (TakenBefore table.now k at place backs.now)
+    ensures { IfOk result (λ cs. FindsMost (TakenBefore table.now k at place backs.now)
         limit.old.cut limit.new.cut cs.items) }
 {
     let Some(fronts) = ways(table, k, at, place) else {
@@ -143,7 +148,7 @@ fn alone(
     place: usize,
 ) -> Result<Vec<List<Capture>>, AllocError>
     requires { first ≤ place }
-    ensures { IfOk result (λ cs. Finds (Along (Takes table.now) k slot first 1 place)
+    ensures { IfOk result (λ cs. FindsMost (Along (Takes table.now) k slot first 1 place)
         limit.old.cut limit.new.cut cs.items) }
 {
     let empty = only_empty(alloc)?;
@@ -176,7 +181,7 @@ fn between(
 ) -> Result<Vec<List<Capture>>, AllocError>
     requires begun { first ≤ from }
     requires order { from ≤ to }
-    ensures { IfOk result (λ cs. Finds (Along (Takes table.now) k slot first (to - from) from)
+    ensures { IfOk result (λ cs. FindsMost (Along (Takes table.now) k slot first (to - from) from)
         limit.old.cut limit.new.cut cs.items) }
 {
     let count = to - from;
@@ -234,7 +239,8 @@ pub(crate) fn along(
     run: Run,
 ) -> Result<Vec<List<Capture>>, AllocError>
     requires { run.first ≤ run.past }
-    ensures { IfOk result (λ cs. Finds (Along (Takes table.now) k slot run.first (run.past - run.first) run.first)
+    ensures { IfOk result (λ cs. FindsMost
+        (Along (Takes table.now) k slot run.first (run.past - run.first) run.first)
         limit.old.cut limit.new.cut cs.items) }
 {
     if are_bare(table, k, slot, run) {

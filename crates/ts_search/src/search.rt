@@ -1,7 +1,9 @@
+//! The search for embeddings: items and a list of siblings go in, and the ways in which the items
+//! fully embed in the siblings come out.
 ghost use Rattle.std.specs.Prelude.{◌≡◌, ℕ, ◌+◌, ◌-◌, ◌<◌, ◌^◌, ◌↔◌, ◌≤◌, ◌∷◌, [], cond, drop, length, IsTrue, IfOk, OnOk, true, false, None, List as Values};
 ghost use Rattle.std.specs.List.{Contains};
-ghost use Rattle.ts_search.specs.Adding.{Adds, Finds, Gains, OfSome};
-ghost use Rattle.spec_matches.specs.Embedding.{Rounds, Placed, Unnamed, IsWay};
+ghost use Rattle.ts_search.specs.Adding.{Adds, FindsMost, Gains, OfSome};
+ghost use Rattle.spec_matches.specs.Embedding.{Rounds, Placed, Unnamed, IsWayFrom};
 ghost use Rattle.ts_search.specs.Table.{Takes};
 ghost use Rattle.std.specs.HashMap.{get};
 ghost use Rattle.ts_search.specs.Memory.{IsMemo, key_eq, Begun, Told, WaysOf};
@@ -34,7 +36,8 @@ fn add_none(
     tail: &Placing,
 ) -> Result<(), AllocError>
     requires { NoneTaken siblings.now at from }
-    ensures { OnOk result (Adds (NoneBefore siblings.now rest.now at tail.now) out.old.items out.new.items) }
+    ensures { OnOk result (Adds (NoneBefore siblings.now rest.now at tail.now)
+        out.old.items out.new.items) }
 {
     if widens(siblings, rest, at, from, None, tail) {
         return Ok(());
@@ -57,7 +60,8 @@ fn add_nones(
     at: Stand,
     tails: &[Placing],
 ) -> Result<(), AllocError>
-    ensures { OnOk result (Adds (OfSome (NoneBefore siblings.now rest.now at) tails.now) out.old.items out.new.items) }
+    ensures { OnOk result (Adds (OfSome (NoneBefore siblings.now rest.now at) tails.now)
+        out.old.items out.new.items) }
 {
     let from = first_taken(siblings, at);
     for tail in tails {
@@ -78,7 +82,8 @@ fn add_run(
     fronts: &[List<Capture>],
     tail: &Placing,
 ) -> Result<(), AllocError>
-    ensures { OnOk result (Adds (RunBefore siblings.now rest.now at run fronts.now tail.now) out.old.items out.new.items) }
+    ensures { OnOk result (Adds (RunBefore siblings.now rest.now at run fronts.now tail.now)
+        out.old.items out.new.items) }
 {
     if grows(siblings, rest, at, run, tail) {
         return Ok(());
@@ -99,7 +104,8 @@ fn add_runs(
     fronts: &[List<Capture>],
     tails: &[Placing],
 ) -> Result<(), AllocError>
-    ensures { OnOk result (Gains (OfSome (RunBefore siblings.now rest.now at run fronts.now) tails.now)
+    ensures { OnOk result (Gains
+        (OfSome (RunBefore siblings.now rest.now at run fronts.now) tails.now)
         limit.old.cut limit.new.cut out.old.items out.new.items) }
 {
     for tail in tails {
@@ -136,7 +142,8 @@ fn add_at(
     at: Stand,
     run: Run,
 ) -> Result<(), AllocError>
-    requires place { Placed (Takes siblings.now.table) siblings.now.named at.slot at.number at.lo at.beside run }
+    requires place { Placed (Takes siblings.now.table) siblings.now.named
+        at.slot at.number at.lo at.beside run }
     requires few { at.number + 1 + length rest.now < 2 ^ 64 }
     requires rest { rest.now ≡ drop (at.number + 1) all.now }
     requires memo { IsMemo siblings.now all.now limit.now.cut (get key_eq memo.now) }
@@ -195,7 +202,9 @@ fn add_last(
     at: Stand,
     run: Run,
 ) -> Result<(), AllocError>
-    requires place { Rounds at.slot (run.past - run.first) → Placed (Takes siblings.now.table) siblings.now.named at.slot at.number at.lo at.beside run }
+    requires place { Rounds at.slot (run.past - run.first)
+        → Placed (Takes siblings.now.table) siblings.now.named
+        at.slot at.number at.lo at.beside run }
     requires some { run.first < run.past }
     requires few { at.number + 1 + length rest.now < 2 ^ 64 }
     requires rest { rest.now ≡ drop (at.number + 1) all.now }
@@ -225,11 +234,12 @@ fn runs_from(
     first: usize,
 ) -> Result<Vec<List<Capture>>, AllocError>
     requires after { at.lo ≤ first }
-    requires anchored { at.slot.tied ≡ true → at.beside ≡ true → Unnamed siblings.now.named at.lo first }
+    requires anchored { at.slot.tied ≡ true → at.beside ≡ true
+        → Unnamed siblings.now.named at.lo first }
     requires few { at.number + 1 + length rest.now < 2 ^ 64 }
     requires rest { rest.now ≡ drop (at.number + 1) all.now }
     requires memo { IsMemo siblings.now all.now limit.now.cut (get key_eq memo.now) }
-    ensures all { IfOk result (λ captures. Finds (TakenFrom siblings.now rest.now at first)
+    ensures all { IfOk result (λ captures. FindsMost (TakenFrom siblings.now rest.now at first)
         limit.old.cut limit.new.cut captures.items) }
     ensures memo { OnOk result (IsMemo siblings.now all.now limit.new.cut (get key_eq memo.new)) }
 {
@@ -341,7 +351,8 @@ fn begun(here: bool) -> Wanted
 
 /// Whether the items may end here.
 fn may_end(siblings: &Siblings, lo: usize, beside: bool) -> bool
-    ensures { IsTrue result ↔ (siblings.now.closed ≡ true → beside ≡ true → Unnamed siblings.now.named lo (length siblings.now.named)) }
+    ensures { IsTrue result ↔ (siblings.now.closed ≡ true → beside ≡ true
+        → Unnamed siblings.now.named lo (length siblings.now.named)) }
 {
     if siblings.closed && beside {
         return is_unnamed(siblings.named.as_slice(), lo, siblings.named.len());
@@ -351,7 +362,8 @@ fn may_end(siblings: &Siblings, lo: usize, beside: bool) -> bool
 
 /// The way that takes nothing, alone.
 fn empty_way(alloc: Global) -> Result<Vec<Placing>, AllocError>
-    ensures { IfOk result (λ v. v.items ≡ record { first = None; near = false; captures = [] } ∷ []) }
+    ensures { IfOk result (λ v. v.items
+        ≡ record { first = None; near = false; captures = [] } ∷ []) }
 {
     let mut out = Vec::new(alloc);
     out.push(Placing {
@@ -370,7 +382,9 @@ fn ending(
     lo: usize,
     beside: bool,
 ) -> Result<Vec<Placing>, AllocError>
-    ensures { IfOk result (λ v. (f : Way) → Contains v.items f ↔ IsWay (Takes siblings.now.table) siblings.now.named siblings.now.closed [] number lo beside f) }
+    ensures { IfOk result (λ v. (f : Way) → Contains v.items f
+        ↔ IsWayFrom (Takes siblings.now.table) siblings.now.named siblings.now.closed
+        [] number lo beside f) }
 {
     if !may_end(siblings, lo, beside) {
         return Ok(Vec::new(alloc));
@@ -400,7 +414,8 @@ fn ending_begun(
 
 /// The end of the places where the first run may begin: all from `lo` on, or `lo` alone.
 fn starts_end(siblings: &Siblings, lo: usize, here: bool) -> usize
-    ensures all { (p : ℕ) → lo ≤ p → p < length siblings.now.named → (here ≡ true → p ≡ lo) → p < result }
+    ensures all { (p : ℕ) → lo ≤ p → p < length siblings.now.named → (here ≡ true → p ≡ lo)
+        → p < result }
     ensures only { (p : ℕ) → lo ≤ p → p < result → here ≡ true → p ≡ lo }
 {
     if !here {
@@ -431,7 +446,8 @@ fn made(
     requires few { number + length slots.now < 2 ^ 64 }
     requires slots { slots.now ≡ drop number all.now }
     requires memo { IsMemo siblings.now all.now limit.now.cut (get key_eq memo.now) }
-    ensures ways { IfOk result (λ v. Finds (Begun here lo (WaysOf siblings.now slots.now number lo beside))
+    ensures ways { IfOk result (λ v. FindsMost
+        (Begun here lo (WaysOf siblings.now slots.now number lo beside))
         limit.old.cut limit.new.cut v.items) }
     ensures memo { OnOk result (IsMemo siblings.now all.now limit.new.cut (get key_eq memo.new)) }
 {
@@ -474,7 +490,8 @@ fn told(
     requires few { number + length slots.now < 2 ^ 64 }
     requires slots { slots.now ≡ drop number all.now }
     requires memo { IsMemo siblings.now all.now limit.now.cut (get key_eq memo.now) }
-    ensures ways { IfOk result (λ v. Finds (Told wanted lo (WaysOf siblings.now slots.now number lo beside))
+    ensures ways { IfOk result (λ v. FindsMost
+        (Told wanted lo (WaysOf siblings.now slots.now number lo beside))
         limit.old.cut limit.new.cut v.items) }
     ensures memo { OnOk result (IsMemo siblings.now all.now limit.new.cut (get key_eq memo.new)) }
 {
@@ -519,7 +536,8 @@ fn ways(
     requires few { number + length slots.now < 2 ^ 64 }
     requires slots { slots.now ≡ drop number all.now }
     requires memo { IsMemo siblings.now all.now limit.now.cut (get key_eq memo.now) }
-    ensures ways { IfOk result (λ v. Finds (Told wanted lo (WaysOf siblings.now slots.now number lo beside))
+    ensures ways { IfOk result (λ v. FindsMost
+        (Told wanted lo (WaysOf siblings.now slots.now number lo beside))
         limit.old.cut limit.new.cut v.items) }
     ensures memo { OnOk result (IsMemo siblings.now all.now limit.new.cut (get key_eq memo.new)) }
 {
@@ -539,8 +557,8 @@ fn ways(
     Ok(found)
 }
 
-/// The full embeddings of items in a list of siblings: for each the place of the first sibling taken, and all
-/// captures in the order of the siblings.
+/// The full embeddings of items in a list of siblings: for each the place of the first sibling
+/// taken, and all captures in the order of the siblings.
 ///
 /// # Errors
 ///
@@ -552,7 +570,7 @@ pub(crate) fn embeddings(
     slots: &[Slot],
 ) -> Result<Vec<Placing>, AllocError>
     requires few { length slots.now < 2 ^ 64 }
-    ensures { IfOk result (λ v. Finds (WaysOf siblings.now slots.now 0 0 true)
+    ensures { IfOk result (λ v. FindsMost (WaysOf siblings.now slots.now 0 0 true)
         limit.old.cut limit.new.cut v.items) }
 {
     let mut memo = HashMap::new(alloc);

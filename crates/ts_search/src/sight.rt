@@ -120,7 +120,8 @@ impl<'t> Sight<'t> {
 
 /// Whether a node is of a kind.
 fn is_like(kind: &QueryKind, row: Row) -> bool
-    ensures { IsTrue result ↔ (row.entry.name.now ≡ kind.now.name) × (row.entry.named ≡ kind.now.named) }
+    ensures { IsTrue result
+        ↔ (row.entry.name.now ≡ kind.now.name) × (row.entry.named ≡ kind.now.named) }
 {
     row.named == kind.named && row.name == kind.name.text()
 }

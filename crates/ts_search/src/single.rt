@@ -28,7 +28,8 @@ fn is_single(item: &Item) -> bool
 
 /// The item of a pattern that is one item, where it takes one sibling and no anchor stands by it.
 pub(crate) fn single(pattern: &Pattern) -> Option<&Item>
-    ensures { IfSome result (λ item. (pattern.now.items ≡ item.now ∷ []) × (pattern.now.closed ≡ false) × IsSingle item.now) }
+    ensures { IfSome result (λ item. (pattern.now.items ≡ item.now ∷ [])
+        × (pattern.now.closed ≡ false) × IsSingle item.now) }
 {
     if pattern.closed || pattern.items.len() != 1 {
         return None;

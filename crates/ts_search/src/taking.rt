@@ -6,7 +6,7 @@ ghost use Rattle.ts_query_syntax.specs.declared.read_query.Test.TheVariants as t
 ghost use Rattle.ts_query_syntax.specs.declared.read_query.Item.TheViews.{out-Item};
 ghost use Rattle.spec_matches.specs.declared.found.Capture.{Capture as Mark};
 ghost use Rattle.spec_matches.specs.declared.placing.Placing.{Placing as Way};
-ghost use Rattle.spec_matches.specs.Embedding.{IsWay};
+ghost use Rattle.spec_matches.specs.Embedding.{IsWayFrom};
 ghost use Rattle.spec_matches.specs.Taking.{Embedded, NoneHas};
 ghost use Rattle.spec_matches.specs.Taking as of_spec;
 ghost use Rattle.ts_search.specs.Adding.{Adds, Yields};
@@ -309,7 +309,8 @@ fn passing(
     row: Row,
 ) -> Result<Vec<List<Capture>>, AllocError>
     requires { slice_get sight.now.nodes n ≡ Some (seen_row row) }
-    ensures { IfOk result (λ ways. Yields (PassesOf sight.now item.now (out-Item item.now).test n (seen_row row.entry))
+    ensures { IfOk result (λ ways. Yields
+        (PassesOf sight.now item.now (out-Item item.now).test n (seen_row row.entry))
         limit.old.cut limit.new.cut ways.items) }
 {
     match item.test {
@@ -398,7 +399,8 @@ fn row(
     at: usize,
     siblings: &[u32],
 ) -> Result<List<List<List<Capture>>>, AllocError>
-    ensures { IfOk result (λ row. HasRow sight.now item.now at siblings.now limit.old.cut limit.new.cut row) }
+    ensures { IfOk result (λ row. HasRow sight.now item.now at siblings.now
+        limit.old.cut limit.new.cut row) }
 {
     let mut out = Vec::with_capacity(alloc, siblings.len())?;
     for n in siblings {
@@ -417,7 +419,8 @@ fn rows(
     item: &Item,
     siblings: &[u32],
 ) -> Result<List<List<List<List<Capture>>>>, AllocError>
-    ensures { IfOk result (λ rows. HasRows sight.now siblings.now item.now limit.old.cut limit.new.cut rows) }
+    ensures { IfOk result (λ rows. HasRows sight.now siblings.now item.now
+        limit.old.cut limit.new.cut rows) }
 {
     let mut out = Vec::new(alloc);
     for at in 0..round_size(item) {
@@ -447,7 +450,8 @@ fn table(
     items: &[Item],
     siblings: &[u32],
 ) -> Result<List<List<List<List<List<Capture>>>>>, AllocError>
-    ensures { IfOk result (λ table. HasTable sight.now siblings.now items.now limit.old.cut limit.new.cut table) }
+    ensures { IfOk result (λ table. HasTable sight.now siblings.now items.now
+        limit.old.cut limit.new.cut table) }
 {
     let mut out = Vec::with_capacity(alloc, items.len())?;
     for item in items {

@@ -36,9 +36,6 @@ below_end (y ∷ xs) (suc n) x e = let inside = below_end xs n x e in omega (ari
 
 -- ---- reading
 
-pub firsts_none : (files : Files) (documents : List Source) → AreFirsts files documents []
-firsts_none files documents number from first d f = absurd (none_there first None refl f)
-
 pub firsts_and : (files : Files) (documents : List Source) (firsts : List First) (from : Source) (first : First) (i : ℕ) → length firsts ≡ i → slice_get documents i ≡ Some from → AreFirsts files documents firsts
     → IsFirst files from first → AreFirsts files documents (firsts ++ first ∷ [])
 firsts_and files documents firsts from first i len at are is number other found d f = elim (at_end firsts first found number f) [
@@ -81,9 +78,6 @@ is_missing files documents firsts from i line len at are h = (
 abbrev pub AreTexts : Files → List Source → List Bytes → Type 0
 AreTexts files documents texts = (number : ℕ) (from : Source) (text : Bytes)
     → slice_get documents number ≡ Some from → slice_get texts number ≡ Some text → Opens files from text
-
-pub texts_none : (files : Files) (documents : List Source) → AreTexts files documents []
-texts_none files documents number from text d t = absurd (none_there text None refl t)
 
 pub texts_and : (files : Files) (documents : List Source) (texts : List Bytes) (from : Source) (text : Bytes) (i : ℕ) → length texts ≡ i → slice_get documents i ≡ Some from → AreTexts files documents texts
     → Opens files from text → AreTexts files documents (texts ++ text ∷ [])

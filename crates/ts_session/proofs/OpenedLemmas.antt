@@ -14,13 +14,13 @@ use Rattle.ts_query_syntax.specs.declared.fault.QueryFault.TheVariants as fault
 use Rattle.ts_query_syntax.specs.declared.read_query.ReadQuery.{ReadQuery}
 use Rattle.ts_script.specs.Script.{IsScript}
 use Rattle.ts_script.specs.declared.plan.Plan.{Plan}
-use Rattle.ts_loading.specs.Loads.{AreQueries, IsCause, of_text, of_patterns, HasCause, GrewByEach}
+use Rattle.ts_loading.specs.Loads.{AreQueries, IsCause, of_text, of_patterns, HasLoadCause, GrewByEach}
 use Rattle.ts_loading.specs.declared.fault.LoadFault.{LoadFault}
 use Rattle.ts_loading.specs.declared.fault.LoadFault.TheVariants as load
 use Rattle.ts_session.specs.Documents.{HaveFiles, AreOpened}
 use Rattle.ts_session.specs.Grammars.{Builds}
-use Rattle.ts_session.specs.Opened.{IsOpened, HasRead, IsRefusedSo, IsReadyOrMemory}
-use Rattle.ts_session.specs.Parts.{IsParts, AreParts, HasTexts, HasQueries}
+use Rattle.ts_session.specs.Opened.{OpensAs, HasReadQueries, IsRefusedSo, IsReadyOrMemory}
+use Rattle.ts_session.specs.Parts.{IsParts, AreParts, HasFirstTexts, HasQueries}
 use Rattle.ts_session.specs.Queries.{regex_line, query_line, load_line}
 use Rattle.ts_session.specs.Refusals.{RefusesPlan, no_query, RefusesScript, of_plan, RefusesBytes, of_script, Refuses, of_bytes}
 use Rattle.ts_session.specs.Sessions.{IsAsked, IsLoaded, IsClear, IsRefusal, of_files, of_patterns as refused_by_patterns, IsRegexRefusal}
@@ -68,18 +68,18 @@ module _ (called : List Bytes) (files : Files) (gp sp : Bytes) where
       line_is = same_some (Some (regex_line number at)) line (regex_line number at) l refl;
     })
 
-    of_load : (f : FlatGrammar) (plan : Plan) (e : LoadFault) (line : Bytes) → IsAsked files gp sp f plan → HaveFiles files plan.documents → HasCause f called plan.queries rose old new e → load_line e ≡ Some line
+    of_load : (f : FlatGrammar) (plan : Plan) (e : LoadFault) (line : Bytes) → IsAsked files gp sp f plan → HaveFiles files plan.documents → HasLoadCause f called plan.queries rose old new e → load_line e ≡ Some line
         → IsRefusal called files gp sp rose old new Query line
     of_load f plan (load.Query number e) line a h cause l = of_cause f plan number e line a h cause l
     of_load f plan load.Memory line a h cause l = absurd (none_there line (load_line load.Memory) refl l)
 
-    pub not_loaded : (f : FlatGrammar) (plan : Plan) (e : LoadFault) (s : Status) (line : Bytes) → IsAsked files gp sp f plan → HaveFiles files plan.documents → HasCause f called plan.queries rose old new e → load_line e ≡ Some line
+    pub not_loaded : (f : FlatGrammar) (plan : Plan) (e : LoadFault) (s : Status) (line : Bytes) → IsAsked files gp sp f plan → HaveFiles files plan.documents → HasLoadCause f called plan.queries rose old new e → load_line e ≡ Some line
         → s ≡ Query → IsRefusal called files gp sp rose old new s line
     not_loaded f plan e s line a h cause l status = subst (λ (t : Status). IsRefusal called files gp sp rose old new t line) (sym status) (of_load f plan e line a h cause l)
 
     -- ---- what is answered
 
-    pub parts_opened : (f : FlatGrammar) (plan : Plan) (queries : List ReadQuery) (ps : Parts) → IsAsked files gp sp f plan → AreQueries f called plan.queries queries → HasQueries plan queries ps → HasTexts called files f plan ps
+    pub parts_opened : (f : FlatGrammar) (plan : Plan) (queries : List ReadQuery) (ps : Parts) → IsAsked files gp sp f plan → AreQueries f called plan.queries queries → HasQueries plan queries ps → HasFirstTexts called files f plan ps
         → IsParts called files gp sp f plan rose old new ps
     parts_opened f plan queries (All qs texts) a q with t = subst (λ (all : List ReadQuery). IsLoaded called files gp sp f plan all texts.items) (sym with.0) (record { asked = a; are_queries = q; are_opened = t })
     parts_opened f plan queries (parts.Refused answer) a q with t = of_files answer.status answer.bytes.items (refuses_plan f plan answer.status answer.bytes.items a t)
@@ -92,12 +92,12 @@ module _ (called : List Bytes) (files : Files) (gp sp : Bytes) where
     clear_so law _ _ c n (of_files s b r) = law s b c r
     clear_so law _ _ c n (refused_by_patterns b up r) = n up
 
-    pub exact_of : RefusalLaws → (result : Result Opened Unanswered) (ends : Status) (line : Bytes) → IfOk result (IsOpened called files gp sp rose old new) → Refuses called files gp sp ends line → IsRefusedSo ends line rose result
+    pub exact_of : RefusalLaws → (result : Result Opened Unanswered) (ends : Status) (line : Bytes) → IfOk result (OpensAs called files gp sp rose old new) → Refuses called files gp sp ends line → IsRefusedSo ends line rose result
     exact_of laws (Ok (Ready s)) ends line is r = laws.loaded called files gp sp s.table.grammar s.plan s.queries s.texts.items ends line is r
     exact_of laws (Ok (Refused a)) ends line is r = judged_so laws a.status ends a.bytes.items line is r
     exact_of laws (Err e) ends line is r = tt
 
-    pub complete_of : ((s : Status) (b : Bytes) → IsClear called files gp sp → Refuses called files gp sp s b → ⊥) → (fell : Type 0) (result : Result Opened Unanswered) → IfOk result (IsOpened called files gp sp rose old new)
+    pub complete_of : ((s : Status) (b : Bytes) → IsClear called files gp sp → Refuses called files gp sp s b → ⊥) → (fell : Type 0) (result : Result Opened Unanswered) → IfOk result (OpensAs called files gp sp rose old new)
         → (result ≡ Err Read → fell) → IsClear called files gp sp → (fell → ⊥) → (rose → ⊥) → IsReadyOrMemory result
     complete_of law fell (Ok (Ready s)) is read c n m = tt
     complete_of law fell (Ok (Refused a)) is read c n m = clear_so law a.status a.bytes.items c m is
@@ -125,7 +125,7 @@ same_loaded called files gp sp s table plan queries texts t p q x l =
     (subst (λ (v : Vec Bytes). IsLoaded called files gp sp table.grammar plan queries v.items) (sym x) l)))
 
 pub same_read : (called old new : List Bytes) (s : Session) (table : ParseTable) (plan : Plan) (queries : List ReadQuery) → s.table ≡ table → s.plan ≡ plan → s.queries ≡ queries → AreQueries table.grammar called plan.queries queries
-    → GrewByEach table.grammar called plan.queries old new → HasRead called old new (Ready s)
+    → GrewByEach table.grammar called plan.queries old new → HasReadQueries called old new (Ready s)
 same_read called old new s table plan queries t p q are grew = (
   subst (λ (v : ParseTable). AreQueries v.grammar called s.plan.queries s.queries) (sym t)
       (subst (λ (v : Plan). AreQueries table.grammar called v.queries s.queries) (sym p) (subst (AreQueries table.grammar called plan.queries) (sym q) are)),

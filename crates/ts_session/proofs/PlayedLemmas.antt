@@ -10,12 +10,12 @@ use Rattle.ts_replies.specs.declared.reply.Reply.{Reply}
 use Rattle.ts_script.specs.declared.plan.Plan.{Plan}
 use Rattle.ts_script.specs.declared.plan.ScriptStep.{ScriptStep}
 use Rattle.spec_history.specs.Books.{IsHistoryOf, TellsTexts, journal_of}
-use Rattle.spec_history.specs.Legal.{IsComplete}
+use Rattle.spec_history.specs.Legal.{IsCompleteHistory}
 use Rattle.ts_replay.specs.Replays.{MayReplay, AreBooks, HasVersions, history_of}
 use Rattle.ts_session.proofs.FirstLemmas.{some_at}
 
 -- a book for each document
-pub books_count : (plan : Plan) (table : ParseTable) (openings : List Bytes) (books : List Pages) (replies : List (List Reply)) → IsComplete (history_of plan table.grammar openings books replies)
+pub books_count : (plan : Plan) (table : ParseTable) (openings : List Bytes) (books : List Pages) (replies : List (List Reply)) → IsCompleteHistory (history_of plan table.grammar openings books replies)
     → length books ≡ length plan.documents
 books_count plan table openings books replies w = sym (length-map books journal_of) ∙ w.journals
 
@@ -28,7 +28,7 @@ tells_texts plan table opening b h =
       texts_are = λ number e at. let v = h.others number e at in v.text_is;
     }
 
-pub is_history : (plan : Plan) (table : ParseTable) (openings : List Bytes) (books : List Pages) (replies : List (List Reply)) → IsComplete (history_of plan table.grammar openings books replies)
+pub is_history : (plan : Plan) (table : ParseTable) (openings : List Bytes) (books : List Pages) (replies : List (List Reply)) → IsCompleteHistory (history_of plan table.grammar openings books replies)
     → AreBooks plan table openings books → IsHistoryOf (history_of plan table.grammar openings books replies) books replies
 is_history plan table openings books replies w are = record {
   documents = w.openings ∙ sym (books_count plan table openings books replies w);
@@ -39,21 +39,21 @@ is_history plan table openings books replies w are = record {
 
 -- ---- how much there is
 
-pub few_books : (plan : Plan) (table : ParseTable) (openings : List Bytes) (books : List Pages) (replies : List (List Reply)) → MayReplay plan → IsComplete (history_of plan table.grammar openings books replies)
+pub few_books : (plan : Plan) (table : ParseTable) (openings : List Bytes) (books : List Pages) (replies : List (List Reply)) → MayReplay plan → IsCompleteHistory (history_of plan table.grammar openings books replies)
     → length books ≤ 2 ^ 32
 few_books plan table openings books replies may w =
     let count = books_count plan table openings books replies w in
     let few = may.documents in
     omega (arith, count, few)
 
-pub few_clients : (plan : Plan) (table : ParseTable) (openings : List Bytes) (books : List Pages) (replies : List (List Reply)) → MayReplay plan → IsComplete (history_of plan table.grammar openings books replies)
+pub few_clients : (plan : Plan) (table : ParseTable) (openings : List Bytes) (books : List Pages) (replies : List (List Reply)) → MayReplay plan → IsCompleteHistory (history_of plan table.grammar openings books replies)
     → length replies ≤ 2 ^ 32
 few_clients plan table openings books replies may w =
     let count : length replies ≡ length plan.clients = w.clients in
     let few = may.clients in
     omega (arith, count, few)
 
-pub few_replies : (plan : Plan) (table : ParseTable) (openings : List Bytes) (books : List Pages) (replies : List (List Reply)) → MayReplay plan → IsComplete (history_of plan table.grammar openings books replies)
+pub few_replies : (plan : Plan) (table : ParseTable) (openings : List Bytes) (books : List Pages) (replies : List (List Reply)) → MayReplay plan → IsCompleteHistory (history_of plan table.grammar openings books replies)
     → All (λ (own : List Reply). length own ≤ 2 ^ 32) replies
 few_replies plan table openings books replies may w client default inside =
     let count : length replies ≡ length plan.clients = w.clients in

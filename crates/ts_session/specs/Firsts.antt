@@ -1,5 +1,5 @@
--- What is known of the files of documents once they were read, and once they were taken for texts. It
--- serves proofs alone.
+-- What is known of the files of documents once they were read, and once they were taken for texts.
+-- It serves private clauses and proofs alone.
 use Rattle.std.specs.Prelude.{◌≡◌, ℕ, ◌<◌, List, length, slice_get, Option, Some, None, string_bytes}
 use Rattle.ts_base.specs.Bytes.{Bytes}
 use Rattle.spec_output.specs.Faults.{absent_line}

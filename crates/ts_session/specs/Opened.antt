@@ -12,18 +12,18 @@ use Rattle.ts_session.specs.declared.opened.Opened.{Opened}
 use Rattle.ts_session.specs.declared.opened.Opened.TheVariants.{Ready, Refused}
 
 -- the files come to this session, or this is their refusal
-abbrev pub IsOpened : List Bytes → Files → Bytes → Bytes → Type 0 → List Bytes → List Bytes → Opened
+abbrev pub OpensAs : List Bytes → Files → Bytes → Bytes → Type 0 → List Bytes → List Bytes → Opened
     → Type 0
-IsOpened called files grammar script rose old new (Ready s) =
+OpensAs called files grammar script rose old new (Ready s) =
     IsLoaded called files grammar script s.table.grammar s.plan s.queries s.texts.items
-IsOpened called files grammar script rose old new (Refused a) =
+OpensAs called files grammar script rose old new (Refused a) =
     IsRefusal called files grammar script rose old new a.status a.bytes.items
 
 -- The queries of a session were read, and the list of expressions grew by theirs, in their order.
-abbrev pub HasRead : List Bytes → List Bytes → List Bytes → Opened → Type 0
-HasRead called old new (Ready s) = AreQueries s.table.grammar called s.plan.queries s.queries
+abbrev pub HasReadQueries : List Bytes → List Bytes → List Bytes → Opened → Type 0
+HasReadQueries called old new (Ready s) = AreQueries s.table.grammar called s.plan.queries s.queries
     × GrewByEach s.table.grammar called s.plan.queries old new
-HasRead called old new (Refused a) = Unit {0}
+HasReadQueries called old new (Refused a) = Unit {0}
 
 -- a refusal has a status that the files decide
 abbrev pub HasStatus : Opened → Type 0

@@ -1,4 +1,4 @@
--- What is known of the parts of a session. It serves proofs alone.
+-- What is known of the parts of a session. It serves private clauses and proofs alone.
 use Rattle.std.specs.Prelude.{◌≡◌, ◌<◌, ◌^◌, List, All, length, Some}
 use Rattle.ts_base.specs.Bytes.{Bytes}
 use Rattle.ts_core.specs.declared.flat.FlatGrammar.{FlatGrammar}
@@ -31,8 +31,8 @@ HasScript (asked.Plan plan) = (script : Bytes) × IsScript script plan
 HasScript (asked.Refused a) = a.status ≡ status.Script
 
 -- the files come to these parts, or this is their refusal
-abbrev pub IsParts : List Bytes → Files → Bytes → Bytes → FlatGrammar → AnyPlan → Type 0 → List Bytes
-    → List Bytes → Parts → Type 0
+abbrev pub IsParts : List Bytes → Files → Bytes → Bytes → FlatGrammar → AnyPlan → Type 0
+    → List Bytes → List Bytes → Parts → Type 0
 IsParts called files grammar script f plan rose old new (parts.All queries texts) =
     IsLoaded called files grammar script f plan queries texts.items
 IsParts called files grammar script f plan rose old new (parts.Refused a) =
@@ -48,10 +48,10 @@ AreParts called f plan old new (parts.All queries texts) = AreQueries f called p
 AreParts called f plan old new (parts.Refused a) = IsJudged a.status
 
 -- the documents have these first texts, or what is asked for is refused
-abbrev pub HasTexts : List Bytes → Files → FlatGrammar → AnyPlan → Parts → Type 0
-HasTexts called files f plan (parts.All queries texts) =
+abbrev pub HasFirstTexts : List Bytes → Files → FlatGrammar → AnyPlan → Parts → Type 0
+HasFirstTexts called files f plan (parts.All queries texts) =
     AreOpened files plan.documents texts.items
-HasTexts called files f plan (parts.Refused a) =
+HasFirstTexts called files f plan (parts.Refused a) =
     RefusesPlan called files f plan a.status a.bytes.items
 
 -- these queries, and as many texts as documents; or a refusal of a text

@@ -19,8 +19,8 @@ use Rattle.ts_session.specs.Sessions.{IsLoaded}
 -- ---- what is printed
 
 -- The bytes are the print of a run of the script by the grammar, on documents with these first
--- texts. The run is lawful: each version has the outcome of parsing its whole text, and each reply is
--- the right one. A step that asks queries is told what these queries find, by which texts a host
+-- texts. The run is lawful: each version has the outcome of parsing its whole text, and each reply
+-- is the right one. A step that asks queries is told what these queries find, by which texts a host
 -- accepts.
 pub record IsRun (f : FlatGrammar) (plan : Plan) (queries : List ReadQuery)
     (host : ℕ → Bytes → Type 0) (openings : List Bytes) (bytes : Bytes) : Type 0 where

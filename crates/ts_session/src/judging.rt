@@ -13,8 +13,8 @@ ghost use Rattle.ts_script.specs.Script.{IsScript};
 ghost use Rattle.ts_session.specs.Firsts.{AreFirsts};
 ghost use Rattle.ts_session.specs.Grammars.{Builds};
 ghost use Rattle.ts_session.specs.Limits.{most_file_bytes};
-ghost use Rattle.ts_session.specs.Opened.{IsOpened, HasRead, HasStatus};
-ghost use Rattle.ts_session.specs.Parts.{AsksFor, HasScript, IsParts, AreParts, HasTexts, HasQueries};
+ghost use Rattle.ts_session.specs.Opened.{OpensAs, HasReadQueries, HasStatus};
+ghost use Rattle.ts_session.specs.Parts.{AsksFor, HasScript, IsParts, AreParts, HasFirstTexts, HasQueries};
 ghost use Rattle.ts_session.specs.Sessions.{IsAsked};
 
 use crate::answer::{Answer, Unanswered, no_script, not_loaded, too_large};
@@ -64,14 +64,15 @@ pub(crate) fn by_files<F: Folder, P: Patterns>(
     requires within { KeepsLimit most_file_bytes grammar.now }
     requires few_hosts { length names.now ≤ 2 ^ 32 }
     ensures opened { IfOk result (λ opened. (files : Files) (path other g s : Bytes)
-        → F.files folder.old ≡ Some files → file_at files path ≡ Some g → file_at files other ≡ Some s
+        → F.files folder.old ≡ Some files
+        → file_at files path ≡ Some g → file_at files other ≡ Some s
         → AnswersFor (Some g) most_file_bytes grammar.now
         → AnswersFor (Some s) most_script_bytes script.now
-        → IsOpened names.now files path other
+        → OpensAs names.now files path other
         (HasRisen (P.refusals patterns.old) (P.refusals patterns.new))
         (P.sources patterns.old) (P.sources patterns.new) opened) }
     ensures queries { IfOk result
-        (HasRead names.now (P.sources patterns.old) (P.sources patterns.new)) }
+        (HasReadQueries names.now (P.sources patterns.old) (P.sources patterns.new)) }
     ensures judged { IfOk result HasStatus }
     ensures read { result ≡ Err Unanswered.Read → Rose (F.faults folder.old) (F.faults folder.new) }
     ensures files { F.files folder.new ≡ F.files folder.old }
@@ -100,11 +101,11 @@ fn by_grammar<F: Folder, P: Patterns>(
     ensures opened { IfOk result (λ opened. (files : Files) (path other s : Bytes)
         → F.files folder.old ≡ Some files → file_at files path ≡ Some grammar.now
         → file_at files other ≡ Some s → AnswersFor (Some s) most_script_bytes script.now
-        → IsOpened names.now files path other
+        → OpensAs names.now files path other
         (HasRisen (P.refusals patterns.old) (P.refusals patterns.new))
         (P.sources patterns.old) (P.sources patterns.new) opened) }
     ensures queries { IfOk result
-        (HasRead names.now (P.sources patterns.old) (P.sources patterns.new)) }
+        (HasReadQueries names.now (P.sources patterns.old) (P.sources patterns.new)) }
     ensures judged { IfOk result HasStatus }
     ensures read { result ≡ Err Unanswered.Read → Rose (F.faults folder.old) (F.faults folder.new) }
     ensures files { F.files folder.new ≡ F.files folder.old }
@@ -133,11 +134,11 @@ fn by_table<F: Folder, P: Patterns>(
     ensures opened { IfOk result (λ opened. (files : Files) (path other g s : Bytes)
         → F.files folder.old ≡ Some files → file_at files path ≡ Some g → Builds g table.grammar
         → file_at files other ≡ Some s → AnswersFor (Some s) most_script_bytes file.now
-        → IsOpened names.now files path other
+        → OpensAs names.now files path other
         (HasRisen (P.refusals patterns.old) (P.refusals patterns.new))
         (P.sources patterns.old) (P.sources patterns.new) opened) }
     ensures queries { IfOk result
-        (HasRead names.now (P.sources patterns.old) (P.sources patterns.new)) }
+        (HasReadQueries names.now (P.sources patterns.old) (P.sources patterns.new)) }
     ensures judged { IfOk result HasStatus }
     ensures read { result ≡ Err Unanswered.Read → Rose (F.faults folder.old) (F.faults folder.new) }
     ensures files { F.files folder.new ≡ F.files folder.old }
@@ -189,11 +190,11 @@ fn by_plan<F: Folder, P: Patterns>(
     requires few_hosts { length names.now ≤ 2 ^ 32 }
     ensures opened { IfOk result (λ opened. (files : Files) (path other : Bytes)
         → F.files folder.old ≡ Some files → IsAsked files path other table.grammar plan
-        → IsOpened names.now files path other
+        → OpensAs names.now files path other
         (HasRisen (P.refusals patterns.old) (P.refusals patterns.new))
         (P.sources patterns.old) (P.sources patterns.new) opened) }
     ensures queries { IfOk result
-        (HasRead names.now (P.sources patterns.old) (P.sources patterns.new)) }
+        (HasReadQueries names.now (P.sources patterns.old) (P.sources patterns.new)) }
     ensures judged { IfOk result HasStatus }
     ensures read { result ≡ Err Unanswered.Read → Rose (F.faults folder.old) (F.faults folder.new) }
     ensures files { F.files folder.new ≡ F.files folder.old }
@@ -229,7 +230,8 @@ fn session(table: Table, plan: Plan, queries: List<ReadQuery>, texts: Vec<Text>)
     }
 }
 
-/// The queries of a script and the first texts of its documents: the files of the documents are read.
+/// The queries of a script and the first texts of its documents: the files of the documents are
+/// read.
 fn parts_of<F: Folder, P: Patterns>(
     alloc: Global,
     folder: &mut F,
@@ -306,7 +308,7 @@ fn with_texts(
     requires count { length firsts.now ≡ length plan.now.documents }
     ensures texts { IfOk result (λ parts. (f : AnyForm) (called : Values Bytes) (files : Files)
         → HaveNoFaults f called plan.now.queries → AreFirsts files plan.now.documents firsts.now
-        → HasTexts called files f plan.now parts) }
+        → HasFirstTexts called files f plan.now parts) }
     ensures whole { IfOk result (HasQueries plan.now queries) }
 {
     match openings_of(alloc, plan.documents.as_slice(), firsts) {

@@ -1,4 +1,5 @@
-//! Laws of the definitions, for the proofs of the crates above. Each is a function that does nothing.
+//! Laws of the definitions, for the proofs of the crates above. Each is a function that does
+//! nothing.
 ghost use Rattle.std.specs.Prelude.{◌≡◌, ℕ, List};
 ghost use Rattle.ts_base.specs.Bytes.{Bytes};
 ghost use Rattle.ts_core.specs.declared.flat.FlatGrammar.{FlatGrammar as AnyForm};
@@ -15,8 +16,8 @@ use ts_predicate::Hosts;
 
 /// Files are refused with one status and one line at most, and what is loaded is not refused.
 pub fn one_refusal()
-    ensures status { (called : List Bytes) (files : Files) (grammar script : Bytes) (s t : AnyStatus)
-        (b c : Bytes) → Refuses called files grammar script s b
+    ensures status { (called : List Bytes) (files : Files) (grammar script : Bytes)
+        (s t : AnyStatus) (b c : Bytes) → Refuses called files grammar script s b
         → Refuses called files grammar script t c → s ≡ t }
     ensures line { (called : List Bytes) (files : Files) (grammar script : Bytes) (s t : AnyStatus)
         (b c : Bytes) → Refuses called files grammar script s b

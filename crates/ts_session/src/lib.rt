@@ -1,6 +1,6 @@
-//! Sessions: the paths of a grammar and a script go in, and a session that can be run, or the refusal
-//! of the files, comes out; and a session goes in, with an order of its clients' steps or to run all
-//! clients at once, and what is printed of that run comes out.
+//! Sessions: the paths of a grammar and a script go in, and a session that can be run, or the
+//! refusal of the files, comes out; and a session goes in, with an order of its clients' steps or
+//! to run all clients at once, and what is printed of that run comes out.
 #![tactic(auto)]
 
 mod answer;
@@ -20,5 +20,5 @@ pub use laws::{
     clear_is_not_refused, clear_is_replayed, clear_is_run, one_refusal, replays_once, runs_once,
 };
 pub use opened::Opened;
-pub use opening::{Paths, open};
+pub use opening::{MOST_FILE_BYTES, Paths, open};
 pub use session::Session;

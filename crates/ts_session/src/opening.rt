@@ -7,7 +7,7 @@ ghost use Rattle.ts_io.specs.Read.{AnswersFor, KeepsLimit};
 ghost use Rattle.ts_query_syntax.specs.Refusals.{HasRisen};
 ghost use Rattle.ts_session.specs.Firsts.{IsFoundAt};
 ghost use Rattle.ts_session.specs.Limits.{most_file_bytes};
-ghost use Rattle.ts_session.specs.Opened.{IsOpened, HasRead, HasStatus, IsRefusedSo, IsReadyOrMemory};
+ghost use Rattle.ts_session.specs.Opened.{OpensAs, HasReadQueries, HasStatus, IsRefusedSo, IsReadyOrMemory};
 ghost use Rattle.ts_session.specs.Refusals.{Refuses};
 ghost use Rattle.ts_session.specs.Sessions.{IsClear};
 
@@ -23,7 +23,7 @@ use ts_query_syntax::Patterns;
 use ts_script::MOST_SCRIPT_BYTES;
 
 /// The most bytes that are read of a grammar file or a language file: 64 MiB.
-const MOST_FILE_BYTES: u64 = 67_108_864;
+pub const MOST_FILE_BYTES: u64 = 67_108_864;
 
 /// The paths of a grammar file, or a language file, and of a script.
 #[derive(Clone, Copy, Debug)]
@@ -35,9 +35,9 @@ pub struct Paths<'a> {
 /// Reads the files of a grammar and a script, and judges them.
 ///
 /// The grammar's file is read, and then the script's. The grammar is judged before the script. Then
-/// the files of the documents are read in their order; the queries are read in their order, where the
-/// predicates of the host may be named, and their expressions are built by `patterns`; and last the
-/// files of the documents are judged as texts in their order.
+/// the files of the documents are read in their order; the queries are read in their order, where
+/// the predicates of the host may be named, and their expressions are built by `patterns`; and last
+/// the files of the documents are judged as texts in their order.
 ///
 /// # Errors
 ///
@@ -53,11 +53,11 @@ pub fn open<F: Folder, H: Hosts, P: Patterns>(
 
     // What the files come to.
     ensures opened { IfOk result (λ opened. (files : Files) → F.files folder.old ≡ Some files
-        → IsOpened (H.called hosts.now) files paths.entry.grammar.now paths.entry.script.now
+        → OpensAs (H.called hosts.now) files paths.entry.grammar.now paths.entry.script.now
         (HasRisen (P.refusals patterns.old) (P.refusals patterns.new))
         (P.sources patterns.old) (P.sources patterns.new) opened) }
     ensures queries { IfOk result
-        (HasRead (H.called hosts.now) (P.sources patterns.old) (P.sources patterns.new)) }
+        (HasReadQueries (H.called hosts.now) (P.sources patterns.old) (P.sources patterns.new)) }
     ensures judged { IfOk result HasStatus }
 
     // What the files decide is what is answered, but for an expression that is refused.
@@ -93,11 +93,11 @@ fn read<F: Folder, P: Patterns>(
 ) -> Result<Opened, Unanswered>
     requires few_hosts { length names.now ≤ 2 ^ 32 }
     ensures opened { IfOk result (λ opened. (files : Files) → F.files folder.old ≡ Some files
-        → IsOpened names.now files paths.entry.grammar.now paths.entry.script.now
+        → OpensAs names.now files paths.entry.grammar.now paths.entry.script.now
         (HasRisen (P.refusals patterns.old) (P.refusals patterns.new))
         (P.sources patterns.old) (P.sources patterns.new) opened) }
     ensures queries { IfOk result
-        (HasRead names.now (P.sources patterns.old) (P.sources patterns.new)) }
+        (HasReadQueries names.now (P.sources patterns.old) (P.sources patterns.new)) }
     ensures judged { IfOk result HasStatus }
     ensures read { result ≡ Err Unanswered.Read → Rose (F.faults folder.old) (F.faults folder.new) }
     ensures files { F.files folder.new ≡ F.files folder.old }
@@ -125,11 +125,11 @@ fn read_script<F: Folder, P: Patterns>(
     ensures opened { IfOk result (λ opened. (files : Files) (path g : Bytes)
         → F.files folder.old ≡ Some files → file_at files path ≡ Some g
         → AnswersFor (Some g) most_file_bytes grammar.now
-        → IsOpened names.now files path script.now
+        → OpensAs names.now files path script.now
         (HasRisen (P.refusals patterns.old) (P.refusals patterns.new))
         (P.sources patterns.old) (P.sources patterns.new) opened) }
     ensures queries { IfOk result
-        (HasRead names.now (P.sources patterns.old) (P.sources patterns.new)) }
+        (HasReadQueries names.now (P.sources patterns.old) (P.sources patterns.new)) }
     ensures judged { IfOk result HasStatus }
     ensures read { result ≡ Err Unanswered.Read → Rose (F.faults folder.old) (F.faults folder.new) }
     ensures files { F.files folder.new ≡ F.files folder.old }

@@ -9,6 +9,7 @@ use std::alloc::{AllocError, Global};
 use std::sync::Wait;
 use std::thread::Threads;
 use ts_answers::Queries;
+use ts_io::Gate;
 use ts_predicate::Hosts;
 use ts_script::Plan;
 use ts_table::Table;
@@ -19,7 +20,7 @@ use ts_workers::{Ran, run};
 impl Session {
     /// Runs the steps of all clients of the script at once, each client on a thread of its own, and
     /// answers what is printed of that run. The host's predicates answer in its queries, on each of
-    /// these threads.
+    /// these threads. Each client passes the gate before each of its steps.
     ///
     /// A client for which no thread can be started is run by the thread that would have started it.
     /// The call waits until all clients are done; an await ends after 10,000,000 looks.
@@ -28,10 +29,11 @@ impl Session {
     ///
     /// `AllocError` where there is no memory for the first versions, the journals, the lexers, the
     /// replies and what is printed. A step that finds no memory is answered so.
-    pub fn run<R: Threads + Wait + Sync, H: Hosts + Sync>(
+    pub fn run<R: Threads + Wait + Sync, G: Gate + Sync, H: Hosts + Sync>(
         self,
         rt: &R,
         alloc: Global,
+        gate: &G,
         hosts: &H,
     ) -> Result<Vec<u8>, AllocError>
         ensures { IfOk result (λ bytes. IsRun self.table.grammar self.plan self.queries
@@ -49,14 +51,15 @@ impl Session {
             queries: queries.as_slice(),
             hosts,
         };
-        ran(rt, alloc, &table, &plan, &queries, texts)
+        ran(rt, alloc, gate, &table, &plan, &queries, texts)
     }
 }
 
 /// Runs all clients of a script at once, and prints the run.
-fn ran<R: Threads + Wait + Sync, H: Hosts + Sync>(
+fn ran<R: Threads + Wait + Sync, G: Gate + Sync, H: Hosts + Sync>(
     rt: &R,
     alloc: Global,
+    gate: &G,
     table: &Table,
     plan: &Plan,
     queries: &Queries<'_, H>,
@@ -70,6 +73,6 @@ fn ran<R: Threads + Wait + Sync, H: Hosts + Sync>(
         queries.entry.now.queries.now (AnswersOf (H.called queries.entry.now.hosts.now)
         (H.accepts queries.entry.now.hosts.now)) texts.items bytes.items) }
 {
-    let Ran { books, replies } = run(rt, alloc, table, queries, plan, texts)?;
+    let Ran { books, replies } = run(rt, alloc, gate, table, queries, plan, texts)?;
     transcript(alloc, table.grammar(), books.as_slice(), replies.as_slice())
 }

@@ -1,5 +1,5 @@
-//! A session: a script whose grammar has a parse table, whose queries were read, and whose documents
-//! have their first texts.
+//! A session: a script whose grammar has a parse table, whose queries were read, and whose
+//! documents have their first texts.
 ghost use Rattle.std.specs.Prelude.{◌≡◌, ◌<◌, ◌^◌, All, length};
 ghost use Rattle.ts_query_syntax.specs.declared.read_query.ReadQuery.{ReadQuery as AnyQuery};
 ghost use Rattle.ts_session.specs.Sessions.{IsSomeScript};

@@ -15,8 +15,8 @@ use Rattle.ts_shelf.specs.declared.journal.Entry.{Entry}
 use Rattle.ts_shelf.specs.declared.view.View.{View}
 use Rattle.ts_shelf.specs.Entries.{most_turns, occurrences, once_below, RisesWithin, Extends}
 use Rattle.ts_shelf.specs.Rule.{FitsHistory, Noted, IsHome, IsOut, IsShelf}
-use Rattle.ts_shelf.specs.Steps.{Asks, Learns, HasLooked, HasOffered, HasTurn, Tries, Loads, GivesBack, GivesUp}
-use Rattle.ts_shelf.specs.Views.{sum_over, IsLive, told, holding, after_turn, after_give_up, asking, Seated, IsIdle}
+use Rattle.ts_shelf.specs.Steps.{AsksBeforeSplit, Learns, HasLooked, HasOffered, HasTurn, Tries, Loads, GivesBack, GivesUp}
+use Rattle.ts_shelf.specs.Views.{sum_over, IsLive, told_view, holding, after_turn, after_give_up, asking, Seated, IsIdle}
 use Rattle.ts_shelf.proofs.RisingEntries.{all_prefix, extends_more, rises_le, rises_append}
 use Rattle.ts_shelf.proofs.TurnLists.{once_most, occurrences_push, one_more}
 use Rattle.ts_shelf.proofs.ViewSums.{within, views_else, views_at, not_holding, total_set, same_total, member_total}
@@ -133,7 +133,7 @@ module _ {J S I : Type 0} (entries : J → List (Entry I)) (room : J → ℕ) (o
       → Allows Rule 1 id (v, []) 0 (λ n. n) (Loads (step 1 0 0 0 none) (v, []))
   loads_view id v free s h slots at big =
       let n : ℕ = get_or s.words 0 0 in
-      let w : View S I = told v (n / 2) in
+      let w : View S I = told_view v (n / 2) in
       let over : v.knows.reached ≤ n / 2 = (let a = (h.each id v at).reached in
       let b = (word_is s h).1 in omega arith) in (
         w,
@@ -600,7 +600,7 @@ module _ {J S I : Type 0} (entries : J → List (Entry I)) (room : J → ℕ) (o
       by false e = refl
 
   asks_view : (id k : ℕ) (v : View S I) → v.notes.holds ≡ false
-      → Allows Rule 1 id (v, []) 0 (λ n. either (n == k) k n) (Asks (step 1 0 k k none) (v, []))
+      → Allows Rule 1 id (v, []) 0 (λ n. either (n == k) k n) (AsksBeforeSplit (step 1 0 k k none) (v, []))
   asks_view id k v free s h slots at big =
       let n : ℕ = get_or s.words 0 0 in
       let w : View S I = asking v k in (
@@ -622,10 +622,10 @@ module _ {J S I : Type 0} (entries : J → List (Entry I)) (room : J → ℕ) (o
 
   -- the exchange before a split, which changes no word
   pub asks_keeps : (id k : ℕ) (m : Seated J S I) → IsIdle m
-      → Allows Rule 1 id m 0 (λ n. either (n == k) k n) (Asks (step 1 0 k k none) m)
+      → Allows Rule 1 id m 0 (λ n. either (n == k) k n) (AsksBeforeSplit (step 1 0 k k none) m)
   asks_keeps id k m pass =
       subst (λ (x : Seated J S I). Allows Rule 1 id x 0 (λ n. either (n == k) k n)
-      (Asks (step 1 0 k k none) x)) (sym (alone m pass.0))
+      (AsksBeforeSplit (step 1 0 k k none) x)) (sym (alone m pass.0))
       (asks_view id k m.0 pass.1)
 
   learns_view : (id : ℕ) (v : View S I) → v.notes.holds ≡ false → IsLive v

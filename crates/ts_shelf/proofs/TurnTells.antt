@@ -12,8 +12,8 @@ use Rattle.ts_shelf.specs.Latest.{latest_of}
 use Rattle.ts_shelf.specs.Machine.{Event, look, offer, used_by, Response, shown, added, overtaken, IsTurn}
 use Rattle.ts_shelf.specs.Passes.{IsPass}
 use Rattle.ts_shelf.specs.Rule.{FitsHistory}
-use Rattle.ts_shelf.specs.Steps.{HasTurn, HasLooked, HasOffered}
-use Rattle.ts_shelf.specs.Views.{Seated, told, holding, after_turn, after_turn_known, IsLive, IsIdle}
+use Rattle.ts_shelf.specs.Steps.{HasTurn, HasOffered}
+use Rattle.ts_shelf.specs.Views.{Seated, told_view, holding, after_turn, after_turn_known, IsLive, IsIdle}
 use Rattle.ts_shelf.proofs.RisingEntries.{rises_le, rises_one, rises_append}
 
 empty_of : {A : Type 0} (xs : List A) → length xs ≡ 0 → xs ≡ []
@@ -48,20 +48,6 @@ module _ {S I : Type 0} where
     offers = omega arith;
     rank = (refl, refl);
     opening = refl;
-  }
-
-module _ {S I : Type 0} (fits : S → I → Type 0) where
-  -- more turns are known to be over
-  pub told_pass : (k : Knowledge S I) (r : ℕ) → IsPass fits k → k.reached ≤ r → r ≤ most_turns
-      → IsPass fits (record k { reached = r })
-  told_pass k r p more few = record {
-    opening = p.opening;
-    opens = p.opens;
-    fit = p.fit;
-    rises = p.rises;
-    taken = p.taken;
-    known = (let a = p.known in omega arith);
-    few = few;
   }
 
 module _ {J S I : Type 0} (entries : J → List (Entry I)) (room : J → ℕ) (opening : J → S)
@@ -111,34 +97,18 @@ module _ {J S I : Type 0} (entries : J → List (Entry I)) (room : J → ℕ) (o
       ∙ ap (λ (x : View S I). after_turn_known x.knows x.notes.held_turn es used)
       (same ∙ k.view)
 
-  -- what was taken may be given back as it is
-  pub as_it_came : (v : View S I) (t : ℕ) (m n : Seated J S I) → Has v t m → n ≡ m
-      → HasLooked entries room opening fits t n
-  as_it_came v t m n k same =
-      let view = view_of v t m n k same in
-      record {
-        holds = subst
-            (λ (x : View S I). (x.notes.holds ≡ true) × (x.notes.held_turn ≡ t) × (t < most_turns))
-            (sym view) (refl, refl, k.few);
-        journal = k.journal;
-        carried = ap (λ (x : Seated J S I). x.1) same ∙ k.carried;
-        same = ap (λ (x : View S I). x.notes.held_entries) (sym view);
-        opens = ap (λ (x : View S I). x.knows.opening) view ∙ k.opens;
-        room_left = (let e = ap (λ (x : View S I). x.notes.held_room) view in omega arith);
-      }
-
   -- what a look tells
   pub look_tells : (old : View S I) (r t number : ℕ) (m n : Seated J S I) (w : View S I)
-      → old.knows.reached ≤ r → Has (told old r) t m → n ≡ m
+      → old.knows.reached ≤ r → Has (told_view old r) t m → n ≡ m
       → w ≡ after_turn n.0 n.0.notes.held_entries 0
       → ((j : J) → m.1 ≡ (0, j) ∷ [] → number ≡ length (entries j))
       → Looked old.knows w.knows t number × IsPass fits w.knows
   look_tells old r t number m n w more k same is count =
       let es : List (Entry I) = entries k.journal in
       let came : n.0.notes.held_entries ≡ es =
-      ap (λ (x : View S I). x.notes.held_entries) (view_of (told old r) t m n k same) in
+      ap (λ (x : View S I). x.notes.held_entries) (view_of (told_view old r) t m n k same) in
       let known : w.knows ≡ after_turn_known (reaching old.knows r) t es 0 =
-      known_after (told old r) t 0 m n.0 w es k (ap (λ (x : Seated J S I). x.0) same)
+      known_after (told_view old r) t 0 m n.0 w es k (ap (λ (x : Seated J S I). x.0) same)
       (is ∙ ap (λ (l : List (Entry I)). after_turn n.0 l 0) came) in
       let number_is = count k.journal k.carried in
       let done : IsTurn t es look (shown number) es =
@@ -150,12 +120,12 @@ module _ {J S I : Type 0} (entries : J → List (Entry I)) (room : J → ℕ) (o
                   (omega arith);
               number_is = number_is;
             }),
-        subst (IsPass fits) (sym known) (same_after (told old r) t 0 m k),
+        subst (IsPass fits) (sym known) (same_after (told_view old r) t 0 m k),
       )
 
   -- what an offer tells, where the journal has more entries than the base
   pub newer_tells : (old : View S I) (r t base number : ℕ) (item : I) (m n w : Seated J S I)
-      → old.knows.reached ≤ r → Has (told old r) t m → n ≡ m
+      → old.knows.reached ≤ r → Has (told_view old r) t m → n ≡ m
       → ((j : J) → n.1 ≡ (0, j) ∷ [] → w ≡ (after_turn n.0 (entries j) 1, []))
       → ((j : J) → m.1 ≡ (0, j) ∷ [] → number ≡ length (entries j)) → base ≤ length old.knows.seen
       → (number ≡ base → ⊥) → 0 < old.knows.offers
@@ -164,7 +134,7 @@ module _ {J S I : Type 0} (entries : J → List (Entry I)) (room : J → ℕ) (o
       let es : List (Entry I) = entries k.journal in
       let after = is k.journal (ap (λ (x : Seated J S I). x.1) same ∙ k.carried) in
       let known : w.0.knows ≡ after_turn_known (reaching old.knows r) t es 1 =
-      known_after (told old r) t 1 m n.0 w.0 es k (ap (λ (x : Seated J S I). x.0) same)
+      known_after (told_view old r) t 1 m n.0 w.0 es k (ap (λ (x : Seated J S I). x.0) same)
       (ap (λ (x : Seated J S I). x.0) after) in
       let size : length es ≡ length old.knows.seen + length k.agrees.rest =
       ap (λ (l : List (Entry I)). length l) k.agrees.is
@@ -187,13 +157,13 @@ module _ {J S I : Type 0} (entries : J → List (Entry I)) (room : J → ℕ) (o
               number_is = number_is;
               more = above;
             }),
-        subst (IsPass fits) (sym known) (same_after (told old r) t 1 m k),
+        subst (IsPass fits) (sym known) (same_after (told_view old r) t 1 m k),
       )
 
   -- what an offer tells, where the journal has just the base's entries
   pub published_tells : (old : View S I) (r t base before number : ℕ) (item : I)
       (m n w : Seated J S I) (j' : J) → old.knows.reached ≤ r
-      → (k : Has (told old r) t m) → n ≡ (m.0, (0, j') ∷ [])
+      → (k : Has (told_view old r) t m) → n ≡ (m.0, (0, j') ∷ [])
       → entries j' ≡ entries k.journal ++ record { turn = t; item = item } ∷ []
       → ((j : J) → n.1 ≡ (0, j) ∷ [] → w ≡ (after_turn n.0 (entries j) 1, []))
       → ((j : J) → m.1 ≡ (0, j) ∷ [] → before ≡ length (entries j))
@@ -208,7 +178,7 @@ module _ {J S I : Type 0} (entries : J → List (Entry I)) (room : J → ℕ) (o
       ap (λ (x : Seated J S I). x.0) (is j' (ap (λ (x : Seated J S I). x.1) same))
       ∙ ap (λ (l : List (Entry I)). after_turn n.0 l 1) grown in
       let known : w.0.knows ≡ after_turn_known (reaching old.knows r) t (es ++ e ∷ []) 1 =
-      known_after (told old r) t 1 m n.0 w.0 (es ++ e ∷ []) k
+      known_after (told_view old r) t 1 m n.0 w.0 (es ++ e ∷ []) k
       (ap (λ (x : Seated J S I). x.0) same) after in
       let had = count k.journal k.carried in
       let long : length (entries j') ≡ length es + 1 =
@@ -233,7 +203,7 @@ module _ {J S I : Type 0} (entries : J → List (Entry I)) (room : J → ℕ) (o
               adds = ap (λ (l : List (Entry I)). l ++ e ∷ []) all_seen;
             }),
         subst (IsPass fits) (sym known)
-            (pass_after (told old r) t 1 m (es ++ e ∷ []) k
+            (pass_after (told_view old r) t 1 m (es ++ e ∷ []) k
             (rises_append 0 t (t + 1) es (e ∷ []) k.rises (rises_one t item))
             (All-push (λ (x : Entry I). fits (opening k.journal) x.item) es e k.all_fit
             (fit (opening k.journal) k.opens))),
@@ -241,13 +211,13 @@ module _ {J S I : Type 0} (entries : J → List (Entry I)) (room : J → ℕ) (o
 
   -- the journal may be given back with the new entry
   pub as_offered : (old : View S I) (r t : ℕ) (item : I) (m n : Seated J S I) (j' : J)
-      → (k : Has (told old r) t m) → n ≡ (m.0, (0, j') ∷ [])
+      → (k : Has (told_view old r) t m) → n ≡ (m.0, (0, j') ∷ [])
       → entries j' ≡ entries k.journal ++ record { turn = t; item = item } ∷ []
       → room j' + 1 ≡ room k.journal → opening j' ≡ opening k.journal
       → ((o : S) → old.knows.opening ≡ Some o → fits o item) → 0 < old.knows.offers
       → HasOffered entries room opening fits t n
   as_offered old r t item m n j' k same grown room' opens fit some_left =
-      let view : n.0 ≡ holding (told old r) t (entries k.journal) (room k.journal) =
+      let view : n.0 ≡ holding (told_view old r) t (entries k.journal) (room k.journal) =
       ap (λ (x : Seated J S I). x.0) same ∙ k.view in
       let e : Entry I = record { turn = t; item = item } in
       let Fit : Entry I → Type 0 = (λ (e : Entry I). fits (opening j') e.item) in
@@ -267,28 +237,6 @@ module _ {J S I : Type 0} (entries : J → List (Entry I)) (room : J → ℕ) (o
         new_fit = All-push Fit [] e (All-nil Fit)
             (subst (λ (o : S). fits o item) (sym opens) (fit (opening k.journal) k.opens));
         room_left = (let o = ap (λ (x : View S I). x.notes.held_room) view in omega arith);
-      }
-
-  -- or as it came
-  pub as_not_offered : (old : View S I) (r t : ℕ) (m n : Seated J S I) → Has (told old r) t m
-      → n ≡ m → 0 < old.knows.offers
-      → HasOffered entries room opening fits t n
-  as_not_offered old r t m n k same some_left =
-      let view = view_of (told old r) t m n k same in
-      record {
-        holds = subst
-            (λ (x : View S I). (x.notes.holds ≡ true) × (x.notes.held_turn ≡ t) × (t < most_turns))
-            (sym view) (refl, refl, k.few);
-        journal = k.journal;
-        carried = ap (λ (x : Seated J S I). x.1) same ∙ k.carried;
-        more = [];
-        is = ap (λ (x : View S I). x.notes.held_entries) (sym view)
-            ∙ sym (append-nil n.0.notes.held_entries);
-        late = le_more t;
-        offers = (let e = ap (λ (x : View S I). x.knows.offers) view in omega arith);
-        opens = ap (λ (x : View S I). x.knows.opening) view ∙ k.opens;
-        new_fit = All-nil (λ (e : Entry I). fits (opening k.journal) e.item);
-        room_left = (let e = ap (λ (x : View S I). x.notes.held_room) view in omega arith);
       }
 
   -- what is shown is the last item's, or the opening's

@@ -73,10 +73,10 @@ module _ {S I : Type 0} where
       (opening : S) → new.opening ≡ Some opening → latest ≡ latest_of shown_of opening new.seen
 
   -- what an offer answers
-  abbrev pub Answers : (I → S) → Knowledge S I → Knowledge S I → ℕ → I → Offered S → Type 0
-  Answers shown_of old new base item (Published turn number) =
+  abbrev pub AnswersOffer : (I → S) → Knowledge S I → Knowledge S I → ℕ → I → Offered S → Type 0
+  AnswersOffer shown_of old new base item (Published turn number) =
       Publishes old new base item turn number
-  Answers shown_of old new base item (Newer turn number latest) =
+  AnswersOffer shown_of old new base item (Newer turn number latest) =
       IsNewer old new base item turn number × ShowsLatest shown_of new latest
 
   -- the first pass gives so many of its offers to another, which has seen the same and took no turn

@@ -1,4 +1,5 @@
--- The rule of a shelf, which holds between any two steps. It serves proofs alone.
+-- The rule of a shelf, which holds between any two steps. It serves private clauses and proofs
+-- alone.
 use Rattle.std.specs.Prelude.{◌≡◌, ◌≢◌, ℕ, ◌+◌, ◌*◌, ◌<◌, ◌≤◌, ◌⊎◌, true, false, List, [], ◌∷◌, ◌++◌, Some, All}
 use mathlib.Core.Option.{none, some}
 use lib.ListN.{get_elem?}

@@ -1,10 +1,10 @@
--- What each step on the word tells. These serve proofs alone.
+-- What each step on the word tells. These serve private clauses and proofs alone.
 use Rattle.std.specs.Prelude.{◌≡◌, ℕ, ◌+◌, ◌*◌, ◌/◌, ◌<◌, ◌≤◌, true, ◌==◌, List, [], ◌∷◌, ◌++◌, Some, All, MatchBool}
 use Rattle.atomic_table.specs.Table.{Step}
 use Rattle.ts_shelf.specs.declared.journal.Entry.{Entry}
 use Rattle.ts_shelf.specs.declared.view.View.{View}
 use Rattle.ts_shelf.specs.Entries.{most_turns, occurrences, RisesWithin, Extends}
-use Rattle.ts_shelf.specs.Views.{Seated, told, holding, after_turn, after_give_up, asking}
+use Rattle.ts_shelf.specs.Views.{Seated, told_view, holding, after_turn, after_give_up, asking}
 use Rattle.ts_shelf.specs.Passes.{IsPass}
 use Rattle.ts_shelf.specs.Rule.{FitsHistory}
 
@@ -23,7 +23,7 @@ pub record HasJoined {S I : Type 0} (fits : S → I → Type 0) (v : View S I) :
 module _ {J S I : Type 0} where
   -- a load: so many turns are over, which are no fewer than were known before
   abbrev pub Loads : Step J → Seated J S I → ℕ → Seated J S I → Type 0
-  Loads s m n w = (w ≡ (told m.0 (n / 2), [])) × (n ≤ 2 * most_turns + 1)
+  Loads s m n w = (w ≡ (told_view m.0 (n / 2), [])) × (n ≤ 2 * most_turns + 1)
       × (m.0.knows.reached ≤ n / 2)
 
   -- after the journal that is given back, with so many offers used
@@ -37,8 +37,8 @@ module _ {J S I : Type 0} where
   GivesUp s m n w = w ≡ (after_give_up m.0, [])
 
   -- before a split: how many offers it is to give
-  abbrev pub Asks : Step J → Seated J S I → ℕ → Seated J S I → Type 0
-  Asks s m n w = w ≡ (asking m.0 s.first, [])
+  abbrev pub AsksBeforeSplit : Step J → Seated J S I → ℕ → Seated J S I → Type 0
+  AsksBeforeSplit s m n w = w ≡ (asking m.0 s.first, [])
 
   -- a load after a join: nothing changes, and the pass knows what it has learned
   abbrev pub Learns : (S → I → Type 0) → Step J → Seated J S I → ℕ → Seated J S I → Type 0

@@ -1,4 +1,5 @@
--- What is kept of a pass beside what it knows, and how both change. These serve proofs alone.
+-- What is kept of a pass beside what it knows, and how both change. These serve private clauses and
+-- proofs alone.
 use Rattle.std.specs.Prelude.{◌≡◌, ℕ, ◌+◌, ◌-◌, true, false, nat_lt, max, if◌then◌else◌, List, [], ◌∷◌, ◌++◌, None}
 use Rattle.atomic_table.specs.Table.{Me}
 use Rattle.ts_shelf.specs.declared.journal.Entry.{Entry}
@@ -61,8 +62,8 @@ module _ {S I : Type 0} where
   }
 
   -- it knows that so many turns are over
-  abbrev pub told : View S I → ℕ → View S I
-  told v n = record v { knows = record v.knows { reached = n } }
+  abbrev pub told_view : View S I → ℕ → View S I
+  told_view v n = record v { knows = record v.knows { reached = n } }
 
   -- it holds a turn, and knows with which entries and room the journal came
   abbrev pub holding : View S I → ℕ → List (Entry I) → ℕ → View S I

@@ -1,6 +1,6 @@
 //! What each kind of step tells, and how views are cut in two and put together: in goes the kind,
 //! out comes what the seat knows after it. These types are for the proofs alone.
-ghost use Rattle.ts_shelf.specs.Steps.{Loads, Tries, GivesBack, GivesUp, Asks, Learns};
+ghost use Rattle.ts_shelf.specs.Steps.{Loads, Tries, GivesBack, GivesUp, AsksBeforeSplit, Learns};
 ghost use Rattle.ts_shelf.specs.Views.{kept_part, split_part, joined_view, spent_view};
 
 use crate::journal::Journal;
@@ -46,7 +46,7 @@ impl<J: Journal> Play<J, View<J::Shown, J::Item>> for GiveUp {
 pub(crate) struct Ask;
 
 impl<J: Journal> Play<J, View<J::Shown, J::Item>> for Ask {
-    ghost then = { Asks };
+    ghost then = { AsksBeforeSplit };
 }
 
 /// A split of the first pass.

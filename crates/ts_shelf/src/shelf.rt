@@ -1,7 +1,7 @@
 //! The calls of a shelf: in go looks and offers, each with the pass of the one who asks, and out
 //! come a turn and the journal as it was at that turn. At the end the journal comes out.
 ghost use Rattle.std.specs.Prelude.{◌≡◌, ℕ, ◌+◌, ◌<◌, ◌≤◌, [], length, IsOk, IfOk, IfErr, OnErr, ◌↔◌};
-ghost use Rattle.ts_shelf.specs.Calls.{Looked, Answers, ShowsLatest, TakesNoTurn, IsSplit, IsJoin, Closes};
+ghost use Rattle.ts_shelf.specs.Calls.{Looked, AnswersOffer, ShowsLatest, TakesNoTurn, IsSplit, IsJoin, Closes};
 ghost use Rattle.ts_shelf.specs.Entries.{most_turns};
 ghost use Rattle.ts_shelf.specs.Passes.{IsPass, IsFirst, IsOther, FitsOpening, first_pass};
 
@@ -126,7 +126,7 @@ impl<J: Journal> Shelf<J> {
         ensures shelf { pass.new.shelf ≡ pass.old.shelf }
         ensures pass { IsPass J.fits pass.new.knows }
         ensures answered { IfOk result
-            (λ r. Answers J.shown_of pass.old.knows pass.new.knows base item r) }
+            (λ r. AnswersOffer J.shown_of pass.old.knows pass.new.knows base item r) }
         ensures no_turn { OnErr result (TakesNoTurn pass.old.knows pass.new.knows) }
         ensures spent { IfErr result
             (λ e. (e ≡ Denied.Spent) ↔ (pass.new.knows.reached ≡ most_turns)) }

@@ -6,7 +6,7 @@ ghost use Rattle.ts_shelf.specs.Entries.{most_turns};
 ghost use Rattle.ts_shelf.specs.Latest.{latest_of};
 ghost use Rattle.ts_shelf.specs.Steps.{HasTurn, HasLooked, HasOffered, HasJoined};
 ghost use Rattle.ts_shelf.specs.Tried.{Tried, TookTurn, Ended};
-ghost use Rattle.ts_shelf.specs.Views.{IsIdle, first_view, told, after_turn, after_give_up, joined_view, asking, kept_part, split_part};
+ghost use Rattle.ts_shelf.specs.Views.{IsIdle, first_view, told_view, after_turn, after_give_up, joined_view, asking, kept_part, split_part};
 
 use crate::journal::Journal;
 use crate::plays::{Ask, GiveBack, GiveOffer, GiveUp, Learn, Load, Meet, Part, Take};
@@ -71,7 +71,7 @@ impl<J: Journal> Turnstile<J> {
     fn word(&self, seat: &mut Rider<J>) -> u64
         requires seat { (seat.old.table_id ≡ self.now.table.shared.table_id) × IsIdle seat.old.me }
         ensures same { seat.new.table_id ≡ seat.old.table_id }
-        ensures view { seat.new.me ≡ (told seat.old.me.0 (result / 2), []) }
+        ensures view { seat.new.me ≡ (told_view seat.old.me.0 (result / 2), []) }
         ensures few { result ≤ 2 * most_turns + 1 }
         ensures more { seat.old.me.0.knows.reached ≤ result / 2 }
     {

@@ -1,5 +1,5 @@
 -- What each verdict leaves.
-use Rattle.std.proofs.Common.{◌≡◌, ◌∙◌, sym, ap, refl, subst, ℕ, ◌<◌, ◌≤◌, inl, inr, ⊎_elim, Bool, true, false, List, [], ◌++◌, length, Option, Some, None, ◌↔◌}
+use Rattle.std.proofs.Common.{◌≡◌, ◌∙◌, sym, ap, refl, subst, ℕ, ◌<◌, ◌≤◌, inr, ⊎_elim, Bool, true, false, List, [], ◌++◌, length, Option, Some, None, ◌↔◌}
 use Rattle.std.specs.Bool.{IsTrue}
 use Rattle.ts_core.specs.declared.action.Action.{Action}
 use Rattle.std.specs.Global.{Vec}
@@ -46,14 +46,6 @@ module _ (g : FlatGrammar) (next : ℕ) (shifts kept : List Candidate) (v : Verd
     shifts = λ c. ((λ h. (subst (λ (l : List Candidate). Contains l c) ei h, (next, es))), (λ w. subst (λ (l : List Candidate). Contains l c) (sym ei) w.0));
   }
 
--- without reductions
-pub cell_alone : (g : FlatGrammar) (next : ℕ) (shifts kept : List Candidate) (cell : Cell) → kept ≡ [] → cell.shift ≡ Some next → cell.reductions.items ≡ kept → cell.shifts.items ≡ shifts → IsCellOf g (Some next) (Contains shifts) (Contains kept) cell
-cell_alone g next shifts kept cell none es er ei = record {
-  shift = λ m. ((λ h. (sym es ∙ h, (λ ro. none_of_nil kept ro.0.1.0 none ro.0.1.1))), (λ w. es ∙ w.0));
-  reductions = λ c. ((λ h. absurd (none_of_nil cell.reductions.items c (er ∙ none) h)), (λ w. absurd (none_of_nil kept c none w.0)));
-  shifts = λ c. ((λ h. (subst (λ (l : List Candidate). Contains l c) ei h, (next, es))), (λ w. subst (λ (l : List Candidate). Contains l c) (sym ei) w.0));
-}
-
 -- without a shift
 pub cell_none : (g : FlatGrammar) (target : Option ℕ) (S R : Candidate → Type 0) (kept : List Candidate) (cell : Cell) → target ≡ None → ((c : Candidate) → Contains kept c ↔ R c) → cell.shift ≡ None → cell.reductions.items ≡ kept → cell.shifts.items ≡ [] → IsCellOf g target S R cell
 cell_none g target S R kept cell none same es er ei = record {
@@ -97,9 +89,6 @@ same_both a b x y e to from = ((λ t s. ((λ h. to.0 e s h), (λ h. from.0 t s h
 
 pub set_test : (x l rules : List Symbol) (b : Bool) → l ≡ x → IsTrue b ↔ AreSameSymbols l rules → IsTrue b ↔ AreSameSymbols x rules
 set_test x l rules b e test = subst (λ (z : List Symbol). IsTrue b ↔ AreSameSymbols z rules) e test
-
-pub refused_small : (g : FlatGrammar) (cell : Cell) (n : ℕ) → n < 2 → IsRefusedBy g cell n None
-refused_small g cell n lt = inl lt
 
 pub refused_declared : (g : FlatGrammar) (cell : Cell) (n : ℕ) (rules l : List Symbol) (sets : List (List Symbol)) (b : Bool) → AreRulesOf g cell rules → l ≡ rules → sets ≡ g.conflicts → IsTrue b ↔ IsOneOf sets l → b ≡ true → IsRefusedBy g cell n None
 refused_declared g cell n rules l sets b of el es test yes' = inr (rules, of, subst (λ (z : List Symbol). IsOneOf g.conflicts z) el (subst (λ (z : List (List Symbol)). IsOneOf z l) es (test.0 yes')))

@@ -15,7 +15,7 @@ use Rattle.spec_tables.specs.Actions.{Shifts}
 use Rattle.ts_items.specs.declared.part.Goto.{Goto}
 use Rattle.ts_items.specs.declared.part.State.{State}
 use Rattle.ts_items.specs.declared.part.Items.{Items}
-use Rattle.ts_items.specs.Productions.{symbols_in, right_of}
+use Rattle.ts_items.specs.Productions.{symbols_of_steps, right_of}
 use Rattle.ts_items.specs.Parts.{line_of, In}
 use Rattle.ts_items.specs.Closing.{SameItems}
 use Rattle.ts_items.specs.Collection.{IsReachedBy, here, step, IsGoto, StandsFor}
@@ -41,7 +41,7 @@ line_number (suc n) h = (n, refl)
 pub dot_of : (g : FlatGrammar) (line : Line) (dot : ℕ) (s : Step) → slice_get (line_steps g line) dot ≡ Some s → slice_get (right_of g line) dot ≡ Some s.symbol.0
 dot_of g line dot s h = slice_get-map (λ (s : Step). s.symbol.0) (line_steps g line) dot ∙ ap (option_map (λ (s : Step). s.symbol.0)) h
 
-pub step_at : (steps : List Step) (k x : ℕ) → slice_get (symbols_in steps) k ≡ Some x → (s : Step) × (slice_get steps k ≡ Some s) × (s.symbol.0 ≡ x)
+pub step_at : (steps : List Step) (k x : ℕ) → slice_get (symbols_of_steps steps) k ≡ Some x → (s : Step) × (slice_get steps k ≡ Some s) × (s.symbol.0 ≡ x)
 step_at steps k x h = by (slice_get steps k) refl (sym (slice_get-map (λ (s : Step). s.symbol.0) steps k) ∙ h)
   where
     by : (o : Option Step) → slice_get steps k ≡ o → option_map (λ (s : Step). s.symbol.0) o ≡ Some x → (s : Step) × (slice_get steps k ≡ Some s) × (s.symbol.0 ≡ x)

@@ -21,10 +21,6 @@ module _ {X : Type 0} where
   pub none_in : (x : X) → Contains [] x → ⊥
   none_in x h = let lt = h.1 in omega arith
 
-  pub is_some : (xs : List X) (x : X) → Contains xs x → 0 < length xs
-  is_some [] x h = absurd (none_in x h)
-  is_some (y ∷ ys) x h = omega arith
-
   pub some_in : (xs : List X) → 0 < length xs → (x : X) × Contains xs x
   some_in [] h = absurd (omega (arith, h))
   some_in (x ∷ xs) h = (x, Contains-get_or (x ∷ xs) 0 x (omega arith))
@@ -72,18 +68,11 @@ module _ {X : Type 0} where
   pub in_left : (xs ys : List X) (x : X) → Contains xs x → Contains (xs ++ ys) x
   in_left xs ys x h = Contains-append_left xs ys x h
 
-  pub all_none : (P : X → Type 0) (xs : List X) (q : X) → Contains (take 0 xs) q → P q
-  all_none P xs q h = absurd (let lt = h.1 in omega arith)
-
   pub all_more : (P : X → Type 0) (xs : List X) (k : ℕ) (d : X) → k < length xs → ((q : X) → Contains (take k xs) q → P q) → P (get_or xs k d) → (q : X) → Contains (take (k + 1) xs) q → P q
   all_more P xs k d below so_far one q h = ⊎_elim (λ w. so_far q w) (λ e. subst P e one) (Contains-push_cases (take k xs) (get_or xs k d) q (subst (λ (l : List X). Contains l q) (take_more xs k d below) h))
 
   pub all_all : (P : X → Type 0) (xs : List X) (k : ℕ) → take k xs ≡ xs → ((q : X) → Contains (take k xs) q → P q) → (q : X) → Contains xs q → P q
   all_all P xs k e so_far q h = so_far q (subst (λ (l : List X). Contains l q) (sym e) h)
-
-  -- the elements so far for which it holds
-  pub some_begin : (P : X → Type 0) (xs : List X) (r : X) → Contains [] r ↔ (Contains (take 0 xs) r × P r)
-  some_begin P xs r = ((λ h. absurd (let lt = h.1 in omega arith)), (λ h. absurd (let lt = h.0.1 in omega arith)))
 
   pub some_yes : (P : X → Type 0) (xs kept : List X) (k : ℕ) (d : X) → k < length xs → P (get_or xs k d) → ((r : X) → Contains kept r ↔ (Contains (take k xs) r × P r)) → (r : X) → Contains (kept ++ get_or xs k d ∷ []) r ↔ (Contains (take (k + 1) xs) r × P r)
   some_yes P xs kept k d below holds so_far r = rw (take_more xs k d below) (
@@ -118,12 +107,6 @@ module _ {X : Type 0} where
   pub found_one : (P : X → Type 0) (xs : List X) (k : ℕ) (d : X) (b : Bool) → k < length xs → b ≡ true → IsTrue b ↔ P (get_or xs k d) → (IsTrue true → (q : X) × Contains xs q × P q) × ((q : X) × Contains xs q × P q → IsTrue true)
   found_one P xs k d b below holds test = ((λ h. (get_or xs k d, Contains-get_or xs k d below, test.0 holds)), (λ h. refl))
 
-  pub none_of : (P : X → Type 0) (xs : List X) (b : Bool) → b ≡ false → IsTrue b ↔ (q : X) × Contains xs q × P q → (q : X) → Contains xs q → P q → ⊥
-  none_of P xs b fails test q h p = false_not_true (sym fails ∙ test.1 (q, h, p))
-
-  pub some_of : (P : X → Type 0) (xs : List X) (b : Bool) → b ≡ true → IsTrue b ↔ (q : X) × Contains xs q × P q → ((q : X) → Contains xs q → P q → ⊥) → ⊥
-  some_of P xs b holds test none = let w = test.0 holds in none w.0 w.1 w.2
-
   pub kept_all : (Top : X → Type 0) (xs tops v : List X) → ((r : X) → Contains tops r ↔ (Contains xs r × Top r)) → (length tops ≡ 0 → v ≡ xs) → (0 < length tops → v ≡ tops) → (r : X) → Contains v r ↔ (Contains xs r × (Top r ⊎ ((q : X) → Contains xs q → Top q → ⊥)))
   kept_all Top xs [] v members empty full r = (
     (λ h. (subst (λ (l : List X). Contains l r) (empty refl) h, inr (λ q a t. let w = (members q).1 (a, t) in let lt = w.1 in omega arith))),
@@ -140,9 +123,6 @@ module _ {X : Type 0} where
 module _ {X Y : Type 0} (f : X → Y) (P : X → Type 0) where
   abbrev pub Made : List X → Y → Type 0
   Made xs y = (q : X) × Contains xs q × P q × (y ≡ f q)
-
-  pub made_begin : (xs : List X) (y : Y) → Contains [] y ↔ Made (take 0 xs) y
-  made_begin xs y = ((λ h. absurd (none_in y h)), (λ h. absurd (none_in h.0 h.1)))
 
   pub made_yes : (xs : List X) (found : List Y) (k : ℕ) (d : X) (z : Y) → k < length xs → P (get_or xs k d) → z ≡ f (get_or xs k d) → ((y : Y) → Contains found y ↔ Made (take k xs) y) → (y : Y) → Contains (found ++ z ∷ []) y ↔ Made (take (k + 1) xs) y
   made_yes xs found k d z below holds is so_far y = rw (take_more xs k d below) (

@@ -12,7 +12,7 @@ use Rattle.ts_core.specs.declared.flat.Step.{Step}
 use Rattle.spec_grammar.specs.Symbols.{production_at, all_productions, productions_from, start_symbol}
 use Rattle.spec_tables.specs.Items.{line_steps}
 use Rattle.spec_tables.specs.Actions.{rule_in}
-use Rattle.ts_items.specs.Productions.{symbols_in, right_of}
+use Rattle.ts_items.specs.Productions.{symbols_of_steps, right_of}
 use Rattle.ts_items.specs.Parts.{line_of}
 use Rattle.ts_table.specs.declared.marks.Mark.{Mark}
 use Rattle.ts_table.specs.declared.marks.Marked.{Marked}
@@ -118,7 +118,7 @@ line_weight g m line from dot p b w are some is le at eb ew =
 pub first_weight : (g : FlatGrammar) (m : Marks) (line dot : ℕ) (w : Weight) → AreMarksOf g m → line ≡ 0 → w ≡ weight_by None m.start → w ≡ weight_of g (line_of line) dot
 first_weight g m line dot w are none ew = ew ∙ ap (weight_by None) are.start ∙ start_weight g dot ∙ ap (λ (l : ℕ). weight_of g (line_of l) dot) (sym none)
 
-symbols_are : (steps : List Step) → map (λ (mark : Mark). mark.symbol) (marks_in steps) ≡ symbols_in steps
+symbols_are : (steps : List Step) → map (λ (mark : Mark). mark.symbol) (marks_in steps) ≡ symbols_of_steps steps
 symbols_are steps = map_map mark_of (λ (mark : Mark). mark.symbol) steps
 
 pub right_is : (g : FlatGrammar) (m : Marks) (line from : ℕ) (p : Marked) → AreMarksOf g m → (line ≡ 0 → ⊥) → from ≡ line → line ≤ length m.productions.items → p ≡ get_or m.productions.items (from - 1) p

@@ -1,5 +1,5 @@
 -- Rows of gotos, and what is known of a set of items.
-use Rattle.std.proofs.Common.{◌≡◌, ◌∙◌, sym, ap, refl, subst, ℕ, zero, suc, ◌+◌, ◌<◌, ◌≤◌, ◌⊎◌, inl, inr, ⊎_elim, List, [], ◌∷◌, length, take, set, replicate, get_or, slice_get, ◌++◌, Option, Some, None, arith, ◌↔◌, Bool, true, false, nat_eq, if◌then◌else◌}
+use Rattle.std.proofs.Common.{◌≡◌, ◌∙◌, sym, ap, refl, subst, ℕ, zero, suc, ◌+◌, ◌<◌, ◌≤◌, ◌⊎◌, inl, inr, ⊎_elim, List, [], ◌∷◌, length, take, set, get_or, slice_get, ◌++◌, Option, Some, None, arith, ◌↔◌, Bool, true, false, nat_eq, if◌then◌else◌}
 use Rattle.std.specs.Bool.{IsTrue}
 use Rattle.std.specs.List.{Contains}
 use Rattle.std.proofs.lemmas.Bool.Decides.{nat_tests}
@@ -30,7 +30,7 @@ use Rattle.ts_table.specs.Candidates.{IsShiftPart, PicksFrom, IsCompletePart, Co
 use Rattle.ts_table.specs.Deciding.{StaysOf}
 use Rattle.ts_table.specs.Cells.{IsCellOf}
 use Rattle.ts_table.specs.Rows.{AreGotoNumbers, HasAccept, IsReadySet, IsTokenCell, IsSource, AreRivalItems}
-use Rattle.ts_table.proofs.ListLemmas.{one_at, at_of, in_of, read_at, none_in, in_left, in_right}
+use Rattle.ts_table.proofs.ListLemmas.{one_at, at_of, in_of, read_at, in_left, in_right}
 use Rattle.ts_table.proofs.ItemLemmas.{line_none, valid_of, goto_within}
 use Rattle.ts_table.proofs.CandidateLemmas.{item_in, reductions_are, shift_item_of, of_shift_item}
 use Rattle.ts_table.proofs.CellLemmas.{token_cell}
@@ -100,22 +100,6 @@ set_size : (xs : List ℕ) (k v : ℕ) → length (set xs k v) ≡ length xs
 set_size [] k v = refl
 set_size (x ∷ xs) zero v = refl
 set_size (x ∷ xs) (suc k) v = ap suc (set_size xs k v)
-
-replicate_size : (n v : ℕ) → length (replicate n v) ≡ n
-replicate_size zero v = refl
-replicate_size (suc n) v = ap suc (replicate_size n v)
-
-replicate_at : (n v k x : ℕ) → slice_get (replicate n v) k ≡ Some x → x ≡ v
-replicate_at zero v k x h = absurd (let e : None ≡ Some x = h in cc)
-replicate_at (suc n) v zero x h = let e : Some v ≡ Some x = h in let s : v ≡ x = cc in sym s
-replicate_at (suc n) v (suc k) x h = replicate_at n v k x h
-
-pub gotos_begin : (count : ℕ) (gotos : List Goto) (row : List ℕ) → row ≡ replicate count no_state → AreGotoNumbers count (take 0 gotos) row
-gotos_begin count gotos row is = record {
-  size = ap (λ (l : List ℕ). length l) is ∙ replicate_size count no_state;
-  only = λ x m at. inl (replicate_at count no_state x m (subst (λ (l : List ℕ). slice_get l x ≡ Some m) is at));
-  all = λ e h. absurd (none_in e h);
-}
 
 module _ (count k x : ℕ) (gotos : List Goto) (e : Goto) (row new : List ℕ) (below : k < length gotos) (is : slice_get gotos k ≡ Some e) (ex : x ≡ e.symbol) (inside : e.symbol < count)
     (rise : (i j : ℕ) (a b : Goto) → i < j → slice_get gotos i ≡ Some a → slice_get gotos j ≡ Some b → a.symbol < b.symbol) (newly : new ≡ set row x e.state) where
@@ -203,12 +187,6 @@ cell_is g m items set read token k reduced shifts cell source ready few reach he
     cell is
 
 -- ---- shift items, where they are asked for
-
-pub rival_none : (g : FlatGrammar) (items : Items) (s : State) (token : ℕ) (target : Option ℕ) (reductions found : List Candidate) → found ≡ [] → ((m : ℕ) (r : Candidate) → target ≡ Some m → Contains reductions r → ⊥) → AreRivalItems g items s token target reductions found
-rival_none g items s token target reductions found none never = record {
-  only = λ c h. absurd (none_in c (subst (λ (l : List Candidate). Contains l c) none h));
-  all = λ m r c e h p. absurd (never m r e h);
-}
 
 pub rival_all : (g : FlatGrammar) (items : Items) (s : State) (token : ℕ) (target : Option ℕ) (reductions found : List Candidate) (parts : List Part) (firsts : List BitSet) → parts ≡ s.parts.items → firsts ≡ items.firsts.items
     → ((c : Candidate) → Contains found c ↔ PicksFrom g parts (IsShiftPart g firsts token) c) → AreRivalItems g items s token target reductions found

@@ -1,5 +1,5 @@
 -- A token in a set of a list.
-use Rattle.std.proofs.Common.{◌≡◌, ◌∙◌, sym, subst, ℕ, ◌+◌, ◌<◌, ◌⊎◌, inl, inr, ⊎_elim, List, [], ◌∷◌, length, take, get_or, slice_get, Some, None, ◌↔◌, Bool}
+use Rattle.std.proofs.Common.{◌≡◌, sym, subst, ℕ, ◌+◌, ◌<◌, ◌⊎◌, inl, inr, ⊎_elim, List, [], ◌∷◌, length, take, get_or, slice_get, Some, ◌↔◌, Bool}
 use Rattle.std.specs.Bool.{IsTrue}
 use Rattle.ts_bits.specs.declared.set.BitSet.{BitSet}
 use Rattle.ts_bits.specs.Members.{Has}
@@ -28,12 +28,6 @@ pub union_has : (pool : List BitSet) (at : ℕ) (set old new : BitSet) → slice
 union_has pool at set old new is members t = (
   (λ h. ⊎_elim (λ a. inl a) (λ b. inr (record { set = set; at = is; has = b })) ((members t).0 h)),
   (λ h. (members t).1 (⊎_elim (λ a. inl a) (λ b. inr (has_here pool at t set is b)) h)),
-)
-
-pub union_none : (pool : List BitSet) (at : ℕ) (old : BitSet) → slice_get pool at ≡ None → (t : ℕ) → Has old t ↔ (Has old t ⊎ HasAt pool at t)
-union_none pool at old none t = (
-  (λ h. inl h),
-  (λ h. ⊎_elim (λ a. a) (λ b. absurd (let e : None ≡ Some b.set = sym none ∙ b.at in cc)) h),
 )
 
 pub after_none : (pool : List BitSet) (parts : List Part) (found : BitSet) → ((t : ℕ) → Has found t → ⊥) → (t : ℕ) → Has found t ↔ ComesAfter pool (take 0 parts) t

@@ -1,22 +1,20 @@
 -- Actions and symbols in order, each once, and rows that are kept once.
-use Rattle.std.proofs.Common.{◌≡◌, ◌∙◌, sym, ap, refl, subst, ℕ, ◌<◌, ⊎_elim, Bool, true, false, true≢false, List, [], ◌∷◌, ◌++◌, get_or, slice_get, Some, IsPermutation, arith, rules, ◌↔◌, if◌then◌else◌, nat_eq}
+use Rattle.std.proofs.Common.{◌≡◌, ◌∙◌, sym, ap, refl, subst, ℕ, ◌<◌, ⊎_elim, Bool, true, false, true≢false, List, get_or, slice_get, Some, IsPermutation, arith, rules, ◌↔◌, nat_eq}
 use Rattle.std.specs.Global.{Vec}
 use Rattle.std.specs.Bool.{Decides}
 use Rattle.std.specs.Cmp.{IsTotalOrder, IsEquivalence}
 use Rattle.std.specs.declared.cmp.Ordering.{Ordering}
 use Rattle.std.specs.declared.cmp.Ordering.TheVariants.{Less}
 use Rattle.std.specs.Ordering.{is_eq, eq_by_cmp}
-use Rattle.std.specs.List.{Contains, dedup, list_any}
+use Rattle.std.specs.List.{Contains, dedup}
 use Rattle.std.specs.List.Sorted.{IsStrictlySortedBy}
 use lib.Pointwise.{pointwise}
 use Rattle.std.proofs.lemmas.Bool.Decides.{nat_tests}
-use Rattle.std.proofs.lemmas.List.{append-nil}
 use Rattle.std.proofs.lemmas.List.Sorted.{Contains-permutation, IsPermutation-sym}
 use Rattle.std.proofs.lemmas.List.Kept.{Contains-dedup, Contains-from_dedup}
 use Rattle.std.proofs.lemmas.Map.Keys.{Less-from_sorted}
 use Rattle.std.proofs.lemmas.Option.{slice_get_within, get_or_from_slice_get}
 use Rattle.std.proofs.lemmas.Slice.Eq.{slice_eq-Decides}
-use Rattle.indexmap.specs.IndexSet.{insert_key}
 use Rattle.ts_core.specs.declared.action.Action.{Action}
 use Rattle.ts_core.specs.declared.action.Action.TheVariants.{Shift, Reduce, Accept}
 use Rattle.ts_core.specs.declared.symbol.Symbol.{Symbol}
@@ -28,7 +26,6 @@ use Rattle.ts_core.specs.contracts.symbol.SymbolPartialEq.TheImpl as symbol_deri
 use Rattle.ts_core.specs.contracts.symbol.SymbolOrd.TheImpl as symbol_order
 use Rattle.ts_core.specs.contracts.symbol.SymbolOrd.TheImpl.Laws as symbol_laws
 use Rattle.ts_core.specs.contracts.symbol.SymbolEq.TheImpl.Laws as symbol_equal
-use Rattle.ts_items.specs.Closing.{AddsSets}
 use Rattle.ts_table.specs.Rules.{AreRisen}
 use Rattle.ts_table.specs.Tables.{EachOnce}
 use Rattle.ts_table.proofs.ListLemmas.{three}
@@ -122,13 +119,6 @@ risen items sorted kept moved is order = record {
 }
 
 -- ---- rows that are kept once
-
-pub grows_by : {X : Type 0} (eq : X → X → Bool) (old new : List X) (x : X) → new ≡ insert_key eq old x → AddsSets old new
-grows_by {X} eq old new x is = by (list_any (eq x) old) is
-  where
-    by : (b : Bool) → new ≡ (if b then old else old ++ x ∷ []) → AddsSets old new
-    by true e = record { more = []; is = e ∙ sym (append-nil old) }
-    by false e = record { more = x ∷ []; is = e }
 
 same_nat : (x y : ℕ) → nat_eq x y ≡ true → x ≡ y
 same_nat x y h = grind (arith, nat_tests)

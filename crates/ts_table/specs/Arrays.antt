@@ -46,5 +46,6 @@ goto_by a state symbol =
 abbrev pub actions_by : Arrays → ℕ → ℕ → List Action
 actions_by a state token =
     unwrap_or (option_map (λ places. unwrap_or (option_map (items_at a.lists.keys)
-    (slice_get (items_at a.actions.keys places.actions) token)) []) (slice_get a.states.items state))
+    (slice_get (items_at a.actions.keys places.actions) token)) [])
+    (slice_get a.states.items state))
     []

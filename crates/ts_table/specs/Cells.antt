@@ -41,12 +41,15 @@ abbrev pub shift_in : Option ℕ → List Action
 shift_in None = []
 shift_in (Some next) = Shift next ∷ []
 
+-- a reduction by the production of each candidate, in order
 abbrev pub reductions_in : List Candidate → List Action
 reductions_in cs = map (λ c. Reduce (number_in c.line)) cs
 
+-- accepting, where it stands there
 abbrev pub accept_in : Bool → List Action
 accept_in accepts = if accepts then Accept ∷ [] else []
 
+-- all actions: the shift, then the reductions, then accepting
 abbrev pub actions_in : Cell → Bool → List Action
 actions_in cell accepts =
     (shift_in cell.shift ++ reductions_in cell.reductions.items) ++ accept_in accepts

@@ -24,6 +24,7 @@ OneHigher g P Q = (a : Candidate) × (b : Candidate) × P a × Q b × HigherBy g
 abbrev pub AreAllOf : Assoc → (Candidate → Type 0) → Type 0
 AreAllOf side P = (r : Candidate) → P r → r.weight.assoc ≡ side
 
+-- all candidates of a list have the associativity
 abbrev pub AreAll : Assoc → List Candidate → Type 0
 AreAll side rs = AreAllOf side (Contains rs)
 

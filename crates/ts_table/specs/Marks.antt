@@ -18,6 +18,7 @@ use Rattle.ts_table.specs.declared.marks.Weight.{Weight}
 abbrev pub mark_of : Step → Mark
 mark_of step = record { symbol = step.symbol.0; prec = step.prec; assoc = step.assoc }
 
+-- what steps say of precedences, in order
 abbrev pub marks_in : List Step → List Mark
 marks_in steps = map mark_of steps
 
@@ -25,6 +26,7 @@ marks_in steps = map mark_of steps
 abbrev pub marked : ℕ × Production → ℕ × List Mark
 marked p = (p.0, marks_in p.1.steps)
 
+-- the productions of one rule, each as this left side and the marks on the right
 abbrev pub marked_rule : ℕ → List Production → List (ℕ × List Mark)
 marked_rule left productions = map (λ production. marked (left, production)) productions
 
@@ -32,6 +34,7 @@ marked_rule left productions = map (λ production. marked (left, production)) pr
 abbrev pub marked_rules : ℕ → List FlatRule → List (ℕ × List Mark)
 marked_rules first rules = map marked (productions_from first rules)
 
+-- the productions of the code, each as a left side and the marks on the right
 abbrev pub seen_marked : List Marked → List (ℕ × List Mark)
 seen_marked productions = map (λ p. (p.left, p.steps.items)) productions
 

@@ -62,7 +62,8 @@ pub record IsReadySet (g : FlatGrammar) (items : Items) (set : Ready) : Type 0 w
 -- the set does nothing on the token: it leads nowhere over it, no complete item stands before it,
 -- and the text is not accepted
 abbrev pub DoesNothingOn : Ready → ℕ → Type 0
-DoesNothingOn set token = (slice_get set.gotos.items token ≡ Some no_state) × (Has set.ends token → ⊥)
+DoesNothingOn set token = (slice_get set.gotos.items token ≡ Some no_state)
+    × (Has set.ends token → ⊥)
     × (IsTrue set.accepts × (token ≡ 0) → ⊥)
 
 -- the candidate is that of the reduction by this item

@@ -25,6 +25,7 @@ pub record AreRisen (old new : List Symbol) : Type 0 where
   pub members : (s : Symbol) → Contains new s ↔ Contains old s
   pub rise : AreRisingRules new
 
+-- the two lists have the same symbols
 abbrev pub AreSameSymbols : List Symbol → List Symbol → Type 0
 AreSameSymbols a b = (s : Symbol) → Contains a s ↔ Contains b s
 

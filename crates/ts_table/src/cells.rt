@@ -31,7 +31,8 @@ fn contest(
     shifts: Vec<Candidate>,
 ) -> Cell
     requires { 0 < length kept.items }
-    ensures { IsCellOf grammar.now (Some next) (Contains shifts.items) (Contains kept.items) result }
+    ensures { IsCellOf grammar.now (Some next) (Contains shifts.items) (Contains kept.items)
+        result }
 {
     match judge(grammar, shifts.as_slice(), kept.as_slice()) {
         Verdict::Shift => Cell {
@@ -60,7 +61,8 @@ fn with_shift(
     kept: Vec<Candidate>,
     shifts: Vec<Candidate>,
 ) -> Cell
-    ensures { IsCellOf grammar.now (Some next) (Contains shifts.items) (Contains kept.items) result }
+    ensures { IsCellOf grammar.now (Some next) (Contains shifts.items) (Contains kept.items)
+        result }
 {
     if kept.is_empty() {
         return Cell {

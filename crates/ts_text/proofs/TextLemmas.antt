@@ -1,11 +1,10 @@
 -- Where a text may be cut, and where bytes stop being UTF-8.
 use Rattle.std.proofs.Common.{◌≡◌, ℕ, ◌<◌, length, sym, ◌∙◌, arith}
 use Rattle.std.proofs.lemmas.Str.{utf8_valid_len-IsUtf8, utf8_valid_len-IsValidUpTo}
-use Rattle.std.proofs.lemmas.Str.{IsCharBoundary-start, IsCharBoundary-end}
-use Rattle.std.specs.Str.{IsUtf8, IsValidUpTo, IsCharBoundary}
+use Rattle.std.specs.Str.{IsUtf8, IsValidUpTo}
 use Rattle.std.specs.Str.Lossy.{utf8_valid_len}
 use Rattle.ts_base.specs.Bytes.{Bytes}
-use Rattle.ts_text.specs.Text.{IsText, BreaksAt}
+use Rattle.ts_text.specs.Text.{BreaksAt}
 
 -- bytes that are UTF-8 break nowhere
 pub whole_breaks_nowhere : (bytes : Bytes) (n : ℕ) → IsUtf8 bytes → BreaksAt bytes n → ⊥
@@ -19,10 +18,3 @@ whole_breaks_nowhere bytes n whole broken =
 pub breaks_once : (bytes : Bytes) (m n : ℕ) → IsValidUpTo bytes m → IsValidUpTo bytes n → m ≡ n
 breaks_once bytes m n one other =
     sym (utf8_valid_len-IsValidUpTo bytes m one) ∙ utf8_valid_len-IsValidUpTo bytes n other
-
--- both ends of a text are on characters
-pub start_is_boundary : (text : Bytes) → IsText text → IsCharBoundary text 0
-start_is_boundary text is = IsCharBoundary-start text is.utf8
-
-pub end_is_boundary : (text : Bytes) → IsCharBoundary text (length text)
-end_is_boundary text = IsCharBoundary-end text

@@ -1,4 +1,4 @@
--- How far the parts of an edit have been gone through; for proofs alone.
+-- How far the parts of an edit have been gone through; for private clauses and proofs alone.
 use Rattle.std.specs.Prelude.{ℕ, suc, ◌≡◌, ◌≤◌, ◌<◌, ◌+◌, ◌*◌, List, length, drop, slice_get, Some}
 use Rattle.std.specs.Str.{IsCharBoundary}
 use Rattle.ts_base.specs.Bytes.{Bytes}

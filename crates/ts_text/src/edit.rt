@@ -32,8 +32,8 @@ pub struct Edit {
 /// Why an edit of a text was not made.
 #[derive(Debug, PartialEq, Eq, Drop, Error)]
 pub enum EditFault {
-    /// There is no part; the start of one is above its end, its end is past the text, or one of them
-    /// is inside a character; or a part does not end below the start of the next.
+    /// There is no part; the start of one is above its end, its end is past the text, or one of
+    /// them is inside a character; or a part does not end below the start of the next.
     #[error("the edit's range is not one of the text")]
     Range,
 

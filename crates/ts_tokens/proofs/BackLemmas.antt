@@ -4,7 +4,7 @@ use Rattle.std.specs.Global.{Vec}
 use Rattle.std.specs.List.{Contains, list_any}
 use Rattle.std.proofs.lemmas.Bool.{cases_lt}
 use Rattle.std.proofs.lemmas.Bool.Decides.{nat_tests}
-use Rattle.std.proofs.lemmas.List.{append-nil, take_more, length-map}
+use Rattle.std.proofs.lemmas.List.{take_more, length-map}
 use Rattle.std.proofs.lemmas.List.Elements.{Contains-append_left, Contains-append_cases, Contains-push, Contains-push_cases}
 use Rattle.std.proofs.lemmas.Option.{slice_get_within}
 use Rattle.indexmap.specs.IndexSet.{insert_key}
@@ -13,7 +13,7 @@ use Rattle.ts_automata.specs.Sets.{Adds}
 use Rattle.ts_base.proofs.PlaceLemmas.{in_prefix}
 use Rattle.ts_tokens.specs.Paths.{GoesTo, Path, one, more, StaysInside, graph_of}
 use Rattle.ts_tokens.proofs.PathLemmas.{path_on}
-use Rattle.ts_tokens.proofs.MemberLemmas.{there, at_of, none_in}
+use Rattle.ts_tokens.proofs.MemberLemmas.{there, at_of}
 
 -- ---- what a list takes in
 
@@ -22,13 +22,6 @@ same_nat x y h = grind (arith, nat_tests)
 
 itself : (x : ℕ) → nat_eq x x ≡ true
 itself x = grind (arith, nat_tests)
-
-pub adds_none : (row : List ℕ) (xs : List ℕ) → Adds (Contains (take 0 row)) xs xs
-adds_none row xs = record { more = []; is = sym (append-nil xs); only = λ i h. absurd (none_in i h); added = λ i h. absurd (nothing row i h) }
-  where
-    nothing : (row : List ℕ) (i : ℕ) → Contains (take 0 row) i → ⊥
-    nothing [] i h = none_in i h
-    nothing (x ∷ row) i h = none_in i h
 
 -- one more node of a row
 pub adds_more : (row : List ℕ) (k : ℕ) (d item : ℕ) (start old new : List ℕ) → k < length row → item ≡ get_or row k d → new ≡ insert_key nat_eq old item

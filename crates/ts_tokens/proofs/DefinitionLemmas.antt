@@ -1,5 +1,5 @@
 -- Definitions of tokens.
-use Rattle.std.proofs.Common.{◌≡◌, ◌∙◌, sym, ap, subst, refl, ℕ, ◌+◌, ◌<◌, ◌≤◌, ◌⊎◌, inl, inr, ⊎_elim, Bool, IsTrue, ◌↔◌, List, [], ◌∷◌, ◌++◌, map, length, get_or, slice_get, Option, Some, None, option_map, All, MatchOption, arith}
+use Rattle.std.proofs.Common.{◌≡◌, ◌∙◌, sym, ap, subst, ℕ, ◌+◌, ◌<◌, ◌≤◌, ◌⊎◌, inl, inr, ⊎_elim, Bool, IsTrue, ◌↔◌, List, [], ◌∷◌, ◌++◌, map, length, get_or, slice_get, Option, Some, None, option_map, All, MatchOption, arith}
 use Rattle.std.specs.Borrow.{Bor}
 use Rattle.std.proofs.lemmas.List.{length-map, length-append}
 use Rattle.std.proofs.lemmas.List.Elements.{All-contains}
@@ -62,9 +62,6 @@ all_defined pattern g supertypes tokens flags defs same naming count keywords ar
             (defined pattern g supertypes t.0 flag.0 d same (All-contains (IsNaming g) tokens t.0 naming (there tokens k t.0 t.1))
             (subst (λ (r : Rule). IsTrue flag.0 ↔ IsKeyword pattern g r) (sym is) (each_at (λ (r : Rule) (f : Bool). IsTrue f ↔ IsKeyword pattern g r) (trees_of tokens) flags k tree flag.0 keywords at flag.1))
             (are.each k t.0 flag.0 d t.1 flag.1 defined_at))
-
-pub defined_begins : (pattern : Patterns) (supertypes : List Bytes) (tokens : List NamedToken) (flags : List Bool) → AreDefined pattern supertypes tokens flags 0 []
-defined_begins pattern supertypes tokens flags = record { count = refl; each = λ k t flag d at key is. absurd (let w = slice_get_within {A = TokenDef} [] k d is in omega arith) }
 
 pub defined_more : (pattern : Patterns) (supertypes : List Bytes) (tokens : List NamedToken) (flags : List Bool) (defs : List TokenDef) (i : ℕ) (t : NamedToken) (flag : Bool) (d : TokenDef)
     → slice_get tokens i ≡ Some t → slice_get flags i ≡ Some flag → IsDefined pattern supertypes t flag d → AreDefined pattern supertypes tokens flags i defs

@@ -22,7 +22,7 @@ use Rattle.ts_rules.specs.Numbers.{IsInlined}
 use Rattle.ts_rules.specs.Sights.{NamedRule}
 use Rattle.ts_tokens.specs.Inlining.{AreInlineRanks, ArePlaces, NamesApart, IsDirect, IsTarget, IsRuleGraph, lent_eq, place_list}
 use Rattle.ts_tokens.specs.Names.{HaveSame}
-use Rattle.ts_tokens.specs.Paths.{GoesTo, Path, one, more, StaysInside, HasNoCircle, AreRanks, graph_of}
+use Rattle.ts_tokens.specs.Paths.{GoesTo, Path, one, more, StaysInside, HasNoCircle, AreNodeRanks, graph_of}
 use Rattle.ts_tokens.proofs.KeywordLemmas.{one_tree}
 use Rattle.ts_tokens.proofs.MemberLemmas.{there, at_of, none_in}
 use Rattle.ts_tokens.proofs.PathLemmas.{ranked_acyclic}
@@ -67,12 +67,6 @@ told_in used i name lt at =
     ∙ map-append (λ (n : Bor Bytes). n.now) (take i used) (name ∷ [])
 
 module _ {S : Type 0} (names inline : List Bytes) where
-  pub places_begin : (places : HashMap (Bor Bytes) ℕ S) → ((q : Bor Bytes) → get lent_eq places q ≡ None) → PlacesTo names inline 0 places
-  places_begin places none = record {
-    sound = λ q k e. let f : None ≡ Some k = sym (none q) ∙ e in let w : ⊥ = cc in elim w [ ];
-    every = λ q k lt. absurd (omega arith);
-  }
-
   pub places_skip : (places : HashMap (Bor Bytes) ℕ S) (n : ℕ) (name : Bytes) → slice_get names n ≡ Some name → Not (Contains inline name) → PlacesTo names inline n places → PlacesTo names inline (n + 1) places
   places_skip places n name at unlisted before = record {
     sound = before.sound;
@@ -157,10 +151,6 @@ module _ {S : Type 0} (names inline : List Bytes) where
           subst (λ (o : Option ℕ). Contains (place_list o) k) (sym p.1) (there (p.0 ∷ []) 0 k (ap Some same))
 
 module _ (names inline : List Bytes) where
-  pub targets_begin : (used : List (Bor Bytes)) (k : ℕ) → Contains [] k ↔ IsTarget names inline (told (take 0 used)) k
-  targets_begin [] k = (λ w. absurd (none_in k w), λ t. absurd (none_in t.0 t.1))
-  targets_begin (x ∷ used) k = (λ w. absurd (none_in k w), λ t. absurd (none_in t.0 t.1))
-
   pub targets_all : (used : List (Bor Bytes)) (all : List Bytes) (i : ℕ) (targets : List ℕ) → length used ≤ i → told used ≡ all
       → ((k : ℕ) → Contains targets k ↔ IsTarget names inline (told (take i used)) k) → (k : ℕ) → Contains targets k ↔ IsTarget names inline all k
   targets_all used all i targets past is before k =
@@ -170,9 +160,6 @@ module _ (names inline : List Bytes) where
 
 pub graph_push : (rows : List (Vec ℕ)) (v : Vec ℕ) → graph_of (rows ++ v ∷ []) ≡ graph_of rows ++ v.items ∷ []
 graph_push rows v = map-append (λ (x : Vec ℕ). x.items) rows (v ∷ [])
-
-pub graph_begins : (rules : List NamedRule) (inline : List Bytes) → IsRuleGraph rules inline 0 []
-graph_begins rules inline = record { size = refl; row = λ k rule row at here. absurd (let w = slice_get_within {A = List ℕ} [] k row here in omega arith) }
 
 pub graph_more : (rules : List NamedRule) (inline : List Bytes) (graph : List (List ℕ)) (n : ℕ) (rule : NamedRule) (row : List ℕ) → slice_get rules n ≡ Some rule
     → ((j : ℕ) → Contains row j ↔ IsTarget (names_of rules) inline (uses rule.1) j) → IsRuleGraph rules inline n graph → IsRuleGraph rules inline (n + 1) (graph ++ row ∷ [])
@@ -301,7 +288,7 @@ module _ (g : Grammar) (inline : List Bytes) (graph : List (List ℕ)) (file : I
       goal (at_once a b i) = i.inlined
       goal (through a b c i rest) = goal rest
 
-  pub ranks_fall : (ranks : List ℕ) → AreRanks graph ranks → AreInlineRanks g ranks
+  pub ranks_fall : (ranks : List ℕ) → AreNodeRanks graph ranks → AreInlineRanks g ranks
   ranks_fall ranks are = record {
     one_each = are.one_each ∙ is.size;
     falls = λ j k high low a b at here i above below.
@@ -312,7 +299,7 @@ module _ (g : Grammar) (inline : List Bytes) (graph : List (List ℕ)) (file : I
 
 -- ---- ranks that were found, or not
 
-pub acyclic_of : (graph : List (List ℕ)) (found : Option (Vec ℕ)) (b : Bool) → StaysInside graph → MatchOption found ((k : ℕ) × Path graph k k) (λ ranks. AreRanks graph ranks.items) → b ≡ is_some found → b ≡ true → HasNoCircle graph
+pub acyclic_of : (graph : List (List ℕ)) (found : Option (Vec ℕ)) (b : Bool) → StaysInside graph → MatchOption found ((k : ℕ) × Path graph k k) (λ ranks. AreNodeRanks graph ranks.items) → b ≡ is_some found → b ≡ true → HasNoCircle graph
 acyclic_of graph (Some ranks) b closed are is some = ranked_acyclic graph ranks.items closed are
 acyclic_of graph None b closed are is some = let e : true ≡ false = sym some ∙ is in let w : ⊥ = cc in elim w [ ]
 

@@ -1,16 +1,16 @@
 -- The search that ranks the nodes of a graph.
-use Rattle.std.proofs.Common.{◌≡◌, ◌∙◌, refl, sym, ap, subst, ℕ, zero, suc, ◌+◌, ◌<◌, ◌≤◌, ◌⊎◌, inl, inr, ⊎_elim, cond, true, false, List, length, map, set, get_or, replicate, slice_get, Option, Some, option_map, arith}
+use Rattle.std.proofs.Common.{◌≡◌, ◌∙◌, refl, sym, ap, subst, ℕ, ◌+◌, ◌<◌, ◌≤◌, ◌⊎◌, inl, inr, ⊎_elim, cond, true, false, List, length, map, set, get_or, slice_get, Option, Some, option_map, arith}
 use Rattle.std.specs.Global.{Vec}
 use Rattle.std.specs.List.{Contains}
 use Rattle.std.proofs.lemmas.Bool.{cases_eq, cases_lt}
-use Rattle.std.proofs.lemmas.List.{length-map, length-replicate, length-set}
-use Rattle.std.proofs.lemmas.List.Sums.{sum_by-set, count_by-le-length}
+use Rattle.std.proofs.lemmas.List.{length-map, length-set}
+use Rattle.std.proofs.lemmas.List.Sums.{sum_by-set}
 use Rattle.std.proofs.lemmas.Option.{slice_get_within, slice_get-get_or, slice_get-map, get_or_from_slice_get}
 use Rattle.ts_base.proofs.PlaceLemmas.{set_here, set_there}
 use Rattle.ts_tokens.proofs.MemberLemmas.{there, at_of}
 use Rattle.ts_tokens.specs.declared.paths.Mark.{Mark}
 use Rattle.ts_tokens.specs.declared.paths.Mark.TheVariants.{Unseen, Open, Done}
-use Rattle.ts_tokens.specs.Paths.{GoesTo, Path, one, more, StaysInside, AreRanks, AllRanked, NoneSeen, RanksFall, Continues, IsRanked, OpenLead, is_unseen, rank_of, unseen_count, graph_of}
+use Rattle.ts_tokens.specs.Paths.{GoesTo, Path, one, more, StaysInside, AreNodeRanks, AllRanked, RanksFall, Continues, IsRanked, OpenLead, is_unseen, rank_of, unseen_count, graph_of}
 
 -- ---- lists
 
@@ -29,9 +29,6 @@ done_unseen r e = cc
 
 done_open : (r : ℕ) → Done r ≡ Open → ⊥
 done_open r e = cc
-
-open_unseen : Open ≡ Unseen → ⊥
-open_unseen e = cc
 
 seen_unseen : (m : Mark) → is_unseen m ≡ false → m ≡ Unseen → ⊥
 seen_unseen m seen e = let f : true ≡ false = ap is_unseen (sym e) ∙ seen in cc
@@ -238,21 +235,6 @@ pub record Ranking (g : List (List ℕ)) (marks : List Mark) (next node : ℕ) :
   pub done : (k : ℕ) → k < node → IsRanked marks k
   pub room : next + unseen_count marks ≤ length marks
 
-pub ranking_begins : (g : List (List ℕ)) (marks : List Mark) → NoneSeen g marks → Ranking g marks 0 0
-ranking_begins g marks all = record {
-  falls = record {
-    one_each = all.one_each;
-    below = λ k rank is. absurd (done_unseen rank (all.unseen k (Done rank) is));
-    falls = λ k rank to is s. absurd (done_unseen rank (all.unseen k (Done rank) is));
-  };
-  closed = λ k is. open_unseen (all.unseen k Open is);
-  done = λ k below. absurd (omega arith);
-  room = let a = count_by-le-length is_unseen marks in omega arith;
-}
-
-pub ranking_leads : (g : List (List ℕ)) (marks : List Mark) (next node : ℕ) → Ranking g marks next node → OpenLead g marks node
-ranking_leads g marks next node before = record { lead = λ k is. absurd (before.closed k is) }
-
 pub ranking_more : (g : List (List ℕ)) (old new : List Mark) (next after node : ℕ) → Ranking g old next node → Continues old new next after → RanksFall g new after → IsRanked new node → Ranking g new after (node + 1)
 ranking_more g old new next after node before goes falls last = record {
   falls = falls;
@@ -264,19 +246,8 @@ ranking_more g old new next after node before goes falls last = record {
   room = let a = goes.room in let b = before.room in let e = goes.size in omega arith;
 }
 
-pub all_done : (g : List (List ℕ)) (marks : List Mark) (next node : ℕ) → length marks ≤ node → Ranking g marks next node → AllRanked g marks
-all_done g marks next node past all = record { next = next; falls = all.falls; done = λ k below. all.done k (omega arith) }
-
-pub all_unseen : (g : List (List ℕ)) (n : ℕ) → n ≡ length g → NoneSeen g (replicate n Unseen)
-all_unseen g n e = record { one_each = length-replicate n Unseen ∙ e; unseen = λ k mark is. same n k mark is }
-  where
-    same : (n k : ℕ) (mark : Mark) → slice_get (replicate n Unseen) k ≡ Some mark → mark ≡ Unseen
-    same zero k mark is = cc
-    same (suc n) zero mark is = cc
-    same (suc n) (suc k) mark is = same n k mark is
-
 -- the ranks of all nodes fall along the steps
-pub ranks_fall : (g : List (List ℕ)) (marks : List Mark) → AllRanked g marks → AreRanks g (map rank_of marks)
+pub ranks_fall : (g : List (List ℕ)) (marks : List Mark) → AllRanked g marks → AreNodeRanks g (map rank_of marks)
 ranks_fall g marks all = record {
   one_each = length-map marks rank_of ∙ all.falls.one_each;
   falls = λ from to high low s at there.
@@ -294,7 +265,7 @@ ranks_fall g marks all = record {
     rank_is k rank is = slice_get-map rank_of marks k ∙ ap (λ (o : Option Mark). option_map rank_of o) is
 
 -- where ranks fall no node comes back to itself
-pub ranked_acyclic : (g : List (List ℕ)) (ranks : List ℕ) → StaysInside g → AreRanks g ranks → (k : ℕ) → Path g k k → ⊥
+pub ranked_acyclic : (g : List (List ℕ)) (ranks : List ℕ) → StaysInside g → AreNodeRanks g ranks → (k : ℕ) → Path g k k → ⊥
 ranked_acyclic g ranks closed ranked k path = let w = below k k path in omega arith
   where
     within : (k : ℕ) → k < length g → slice_get ranks k ≡ Some (get_or ranks k 0)

@@ -1,13 +1,13 @@
 -- What is picked from a list that goes on.
-use Rattle.std.proofs.Common.{◌≡◌, ◌∙◌, sym, ap, subst, refl, ℕ, ◌+◌, ◌<◌, ◌≤◌, List, [], ◌∷◌, ◌++◌, map, length, get_or, take}
-use Rattle.std.proofs.lemmas.List.{take_more, take_all, map-append}
+use Rattle.std.proofs.Common.{◌≡◌, ◌∙◌, sym, ap, subst, refl, ℕ, ◌+◌, ◌<◌, List, [], ◌∷◌, ◌++◌, map, length, get_or, take}
+use Rattle.std.proofs.lemmas.List.{take_more, map-append}
 use Rattle.std.specs.Borrow.{Bor}
 use Rattle.ts_core.specs.declared.re.Re.{Re}
 use Rattle.ts_core.specs.declared.rule.Grammar.{Grammar}
 use Rattle.ts_core.specs.declared.rule.Rule.{Rule}
 use Rattle.ts_rules.specs.FirstSights.{Not, Picks, end, taken, left}
 use Rattle.ts_rules.specs.Normal.{IsTokenExtra}
-use Rattle.ts_rules.specs.Tokens.{Patterns, re_of}
+use Rattle.ts_rules.specs.Tokens.{Patterns, tree_re}
 use Rattle.ts_tokens.specs.Extras.{ArePickedOf}
 use Rattle.ts_tokens.specs.Names.{lent}
 
@@ -35,9 +35,6 @@ module _ {X : Type 0} (P : X → Type 0) where
   pub picks_left : (all ys : List X) (i : ℕ) (x : X) → i < length all → x ≡ get_or all i x → Not (P x) → Picks P (take i all) ys → Picks P (take (i + 1) all) ys
   picks_left all ys i x lt at p before = subst (λ (xs : List X). Picks P xs ys) (sym (one_more all i x lt at)) (picks_skip (take i all) ys x before p)
 
-  pub picks_all : (all ys : List X) (i : ℕ) → length all ≤ i → Picks P (take i all) ys → Picks P all ys
-  picks_all all ys i past before = subst (λ (xs : List X). Picks P xs ys) (take_all i all past) before
-
 -- ---- what is lent, and separators
 
 pub lent_push : {X : Type 0} (xs : List (Bor X)) (x : Bor X) → lent (xs ++ x ∷ []) ≡ lent xs ++ x.now ∷ []
@@ -52,9 +49,9 @@ separators_left g pattern extras i tree found lt at token before =
     (before.0, picks_left (λ (t : Rule). Not (IsTokenExtra g t)) extras before.0 i tree lt at (λ no. no token) before.1, before.2)
 
 pub separators_more : (g : Grammar) (pattern : Patterns) (extras : List Rule) (i : ℕ) (tree : Rule) (found new : List Re) (re : Re) → i < length extras → tree ≡ get_or extras i tree → Not (IsTokenExtra g tree)
-    → re ≡ re_of pattern tree → new ≡ found ++ re ∷ [] → ArePickedOf g pattern (take i extras) found → ArePickedOf g pattern (take (i + 1) extras) new
+    → re ≡ tree_re pattern tree → new ≡ found ++ re ∷ [] → ArePickedOf g pattern (take i extras) found → ArePickedOf g pattern (take (i + 1) extras) new
 separators_more g pattern extras i tree found new re lt at token is pushed before = (
   before.0 ++ tree ∷ [],
   picks_more (λ (t : Rule). Not (IsTokenExtra g t)) extras before.0 i tree lt at token before.1,
-  pushed ∙ ap (λ (xs : List Re). xs ++ re ∷ []) before.2 ∙ ap (λ (r : Re). map (re_of pattern) before.0 ++ r ∷ []) is ∙ sym (map-append (re_of pattern) before.0 (tree ∷ [])),
+  pushed ∙ ap (λ (xs : List Re). xs ++ re ∷ []) before.2 ∙ ap (λ (r : Re). map (tree_re pattern) before.0 ++ r ∷ []) is ∙ sym (map-append (tree_re pattern) before.0 (tree ∷ [])),
 )

@@ -59,10 +59,6 @@ learns_ignoring old new text r same all reads = learnt old new (text, true) r re
     others (q, false) = inl (ap (λ m. get bytes_eq m q) same)
     others (q, true) = ⊎_elim (λ e. inl e) (λ e. inr (ap (λ (b : Bytes). (b, true)) e)) (by_key text q (bytes_eq text q) r (get bytes_eq old.ignoring_case q) (get bytes_eq new.ignoring_case q) refl (all q))
 
--- a source that was read before
-pub learns_again : (t : PatternTable) (s : Source) (r : Re) → read_as t s ≡ Some r → TakesIn t t s
-learns_again t s r is = record { keeps = λ q h. h; has = (r, is); sound = λ sound. sound }
-
 -- ---- all patterns
 
 -- so far each pattern was read

@@ -8,7 +8,7 @@ use Rattle.ts_automata.specs.declared.node.Node.TheVariants.{End}
 use Rattle.ts_automata.specs.declared.walk.Walk.{Walk}
 use Rattle.ts_automata.specs.Parts.{IsPart}
 use Rattle.ts_automata.specs.Reads.{LeadsOver}
-use Rattle.ts_automata.specs.Walks.{HasCome, members_of}
+use Rattle.ts_automata.specs.Walks.{HasCome, walk_nodes}
 use Rattle.ts_tokens.specs.Keywords.{IsWordAutomaton, HasEnd}
 
 pub map_same : (xs : List ℕ) → map (λ (x : ℕ). x) xs ≡ xs
@@ -26,7 +26,7 @@ only e x (zero, lt, is) = sym is
 only e x (suc k, lt, is) = absurd (omega arith)
 
 -- a text is a word exactly where a word ends at one of the nodes to which it leads
-pub word_ends : (p : Regular) (a : Automaton) (walk : Walk) (w members : List ℕ) → IsWordAutomaton p a → HasCome a w walk → members ≡ members_of walk → HasEnd a.nodes.items members ↔ Word p w
+pub word_ends : (p : Regular) (a : Automaton) (walk : Walk) (w members : List ℕ) → IsWordAutomaton p a → HasCome a w walk → members ≡ walk_nodes walk → HasEnd a.nodes.items members ↔ Word p w
 word_ends p a walk w members made come same = (forward, backward)
   where
     one : (e : ℕ) × (a.entries.items ≡ e ∷ [])

@@ -8,7 +8,7 @@ use Rattle.ts_core.specs.declared.rule.Rule.TheOpen.{Rule-F}
 use Rattle.ts_core.specs.declared.rule.Rule.TheVariants as rule
 use Rattle.ts_core.specs.declared.rule.Rule.TheVariants.{rolls-Blank, rolls-Literal, rolls-Pattern, rolls-Symbol, rolls-Seq, rolls-Choice, rolls-Repeat, rolls-Repeat1, rolls-Token, rolls-ImmediateToken, rolls-Field, rolls-Alias, rolls-Prec, rolls-PrecLeft, rolls-PrecRight, rolls-PrecDynamic}
 use Rattle.ts_core.specs.declared.rule.Rule.TheFolds.{fold-roll-Rule}
-use Rattle.ts_rules.specs.Causes.{uses, uses_step, joined}
+use Rattle.ts_rules.specs.Causes.{uses, uses_step, merged}
 
 pub uses_blank : uses (rule.Blank) ≡ []
 uses_blank = ap uses (sym rolls-Blank) ∙ fold-roll-Rule (List Bytes) uses_step (Rule-F.Blank)
@@ -22,10 +22,10 @@ uses_pattern value ignore_case = ap uses (sym (rolls-Pattern value ignore_case))
 pub uses_symbol : (name : Bytes) → uses (rule.Symbol name) ≡ name ∷ []
 uses_symbol name = ap uses (sym (rolls-Symbol name)) ∙ fold-roll-Rule (List Bytes) uses_step (Rule-F.Symbol name)
 
-pub uses_seq : (ts : List Rule) → uses (rule.Seq ts) ≡ joined (map uses ts)
+pub uses_seq : (ts : List Rule) → uses (rule.Seq ts) ≡ merged (map uses ts)
 uses_seq ts = ap uses (sym (rolls-Seq ts)) ∙ fold-roll-Rule (List Bytes) uses_step (Rule-F.Seq ts)
 
-pub uses_choice : (ts : List Rule) → uses (rule.Choice ts) ≡ joined (map uses ts)
+pub uses_choice : (ts : List Rule) → uses (rule.Choice ts) ≡ merged (map uses ts)
 uses_choice ts = ap uses (sym (rolls-Choice ts)) ∙ fold-roll-Rule (List Bytes) uses_step (Rule-F.Choice ts)
 
 pub uses_repeat : (t : Rule) → uses (rule.Repeat t) ≡ []

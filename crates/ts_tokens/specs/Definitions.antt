@@ -8,7 +8,7 @@ use Rattle.ts_core.specs.declared.rule.Rule.{Rule}
 use Rattle.ts_core.specs.declared.symbol.Kind.{Kind}
 use Rattle.ts_rules.specs.FirstSights.{Not, Each}
 use Rattle.ts_rules.specs.Numbers.{NamesToken}
-use Rattle.ts_rules.specs.Tokens.{Patterns, IsKeyword, IsKind, core, core_name, core_kind, re_of, lexical_precedence, is_text, is_immediate}
+use Rattle.ts_rules.specs.Tokens.{Patterns, IsKeyword, IsKind, core, core_name, core_kind, tree_re, lexical_precedence, is_text, is_immediate}
 use Rattle.ts_tokens.specs.declared.definition.NamedToken.{NamedToken}
 use Rattle.ts_tokens.specs.declared.definition.Label.{Label}
 use Rattle.ts_tokens.specs.Names.{HaveSame}
@@ -19,6 +19,7 @@ IsNaming g t = MatchOption t.name
     ((name : Bytes) → Not (NamesToken g name t.tree.now))
     (λ name. NamesToken g name.now t.tree.now)
 
+-- the trees of tokens
 abbrev pub trees_of : List NamedToken → List Rule
 trees_of = map (λ (t : NamedToken). t.tree.now)
 
@@ -33,7 +34,7 @@ abbrev pub IsRuleKind : List Bytes → Bytes → Kind → Type 0
 IsRuleKind supertypes name kind =
     (g : Grammar) → HaveSame supertypes g.supertypes → IsKind g name kind
 
--- ---- while they are defined; these serve proofs alone
+-- ---- while they are defined; these serve private clauses and proofs alone
 
 -- each flag says whether the token is a keyword
 abbrev pub AreKeywords : Patterns → Grammar → List Rule → List Bool → Type 0
@@ -55,7 +56,7 @@ IsLabel supertypes t label = MatchOption t.name
 pub record IsDefined (pattern : Patterns) (supertypes : List Bytes) (t : NamedToken)
     (keyword : Bool) (d : TokenDef) : Type 0 where
   pub label : IsLabel supertypes t (record { name = d.name; kind = d.kind })
-  pub re : d.re ≡ re_of pattern t.tree.now
+  pub re : d.re ≡ tree_re pattern t.tree.now
   pub prec : d.prec ≡ lexical_precedence t.tree.now
   pub literal : d.literal ≡ is_text (core t.tree.now)
   pub immediate : d.immediate ≡ is_immediate t.tree.now

@@ -26,15 +26,17 @@ abbrev pub IsInlineFault : Grammar → InlineFault → Type 0
 IsInlineFault g (fault.Bad name) = First (IsBadInline g) (rule_names g) name
 IsInlineFault g fault.Memory = Unit {0}
 
--- ---- as the code has them; these serve proofs alone
+-- ---- as the code has them; these serve private clauses and proofs alone
 
 -- the start rule, or a rule that names a token
 abbrev pub IsDirect : Grammar → Bytes → Type 0
 IsDirect g name = (start_of g.rules ≡ Some name) ⊎ NamesSome g name
 
+-- a map from names to their places
 abbrev pub Places : Type 0 → Type 0
 Places S = HashMap (Bor Bytes) ℕ S
 
+-- whether two lent names are the same
 abbrev pub lent_eq : Bor Bytes → Bor Bytes → Bool
 lent_eq a b = bytes_eq a.now b.now
 
@@ -55,6 +57,7 @@ abbrev pub IsTarget : List Bytes → List Bytes → List Bytes → ℕ → Type 
 IsTarget names inline used k =
     (name : Bytes) × Contains used name × Contains inline name × (slice_get names k ≡ Some name)
 
+-- a place, where there is one
 abbrev pub place_list : Option ℕ → List ℕ
 place_list (Some place) = place ∷ []
 place_list None = []

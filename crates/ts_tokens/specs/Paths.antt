@@ -32,13 +32,14 @@ abbrev pub HasNoCircle : List (List ℕ) → Type 0
 HasNoCircle graph = (k : ℕ) → Not (Path graph k k)
 
 -- each node's rank is above those of the nodes to which it goes
-pub record AreRanks (graph : List (List ℕ)) (ranks : List ℕ) : Type 0 where
+pub record AreNodeRanks (graph : List (List ℕ)) (ranks : List ℕ) : Type 0 where
   pub one_each : length ranks ≡ length graph
   pub falls : (from to high low : ℕ) → GoesTo graph from to → slice_get ranks from ≡ Some high
       → slice_get ranks to ≡ Some low → low < high
 
--- ---- the search; all below serves proofs alone
+-- ---- the search; all below serves private clauses and proofs alone
 
+-- whether the search has not come to a node
 abbrev pub is_unseen : Mark → Bool
 is_unseen Unseen = true
 is_unseen Open = false
@@ -54,6 +55,7 @@ rank_of Unseen = 0
 rank_of Open = 0
 rank_of (Done rank) = rank
 
+-- the node is done, and has a rank
 pub record IsRanked (marks : List Mark) (node : ℕ) : Type 0 where
   pub rank : ℕ
   pub is : slice_get marks node ≡ Some (Done rank)

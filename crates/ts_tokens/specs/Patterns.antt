@@ -26,9 +26,11 @@ pub record PlacedPattern : Type 0 where
   pub rule : Bytes
   pub source : Source
 
+-- a pattern that stands in this rule
 abbrev pub placed : Bytes → Source → PlacedPattern
 placed rule source = record { rule = rule; source = source }
 
+-- patterns that stand in this rule
 abbrev pub placed_sources : Bytes → List Source → List PlacedPattern
 placed_sources rule = map (placed rule)
 
@@ -36,9 +38,11 @@ placed_sources rule = map (placed rule)
 abbrev pub placed_in : Bytes → List Sight → List PlacedPattern
 placed_in rule seen = placed_sources rule (patterns_in seen)
 
+-- the patterns of rules, one rule after another
 abbrev pub rule_patterns : List NamedRule → List PlacedPattern
 rule_patterns rules = flat_map (λ (rule : NamedRule). placed_in rule.0 (sights rule.1)) rules
 
+-- the patterns of extras, one extra after another
 abbrev pub extra_patterns : List Rule → List PlacedPattern
 extra_patterns extras = flat_map (λ (tree : Rule). placed_in [] (sights tree)) extras
 
@@ -73,6 +77,7 @@ abbrev pub read_as : PatternTable → Source → Option Re
 read_as t (source, true) = get bytes_eq t.ignoring_case source
 read_as t (source, false) = get bytes_eq t.plain source
 
+-- the expression, where there is one, and else the empty one
 abbrev pub or_empty : Option Re → Re
 or_empty (Some r) = r
 or_empty None = Empty
@@ -89,7 +94,7 @@ IsSound t = (s : Source) (r : Re) → read_as t s ≡ Some r → Reads s.0 s.1 r
 abbrev pub WasRead : PatternTable → Source → Type 0
 WasRead t s = (r : Re) × (read_as t s ≡ Some r)
 
--- ---- while patterns are read; these serve proofs alone
+-- ---- while patterns are read; these serve private clauses and proofs alone
 
 -- the source is in the table now, beside those that were
 pub record TakesIn (old new : PatternTable) (s : Source) : Type 0 where
@@ -97,6 +102,7 @@ pub record TakesIn (old new : PatternTable) (s : Source) : Type 0 where
   pub has : WasRead new s
   pub sound : IsSound old → IsSound new
 
+-- the source can't be read, and this is its fault
 abbrev pub IsRefusal : Source → PFault → Type 0
 IsRefusal s fault = IsFault s.0 s.1 fault × ((r : Re) → Not (Reads s.0 s.1 r))
 
@@ -106,5 +112,6 @@ IsFaultAt rule cause (fault.Refused name stated) =
     (name ≡ rule) × (stated ≡ cause) × Not (cause ≡ Memory)
 IsFaultAt rule cause fault.Memory = Unit {0}
 
+-- the source of each pattern is short
 abbrev pub AreShortSources : List PlacedPattern → Type 0
 AreShortSources all = (p : PlacedPattern) → Contains all p → IsShort p.source.0

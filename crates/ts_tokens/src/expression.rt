@@ -75,7 +75,7 @@ fn repeat(alloc: Global, inner: Re, least: u32) -> Result<Re, AllocError>
 #[cycle(expression)]
 #[tactic(auto, using(crate::proofs::ExpressionLemmas::re_laws))]
 pub fn expression_of(alloc: Global, patterns: &PatternTable, tree: &Rule) -> Result<Re, AllocError>
-    ensures { IfOk result (λ r. r ≡ tokens.re_of (meaning patterns.now) tree.now) }
+    ensures { IfOk result (λ r. r ≡ tokens.tree_re (meaning patterns.now) tree.now) }
 {
     match tree {
         Rule::Blank => Ok(Re::Empty),
@@ -112,7 +112,7 @@ fn expressions(
     patterns: &PatternTable,
     trees: &[Rule],
 ) -> Result<List<Re>, AllocError>
-    ensures { IfOk result (λ parts. parts ≡ map (tokens.re_of (meaning patterns.now)) trees.now) }
+    ensures { IfOk result (λ parts. parts ≡ map (tokens.tree_re (meaning patterns.now)) trees.now) }
 {
     let mut parts = List::new(alloc);
     for tree in trees {

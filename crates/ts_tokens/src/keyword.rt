@@ -9,7 +9,7 @@ ghost use Rattle.ts_core.specs.declared.rule.Rule.TheVariants.{Literal};
 ghost use Rattle.ts_rules.specs.FileGrammar.{IsFileGrammar};
 ghost use Rattle.ts_rules.specs.FirstSights.{Not};
 ghost use Rattle.ts_rules.specs.Numbers.{NamesToken};
-ghost use Rattle.ts_rules.specs.Tokens.{Patterns, IsKeyword, re_of};
+ghost use Rattle.ts_rules.specs.Tokens.{Patterns, IsKeyword, tree_re};
 ghost use Rattle.ts_tokens.specs.Definitions.{AreKeywords, IsWordTree, trees_of};
 ghost use Rattle.ts_tokens.specs.Keywords.{HasRoomFor, IsWordAutomaton};
 ghost use Rattle.ts_tokens.specs.Patterns.{meaning};
@@ -84,7 +84,7 @@ fn is_keyword(word: &Rule, automaton: &Automaton, walk: &mut Walk, tree: &Rule) 
     ensures room { walk_room walk.new ≡ walk_room walk.old }
     ensures keyword { (pattern : Patterns) (g : AnyGrammar) (name : Bytes) → IsFileGrammar g
         → g.word ≡ Some name → NamesToken g name word.now
-        → IsWordAutomaton (regular_of (re_of pattern word.now)) automaton.now
+        → IsWordAutomaton (regular_of (tree_re pattern word.now)) automaton.now
         → HasRoomFor automaton.now walk.old → IsTrue result ↔ IsKeyword pattern g tree.now }
 {
     match literal_text(tree) {

@@ -4,7 +4,7 @@
 ghost use Rattle.std.specs.Prelude.{◌≡◌, ℕ, ◌+◌, ◌<◌, ◌≤◌, ◌↔◌, length, IfOk, IfSome, IfNone, OnOk, IsTrue, IsFalse, slice_get, Some, map, MatchOption};
 ghost use Rattle.std.specs.List.{Contains};
 ghost use Rattle.ts_automata.specs.Sets.{Adds};
-ghost use Rattle.ts_tokens.specs.Paths.{graph_of, Path, StaysInside, AreRanks, AllRanked, NoneSeen, RanksFall, Continues, IsRanked, OpenLead, unseen_count, rank_of};
+ghost use Rattle.ts_tokens.specs.Paths.{graph_of, Path, StaysInside, AreNodeRanks, AllRanked, NoneSeen, RanksFall, Continues, IsRanked, OpenLead, unseen_count, rank_of};
 ghost use Rattle.ts_tokens.specs.declared.paths.Mark.TheVariants.{Unseen};
 
 use indexmap::IndexSet;
@@ -111,7 +111,7 @@ fn ranked(
     requires unseen { NoneSeen (graph_of graph.now) marks.old }
     ensures { IfOk result (λ found. MatchOption found
         ((k : ℕ) × Path (graph_of graph.now) k k)
-        (λ ranks. AreRanks (graph_of graph.now) ranks.items)) }
+        (λ ranks. AreNodeRanks (graph_of graph.now) ranks.items)) }
 {
     if visit_all(graph, marks) {
         return Ok(Some(ranks_in(alloc, marks)?));
@@ -127,7 +127,7 @@ pub(crate) fn ranks_of(
     requires { StaysInside (graph_of graph.now) }
     ensures { IfOk result (λ found. MatchOption found
         ((k : ℕ) × Path (graph_of graph.now) k k)
-        (λ ranks. AreRanks (graph_of graph.now) ranks.items)) }
+        (λ ranks. AreNodeRanks (graph_of graph.now) ranks.items)) }
 {
     let mut marks = vec![in alloc; Mark::Unseen; graph.len()]?;
     let found = ranked(alloc, graph, marks.as_mut_slice())?;

@@ -1,7 +1,7 @@
 //! The rules that a rule tree steps to: the tree comes in, and their names go out.
 
 ghost use Rattle.std.specs.Prelude.{◌≡◌, ◌++◌, map, IfOk, OnOk};
-ghost use Rattle.ts_rules.specs.Causes.{uses, joined};
+ghost use Rattle.ts_rules.specs.Causes.{uses, merged};
 ghost use Rattle.ts_rules.specs.Names.{told};
 
 use std::alloc::{AllocError, Global};
@@ -47,7 +47,7 @@ fn add_uses<'a>(names: &mut Vec<&'a Str>, tree: &'a Rule) -> Result<(), AllocErr
 #[cycle(uses)]
 fn add_all<'a>(names: &mut Vec<&'a Str>, trees: &'a [Rule]) -> Result<(), AllocError>
     ensures { OnOk result (told names.new.items
-        ≡ told names.old.items ++ joined (map uses trees.now)) }
+        ≡ told names.old.items ++ merged (map uses trees.now)) }
 {
     for tree in trees {
         add_uses(names, tree)?;

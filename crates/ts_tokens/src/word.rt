@@ -1,5 +1,5 @@
-//! The word token's words: its expression comes in, and an automaton goes out whose nodes tell which
-//! texts are words of it.
+//! The word token's words: its expression comes in, and an automaton goes out whose nodes tell
+//! which texts are words of it.
 
 ghost use Rattle.std.specs.Prelude.{◌≡◌, ◌↔◌, ◌∷◌, [], map, IfOk, IsTrue};
 ghost use Rattle.std.specs.Str.{chars};

@@ -11,7 +11,7 @@ use Rattle.ts_langfile.specs.Spelling.{spelling}
 use Rattle.ts_text.specs.Text.{IsText, BreaksAt}
 use Rattle.ts_front.specs.Compiled.{IsCompiled, IsRefusalLine}
 use Rattle.ts_session.specs.Grammars.{Builds}
-use Rattle.ts_top.specs.Answer.{Parses, Compiles, Has, IsAbsent, Judged, large_grammar, refused_grammar, too_large, no_text, parsed, Compiled, large, refused, written, PlainAnswers, absent, judged, lacking, compiled, IsClean, IsCompilable}
+use Rattle.ts_top.specs.Answer.{Parses, Compiles, HasBothFiles, IsAbsentPath, Judged, large_grammar, refused_grammar, too_large, no_text, parsed, Compiled, large, refused, written, PlainAnswers, absent, judged, lacking, compiled, IsClean, IsCompilable}
 
 -- what is known of the bytes of files
 pub record FileLaws : Type 0 where
@@ -57,7 +57,7 @@ file_once files p q a b e x y =
 none_there : {X : Type 0} (x : X) (o : Option X) → o ≡ None → o ≡ Some x → ⊥
 none_there x o n s = let never : ⊥ = cc in never
 
-pub absent_or_there : (files : Files) (words : List Bytes) (path g t p : Bytes) → IsAbsent files words path → Has files words g t p → ⊥
+pub absent_or_there : (files : Files) (words : List Bytes) (path g t p : Bytes) → IsAbsentPath files words path → HasBothFiles files words g t p → ⊥
 absent_or_there files words path g t p a h =
     let same = parses_once words a.grammar_path a.text_path h.grammar_path p a.parses h.parses in
     elim a.first [
@@ -65,7 +65,7 @@ absent_or_there files words path g t p a h =
       | inr no_file ↦ none_there t (file_at files p) (sym (ap (file_at files) same.1) ∙ no_file.2) h.text_is
     ]
 
-absent_once : (files : Files) (words : List Bytes) (path other : Bytes) → IsAbsent files words path → IsAbsent files words other → path ≡ other
+absent_once : (files : Files) (words : List Bytes) (path other : Bytes) → IsAbsentPath files words path → IsAbsentPath files words other → path ≡ other
 absent_once files words path other a c =
     let same = parses_once words a.grammar_path a.text_path c.grammar_path c.text_path a.parses c.parses in
     elim a.first [
@@ -115,12 +115,12 @@ module _ (laws : FileLaws) where
   judged_once g t p _ _ _ _ (parsed f o b m n) (no_text h place c q) = absurd (laws.whole t place m q)
   judged_once g t p _ _ _ _ (parsed f o b m n) (parsed h q c k r) = record { status = refl; bytes = λ z. absurd (z refl) }
 
-  has_once : (files : Files) (words : List Bytes) (g t p g2 t2 p2 : Bytes) → Has files words g t p → Has files words g2 t2 p2 → (g ≡ g2) × (t ≡ t2) × (p ≡ p2)
+  has_once : (files : Files) (words : List Bytes) (g t p g2 t2 p2 : Bytes) → HasBothFiles files words g t p → HasBothFiles files words g2 t2 p2 → (g ≡ g2) × (t ≡ t2) × (p ≡ p2)
   has_once files words g t p g2 t2 p2 h k =
       let e = parses_once words h.grammar_path p k.grammar_path p2 h.parses k.parses in
       (file_once files h.grammar_path k.grammar_path g g2 e.0 h.grammar_is k.grammar_is, file_once files p p2 t t2 e.1 h.text_is k.text_is, e.1)
 
-  judged_there : (files : Files) (words : List Bytes) (g t p g2 t2 p2 : Bytes) (s s2 : Status) (b b2 : Bytes) → Has files words g t p → Has files words g2 t2 p2
+  judged_there : (files : Files) (words : List Bytes) (g t p g2 t2 p2 : Bytes) (s s2 : Status) (b b2 : Bytes) → HasBothFiles files words g t p → HasBothFiles files words g2 t2 p2
       → Judged g t p s b → Judged g2 t2 p2 s2 b2 → AreOne s s2 b b2
   judged_there files words g t p g2 t2 p2 s s2 b b2 h k j i =
       let e = has_once files words g t p g2 t2 p2 h k in

@@ -2,7 +2,6 @@
 use Rattle.std.proofs.Common.{◌≡◌, ◌∙◌, sym, ap, subst, refl, ℕ, ◌<◌, ◌≤◌, ◌⊎◌, inl, inr, List, [], ◌∷◌, slice_get, Option, Some, None, Result, Ok, Err, arith}
 use Rattle.std.specs.Borrow.{Bor}
 use Rattle.std.specs.Prelude.{MatchOption}
-use Rattle.std.specs.Global.{Vec}
 use Rattle.std.specs.Result.{IfOk, IfErr}
 use Rattle.ts_base.specs.Bytes.{Bytes}
 use Rattle.spec_output.specs.Faults.{absent_line, usage_line}
@@ -10,20 +9,17 @@ use Rattle.spec_output.specs.Status.{number_of}
 use Rattle.spec_output.specs.declared.status.Status.{Status}
 use Rattle.spec_output.specs.declared.status.Status.TheVariants as status
 use Rattle.ts_io.specs.Outside.{Files, Appends, AppendsPrefix}
-use Rattle.ts_predicate.specs.Predicates.{AnswersOf}
 use Rattle.ts_session.specs.declared.answer.Answer.{Answer}
 use Rattle.ts_session.specs.declared.opened.Opened.{Opened}
-use Rattle.ts_session.specs.declared.opened.Opened.TheVariants.{Ready, Refused}
+use Rattle.ts_session.specs.declared.opened.Opened.TheVariants.{Ready}
 use Rattle.ts_session.specs.declared.session.Session.{Session}
-use Rattle.ts_session.specs.Opened.{IsOpened, HasStatus}
+use Rattle.ts_session.specs.Opened.{OpensAs}
 use Rattle.ts_session.specs.Refusals.{Refuses}
-use Rattle.ts_session.specs.Replays.{IsJudged, IsReplay, IsRun, refused, printed}
+use Rattle.ts_session.specs.Replays.{IsJudged, refused, printed}
 use Rattle.ts_session.specs.Sessions.{IsLoaded, IsRefusal, of_files, of_patterns}
 use Rattle.ts_top.specs.Answer.{IsUsage, AsksReplay, AsksRun, Schedule, in_order, at_once, AsksSession, PlainAnswers, SessionAnswers, Answers, usage, plain, played, ComesTo, answered, unbuilt, Told, Writes, WritesPrefix, IsClean, IsCompilable, CanPlay}
 use Rattle.ts_top.specs.Status.{IsUnbuilt}
-use Rattle.ts_top.specs.Stops.{IsPlain, IsAnswer, misused, other, IsPlayed, Prints, Stopped, schedule_of}
-use Rattle.ts_top.specs.declared.play.Schedule.{Schedule as Chosen}
-use Rattle.ts_top.specs.declared.play.Schedule.TheVariants as chosen
+use Rattle.ts_top.specs.Stops.{IsPlain, IsAnswer, misused, other, IsPlayed, Prints, Stopped}
 use Rattle.ts_top.specs.declared.stop.Stop.{Stop}
 use Rattle.ts_top.specs.declared.stop.Stop.TheVariants.{Usage, Absent, Read, Memory}
 use Rattle.ts_top.proofs.AnswerLemmas.{parse_or_play, compile_or_play}
@@ -41,10 +37,6 @@ pub asked_ok : {A E : Type 0} (r : Result (Option A) E) (words : List Bytes) (P 
 asked_ok (Ok (Some a)) words P no_run h = h
 asked_ok (Ok None) words P no_run h = no_session words h no_run
 asked_ok (Err e) words P no_run h = tt
-
--- a refusal has a status that the files decide
-pub refused_judged : (opened : Opened) (a : Answer) → opened ≡ Refused a → HasStatus opened → IsJudged a.status
-refused_judged opened a is h = subst HasStatus is h
 
 -- the run stops: memory ran out, or a read failed
 pub play_stopped : (r : Result Answer Stop) (files : Option Files) (words : List Bytes) (g s : Bytes) (schedule : Schedule) (rose : Type 0) → AsksSession words g s schedule
@@ -131,27 +123,11 @@ module _ (called : List Bytes) (accepts : ℕ → Bytes → Type 0) where
   session_printed files g s at_once session bytes loaded prints = printed session.table.grammar session.plan session.queries session.texts.items bytes loaded prints
 
   pub ready_plays : (files : Option Files) (g s : Bytes) (schedule : Schedule) (rose : Type 0) (old new : List Bytes) (opened : Opened) (session : Session) (ends : Status) (bytes : Bytes) → opened ≡ Ready session
-      → ((known : Files) → files ≡ Some known → IsOpened called known g s rose old new opened) → ends ≡ status.Done
+      → ((known : Files) → files ≡ Some known → OpensAs called known g s rose old new opened) → ends ≡ status.Done
       → Prints called accepts session schedule bytes → IsPlayed called accepts files g s schedule rose old new ends bytes
   ready_plays files g s schedule rose old new opened session ends bytes is opens done prints = λ known told.
-      let loaded : IsLoaded called known g s session.table.grammar session.plan session.queries session.texts.items = subst (IsOpened called known g s rose old new) is (opens known told) in
+      let loaded : IsLoaded called known g s session.table.grammar session.plan session.queries session.texts.items = subst (OpensAs called known g s rose old new) is (opens known told) in
       inl (subst (λ (e : Status). SessionAnswers called accepts known g s schedule e bytes) (sym done) (session_printed known g s schedule session bytes loaded prints))
-
-  -- what is printed on the schedule that the words were taken for
-  pub prints_in_order : (schedule : Chosen) (order : Vec ℕ) (slice : List ℕ) (session : Session) (bytes : Bytes) → schedule ≡ chosen.InOrder order → slice ≡ order.items
-      → IsReplay session.table.grammar session.plan session.queries (AnswersOf called accepts) session.texts.items slice bytes → Prints called accepts session (schedule_of schedule) bytes
-  prints_in_order schedule order slice session bytes is same replay =
-      subst (λ (s : Chosen). Prints called accepts session (schedule_of s) bytes) (sym is)
-      (subst (λ (o : List ℕ). IsReplay session.table.grammar session.plan session.queries (AnswersOf called accepts) session.texts.items o bytes) same replay)
-
-  pub prints_at_once : (schedule : Chosen) (session : Session) (bytes : Bytes) → schedule ≡ chosen.AtOnce
-      → IsRun session.table.grammar session.plan session.queries (AnswersOf called accepts) session.texts.items bytes → Prints called accepts session (schedule_of schedule) bytes
-  prints_at_once schedule session bytes is run = subst (λ (s : Chosen). Prints called accepts session (schedule_of s) bytes) (sym is) run
-
-  -- what was opened is a refusal
-  pub refused_plays : (files : Option Files) (g s : Bytes) (schedule : Schedule) (rose : Type 0) (old new : List Bytes) (opened : Opened) (a : Answer) → opened ≡ Refused a
-      → ((known : Files) → files ≡ Some known → IsOpened called known g s rose old new opened) → IsPlayed called accepts files g s schedule rose old new a.status a.bytes.items
-  refused_plays files g s schedule rose old new opened a is opens = λ known told. inr (subst (IsOpened called known g s rose old new) is (opens known told))
 
   told_played : (files : Option Files) (words : List Bytes) (g s : Bytes) (schedule : Schedule) (rose : Type 0) (old new : List Bytes) (ends : Status) (bytes : Bytes) → AsksSession words g s schedule
       → IsPlayed called accepts files g s schedule rose old new ends bytes → Told files (λ known. ComesTo called accepts known words rose old new ends bytes)

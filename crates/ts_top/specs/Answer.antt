@@ -44,8 +44,8 @@ pub record AsksReplay (words : List Bytes) (grammar script : Bytes) (order : Lis
 abbrev pub AsksRun : List Bytes → Bytes → Bytes → Type 0
 AsksRun words grammar script = words ≡ codes "run" ∷ grammar ∷ script ∷ []
 
--- How the steps of a script's clients are run: on one thread, in this order of their clients; or all
--- clients at once, each on a thread of its own.
+-- How the steps of a script's clients are run: on one thread, in this order of their clients; or
+-- all clients at once, each on a thread of its own.
 pub data Schedule : Type 0 where
   in_order : List ℕ → Schedule
   at_once : Schedule
@@ -65,7 +65,7 @@ pub record IsUsage (words : List Bytes) : Type 0 where
 -- ---- what stands at the paths
 
 -- the words ask to parse, and both files are there
-pub record Has (files : Files) (words : List Bytes) (grammar text : Bytes)
+pub record HasBothFiles (files : Files) (words : List Bytes) (grammar text : Bytes)
     (path : Bytes) : Type 0 where
   pub grammar_path : Bytes
   pub parses : Parses words grammar_path path
@@ -73,7 +73,7 @@ pub record Has (files : Files) (words : List Bytes) (grammar text : Bytes)
   pub text_is : file_at files path ≡ Some text
 
 -- the first of the two paths at which there is no file
-pub record IsAbsent (files : Files) (words : List Bytes) (path : Bytes) : Type 0 where
+pub record IsAbsentPath (files : Files) (words : List Bytes) (path : Bytes) : Type 0 where
   pub grammar_path : Bytes
   pub text_path : Bytes
   pub parses : Parses words grammar_path text_path
@@ -114,10 +114,10 @@ pub data Compiled (file : Bytes) : Status → Bytes → Type 0 where
 -- What words that ask to parse or to compile, and the files, come to: the status and the bytes. The
 -- files are read first, and then what they hold is judged.
 pub data PlainAnswers (files : Files) (words : List Bytes) : Status → Bytes → Type 0 where
-  absent : (path : Bytes) → IsAbsent files words path
+  absent : (path : Bytes) → IsAbsentPath files words path
       → PlainAnswers files words status.Absent (absent_line path)
   judged : (grammar text path : Bytes) (ends : Status) (bytes : Bytes)
-      → Has files words grammar text path
+      → HasBothFiles files words grammar text path
       → Judged grammar text path ends bytes → PlainAnswers files words ends bytes
   lacking : (path : Bytes) → Compiles words path → file_at files path ≡ None
       → PlainAnswers files words status.Absent (absent_line path)
@@ -131,7 +131,7 @@ pub record IsClean (files : Files) (words : List Bytes) : Type 0 where
   pub grammar : Bytes
   pub text : Bytes
   pub path : Bytes
-  pub has : Has files words grammar text path
+  pub has : HasBothFiles files words grammar text path
   pub form : FlatGrammar
   pub builds : Builds grammar form
   pub is_text : IsText text

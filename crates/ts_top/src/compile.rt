@@ -1,5 +1,5 @@
-//! What was read of a file that is compiled in; its language file, or the line that says why there is
-//! none, out.
+//! What was read of a file that is compiled in; its language file, or the line that says why there
+//! is none, out.
 ghost use Rattle.std.specs.Prelude.{◌≡◌, ◌≤◌, Option, Some, length, IfOk, IfErr};
 ghost use Rattle.spec_output.specs.GrammarFaults.{limit_line};
 ghost use Rattle.spec_output.specs.declared.status.Status.TheVariants.{Grammar};
@@ -17,9 +17,6 @@ use std::alloc::{AllocError, Global};
 use ts_front::{Uncompiled, language_file};
 use ts_io::Found;
 use ts_session::Answer;
-
-/// The most bytes that are read of a grammar file or a language file: 64 MiB.
-pub(crate) const MOST_FILE_BYTES: u64 = 67_108_864;
 
 /// The answer of a file that has more bytes than are read.
 pub(crate) fn too_large(alloc: Global) -> Result<Answer, AllocError>

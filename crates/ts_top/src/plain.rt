@@ -6,12 +6,12 @@ ghost use Rattle.ts_io.specs.Read.{KeepsLimit};
 ghost use Rattle.ts_top.specs.Answer.{texts, Parses, Compiles, Told};
 ghost use Rattle.ts_top.specs.Stops.{IsPlain, Stopped, ReadStopped, IsThere};
 
-use crate::compile::{MOST_FILE_BYTES, compiled};
+use crate::compile::compiled;
 use crate::judge::judge;
 use crate::stop::Stop;
 use std::alloc::Global;
 use ts_io::{Folder, Found, ReadFault};
-use ts_session::Answer;
+use ts_session::{Answer, MOST_FILE_BYTES};
 
 /// The most bytes that a text has: 1 MiB.
 const MOST_TEXT_BYTES: u64 = ts_text::MOST_BYTES as u64;

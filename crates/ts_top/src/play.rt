@@ -1,5 +1,5 @@
-//! The words that ask for a script's run, the files, a host and a builder of expressions in; the
-//! answer out.
+//! The words that ask for a script's run, the files, a gate, a host and a builder of expressions in;
+//! the answer out.
 ghost use Rattle.std.specs.Prelude.{◌≡◌, ◌≤◌, ◌^◌, ◌⊎◌, ℕ, List, length, IsTrue, IfOk, IfErr, IfSome, IfNone, MatchOption};
 ghost use Rattle.ts_base.specs.Bytes.{Bytes};
 ghost use Rattle.spec_output.specs.declared.status.Status.TheVariants.{Done};
@@ -14,7 +14,7 @@ use spec_output::Status;
 use std::alloc::{AllocError, Global};
 use std::sync::Wait;
 use std::thread::Threads;
-use ts_io::Folder;
+use ts_io::{Folder, Gate};
 use ts_predicate::Hosts;
 use ts_query_syntax::Patterns;
 use ts_session::{Answer, Opened, Paths, Session, Unanswered, open};
@@ -40,11 +40,19 @@ struct Asked<'a> {
 }
 
 /// Runs a script, where the words ask for it.
-pub(crate) fn play<'a, R: Threads + Wait + Sync, F: Folder, H: Hosts + Sync, P: Patterns>(
+pub(crate) fn play<
+    'a,
+    R: Threads + Wait + Sync,
+    F: Folder,
+    G: Gate + Sync,
+    H: Hosts + Sync,
+    P: Patterns,
+>(
     rt: &R,
     alloc: Global,
     words: &'a [String],
     folder: &mut F,
+    gate: &G,
     hosts: &H,
     patterns: &mut P,
 ) -> Result<Answer, Stop<'a>>
@@ -65,18 +73,19 @@ pub(crate) fn play<'a, R: Threads + Wait + Sync, F: Folder, H: Hosts + Sync, P: 
     ensures refusals { P.refusals patterns.old ≤ P.refusals patterns.new }
 {
     match request_in(alloc, words) {
-        Ok(Some(asked)) => run(rt, alloc, folder, &asked, hosts, patterns),
+        Ok(Some(asked)) => run(rt, alloc, folder, &asked, gate, hosts, patterns),
         Ok(None) => Err(Stop::Usage),
         Err(AllocError) => Err(Stop::Memory),
     }
 }
 
 /// What is asked for, done.
-fn run<'a, R: Threads + Wait + Sync, F: Folder, H: Hosts + Sync, P: Patterns>(
+fn run<'a, R: Threads + Wait + Sync, F: Folder, G: Gate + Sync, H: Hosts + Sync, P: Patterns>(
     rt: &R,
     alloc: Global,
     folder: &mut F,
     asked: &Asked<'_>,
+    gate: &G,
     hosts: &H,
     patterns: &mut P,
 ) -> Result<Answer, Stop<'a>>
@@ -97,7 +106,9 @@ fn run<'a, R: Threads + Wait + Sync, F: Folder, H: Hosts + Sync, P: Patterns>(
         return Err(Stop::Memory);
     }
     match open(alloc, folder, asked.paths, hosts, patterns) {
-        Ok(Opened::Ready(session)) => { Ok(played(rt, alloc, session, hosts, &asked.schedule)?) }
+        Ok(Opened::Ready(session)) => {
+            Ok(played(rt, alloc, session, gate, hosts, &asked.schedule)?)
+        }
         Ok(Opened::Refused(answer)) => Ok(answer),
         Err(Unanswered::Read) => Err(Stop::Read),
         Err(Unanswered::Memory) => Err(Stop::Memory),
@@ -112,10 +123,11 @@ fn are_numbered<H: Hosts>(hosts: &H) -> bool
 }
 
 /// The answer of a session whose steps are run on this schedule.
-fn played<R: Threads + Wait + Sync, H: Hosts + Sync>(
+fn played<R: Threads + Wait + Sync, G: Gate + Sync, H: Hosts + Sync>(
     rt: &R,
     alloc: Global,
     session: Session,
+    gate: &G,
     hosts: &H,
     schedule: &Schedule,
 ) -> Result<Answer, AllocError>
@@ -125,7 +137,7 @@ fn played<R: Threads + Wait + Sync, H: Hosts + Sync>(
 {
     let bytes = match schedule {
         Schedule::InOrder(order) => session.replay(alloc, hosts, order.as_slice())?,
-        Schedule::AtOnce => session.run(rt, alloc, hosts)?,
+        Schedule::AtOnce => session.run(rt, alloc, gate, hosts)?,
     };
     Ok(Answer {
         status: Status::Done,

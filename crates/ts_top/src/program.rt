@@ -1,4 +1,5 @@
-//! The top call: words, files, a host and a builder of expressions in, a status and bytes out.
+//! The top call: words, files, a gate, a host and a builder of expressions in, a status and bytes
+//! out.
 ghost use Rattle.std.specs.Prelude.{◌≡◌, ◌≤◌, ◌⊎◌, IfOk, IfErr, Err};
 ghost use Rattle.ts_base.specs.Bytes.{Bytes};
 ghost use Rattle.spec_output.specs.Faults.{absent_line, usage_line};
@@ -20,7 +21,7 @@ use std::alloc::{AllocError, Global};
 use std::sync::Wait;
 use std::thread::Threads;
 use thiserror::Error;
-use ts_io::{Folder, Sink, WriteFault, put};
+use ts_io::{Folder, Gate, Sink, WriteFault, put};
 use ts_lines::number;
 use ts_predicate::Hosts;
 use ts_query_syntax::Patterns;
@@ -48,7 +49,8 @@ impl From<AllocError> for Unanswered {
 /// Runs the program on its words: `parse GRAMMAR TEXT` writes the outcome of parsing the text as
 /// one line, `compile GRAMMAR` the language file of a grammar, and `replay GRAMMAR SCRIPT ORDER`
 /// the versions and replies of a script's clients, whose steps are run in an order on one thread;
-/// `run GRAMMAR SCRIPT` runs the clients at once, each on a thread of its own, and waits for all.
+/// `run GRAMMAR SCRIPT` runs the clients at once, each on a thread of its own, which passes `gate`
+/// before each step, and waits for all.
 /// Where a step asks queries, its reply tells what they find in the version that its client holds:
 /// all matches of which the predicates hold, those of `hosts` among them. `patterns` builds the
 /// regular expressions in the script's queries.
@@ -64,9 +66,18 @@ pub fn run<
     R: AllocGlobal + Threads + Wait + Sync,
     F: Folder,
     S: Sink,
+    G: Gate + Sync,
     H: Hosts + Sync,
     P: Patterns,
->(rt: &R, words: &[String], folder: &mut F, sink: &mut S, hosts: &H, patterns: &mut P) -> u8
+>(
+    rt: &R,
+    words: &[String],
+    folder: &mut F,
+    sink: &mut S,
+    gate: &G,
+    hosts: &H,
+    patterns: &mut P,
+) -> u8
     ensures statuses { IsStatus result }
 
     // What was written, at each status.
@@ -148,7 +159,7 @@ pub fn run<
 {
     answers_once(hosts);
     clean_is_done(hosts);
-    match answer_to(rt, rt.alloc(), words, folder, hosts, patterns) {
+    match answer_to(rt, rt.alloc(), words, folder, gate, hosts, patterns) {
         Ok(answer) => match put(sink, answer.bytes.as_slice()) {
             Ok(()) => number(answer.status),
             Err(WriteFault::Failed) => number(Status::WriteFault),
@@ -159,11 +170,12 @@ pub fn run<
 }
 
 /// The answer of the words and the files.
-fn answer_to<R: Threads + Wait + Sync, F: Folder, H: Hosts + Sync, P: Patterns>(
+fn answer_to<R: Threads + Wait + Sync, F: Folder, G: Gate + Sync, H: Hosts + Sync, P: Patterns>(
     rt: &R,
     alloc: Global,
     words: &[String],
     folder: &mut F,
+    gate: &G,
     hosts: &H,
     patterns: &mut P,
 ) -> Result<Answer, Unanswered>
@@ -181,7 +193,7 @@ fn answer_to<R: Threads + Wait + Sync, F: Folder, H: Hosts + Sync, P: Patterns>(
     ensures later { F.faults folder.old ≤ F.faults folder.new }
     ensures refusals { P.refusals patterns.old ≤ P.refusals patterns.new }
 {
-    match done(rt, alloc, words, folder, hosts, patterns) {
+    match done(rt, alloc, words, folder, gate, hosts, patterns) {
         Ok(answer) => Ok(answer),
         Err(Stop::Usage) => Ok(usage(alloc)?),
         Err(Stop::Absent(path)) => Ok(absent(alloc, path)?),
@@ -215,11 +227,12 @@ fn absent(alloc: Global, path: &str) -> Result<Answer, AllocError>
 }
 
 /// What the words ask for, done.
-fn done<'a, R: Threads + Wait + Sync, F: Folder, H: Hosts + Sync, P: Patterns>(
+fn done<'a, R: Threads + Wait + Sync, F: Folder, G: Gate + Sync, H: Hosts + Sync, P: Patterns>(
     rt: &R,
     alloc: Global,
     words: &'a [String],
     folder: &mut F,
+    gate: &G,
     hosts: &H,
     patterns: &mut P,
 ) -> Result<Answer, Stop<'a>>
@@ -239,16 +252,24 @@ fn done<'a, R: Threads + Wait + Sync, F: Folder, H: Hosts + Sync, P: Patterns>(
 {
     match compile_path(words) {
         Some(path) => compile(alloc, words, folder, path),
-        None => parse_or_play(rt, alloc, words, folder, hosts, patterns),
+        None => parse_or_play(rt, alloc, words, folder, gate, hosts, patterns),
     }
 }
 
 /// Parses a text or runs a script, where the words ask for it.
-fn parse_or_play<'a, R: Threads + Wait + Sync, F: Folder, H: Hosts + Sync, P: Patterns>(
+fn parse_or_play<
+    'a,
+    R: Threads + Wait + Sync,
+    F: Folder,
+    G: Gate + Sync,
+    H: Hosts + Sync,
+    P: Patterns,
+>(
     rt: &R,
     alloc: Global,
     words: &'a [String],
     folder: &mut F,
+    gate: &G,
     hosts: &H,
     patterns: &mut P,
 ) -> Result<Answer, Stop<'a>>
@@ -269,6 +290,6 @@ fn parse_or_play<'a, R: Threads + Wait + Sync, F: Folder, H: Hosts + Sync, P: Pa
 {
     match paths_in(words) {
         Some(paths) => parse(alloc, words, folder, paths),
-        None => play(rt, alloc, words, folder, hosts, patterns),
+        None => play(rt, alloc, words, folder, gate, hosts, patterns),
     }
 }

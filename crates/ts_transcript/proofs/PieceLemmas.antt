@@ -1,10 +1,10 @@
 -- Bytes that are pieces, one for each item of a list.
-use Rattle.std.proofs.Common.{arith, ◌≡◌, ◌∙◌, refl, sym, ap, subst, ℕ, zero, suc, ◌+◌, ◌<◌, ◌≤◌, ◌⊎◌, inl, inr, List, [], ◌∷◌, ◌++◌, append-nil, append_assoc, length, length-append, length-take-le, get_or, take, take_all, map, option_map, Option, Some, slice_get}
+use Rattle.std.proofs.Common.{arith, ◌≡◌, ◌∙◌, refl, sym, ap, subst, ℕ, zero, suc, ◌+◌, ◌<◌, ◌≤◌, ◌⊎◌, inl, inr, List, [], ◌∷◌, ◌++◌, append_assoc, length, length-append, length-take-le, get_or, take, take_all, map, option_map, Option, Some, slice_get}
 use Rattle.std.proofs.lemmas.Option.{none-some, same_Some, slice_get_within, slice_get-map}
 use Rattle.std.proofs.lemmas.List.{take_more, length-map, flat_map_more}
 use Rattle.ts_base.specs.Bytes.{Bytes}
 use Rattle.spec_history.specs.Printed.{TellsEach}
-use Rattle.ts_transcript.specs.Told.{Adds}
+use Rattle.ts_transcript.specs.Told.{AddsBytes}
 
 -- ---- places of lists
 
@@ -60,22 +60,11 @@ one_more Tells xs x bytes piece tells so =
       bytes_are = ap (λ (w : Bytes). w ++ piece) so.bytes_are ∙ flat_map_more (λ (w : Bytes). w) [] so.pieces piece;
     }
 
-no_piece : {A : Type 0} (Tells : ℕ → A → Bytes → Type 0) → TellsEach Tells [] []
-no_piece Tells = record {
-  pieces = [];
-  count = refl;
-  each = λ n y p here there. absurd (none-some y here);
-  bytes_are = refl;
-}
-
 -- ---- loops
 
 module _ {A : Type 0} (Tells : ℕ → A → Bytes → Type 0) (xs : List A) where
-  pub add_first : (start : Bytes) → Adds (TellsEach Tells (take 0 xs)) start start
-  add_first start = ([], no_piece Tells, sym (append-nil start))
-
-  pub add_more : (i : ℕ) (x : A) (start before after : Bytes) → i < length xs → x ≡ get_or xs i x → Adds (Tells i x) before after
-      → Adds (TellsEach Tells (take i xs)) start before → Adds (TellsEach Tells (take (i + 1) xs)) start after
+  pub add_more : (i : ℕ) (x : A) (start before after : Bytes) → i < length xs → x ≡ get_or xs i x → AddsBytes (Tells i x) before after
+      → AddsBytes (TellsEach Tells (take i xs)) start before → AddsBytes (TellsEach Tells (take (i + 1) xs)) start after
   add_more i x start before after lt is new so =
       let count : length (take i xs) ≡ i = length-take-le i xs (omega (arith, lt)) in
       let next : take (i + 1) xs ≡ take i xs ++ x ∷ [] = take_more xs i x lt ∙ ap (λ (y : A). take i xs ++ y ∷ []) (sym is) in
@@ -85,8 +74,8 @@ module _ {A : Type 0} (Tells : ℕ → A → Bytes → Type 0) (xs : List A) whe
         new.2 ∙ ap (λ (w : Bytes). w ++ new.0) so.2 ∙ append_assoc start so.0 new.0,
       )
 
-  pub add_all : (i : ℕ) (start after : Bytes) → length xs ≤ i → Adds (TellsEach Tells (take i xs)) start after → Adds (TellsEach Tells xs) start after
-  add_all i start after end so = subst (λ (ys : List A). Adds (TellsEach Tells ys) start after) (take_all i xs end) so
+  pub add_all : (i : ℕ) (start after : Bytes) → length xs ≤ i → AddsBytes (TellsEach Tells (take i xs)) start after → AddsBytes (TellsEach Tells xs) start after
+  add_all i start after end so = subst (λ (ys : List A). AddsBytes (TellsEach Tells ys) start after) (take_all i xs end) so
 
 -- ---- another list
 

@@ -15,7 +15,7 @@ use Rattle.ts_docs.specs.Versions.{IsOfTable}
 use Rattle.spec_history.specs.Histories.{JournalEntry, History, version_text}
 use Rattle.spec_history.specs.Books.{journal_entry_of, journal_of, TellsTexts, IsHistoryOf}
 use Rattle.spec_history.specs.Printed.{TellsEach, IsVersionLine, AreOpeningLines, AreEntryLines, AreReplyLines, IsPrinted}
-use Rattle.ts_transcript.specs.Told.{Adds, entry_head, TellsOpening, TellsEntry, IsEntryLine, TellsJournal}
+use Rattle.ts_transcript.specs.Told.{AddsBytes, entry_head, TellsOpening, TellsEntry, IsEntryLine, TellsJournal}
 use Rattle.ts_transcript.proofs.PieceLemmas.{there_is, beside, told_mapped}
 
 -- ---- one document
@@ -83,8 +83,8 @@ module _ (g : FlatGrammar) (h : History) (books : List Pages) (replies : List (L
   replies_told bytes told = subst (λ (all : List (List Reply)). TellsEach AreReplyLines all bytes) (sym is.replies_are) told
 
   -- lines that were added one after another are what is printed of the run
-  pub is_printed : (first second bytes : Bytes) → Adds (TellsEach (TellsOpening g) books) [] first → Adds (TellsEach (TellsJournal g) books) first second
-      → Adds (TellsEach AreReplyLines replies) second bytes → IsPrinted h bytes
+  pub is_printed : (first second bytes : Bytes) → AddsBytes (TellsEach (TellsOpening g) books) [] first → AddsBytes (TellsEach (TellsJournal g) books) first second
+      → AddsBytes (TellsEach AreReplyLines replies) second bytes → IsPrinted h bytes
   is_printed first second bytes a b c = record {
     openings = a.0;
     journals = b.0;

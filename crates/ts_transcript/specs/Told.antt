@@ -16,8 +16,8 @@ use Rattle.ts_docs.specs.declared.parsed.Pages.{Pages}
 use Rattle.spec_history.specs.Printed.{TellsEach, IsVersionLine}
 
 -- bytes that are so were added at the end
-abbrev pub Adds : (Bytes → Type 0) → Bytes → Bytes → Type 0
-Adds Is before after = (added : Bytes) × Is added × (after ≡ before ++ added)
+abbrev pub AddsBytes : (Bytes → Type 0) → Bytes → Bytes → Type 0
+AddsBytes Is before after = (added : Bytes) × Is added × (after ≡ before ++ added)
 
 -- what the line of an accepted edit begins with, where so many are before it
 abbrev pub entry_head : ℕ → ℕ → Entry Drafted → Head

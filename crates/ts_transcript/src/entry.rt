@@ -1,6 +1,6 @@
 //! A version or a reply in; its line added to bytes.
 ghost use Rattle.std.specs.Prelude.{◌<◌, ◌^◌, suc, OnOk};
-ghost use Rattle.ts_transcript.specs.Told.{Adds, TellsVersion, TellsOpening, TellsAccepted, TellsReply};
+ghost use Rattle.ts_transcript.specs.Told.{AddsBytes, TellsVersion, TellsOpening, TellsAccepted, TellsReply};
 
 use std::alloc::{AllocError, Global};
 use ts_core::FlatGrammar;
@@ -16,7 +16,7 @@ pub(crate) fn add_opening(
     book: &Book,
     out: &mut Vec<u8>,
 ) -> Result<(), AllocError>
-    ensures { OnOk result (Adds (TellsOpening grammar.now document book.now)
+    ensures { OnOk result (AddsBytes (TellsOpening grammar.now document book.now)
         out.old.items out.new.items) }
 {
     let head = Head::Opening { document };
@@ -33,7 +33,7 @@ pub(crate) fn add_entry(
     out: &mut Vec<u8>,
 ) -> Result<(), AllocError>
     requires { suc number < 2 ^ 32 }
-    ensures { OnOk result (Adds (TellsAccepted grammar.now document number accepted.now)
+    ensures { OnOk result (AddsBytes (TellsAccepted grammar.now document number accepted.now)
         out.old.items out.new.items) }
 {
     let head = Head::Accepted {
@@ -54,7 +54,7 @@ fn add_version(
     version: &Version,
     out: &mut Vec<u8>,
 ) -> Result<(), AllocError>
-    ensures { OnOk result (Adds (TellsVersion grammar.now head.now version.now)
+    ensures { OnOk result (AddsBytes (TellsVersion grammar.now head.now version.now)
         out.old.items out.new.items) }
 {
     version.stands();
@@ -73,7 +73,7 @@ pub(crate) fn add_reply(
     reply: &Reply,
     out: &mut Vec<u8>,
 ) -> Result<(), AllocError>
-    ensures { OnOk result (Adds (TellsReply client step reply.now)
+    ensures { OnOk result (AddsBytes (TellsReply client step reply.now)
         out.old.items out.new.items) }
 {
     let line = print_reply(alloc, client, step, reply)?;

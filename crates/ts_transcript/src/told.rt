@@ -3,7 +3,7 @@ ghost use Rattle.std.specs.Prelude.{◌<◌, ◌≤◌, ◌^◌, List as Values,
 ghost use Rattle.ts_docs.specs.Books.{as_entry};
 ghost use Rattle.ts_replies.specs.declared.reply.Reply.{Reply as AnyReply};
 ghost use Rattle.spec_history.specs.Printed.{TellsEach, AreReplyLines};
-ghost use Rattle.ts_transcript.specs.Told.{Adds, TellsOpening, TellsEntry, TellsJournal};
+ghost use Rattle.ts_transcript.specs.Told.{AddsBytes, TellsOpening, TellsEntry, TellsJournal};
 
 use crate::entry::{add_entry, add_opening, add_reply};
 use std::alloc::{AllocError, Global};
@@ -20,7 +20,7 @@ pub(crate) fn add_openings(
     out: &mut Vec<u8>,
 ) -> Result<(), AllocError>
     requires { length books.now ≤ 2 ^ 32 }
-    ensures { OnOk result (Adds (TellsEach (TellsOpening grammar.now) books.now)
+    ensures { OnOk result (AddsBytes (TellsEach (TellsOpening grammar.now) books.now)
         out.old.items out.new.items) }
 {
     for (document, book) in books.iter().enumerate() {
@@ -37,7 +37,7 @@ pub(crate) fn add_journals(
     out: &mut Vec<u8>,
 ) -> Result<(), AllocError>
     requires { length books.now ≤ 2 ^ 32 }
-    ensures { OnOk result (Adds (TellsEach (TellsJournal grammar.now) books.now)
+    ensures { OnOk result (AddsBytes (TellsEach (TellsJournal grammar.now) books.now)
         out.old.items out.new.items) }
 {
     for (document, book) in books.iter().enumerate() {
@@ -54,7 +54,7 @@ fn add_journal(
     book: &Book,
     out: &mut Vec<u8>,
 ) -> Result<(), AllocError>
-    ensures { OnOk result (Adds (TellsJournal grammar.now document book.now)
+    ensures { OnOk result (AddsBytes (TellsJournal grammar.now document book.now)
         out.old.items out.new.items) }
 {
     book.stands();
@@ -71,7 +71,7 @@ fn add_entries(
     out: &mut Vec<u8>,
 ) -> Result<(), AllocError>
     requires { length accepted.now < 2 ^ 32 }
-    ensures { OnOk result (Adds
+    ensures { OnOk result (AddsBytes
         (TellsEach (TellsEntry grammar.now document) (map as_entry accepted.now))
         out.old.items out.new.items) }
 {
@@ -89,7 +89,7 @@ pub(crate) fn add_clients(
 ) -> Result<(), AllocError>
     requires clients { length replies.now ≤ 2 ^ 32 }
     requires steps { All (λ (own : Values AnyReply). length own ≤ 2 ^ 32) replies.now }
-    ensures { OnOk result (Adds (TellsEach AreReplyLines replies.now)
+    ensures { OnOk result (AddsBytes (TellsEach AreReplyLines replies.now)
         out.old.items out.new.items) }
 {
     for (client, own) in replies.iter().enumerate() {
@@ -106,7 +106,7 @@ fn add_replies(
     out: &mut Vec<u8>,
 ) -> Result<(), AllocError>
     requires { length replies.now ≤ 2 ^ 32 }
-    ensures { OnOk result (Adds (AreReplyLines client replies.now)
+    ensures { OnOk result (AddsBytes (AreReplyLines client replies.now)
         out.old.items out.new.items) }
 {
     for (step, reply) in replies.iter().enumerate() {

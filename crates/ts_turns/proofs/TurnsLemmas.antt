@@ -59,9 +59,6 @@ named_none = record { below = All-nil (λ (n : ℕ). n < most_clients); are = re
 pub spells_all : (word : Bytes) (order : List ℕ) → AreNamed (parts_of word) order → Spells word order
 spells_all word order h = record { below = h.below; is = sym (join_with_byte-slice_split comma word) ∙ ap (join_with_byte comma) h.are }
 
-pub spells_none : Spells [] []
-spells_none = record { below = All-nil (λ (n : ℕ). n < most_clients); is = refl }
-
 -- ---- one order
 
 decimal_value : (n : ℕ) → n < most_clients → digits_value 10 (decimal n) ≡ n

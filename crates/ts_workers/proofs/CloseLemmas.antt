@@ -1,19 +1,16 @@
 -- Shelves that are closed one after the other.
-use Rattle.std.proofs.Common.{◌≡◌, refl, subst, ℕ, ◌+◌, ⊎_elim, List, [], ◌∷◌, ◌++◌, length, slice_get, get_or, Some, arith}
+use Rattle.std.proofs.Common.{◌≡◌, subst, ℕ, ◌+◌, ⊎_elim, List, [], ◌∷◌, ◌++◌, length, slice_get, get_or, Some, arith}
 use Rattle.std.proofs.lemmas.List.{length-append}
 use Rattle.ts_base.proofs.PlaceLemmas.{at_end, in_prefix, push_cases}
 use Rattle.ts_shelf.specs.Calls.{Closes}
 use Rattle.ts_docs.specs.declared.parsed.Pages.{Pages}
 use Rattle.ts_workers.specs.declared.front.Front.{Front}
 use Rattle.ts_workers.specs.Joins.{AreClosed}
-use Rattle.ts_workers.proofs.ListLemmas.{nowhere, same_at}
+use Rattle.ts_workers.proofs.ListLemmas.{same_at}
 
 -- the book is that of the document's shelf
 abbrev pub IsClosed : Front → Pages → Type 0
 IsClosed f b = Closes (λ (p : Pages). p.entries) (λ (p : Pages). p.room) (λ (p : Pages). p.opening) f.pass.knows b
-
-pub closed_none : AreClosed [] []
-closed_none = record { count = refl; each = λ document f b f_is b_is. absurd (nowhere document f f_is) }
 
 pub closed_one : (fronts : List Front) (books : List Pages) (f : Front) (b : Pages) → AreClosed fronts books → IsClosed f b → AreClosed (fronts ++ f ∷ []) (books ++ b ∷ [])
 closed_one fronts books f b are is = record {

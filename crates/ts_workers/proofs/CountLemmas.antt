@@ -2,7 +2,7 @@
 use Rattle.std.proofs.Common.{◌≡◌, ◌∙◌, sym, ap, refl, ℕ, zero, suc, ◌+◌, ◌*◌, ◌<◌, ◌≤◌, ◌==◌, if◌then◌else◌, Bool, true, false, List, [], ◌∷◌, length, drop, slice_get, Some, None, arith}
 use Rattle.ts_script.specs.declared.plan.ScriptStep.{ScriptStep}
 use Rattle.ts_script.specs.declared.plan.ScriptStep.TheVariants as step
-use Rattle.ts_script.specs.Rules.{most_steps}
+use Rattle.ts_script.specs.Rules.{most_script_steps}
 use Rattle.ts_replay.specs.Runs.{weight_of, weight_left, edits_on}
 use Rattle.ts_workers.proofs.ListLemmas.{same_thing, nowhere}
 
@@ -24,13 +24,13 @@ edits_weigh k (s ∷ ss) =
     let one : edits_on k s ≤ 1 = edit_weighs k s in
     omega (arith, h, one)
 
-pub edits_left : (d : ℕ) (clients : List (List ScriptStep)) → ((k : ℕ) (ss : List ScriptStep) → slice_get clients k ≡ Some ss → length ss ≤ most_steps)
+pub edits_left : (d : ℕ) (clients : List (List ScriptStep)) → ((k : ℕ) (ss : List ScriptStep) → slice_get clients k ≡ Some ss → length ss ≤ most_script_steps)
     → weight_left (edits_on d) clients [] ≤ 100000 * length clients
 edits_left d [] few = omega arith
 edits_left d (ss ∷ clients) few =
     let rest : weight_left (edits_on d) clients [] ≤ 100000 * length clients = edits_left d clients (λ k. few (suc k)) in
     let first : weight_of (edits_on d) ss ≤ length ss = edits_weigh d ss in
-    let short : length ss ≤ most_steps = few 0 ss refl in
+    let short : length ss ≤ most_script_steps = few 0 ss refl in
     omega (arith, rest, first, short)
 
 -- the edits of one more client, and those of the clients after it

@@ -15,7 +15,7 @@ use Rattle.ts_workers.specs.declared.front.Front.{Front}
 use Rattle.ts_workers.specs.declared.worker.Worker.{Worker}
 use Rattle.ts_workers.specs.Fronts.{versions_of}
 use Rattle.ts_workers.specs.Joins.{AreAtShelves}
-use Rattle.ts_workers.specs.Workers.{IsHired, AreHired, HaveWorked, IsDone, AreDone}
+use Rattle.ts_workers.specs.Workers.{IsHired, AreHired, HaveWorked, IsDone, AreAllDone}
 use Rattle.ts_workers.proofs.ListLemmas.{beside, there_is}
 
 module _ (Finds : Bytes → List ℕ → List ShownResult → Type 0) (plan : Plan) (g : FlatGrammar) (table : ParseTable) (shelves : List TableId) (versions : List ParsedText)
@@ -39,7 +39,7 @@ module _ (Finds : Bytes → List ℕ → List ShownResult → Type 0) (plan : Pl
   }
 
   pub are_done : (old new : List Worker) → AreHired table shelves versions plan.clients old → length new ≡ length old
-      → HaveWorked Finds plan g old new → AreDone Finds plan g shelves versions new
+      → HaveWorked Finds plan g old new → AreAllDone Finds plan g shelves versions new
   are_done old new hired same worked = record {
     count = same ∙ hired.count;
     each = λ client steps n s_is n_is.
@@ -48,7 +48,7 @@ module _ (Finds : Bytes → List ℕ → List ShownResult → Type 0) (plan : Pl
   }
 
   -- the desks of a client are where they were
-  pub at_shelves : (workers : List Worker) → AreDone Finds plan g shelves versions workers → (client : ℕ) (w : Worker) → slice_get workers client ≡ Some w
+  pub at_shelves : (workers : List Worker) → AreAllDone Finds plan g shelves versions workers → (client : ℕ) (w : Worker) → slice_get workers client ≡ Some w
       → AreAtShelves shelves w.client.desks.items
   at_shelves workers done client w w_is =
       let steps = beside workers plan.clients client w done.count w_is in

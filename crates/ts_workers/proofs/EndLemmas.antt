@@ -29,7 +29,7 @@ use Rattle.ts_workers.specs.declared.front.Front.{Front}
 use Rattle.ts_workers.specs.declared.worker.Worker.{Worker}
 use Rattle.ts_workers.specs.Fronts.{AreFronts, versions_of}
 use Rattle.ts_workers.specs.Joins.{passes_on, TakesIn, HaveJoined, AreClosed}
-use Rattle.ts_workers.specs.Workers.{AreDone, IsLeftDesk, all_passes, all_replies}
+use Rattle.ts_workers.specs.Workers.{AreAllDone, IsLeftDesk, all_passes, all_replies}
 use Rattle.ts_workers.proofs.ListLemmas.{same_thing, same_at, nowhere, there_is, beside, one_there, take_zero}
 
 abbrev Knows : Type 0
@@ -85,7 +85,7 @@ are_books h table books versions opened document opening b o_is b_is = record {
 module _ (Finds : Bytes → List ℕ → List ShownResult → Type 0) (plan : Plan) (table : ParseTable) (openings : List Bytes) (shelves : List TableId) (fronts left : List Front) (workers : List Worker)
     (may : MayReplay plan) (given : length openings ≡ length plan.documents)
     (are : AreFronts plan table openings shelves (length plan.clients) fronts)
-    (done : AreDone Finds plan table.grammar shelves (versions_of fronts) workers)
+    (done : AreAllDone Finds plan table.grammar shelves (versions_of fronts) workers)
     (joined : HaveJoined (all_passes workers) fronts left) where
   count_all : length (all_passes workers) ≡ length workers
   count_all = length-map workers (λ (w : Worker). passes_of w.client.desks.items)

@@ -1,5 +1,5 @@
 -- Documents on their shelves: one document more, and one client more.
-use Rattle.std.proofs.Common.{◌≡◌, ◌∙◌, sym, ap, refl, subst, ℕ, zero, suc, ◌+◌, ◌<◌, ◌≤◌, ⊎_elim, List, [], ◌∷◌, ◌++◌, length, map, drop, slice_get, Some, arith}
+use Rattle.std.proofs.Common.{◌≡◌, ◌∙◌, sym, ap, subst, ℕ, zero, suc, ◌+◌, ◌<◌, ◌≤◌, ⊎_elim, List, [], ◌∷◌, ◌++◌, length, map, drop, slice_get, Some, arith}
 use Rattle.std.proofs.lemmas.List.{length-append}
 use Rattle.std.proofs.lemmas.Option.{slice_get_within}
 use Rattle.atomic_table.specs.Seated.{TableId}
@@ -19,17 +19,9 @@ use Rattle.ts_workers.specs.declared.front.Front.{Front}
 use Rattle.ts_workers.specs.Fronts.{IsFront, IsLent, AreFronts, versions_of, AllMayLend, Lends, HaveLent}
 use Rattle.ts_workers.specs.Joins.{AreOnShelves}
 use Rattle.ts_workers.proofs.CountLemmas.{left_from}
-use Rattle.ts_workers.proofs.ListLemmas.{same_thing, same_at, nowhere, there_is, beside, same_map}
+use Rattle.ts_workers.proofs.ListLemmas.{same_thing, same_at, there_is, beside, same_map}
 
 -- ---- one document more
-
-pub no_fronts : (plan : Plan) (table : ParseTable) → AreFronts plan table [] [] 0 []
-no_fronts plan table = record {
-  shelves_are = refl;
-  count = refl;
-  each = λ document opening shelf f o_is s_is f_is. absurd (nowhere document f f_is);
-  lent = λ document f f_is. absurd (nowhere document f f_is);
-}
 
 pub one_front : (plan : Plan) (table : ParseTable) (openings : List Bytes) (shelves : List TableId) (fronts : List Front) (text : Bytes) (shelf : TableId) (front : Front)
     → AreFronts plan table openings shelves 0 fronts → IsFront table text shelf front → IsLent plan (length fronts) 0 front.pass.knows

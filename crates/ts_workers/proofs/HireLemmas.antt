@@ -1,5 +1,5 @@
 -- Clients before all steps.
-use Rattle.std.proofs.Common.{◌≡◌, ◌∙◌, sym, ap, refl, subst, ℕ, zero, suc, ◌+◌, ◌<◌, ◌≤◌, ⊎_elim, List, [], ◌∷◌, ◌++◌, length, map, slice_get, Some, vec_capacity, option_map, arith}
+use Rattle.std.proofs.Common.{◌≡◌, ◌∙◌, sym, ap, subst, ℕ, zero, suc, ◌+◌, ◌<◌, ◌≤◌, ⊎_elim, List, [], ◌∷◌, ◌++◌, length, map, slice_get, Some, vec_capacity, option_map, arith}
 use Rattle.std.proofs.lemmas.List.{length-append, length-map}
 use Rattle.std.proofs.lemmas.Option.{slice_get_within, slice_get-map}
 use Rattle.atomic_table.specs.Seated.{TableId}
@@ -19,7 +19,7 @@ use Rattle.ts_workers.specs.declared.worker.Worker.{Worker}
 use Rattle.ts_workers.specs.Fronts.{IsFront, AreFronts, versions_of, Lends, HaveLent}
 use Rattle.ts_workers.specs.Workers.{IsLentDesk, AreLentDesks, IsHired, AreHired}
 use Rattle.ts_workers.proofs.FrontLemmas.{front_at}
-use Rattle.ts_workers.proofs.ListLemmas.{same_thing, same_at, nowhere, beside}
+use Rattle.ts_workers.proofs.ListLemmas.{same_thing, same_at, beside}
 
 -- the version of a document among those of all
 pub version_at : (fronts : List Front) (document : ℕ) (f : Front) (version : ParsedText) → slice_get fronts document ≡ Some f → slice_get (versions_of fronts) document ≡ Some version → version ≡ f.version
@@ -78,9 +78,6 @@ module _ (plan : Plan) (table : ParseTable) (openings : List Bytes) (shelves : L
           opens = at.4.split.opening.1 ∙ (f.opens ∙ ap (λ (v : ParsedText). Some v) (sym (same ∙ at.4.own_version)));
         };
   }
-
-pub no_workers : (table : ParseTable) (shelves : List TableId) (versions : List ParsedText) → AreHired table shelves versions [] []
-no_workers table shelves versions = record { count = refl; each = λ client steps w s_is w_is. absurd (nowhere client w w_is) }
 
 pub one_worker : (table : ParseTable) (shelves : List TableId) (old new : List ParsedText) (clients : List (List ScriptStep)) (workers : List Worker) (steps : List ScriptStep) (w : Worker)
     → AreHired table shelves old clients workers → new ≡ old → IsHired table shelves new steps w → AreHired table shelves new (clients ++ steps ∷ []) (workers ++ w ∷ [])

@@ -56,13 +56,6 @@ same_map f (o ∷ old) (n ∷ new) same each =
 
 -- ---- one element after the other
 
-pub changed_none : {X D : Type 0} (R : ℕ → X → X → D → Type 0) (xs : List X) → Changed R xs xs []
-changed_none R xs = record {
-  count = refl;
-  each = λ place o n d o_is n_is d_is. absurd (nowhere place d d_is);
-  rest = λ place le. refl;
-}
-
 pub changed_one : {X D : Type 0} (R : ℕ → X → X → D → Type 0) (old mid : List X) (results : List D) (m n : X) (d : D)
     → Changed R old mid results → slice_get mid (length results) ≡ Some m → R (length results) m n d
     → Changed R old (set mid (length results) n) (results ++ d ∷ [])

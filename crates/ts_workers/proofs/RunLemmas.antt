@@ -15,7 +15,7 @@ use Rattle.ts_workers.specs.declared.front.Front.{Front}
 use Rattle.ts_workers.specs.declared.worker.Worker.{Worker}
 use Rattle.ts_workers.specs.Fronts.{AreFronts, versions_of}
 use Rattle.ts_workers.specs.Joins.{AreOnShelves, AreAtShelves, HaveJoined, AreClosed}
-use Rattle.ts_workers.specs.Workers.{AreHired, HaveWorked, AreDone, all_passes, all_replies}
+use Rattle.ts_workers.specs.Workers.{AreHired, HaveWorked, AreAllDone, all_passes, all_replies}
 use Rattle.ts_workers.proofs.DoneLemmas.{are_done, at_shelves}
 use Rattle.ts_workers.proofs.EndLemmas.{alone, are_joined, have_versions}
 use Rattle.ts_workers.proofs.FrontLemmas.{are_on_shelves}
@@ -60,7 +60,7 @@ module _ (Finds : Bytes → List ℕ → List ShownResult → Type 0) (plan : Pl
   versions_count : length (versions_of fronts) ≡ length shelves
   versions_count = length-map fronts (λ (f : Front). f.version) ∙ are.count
 
-  done : AreDone Finds plan table.grammar shelves (versions_of fronts) workers
+  done : AreAllDone Finds plan table.grammar shelves (versions_of fronts) workers
   done = are_done Finds plan table.grammar table shelves (versions_of fronts) versions_count hands workers
       (subst (λ (s : List TableId). AreHired table s (versions_of fronts) plan.clients hands) shelves_then_is hired)
       as_many_workers

@@ -3,7 +3,7 @@
 -- with its knot, as `Re` and `Node`. The types above those have a lemma each: a struct with such a
 -- type as a field by `declared_send`, and a type with a model by `view_send`.
 use denote.Param.Send.{IsSend, IsSync, sendable, view_send, view_sync}
-use denote.Param.SendFields.{declared_send, declared_sync, as_row_send, as_row_sync}
+use denote.Param.SendFields.{declared_send, declared_sync, as_row_sync}
 use Rattle.std.proofs.Crossing.{crosses}
 use Rattle.ts_base.proofs.boxed.Boxed.TheSendSync as boxed
 use Rattle.ts_base.proofs.list.List.TheSendSync as list
@@ -34,21 +34,11 @@ use Rattle.ts_client.specs.contracts.desk.Desk as desk
 use Rattle.ts_client.specs.contracts.working.Client as client
 use Rattle.ts_workers.specs.contracts.worker.Worker as worker
 
-re_send : IsSend re.the_row
-re_send = search (re_knot.crosses, list.the_send, boxed.the_send, sendable, crosses) depth 30 fits 5000
-
 re_sync : IsSync re.the_row
 re_sync = search (re_knot.crosses, list.the_sync, boxed.the_sync, sendable, crosses) depth 30 fits 5000
 
-token_send : IsSend token.the_row
-token_send = declared_send token.the_type (search (as_row_send, re_send, kind.the_send, str.the_send, sendable) depth 20)
-
 token_sync : IsSync token.the_row
 token_sync = declared_sync token.the_type (search (as_row_sync, re_sync, kind.the_sync, str.the_sync, sendable) depth 20)
-
-grammar_send : IsSend grammar.the_row
-grammar_send = declared_send grammar.the_type
-    (search (as_row_send, token_send, re_send, rule.the_send, entry.the_send, symbol.the_send, str.the_send, list.the_send, sendable) depth 20)
 
 grammar_sync : IsSync grammar.the_row
 grammar_sync = declared_sync grammar.the_type

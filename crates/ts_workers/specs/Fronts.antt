@@ -57,6 +57,7 @@ pub record MayLend (document : ℕ) (steps : List ScriptStep) (shelf : TableId) 
   pub first : IsFirst f.pass.knows
   pub offers : weight_of (edits_on document) steps ≤ f.pass.knows.offers
 
+-- each of the documents on these shelves may give a pass to a client with these steps
 abbrev pub AllMayLend : List ScriptStep → List TableId → List Front → Type 0
 AllMayLend steps shelves fronts = (document : ℕ) (shelf : TableId) (f : Front)
     → slice_get shelves document ≡ Some shelf → slice_get fronts document ≡ Some f

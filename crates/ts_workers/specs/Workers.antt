@@ -17,7 +17,7 @@ use Rattle.ts_replies.specs.declared.reply.Reply.{Reply}
 use Rattle.spec_clients.specs.Joined.{EndsOrStops}
 use Rattle.spec_clients.specs.Served.{IsServed}
 use Rattle.ts_client.specs.declared.desk.Desk.{Desk}
-use Rattle.ts_client.specs.Working.{Begins, HasWorked, passes_of}
+use Rattle.ts_client.specs.Working.{IsNewClient, HasWorked, passes_of}
 use Rattle.ts_workers.specs.declared.worker.Worker.{Worker}
 
 -- ---- before the first step
@@ -26,13 +26,14 @@ use Rattle.ts_workers.specs.declared.worker.Worker.{Worker}
 pub record MayBegin (table : ParseTable) (shelves : List TableId) (steps : List ScriptStep)
     (w : Worker) : Type 0 where
   pub lexer : IsLexerOf w.lexer table
-  pub begins : Begins table shelves steps w.client
+  pub begins : IsNewClient table shelves steps w.client
 
 -- a desk of a document that was opened with the version, with a pass that came from a split
 pub record IsLentDesk (version : ParsedText) (d : Desk) : Type 0 where
   pub other : IsOther d.pass.knows
   pub opens : d.pass.knows.opening ≡ Some version
 
+-- desks of the documents that were opened with these versions, each with a pass from a split
 abbrev pub AreLentDesks : List ParsedText → List Desk → Type 0
 AreLentDesks versions desks = (document : ℕ) (version : ParsedText) (d : Desk)
     → slice_get versions document ≡ Some version → slice_get desks document ≡ Some d
@@ -106,7 +107,7 @@ module _ (Finds : Bytes → List ℕ → List ShownResult → Type 0) where
         (passes_of w.client.desks.items)
 
   -- all clients after all their steps
-  pub record AreDone (plan : Plan) (g : FlatGrammar) (shelves : List TableId)
+  pub record AreAllDone (plan : Plan) (g : FlatGrammar) (shelves : List TableId)
       (versions : List ParsedText) (workers : List Worker) : Type 0 where
     pub count : length workers ≡ length plan.clients
     pub each : (client : ℕ) (steps : List ScriptStep) (w : Worker)

@@ -2,7 +2,7 @@
 ghost use Rattle.std.specs.Prelude.{◌≡◌, ◌≤◌, [], length};
 ghost use Rattle.ts_replay.specs.Replays.{MayReplay};
 ghost use Rattle.ts_replay.specs.Runs.{weight_of, weight_left, edits_on};
-ghost use Rattle.ts_script.specs.Rules.{most_steps};
+ghost use Rattle.ts_script.specs.Rules.{most_script_steps};
 
 use ts_script::{Plan, ScriptStep};
 
@@ -20,7 +20,7 @@ pub(crate) fn edits_of(plan: &Plan, document: u32) -> u32
 
 /// How many of the steps are edits of a document.
 pub(crate) fn edits_in(steps: &[ScriptStep], document: u32) -> u32
-    requires { length steps.now ≤ most_steps }
+    requires { length steps.now ≤ most_script_steps }
     ensures { result ≡ weight_of (edits_on document) steps.now }
 {
     let mut edits = 0;

@@ -2,7 +2,7 @@
 ghost use Rattle.std.specs.Prelude.{◌≡◌, ◌≤◌, ◌<◌, ◌^◌, [], List as AnyList, length, vec_capacity, IfOk};
 ghost use Rattle.ts_base.specs.Bytes.{Bytes};
 ghost use Rattle.ts_lexer.specs.Lexers.{IsLexerOf};
-ghost use Rattle.ts_script.specs.Rules.{most_steps};
+ghost use Rattle.ts_script.specs.Rules.{most_script_steps};
 ghost use Rattle.ts_shelf.specs.Passes.{IsFirst};
 ghost use Rattle.ts_replay.specs.Replays.{MayReplay};
 ghost use Rattle.ts_workers.specs.Fronts.{AreFronts, versions_of, AllMayLend, Lends, HaveLent};
@@ -57,7 +57,7 @@ fn worker(
     fronts: &mut [Front],
     steps: &[ScriptStep],
 ) -> Result<Worker, AllocError>
-    requires few { length steps.now ≤ most_steps }
+    requires few { length steps.now ≤ most_script_steps }
     requires documents { length shelves.now < 2 ^ 32 }
     requires count { length fronts.old ≡ length shelves.now }
     requires lend { AllMayLend steps.now shelves.now fronts.old }
@@ -84,7 +84,7 @@ fn desks(
     fronts: &mut [Front],
     steps: &[ScriptStep],
 ) -> Result<Vec<Desk>, AllocError>
-    requires few { length steps.now ≤ most_steps }
+    requires few { length steps.now ≤ most_script_steps }
     requires documents { length shelves.now < 2 ^ 32 }
     requires count { length fronts.old ≡ length shelves.now }
     requires lend { AllMayLend steps.now shelves.now fronts.old }

@@ -16,6 +16,7 @@ use std::sync::Wait;
 use std::thread::Threads;
 use ts_base::List;
 use ts_docs::Book;
+use ts_io::Gate;
 use ts_replies::Reply;
 use ts_script::Plan;
 use ts_table::Table;
@@ -32,7 +33,7 @@ pub struct Ran {
 
 /// Runs the steps of all clients of a script at once, each client on a thread of its own, over its
 /// documents, which are opened with these texts. The finder answers the queries of the script,
-/// which have the finder's numbers.
+/// which have the finder's numbers. Each client passes the gate before each of its steps.
 ///
 /// All memory that journals, lexers and lists of replies need is taken before the first step. A
 /// step that finds no memory for itself is answered so, and the others are run. A client for which
@@ -42,9 +43,10 @@ pub struct Ran {
 /// # Errors
 ///
 /// `AllocError` where there is no memory for the first versions and for that room.
-pub fn run<R: Threads + Wait + Sync, F: Finder + Sync>(
+pub fn run<R: Threads + Wait + Sync, G: Gate + Sync, F: Finder + Sync>(
     rt: &R,
     alloc: Global,
+    gate: &G,
     table: &Table,
     finder: &F,
     plan: &Plan,
@@ -69,6 +71,7 @@ pub fn run<R: Threads + Wait + Sync, F: Finder + Sync>(
     work_all(
         rt,
         alloc,
+        gate,
         table,
         finder,
         plan,

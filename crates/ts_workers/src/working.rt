@@ -13,15 +13,17 @@ use std::sync::Wait;
 use std::thread::{self, Threads};
 use ts_client::{Client, work};
 use ts_docs::Book;
+use ts_io::Gate;
 use ts_script::Plan;
 use ts_shelf::Shelf;
 use ts_table::Table;
 
 /// Does the steps of all clients, each on a thread of its own where one can be started. It takes no
 /// memory but that of the threads and of single steps.
-pub(crate) fn work_all<R: Threads + Wait + Sync, F: Finder + Sync>(
+pub(crate) fn work_all<R: Threads + Wait + Sync, G: Gate + Sync, F: Finder + Sync>(
     rt: &R,
     alloc: Global,
+    gate: &G,
     table: &Table,
     finder: &F,
     plan: &Plan,
@@ -35,7 +37,8 @@ pub(crate) fn work_all<R: Threads + Wait + Sync, F: Finder + Sync>(
     requires hired { (versions : AnyList AnyVersion)
         × AreHired table.now shelves.now versions plan.now.clients workers.old }
     ensures count { length workers.new ≡ length workers.old }
-    ensures worked { HaveWorked (F.finds finder.now) plan.now table.now.grammar workers.old workers.new }
+    ensures worked { HaveWorked (F.finds finder.now) plan.now table.now.grammar
+        workers.old workers.new }
 {
     let threads = workers.len().max(1);
     thread::for_each_mut(
@@ -49,14 +52,19 @@ pub(crate) fn work_all<R: Threads + Wait + Sync, F: Finder + Sync>(
                 × IsNext table.now shelves.now plan.now.clients number worker.now }
             ensures { HasDone (F.finds finder.entry.now) plan.entry.now table.entry.now.grammar
                 number worker.entry.now worker.exit.now }
-        { work_one(rt, alloc, table, finder, plan, shelves, number, worker) },
+        {
+            work_one(
+                rt, alloc, gate, table, finder, plan, shelves, number, worker,
+            )
+        },
     );
 }
 
 /// Does the steps of the client of this number.
-fn work_one<R: Wait, F: Finder>(
+fn work_one<R: Wait, G: Gate, F: Finder>(
     rt: &R,
     alloc: Global,
+    gate: &G,
     table: &Table,
     finder: &F,
     plan: &Plan,
@@ -79,6 +87,7 @@ fn work_one<R: Wait, F: Finder>(
     worker.client = work(
         rt,
         alloc,
+        gate,
         table,
         finder,
         &mut worker.lexer,

@@ -2,7 +2,7 @@ use Rattle.std.proofs.Common.{◌≡◌, ℕ, [], arith}
 use Rattle.ts_script.specs.declared.plan.ScriptStep.TheVariants as step
 use Rattle.ts_replies.specs.declared.reply.Reply.{Reply}
 use Rattle.ts_shelf.specs.declared.shelf.Denied.TheVariants as denied
-use Rattle.ts_client.specs.Steps.{standing_at, ServesStep, Stops, looks, has_no_memory}
+use Rattle.ts_client.specs.Steps.{standing_at, ServesStep, StopsEarly, looks, has_no_memory}
 use Rattle.ts_client.proofs.LookLemmas.{looked_once, none_idle, turned_same, unturned_same}
 use Rattle.ts_client.proofs.DeskLemmas.{may_shown, may_kept, if_memory, if_spent, stops_at}
 use Rattle.ts_client.proofs.serving.look.Goals as goal
@@ -40,6 +40,6 @@ returns-in-Err-clause-serves g c = if_memory c.refused.result c.args.desk.now.nu
 
 pub returns-in-Err-clause-stops : goal.returns-in-Err-clause-stops
 returns-in-Err-clause-stops g c = if_spent c.refused.result
-    (Stops (standing_at c.args.desk.now) (standing_at (record { pass = c.look.new.pass; number = c.args.desk.now.number; version = c.args.desk.now.version })))
+    (StopsEarly (standing_at c.args.desk.now) (standing_at (record { pass = c.look.new.pass; number = c.args.desk.now.number; version = c.args.desk.now.version })))
     (c.in-Err.denied ≡ denied.Spent) c.refused.ensures.spent
     (λ e. stops_at c.args.desk.now.pass.knows c.look.new.pass.knows c.args.desk.now.number c.args.desk.now.version [] (none_idle _ _ c.in-Err.ensures.no_turn) (omega arith) (c.in-Err.ensures.spent.0 e))

@@ -5,11 +5,11 @@ use Rattle.ts_docs.specs.declared.parsed.Drafted.{Drafted}
 use Rattle.ts_docs.specs.Versions.{Drafts}
 use Rattle.ts_shelf.specs.declared.shelf.Offered.{Offered}
 use Rattle.ts_shelf.specs.declared.shelf.Denied.TheVariants as denied
-use Rattle.ts_shelf.specs.Calls.{Answers}
+use Rattle.ts_shelf.specs.Calls.{AnswersOffer}
 use Rattle.spec_history.specs.Legal.{CanEdit}
 use Rattle.ts_script.specs.declared.plan.ScriptStep.TheVariants as step
 use Rattle.ts_replies.specs.declared.reply.Reply.{Reply}
-use Rattle.ts_client.specs.Steps.{standing_at, ServesStep, Stops, has_no_memory}
+use Rattle.ts_client.specs.Steps.{standing_at, ServesStep, StopsEarly, has_no_memory}
 use Rattle.ts_client.proofs.LookLemmas.{none_idle, same_idle, turned_same, unturned_same}
 use Rattle.ts_client.proofs.DeskLemmas.{same_self, may_shown, may_kept, may_published, if_memory, if_spent, stops_at, offer_publishes, offer_newer}
 use Rattle.ts_client.proofs.serving.offer.Goals as goal
@@ -25,45 +25,45 @@ returns-in_default-clause-serves g c = λ client number at edit drafts can. has_
 
 pub returns-in-Ok-Published-clause-may : goal.returns-in-Ok-Published-clause-may
 returns-in-Ok-Published-clause-may g c = λ table may of_table.
-    let p = subst (λ (o : Offered ParsedText). Answers (λ (d : Drafted). d.version) c.args.desk.now.pass.knows c.offer.new.pass.knows c.args.desk.now.number c.args.draft o) c.in-Ok-Published.field-0-is c.in-Ok-Published.ensures.answered in
+    let p = subst (λ (o : Offered ParsedText). AnswersOffer (λ (d : Drafted). d.version) c.args.desk.now.pass.knows c.offer.new.pass.knows c.args.desk.now.number c.args.draft o) c.in-Ok-Published.field-0-is c.in-Ok-Published.ensures.answered in
     may_published table c.args.shelf.now c.args.desk.now c.offer.new.pass c.args.draft c.in-Ok-Published.turn c.in-Ok-Published.number c.in-Ok.made
     c.offer.ensures.shelf c.offer.ensures.pass (turned_same _ _ _ _ _ p.turned) p (c.in-Ok.ensures ∙ c.version.ensures) may of_table
 
 pub returns-in-Ok-Published-clause-same : goal.returns-in-Ok-Published-clause-same
 returns-in-Ok-Published-clause-same g c =
-    let p = subst (λ (o : Offered ParsedText). Answers (λ (d : Drafted). d.version) c.args.desk.now.pass.knows c.offer.new.pass.knows c.args.desk.now.number c.args.draft o) c.in-Ok-Published.field-0-is c.in-Ok-Published.ensures.answered in
+    let p = subst (λ (o : Offered ParsedText). AnswersOffer (λ (d : Drafted). d.version) c.args.desk.now.pass.knows c.offer.new.pass.knows c.args.desk.now.number c.args.draft o) c.in-Ok-Published.field-0-is c.in-Ok-Published.ensures.answered in
     turned_same _ _ _ _ _ p.turned
 
 pub returns-in-Ok-Published-clause-offers : goal.returns-in-Ok-Published-clause-offers
 returns-in-Ok-Published-clause-offers g c =
-    let p = subst (λ (o : Offered ParsedText). Answers (λ (d : Drafted). d.version) c.args.desk.now.pass.knows c.offer.new.pass.knows c.args.desk.now.number c.args.draft o) c.in-Ok-Published.field-0-is c.in-Ok-Published.ensures.answered in
+    let p = subst (λ (o : Offered ParsedText). AnswersOffer (λ (d : Drafted). d.version) c.args.desk.now.pass.knows c.offer.new.pass.knows c.args.desk.now.number c.args.draft o) c.in-Ok-Published.field-0-is c.in-Ok-Published.ensures.answered in
     let o = p.turned.offers in omega (arith, o)
 
 pub returns-in-Ok-Published-clause-serves : goal.returns-in-Ok-Published-clause-serves
 returns-in-Ok-Published-clause-serves g c = λ client number at edit drafts can.
-    let p = subst (λ (o : Offered ParsedText). Answers (λ (d : Drafted). d.version) c.args.desk.now.pass.knows c.offer.new.pass.knows c.args.desk.now.number c.args.draft o) c.in-Ok-Published.field-0-is c.in-Ok-Published.ensures.answered in
+    let p = subst (λ (o : Offered ParsedText). AnswersOffer (λ (d : Drafted). d.version) c.args.desk.now.pass.knows c.offer.new.pass.knows c.args.desk.now.number c.args.draft o) c.in-Ok-Published.field-0-is c.in-Ok-Published.ensures.answered in
     offer_publishes client number at edit (standing_at c.args.desk.now) c.offer.new.pass.knows c.args.draft c.in-Ok-Published.turn c.in-Ok-Published.number c.in-Ok.made
     (c.in-Ok.ensures ∙ c.version.ensures) p drafts can
 
 pub returns-in-Ok-Newer-clause-may : goal.returns-in-Ok-Newer-clause-may
 returns-in-Ok-Newer-clause-may g c = λ table may of_table.
-    let p = subst (λ (o : Offered ParsedText). Answers (λ (d : Drafted). d.version) c.args.desk.now.pass.knows c.offer.new.pass.knows c.args.desk.now.number c.args.draft o) c.in-Ok-Newer.field-0-is c.in-Ok-Newer.ensures.answered in
+    let p = subst (λ (o : Offered ParsedText). AnswersOffer (λ (d : Drafted). d.version) c.args.desk.now.pass.knows c.offer.new.pass.knows c.args.desk.now.number c.args.draft o) c.in-Ok-Newer.field-0-is c.in-Ok-Newer.ensures.answered in
     may_shown table c.args.shelf.now c.args.desk.now c.offer.new.pass c.in-Ok-Newer.number c.in-Ok-Newer.latest
     c.offer.ensures.shelf c.offer.ensures.pass (turned_same _ _ _ _ _ p.0.turned) p.0.number_is p.1 may
 
 pub returns-in-Ok-Newer-clause-same : goal.returns-in-Ok-Newer-clause-same
 returns-in-Ok-Newer-clause-same g c =
-    let p = subst (λ (o : Offered ParsedText). Answers (λ (d : Drafted). d.version) c.args.desk.now.pass.knows c.offer.new.pass.knows c.args.desk.now.number c.args.draft o) c.in-Ok-Newer.field-0-is c.in-Ok-Newer.ensures.answered in
+    let p = subst (λ (o : Offered ParsedText). AnswersOffer (λ (d : Drafted). d.version) c.args.desk.now.pass.knows c.offer.new.pass.knows c.args.desk.now.number c.args.draft o) c.in-Ok-Newer.field-0-is c.in-Ok-Newer.ensures.answered in
     turned_same _ _ _ _ _ p.0.turned
 
 pub returns-in-Ok-Newer-clause-offers : goal.returns-in-Ok-Newer-clause-offers
 returns-in-Ok-Newer-clause-offers g c =
-    let p = subst (λ (o : Offered ParsedText). Answers (λ (d : Drafted). d.version) c.args.desk.now.pass.knows c.offer.new.pass.knows c.args.desk.now.number c.args.draft o) c.in-Ok-Newer.field-0-is c.in-Ok-Newer.ensures.answered in
+    let p = subst (λ (o : Offered ParsedText). AnswersOffer (λ (d : Drafted). d.version) c.args.desk.now.pass.knows c.offer.new.pass.knows c.args.desk.now.number c.args.draft o) c.in-Ok-Newer.field-0-is c.in-Ok-Newer.ensures.answered in
     let o = p.0.turned.offers in omega (arith, o)
 
 pub returns-in-Ok-Newer-clause-serves : goal.returns-in-Ok-Newer-clause-serves
 returns-in-Ok-Newer-clause-serves g c = λ client number at edit drafts can.
-    let p = subst (λ (o : Offered ParsedText). Answers (λ (d : Drafted). d.version) c.args.desk.now.pass.knows c.offer.new.pass.knows c.args.desk.now.number c.args.draft o) c.in-Ok-Newer.field-0-is c.in-Ok-Newer.ensures.answered in
+    let p = subst (λ (o : Offered ParsedText). AnswersOffer (λ (d : Drafted). d.version) c.args.desk.now.pass.knows c.offer.new.pass.knows c.args.desk.now.number c.args.draft o) c.in-Ok-Newer.field-0-is c.in-Ok-Newer.ensures.answered in
     offer_newer client number at edit (standing_at c.args.desk.now) c.offer.new.pass.knows c.args.draft c.in-Ok-Newer.turn c.in-Ok-Newer.number c.in-Ok-Newer.latest
     p.0 p.1 can
 
@@ -87,6 +87,6 @@ returns-in-Err-clause-serves g c = if_memory c.refused.result c.args.desk.now.nu
 
 pub returns-in-Err-clause-stops : goal.returns-in-Err-clause-stops
 returns-in-Err-clause-stops g c = if_spent c.refused.result
-    (Stops (standing_at c.args.desk.now) (standing_at (record { pass = c.offer.new.pass; number = c.args.desk.now.number; version = c.args.desk.now.version })))
+    (StopsEarly (standing_at c.args.desk.now) (standing_at (record { pass = c.offer.new.pass; number = c.args.desk.now.number; version = c.args.desk.now.version })))
     (c.in-Err.denied ≡ denied.Spent) c.refused.ensures.spent
     (λ e. stops_at c.args.desk.now.pass.knows c.offer.new.pass.knows c.args.desk.now.number c.args.desk.now.version [] (none_idle _ _ c.in-Err.ensures.no_turn) (omega arith) (c.in-Err.ensures.spent.0 e))

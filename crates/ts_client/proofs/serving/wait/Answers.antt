@@ -2,7 +2,7 @@ use Rattle.std.proofs.Common.{◌≡◌, ℕ}
 use Rattle.ts_script.specs.declared.plan.ScriptStep.TheVariants as step
 use Rattle.ts_replies.specs.declared.reply.Reply.{Reply}
 use Rattle.ts_shelf.specs.declared.shelf.Denied.TheVariants as denied
-use Rattle.ts_client.specs.Steps.{standing_at, ServesStep, Stops, has_no_memory}
+use Rattle.ts_client.specs.Steps.{standing_at, ServesStep, StopsEarly, has_no_memory}
 use Rattle.ts_client.proofs.DeskLemmas.{may_shown, may_kept, if_memory, if_spent, stops_at, watch_told}
 use Rattle.ts_client.proofs.serving.wait.Goals as goal
 
@@ -27,6 +27,6 @@ returns-in-Err-clause-serves g c = if_memory c.refused.result c.args.desk.now.nu
 
 pub returns-in-Err-clause-stops : goal.returns-in-Err-clause-stops
 returns-in-Err-clause-stops g c = if_spent c.refused.result
-    (Stops (standing_at c.args.desk.now) (standing_at (record { pass = c.watch.new.pass; number = c.args.desk.now.number; version = c.args.desk.now.version })))
+    (StopsEarly (standing_at c.args.desk.now) (standing_at (record { pass = c.watch.new.pass; number = c.args.desk.now.number; version = c.args.desk.now.version })))
     (c.in-Err.denied ≡ denied.Spent) c.refused.ensures.spent
     (λ e. stops_at c.args.desk.now.pass.knows c.watch.new.pass.knows c.args.desk.now.number c.args.desk.now.version c.in-Err.ensures.refused.turns c.in-Err.ensures.refused.idle c.in-Err.ensures.refused.few (c.in-Err.ensures.refused.over e))

@@ -3,7 +3,7 @@ use Rattle.std.specs.List.{Contains}
 use Rattle.ts_core.specs.declared.symbol.Symbol.{Symbol}
 use Rattle.ts_numbering.specs.Numberings.{lists_of, numbers_of}
 use Rattle.ts_rules.specs.Sights.{NamedRule}
-use Rattle.ts_entries.specs.Owners.{AreOwners, AreMarked, places_in}
+use Rattle.ts_entries.specs.Owners.{AreOwners, AreOwned, places_in}
 use Rattle.ts_entries.proofs.OwnerLemmas.{places_within, owners_begin, owners_more, owners_all, rule_there, written, length_trees}
 use Rattle.ts_entries.proofs.owners.repetition_owners.Goals as goal
 
@@ -46,9 +46,9 @@ loop-left-preserved c =
     let le = c.loop-left.invariant.0 in
     let lt : i < length rules = omega (arith, le, c.loop-left-test.true) in
     let there : Contains g.rules rule = subst (λ (rs : List NamedRule). Contains rs rule) c.as_slice-rules.ensures (rule_there rules i rule lt c.index-rules-left.is) in
-    let marks : AreMarked (places_in n x rule.1) c.chosen_symbol-owner.result old new
-    = subst (λ (before : List Symbol). AreMarked (places_in n x rule.1) c.chosen_symbol-owner.result before new) c.as_mut_slice.ensures.value
-    (subst (λ (ks : List ℕ). AreMarked ks c.chosen_symbol-owner.result c.as_mut_slice.result.now new) (c.as_slice.ensures.value ∙ c.in_ok-places.ensures) c.mark.ensures) in
+    let marks : AreOwned (places_in n x rule.1) c.chosen_symbol-owner.result old new
+    = subst (λ (before : List Symbol). AreOwned (places_in n x rule.1) c.chosen_symbol-owner.result before new) c.as_mut_slice.ensures.value
+    (subst (λ (ks : List ℕ). AreOwned ks c.chosen_symbol-owner.result c.as_mut_slice.result.now new) (c.as_slice.ensures.value ∙ c.in_ok-places.ensures) c.mark.ensures) in
     let next : i + 1 ≡ c.loop-left.left = omega (arith, c.loop-left-test.true) in
     let before : AreOwners g n x (drop (i + 1) rules) old = subst (λ (k : ℕ). AreOwners g n x (drop k rules) old) (sym next) c.loop-left.invariant.1 in
     let after : AreOwners g n x (drop i rules) new

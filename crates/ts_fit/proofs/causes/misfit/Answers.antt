@@ -2,7 +2,7 @@ use Rattle.std.proofs.Common.{arith, subst, sym, refl, ℕ, Option, None, true�
 use Rattle.std.proofs.lemmas.Option.{slice_get_within}
 use Rattle.ts_core.specs.declared.limits.Unfit.{Unfit}
 use Rattle.ts_core.specs.declared.symbol.Symbol.{Symbol}
-use Rattle.ts_fit.specs.Misfits.{Finds, HasNoMisfit, Misfits, repetition, empty_token, empty_rule, cyclic, too_many}
+use Rattle.ts_fit.specs.Misfits.{FindsFirst, HasNoMisfit, Misfits, repetition, empty_token, empty_rule, cyclic, too_many}
 use Rattle.spec_tables.specs.Fit.{IsCyclic}
 use Rattle.ts_fit.proofs.CauseLemmas.{not_fit, is_fit}
 use Rattle.ts_fit.proofs.CyclicLemmas.{cyclic_within}
@@ -41,12 +41,12 @@ returns-in-Some-first_empty_rule-clause-fit c formed =
 
 pub rule_at-requires-in-Some-2-clause-there : goal.rule_at-requires-in-Some-2-clause-there
 rule_at-requires-in-Some-2-clause-there c =
-    let h = subst (λ (p : Option ℕ). Finds (IsCyclic c.args.grammar.now) p) c.in-Some-2.is c.in_ok-place.ensures in
+    let h = subst (λ (p : Option ℕ). FindsFirst (IsCyclic c.args.grammar.now) p) c.in-Some-2.is c.in_ok-place.ensures in
     cyclic_within c.args.grammar.now c.in-Some-2.place h.holds
 
 pub returns-in-Some-2-clause-some : goal.returns-in-Some-2-clause-some
 returns-in-Some-2-clause-some c =
-    let h = subst (λ (p : Option ℕ). Finds (IsCyclic c.args.grammar.now) p) c.in-Some-2.is c.in_ok-place.ensures in
+    let h = subst (λ (p : Option ℕ). FindsFirst (IsCyclic c.args.grammar.now) p) c.in-Some-2.is c.in_ok-place.ensures in
     subst (λ (s : Symbol). Misfits c.args.grammar.now (Unfit.Cyclic s)) (sym c.rule_at-in-Some-2.ensures)
     (cyclic c.in-Some-2.place c.in_default.ensures.none c.in_default-first_empty_token.ensures c.in_default-first_empty_rule.ensures h)
 
@@ -56,7 +56,7 @@ returns-in-Some-2-clause-fit c formed =
 
 pub returns-then-has_few_positions-clause-fit : goal.returns-then-has_few_positions-clause-fit
 returns-then-has_few_positions-clause-fit c formed =
-    let straight = subst (λ (p : Option ℕ). Finds (IsCyclic c.args.grammar.now) p) c.in_default-2.is c.in_ok-place.ensures in
+    let straight = subst (λ (p : Option ℕ). FindsFirst (IsCyclic c.args.grammar.now) p) c.in_default-2.is c.in_ok-place.ensures in
     let none : HasNoMisfit c.args.grammar.now = record {
       repetitions = c.in_default.ensures.none;
       tokens = c.in_default-first_empty_token.ensures;
@@ -68,5 +68,5 @@ returns-then-has_few_positions-clause-fit c formed =
 
 pub returns-else-has_few_positions-clause-some : goal.returns-else-has_few_positions-clause-some
 returns-else-has_few_positions-clause-some c =
-    let straight = subst (λ (p : Option ℕ). Finds (IsCyclic c.args.grammar.now) p) c.in_default-2.is c.in_ok-place.ensures in
+    let straight = subst (λ (p : Option ℕ). FindsFirst (IsCyclic c.args.grammar.now) p) c.in_default-2.is c.in_ok-place.ensures in
     too_many c.in_default.ensures.none c.in_default-first_empty_token.ensures c.in_default-first_empty_rule.ensures straight (λ few. true≢false (sym (c.has_few_positions.ensures.1 few) ∙ c.if-has_few_positions.false))

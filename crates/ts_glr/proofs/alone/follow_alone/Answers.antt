@@ -46,6 +46,6 @@ returns-in_ok-deep-in-Some-clause-known c text long sees =
     let exact : (a : Action) → Contains c.actions-actions.result.now a ↔ ActsBy c.args.table.now (read_on c.args.readings.now.graph c.args.head) c.args.found.token.0 a = λ a. c.actions-actions.ensures.exact (read_on c.args.readings.now.graph c.args.head) a st in
     let one : c.actions-actions.result.now ≡ c.in-Some.action ∷ [] = c.only.ensures c.in-Some.action c.in-Some.is in
     alone_known c.laws_hold.ensures c.args.table.now c.stands.ensures c.args.setting.now.size c.args.readings.now.graph c.act.new.readings.graph c.args.head c.args.found c.state.result st c.actions-actions.result.now exact c.in-Some.action one c.in_ok-moved-in-Some.moved c.args.readings.now.best c.act.new.readings.best c.in_ok-moved-in-Some.ensures.acted
-    c.same_token_again.ensures text sees c.add.new.live.items c.seen_again.result
+    c.same_token_again.ensures c.tokens_of_states.ensures text sees c.add.new.live.items c.seen_again.result
     (c.in_ok-deep-in-Some.ensures.live ∙ ap (λ (l : List StackHead). l ++ heads_of c.in_ok-moved-in-Some.moved) (c.in_ok-moved-in-Some.ensures.live ∙ c.requires.alone))
     c.seen_again.ensures

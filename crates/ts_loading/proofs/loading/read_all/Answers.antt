@@ -1,14 +1,14 @@
 use Rattle.std.proofs.Common.{◌≡◌, sym, subst, refl, ℕ, List, length, Some, slice_get, arith}
 use Rattle.std.proofs.lemmas.Option.{slice_get_read}
 use Rattle.ts_query_syntax.specs.declared.read_query.ReadQuery.{ReadQuery}
-use Rattle.ts_loading.specs.Reading.{AreRead}
+use Rattle.ts_loading.specs.Reading.{AreLoadedAs}
 use Rattle.ts_loading.proofs.LoopLemmas.{read_none}
 use Rattle.ts_loading.proofs.loading.read_all.Goals as goal
 
 pub loop-number-init : goal.loop-number-init
 loop-number-init g c = (
   omega arith,
-  subst (λ (qs : List ReadQuery). AreRead c.args.grammar.now c.args.hosts.now c.args.texts.now 0 qs (g.P.Patterns.sources c.args.patterns.now) (g.P.Patterns.sources c.args.patterns.now)) (sym c.requires.empty)
+  subst (λ (qs : List ReadQuery). AreLoadedAs c.args.grammar.now c.args.hosts.now c.args.texts.now 0 qs (g.P.Patterns.sources c.args.patterns.now) (g.P.Patterns.sources c.args.patterns.now)) (sym c.requires.empty)
       (read_none c.args.grammar.now c.args.hosts.now c.args.texts.now (g.P.Patterns.sources c.args.patterns.now)),
 )
 
@@ -38,4 +38,4 @@ returns-clause-read g c =
     let most = c.loop-number.auto.number-end in
     let whole : c.loop-number.number ≡ length c.args.texts.now = omega (arith, past, most) in
     let inv = c.loop-number.invariant in
-    subst (λ (n : ℕ). AreRead c.args.grammar.now c.args.hosts.now c.args.texts.now n c.loop-number.queries (g.P.Patterns.sources c.args.patterns.now) (g.P.Patterns.sources c.loop-number.patterns)) whole inv.1
+    subst (λ (n : ℕ). AreLoadedAs c.args.grammar.now c.args.hosts.now c.args.texts.now n c.loop-number.queries (g.P.Patterns.sources c.args.patterns.now) (g.P.Patterns.sources c.loop-number.patterns)) whole inv.1

@@ -2,7 +2,7 @@ use Rattle.std.proofs.Common.{Bool, true, List, sym, ap, subst, ◌∙◌, arith
 use Rattle.ts_pattern.specs.declared.sight.Sight.{Sight}
 use Rattle.ts_pattern.specs.declared.item.Item.{Item}
 use Rattle.ts_pattern.specs.Characters.{IsSightWithin}
-use Rattle.ts_pattern.specs.Classes.{Items, item, opens_after}
+use Rattle.ts_pattern.specs.Classes.{AreClassItems, item, opens_after}
 use Rattle.ts_pattern.proofs.ClassLemmas.{items_push, opens_push, class_wrong}
 use Rattle.ts_pattern.proofs.class.items.Goals as goal
 
@@ -15,7 +15,7 @@ items-preserved c =
     let pushed = c.in_ok-push-in-Sees.ensures.ok in
     let more = items_push w c.items.items true c.args.start c.items.next c.in-Sees.after x c.items.invariant.items (λ e. omega (arith, c.peek.ensures.value, e)) seen in
     record {
-      items = subst (λ (xs : List Item). Items w true c.args.start xs c.in-Sees.after) (sym pushed) more;
+      items = subst (λ (xs : List Item). AreClassItems w true c.args.start xs c.in-Sees.after) (sym pushed) more;
       opens = c.is_class-opens.ensures ∙ sym (opens_push true c.items.items x) ∙ ap (opens_after true) (sym pushed);
       within = ends.1;
       after = omega (arith, c.items.invariant.after, ends.0);

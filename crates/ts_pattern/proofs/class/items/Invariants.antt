@@ -1,10 +1,10 @@
 use Rattle.std.proofs.Common.{◌≡◌, ◌-◌, ◌<◌, ◌≤◌, true, length}
-use Rattle.ts_pattern.specs.Classes.{Items, opens_after}
+use Rattle.ts_pattern.specs.Classes.{AreClassItems, opens_after}
 use Rattle.ts_pattern.proofs.class.items.Given as goal
 
 abbrev pub invariant-items : goal.invariant-items
 invariant-items l = record {
-  items : Items l.text true l.start l.items l.next;
+  items : AreClassItems l.text true l.start l.items l.next;
   opens : l.opens ≡ opens_after true l.items;
   within : l.next ≤ length l.text;
   after : l.at < l.next;

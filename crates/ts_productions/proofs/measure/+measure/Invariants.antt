@@ -1,5 +1,5 @@
 use Rattle.std.proofs.Common.{drop}
-use Rattle.ts_rules.specs.Alternatives.{members_of, choice_of}
+use Rattle.ts_rules.specs.Alternatives.{alternatives_each, choice_of}
 use Rattle.ts_rules.specs.declared.tree.Around.{Around}
 use Rattle.ts_productions.specs.Sizes.{IsSmallMeasure}
 use Rattle.ts_productions.proofs.MeasureLemmas.{Joining, Choosing}
@@ -14,5 +14,5 @@ invariant-choice_measure-loop-branch l = record {
 abbrev pub invariant-sequence_measure-loop-member : goal.invariant-sequence_measure-loop-member
 invariant-sequence_measure-loop-member l = record {
   small : IsSmallMeasure l.all;
-  so_far : (around : Around) → Joining l.weights l.all (members_of l.inner around) (members_of (drop l.member-index l.inner) around);
+  so_far : (around : Around) → Joining l.weights l.all (alternatives_each l.inner around) (alternatives_each (drop l.member-index l.inner) around);
 }

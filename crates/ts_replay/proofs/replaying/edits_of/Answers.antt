@@ -1,6 +1,6 @@
 use Rattle.std.proofs.Common.{◌≡◌, sym, ap, subst, refl, ◌+◌, ◌*◌, ◌≤◌, List, [], length, drop, slice_get, Some, arith}
 use Rattle.std.proofs.lemmas.Option.{slice_get_read}
-use Rattle.ts_script.specs.Rules.{most_steps}
+use Rattle.ts_script.specs.Rules.{most_script_steps}
 use Rattle.ts_script.specs.declared.plan.ScriptStep.{ScriptStep}
 use Rattle.ts_replay.specs.Runs.{weight_of, weight_left, edits_on}
 use Rattle.ts_replay.proofs.StartLemmas.{edits_left, edits_weigh}
@@ -15,7 +15,7 @@ overflow_add-edits c =
     let at : slice_get c.args.plan.now.clients c.loop-steps.steps-index ≡ Some c.steps-item.result
     = subst (λ (l : List (List ScriptStep)). slice_get l c.loop-steps.steps-index ≡ Some c.steps-item.result) c.as_slice-steps-items.ensures
     (slice_get_read c.as_slice-steps-items.result.now (length c.as_slice-steps-items.result.now) c.loop-steps.steps-index c.steps-item.result refl c.loop-steps-test.true c.steps-item.is) in
-    let short : length c.steps-item.result ≤ most_steps = c.requires.few c.loop-steps.steps-index c.steps-item.result at in
+    let short : length c.steps-item.result ≤ most_script_steps = c.requires.few c.loop-steps.steps-index c.steps-item.result at in
     let own : weight_of (edits_on c.args.document) c.as_slice.result.now ≤ length c.as_slice.result.now = edits_weigh c.args.document c.as_slice.result.now in
     let same : length c.as_slice.result.now ≡ length c.steps-item.result = ap length c.as_slice.ensures in
     let is = c.edits_in-edits.ensures in

@@ -1,13 +1,13 @@
 use Rattle.std.proofs.Common.{◌≡◌, ◌+◌, ◌*◌, ◌≤◌, min, max, drop, length}
-use Rattle.ts_rules.specs.Alternatives.{members_of, choice_of, sequence, longest_of, longest_together}
+use Rattle.ts_rules.specs.Alternatives.{alternatives_each, choice_of, sequence, longest_of, longest_together}
 use Rattle.ts_rules.specs.declared.tree.Around.{Around}
 use Rattle.ts_rules.proofs.size.+size.Given as goal
 
 abbrev pub invariant-joined_size-loop-member : goal.invariant-joined_size-loop-member
 invariant-joined_size-loop-member l = record {
   few : (l.all ≤ 65536) × (l.steps ≤ 256);
-  many : (around : Around) → min 65536 (l.all * length (sequence (members_of (drop l.member-index l.inner) around))) ≡ min 65536 (length (sequence (members_of l.inner around)));
-  longest : (around : Around) → min 256 (l.steps + longest_together (members_of (drop l.member-index l.inner) around)) ≡ min 256 (longest_together (members_of l.inner around));
+  many : (around : Around) → min 65536 (l.all * length (sequence (alternatives_each (drop l.member-index l.inner) around))) ≡ min 65536 (length (sequence (alternatives_each l.inner around)));
+  longest : (around : Around) → min 256 (l.steps + longest_together (alternatives_each (drop l.member-index l.inner) around)) ≡ min 256 (longest_together (alternatives_each l.inner around));
 }
 
 abbrev pub invariant-either_size-loop-branch : goal.invariant-either_size-loop-branch

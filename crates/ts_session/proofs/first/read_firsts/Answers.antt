@@ -6,7 +6,7 @@ use Rattle.ts_script.specs.declared.plan.Source.{Source}
 use Rattle.ts_session.specs.Firsts.{IsLookedAt, AreFirsts}
 use Rattle.ts_session.specs.declared.first.First.{First}
 use Rattle.ts_session.specs.declared.first.Looked.{Looked}
-use Rattle.ts_session.proofs.FirstLemmas.{is_missing, firsts_and, firsts_none}
+use Rattle.ts_session.proofs.FirstLemmas.{is_missing, firsts_and}
 use Rattle.ts_session.proofs.first.read_firsts.Goals as goal
 
 pub returns-in-Ok-Missing-clause-looked : goal.returns-in-Ok-Missing-clause-looked

@@ -8,7 +8,7 @@ use Rattle.ts_core.specs.declared.limits.Limited.TheVariants.{File}
 use Rattle.ts_front.specs.Compiled.{IsUncompiled}
 use Rattle.ts_io.specs.Outside.{Files, file_at}
 use Rattle.ts_io.specs.Read.{AnswersFor}
-use Rattle.ts_loading.specs.Loads.{AreQueries, HasCause, GrewByEach}
+use Rattle.ts_loading.specs.Loads.{AreQueries, HasLoadCause, GrewByEach}
 use Rattle.ts_query_syntax.specs.Refusals.{HasRisen}
 use Rattle.ts_script.specs.Rules.{most_script_bytes}
 use Rattle.ts_script.specs.Script.{IsScript, too_large}
@@ -18,7 +18,7 @@ use Rattle.ts_session.specs.Documents.{IsMissing, IsRefused, AreOpened}
 use Rattle.ts_session.specs.Firsts.{IsFoundAt, AreFirsts, AreLookedAt, AreOpenings}
 use Rattle.ts_session.specs.Grammars.{Builds}
 use Rattle.ts_session.specs.Limits.{most_file_bytes}
-use Rattle.ts_session.specs.Opened.{IsOpened, HasRead}
+use Rattle.ts_session.specs.Opened.{OpensAs, HasReadQueries}
 use Rattle.ts_session.specs.Refusals.{RefusesPlan, missing, no_text, no_script, large_grammar, no_grammar, grammar_absent, script_absent}
 use Rattle.ts_session.specs.Sessions.{IsAsked}
 use Rattle.ts_session.specs.declared.opened.Opened.{Opened}
@@ -32,9 +32,9 @@ pub returns-in-Ok-clause-opened : goal.returns-in-Ok-clause-opened
 returns-in-Ok-clause-opened g c =
     ok_then c.by_table.result
     (λ (o : Opened). (files : Files) (path other w s : Bytes) → g.F.Folder.files c.args.folder.now ≡ Some files → file_at files path ≡ Some w → Builds w c.in-Ok.table.grammar → file_at files other ≡ Some s → AnswersFor (Some s) most_script_bytes c.args.script.now
-    → IsOpened c.args.names.now files path other (HasRisen (g.P.Patterns.refusals c.args.patterns.now) (g.P.Patterns.refusals c.by_table.new.patterns)) (g.P.Patterns.sources c.args.patterns.now) (g.P.Patterns.sources c.by_table.new.patterns) o)
+    → OpensAs c.args.names.now files path other (HasRisen (g.P.Patterns.refusals c.args.patterns.now) (g.P.Patterns.refusals c.by_table.new.patterns)) (g.P.Patterns.sources c.args.patterns.now) (g.P.Patterns.sources c.by_table.new.patterns) o)
     (λ (o : Opened). (files : Files) (path other s : Bytes) → g.F.Folder.files c.args.folder.now ≡ Some files → file_at files path ≡ Some c.args.grammar.now → file_at files other ≡ Some s → AnswersFor (Some s) most_script_bytes c.args.script.now
-    → IsOpened c.args.names.now files path other (HasRisen (g.P.Patterns.refusals c.args.patterns.now) (g.P.Patterns.refusals c.by_table.new.patterns)) (g.P.Patterns.sources c.args.patterns.now) (g.P.Patterns.sources c.by_table.new.patterns) o)
+    → OpensAs c.args.names.now files path other (HasRisen (g.P.Patterns.refusals c.args.patterns.now) (g.P.Patterns.refusals c.by_table.new.patterns)) (g.P.Patterns.sources c.args.patterns.now) (g.P.Patterns.sources c.by_table.new.patterns) o)
     (λ o j. λ files path other s told x y q. j files path other c.args.grammar.now s told x (record { small = c.requires.within; is_form = c.in-Ok.ensures.form; table = c.in-Ok.ensures.has }) y q) c.by_table.ensures.opened
 
 pub returns-in-Err-Refused-clause-opened : goal.returns-in-Err-Refused-clause-opened

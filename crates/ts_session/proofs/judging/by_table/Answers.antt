@@ -8,7 +8,7 @@ use Rattle.ts_core.specs.declared.limits.Limited.TheVariants.{File}
 use Rattle.ts_front.specs.Compiled.{IsUncompiled}
 use Rattle.ts_io.specs.Outside.{Files, file_at}
 use Rattle.ts_io.specs.Read.{AnswersFor}
-use Rattle.ts_loading.specs.Loads.{AreQueries, HasCause, GrewByEach}
+use Rattle.ts_loading.specs.Loads.{AreQueries, HasLoadCause, GrewByEach}
 use Rattle.ts_query_syntax.specs.Refusals.{HasRisen}
 use Rattle.ts_script.specs.Rules.{most_script_bytes}
 use Rattle.ts_script.specs.Script.{IsScript, too_large}
@@ -18,7 +18,7 @@ use Rattle.ts_session.specs.Documents.{IsMissing, IsRefused, AreOpened}
 use Rattle.ts_session.specs.Firsts.{IsFoundAt, AreFirsts, AreLookedAt, AreOpenings}
 use Rattle.ts_session.specs.Grammars.{Builds}
 use Rattle.ts_session.specs.Limits.{most_file_bytes}
-use Rattle.ts_session.specs.Opened.{IsOpened, HasRead}
+use Rattle.ts_session.specs.Opened.{OpensAs, HasReadQueries}
 use Rattle.ts_session.specs.Parts.{AsksFor, HasScript, IsParts, AreParts}
 use Rattle.ts_session.specs.Replays.{IsJudged}
 use Rattle.ts_session.specs.Refusals.{RefusesPlan, missing, no_text, no_script, large_grammar, no_grammar, grammar_absent, script_absent}
@@ -36,9 +36,9 @@ by_plan-requires-clause-script g c = subst HasScript c.in-Ok-Plan.field-0-is c.i
 pub returns-in-Ok-Plan-clause-opened : goal.returns-in-Ok-Plan-clause-opened
 returns-in-Ok-Plan-clause-opened g c =
     ok_then c.by_plan.result
-    (λ (o : Opened). (files : Files) (path other : Bytes) → g.F.Folder.files c.args.folder.now ≡ Some files → IsAsked files path other c.args.table.grammar c.in-Ok-Plan.plan → IsOpened c.args.names.now files path other (HasRisen (g.P.Patterns.refusals c.args.patterns.now) (g.P.Patterns.refusals c.by_plan.new.patterns)) (g.P.Patterns.sources c.args.patterns.now) (g.P.Patterns.sources c.by_plan.new.patterns) o)
+    (λ (o : Opened). (files : Files) (path other : Bytes) → g.F.Folder.files c.args.folder.now ≡ Some files → IsAsked files path other c.args.table.grammar c.in-Ok-Plan.plan → OpensAs c.args.names.now files path other (HasRisen (g.P.Patterns.refusals c.args.patterns.now) (g.P.Patterns.refusals c.by_plan.new.patterns)) (g.P.Patterns.sources c.args.patterns.now) (g.P.Patterns.sources c.by_plan.new.patterns) o)
     (λ (o : Opened). (files : Files) (path other w s : Bytes) → g.F.Folder.files c.args.folder.now ≡ Some files → file_at files path ≡ Some w → Builds w c.args.table.grammar → file_at files other ≡ Some s → AnswersFor (Some s) most_script_bytes c.args.file.now
-    → IsOpened c.args.names.now files path other (HasRisen (g.P.Patterns.refusals c.args.patterns.now) (g.P.Patterns.refusals c.by_plan.new.patterns)) (g.P.Patterns.sources c.args.patterns.now) (g.P.Patterns.sources c.by_plan.new.patterns) o)
+    → OpensAs c.args.names.now files path other (HasRisen (g.P.Patterns.refusals c.args.patterns.now) (g.P.Patterns.refusals c.by_plan.new.patterns)) (g.P.Patterns.sources c.args.patterns.now) (g.P.Patterns.sources c.by_plan.new.patterns) o)
     (λ o j. λ files path other w s told x b y q. j files path other told (record { grammar_file = w; grammar_is = x; script_file = s; script_is = y; builds = b; is_script = subst (AsksFor s) c.in-Ok-Plan.field-0-is (c.in-Ok-Plan.ensures.asks s q) })) c.by_plan.ensures.opened
 
 pub returns-in-Ok-Refused-clause-opened : goal.returns-in-Ok-Refused-clause-opened

@@ -8,7 +8,7 @@ use Rattle.ts_core.specs.declared.limits.Limited.TheVariants.{File}
 use Rattle.ts_front.specs.Compiled.{IsUncompiled}
 use Rattle.ts_io.specs.Outside.{Files, file_at}
 use Rattle.ts_io.specs.Read.{AnswersFor}
-use Rattle.ts_loading.specs.Loads.{AreQueries, HasCause, GrewByEach}
+use Rattle.ts_loading.specs.Loads.{AreQueries, HasLoadCause, GrewByEach}
 use Rattle.ts_query_syntax.specs.Refusals.{HasRisen}
 use Rattle.ts_script.specs.Rules.{most_script_bytes}
 use Rattle.ts_script.specs.Script.{IsScript, too_large}
@@ -18,7 +18,7 @@ use Rattle.ts_session.specs.Documents.{IsMissing, IsRefused, AreOpened}
 use Rattle.ts_session.specs.Firsts.{IsFoundAt, AreFirsts, AreLookedAt, AreOpenings}
 use Rattle.ts_session.specs.Grammars.{Builds}
 use Rattle.ts_session.specs.Limits.{most_file_bytes}
-use Rattle.ts_session.specs.Opened.{IsOpened, HasRead}
+use Rattle.ts_session.specs.Opened.{OpensAs, HasReadQueries}
 use Rattle.ts_session.specs.Parts.{AsksFor, HasScript, IsParts, AreParts}
 use Rattle.ts_session.specs.Replays.{IsJudged}
 use Rattle.ts_session.specs.Refusals.{RefusesPlan, missing, no_text, no_script, large_grammar, no_grammar, grammar_absent, script_absent}
@@ -68,7 +68,7 @@ returns-in_ok-not_loaded-in-Err-clause-parts g c = λ files path other a are.
     let new = g.P.Patterns.sources c.load.new.patterns in
     let rose = HasRisen (g.P.Patterns.refusals c.args.patterns.now) (g.P.Patterns.refusals c.load.new.patterns) in
     not_loaded c.args.names.now files path other rose old new c.args.table.now.grammar c.args.plan.now c.in-Err.fault c.in_ok-not_loaded-in-Err.field-0.status c.in_ok-not_loaded-in-Err.field-0.bytes.items a (firsts_are_files files c.args.plan.now.documents c.args.firsts.now c.requires.count are)
-    (subst (λ (f : FlatGrammar). HasCause f c.args.names.now c.args.plan.now.queries rose old new c.in-Err.fault) c.grammar.ensures (subst (λ (ws : List Bytes). HasCause c.grammar.result.now c.args.names.now ws rose old new c.in-Err.fault) c.as_slice.ensures c.in-Err.ensures.cause))
+    (subst (λ (f : FlatGrammar). HasLoadCause f c.args.names.now c.args.plan.now.queries rose old new c.in-Err.fault) c.grammar.ensures (subst (λ (ws : List Bytes). HasLoadCause c.grammar.result.now c.args.names.now ws rose old new c.in-Err.fault) c.as_slice.ensures c.in-Err.ensures.cause))
     c.in_ok-not_loaded-in-Err.ensures.bytes c.in_ok-not_loaded-in-Err.ensures.status
 
 pub returns-in_ok-not_loaded-in-Err-clause-whole : goal.returns-in_ok-not_loaded-in-Err-clause-whole

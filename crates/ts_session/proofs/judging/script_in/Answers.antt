@@ -8,7 +8,7 @@ use Rattle.ts_core.specs.declared.limits.Limited.TheVariants.{File}
 use Rattle.ts_front.specs.Compiled.{IsUncompiled}
 use Rattle.ts_io.specs.Outside.{Files, file_at}
 use Rattle.ts_io.specs.Read.{AnswersFor}
-use Rattle.ts_loading.specs.Loads.{AreQueries, HasCause, GrewByEach}
+use Rattle.ts_loading.specs.Loads.{AreQueries, HasLoadCause, GrewByEach}
 use Rattle.ts_query_syntax.specs.Refusals.{HasRisen}
 use Rattle.ts_script.specs.Rules.{most_script_bytes}
 use Rattle.ts_script.specs.Script.{IsScript, too_large}
@@ -18,7 +18,7 @@ use Rattle.ts_session.specs.Documents.{IsMissing, IsRefused, AreOpened}
 use Rattle.ts_session.specs.Firsts.{IsFoundAt, AreFirsts, AreLookedAt, AreOpenings}
 use Rattle.ts_session.specs.Grammars.{Builds}
 use Rattle.ts_session.specs.Limits.{most_file_bytes}
-use Rattle.ts_session.specs.Opened.{IsOpened, HasRead}
+use Rattle.ts_session.specs.Opened.{OpensAs, HasReadQueries}
 use Rattle.ts_session.specs.Parts.{AsksFor, HasScript, IsParts, AreParts}
 use Rattle.ts_session.specs.Replays.{IsJudged}
 use Rattle.ts_session.specs.Refusals.{RefusesPlan, missing, no_text, no_script, large_grammar, no_grammar, grammar_absent, script_absent}

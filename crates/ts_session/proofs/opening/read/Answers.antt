@@ -8,7 +8,7 @@ use Rattle.ts_core.specs.declared.limits.Limited.TheVariants.{File}
 use Rattle.ts_front.specs.Compiled.{IsUncompiled}
 use Rattle.ts_io.specs.Outside.{Files, file_at}
 use Rattle.ts_io.specs.Read.{AnswersFor}
-use Rattle.ts_loading.specs.Loads.{AreQueries, HasCause, GrewByEach}
+use Rattle.ts_loading.specs.Loads.{AreQueries, HasLoadCause, GrewByEach}
 use Rattle.ts_query_syntax.specs.Refusals.{HasRisen}
 use Rattle.ts_script.specs.Rules.{most_script_bytes}
 use Rattle.ts_script.specs.Script.{IsScript, too_large}
@@ -18,7 +18,7 @@ use Rattle.ts_session.specs.Documents.{IsMissing, IsRefused, AreOpened}
 use Rattle.ts_session.specs.Firsts.{IsFoundAt, AreFirsts, AreLookedAt, AreOpenings}
 use Rattle.ts_session.specs.Grammars.{Builds}
 use Rattle.ts_session.specs.Limits.{most_file_bytes}
-use Rattle.ts_session.specs.Opened.{IsOpened, HasRead}
+use Rattle.ts_session.specs.Opened.{OpensAs, HasReadQueries}
 use Rattle.ts_session.specs.Refusals.{RefusesPlan, missing, no_text, no_script, large_grammar, no_grammar, grammar_absent, script_absent}
 use Rattle.ts_session.specs.Sessions.{IsAsked}
 use Rattle.ts_session.specs.declared.opened.Opened.{Opened}
@@ -31,8 +31,8 @@ use Rattle.ts_session.proofs.opening.read.Goals as goal
 pub returns-in-Ok-Some-clause-opened : goal.returns-in-Ok-Some-clause-opened
 returns-in-Ok-Some-clause-opened g c =
     ok_then c.read_script.result
-    (λ (o : Opened). (files : Files) (path w : Bytes) → g.F.Folder.files c.found_at.new.folder ≡ Some files → file_at files path ≡ Some w → AnswersFor (Some w) most_file_bytes c.in-Ok-Some.grammar → IsOpened c.args.names.now files path c.args.paths.script.now (HasRisen (g.P.Patterns.refusals c.args.patterns.now) (g.P.Patterns.refusals c.read_script.new.patterns)) (g.P.Patterns.sources c.args.patterns.now) (g.P.Patterns.sources c.read_script.new.patterns) o)
-    (λ (o : Opened). (files : Files) → g.F.Folder.files c.args.folder.now ≡ Some files → IsOpened c.args.names.now files c.args.paths.grammar.now c.args.paths.script.now (HasRisen (g.P.Patterns.refusals c.args.patterns.now) (g.P.Patterns.refusals c.read_script.new.patterns)) (g.P.Patterns.sources c.args.patterns.now) (g.P.Patterns.sources c.read_script.new.patterns) o)
+    (λ (o : Opened). (files : Files) (path w : Bytes) → g.F.Folder.files c.found_at.new.folder ≡ Some files → file_at files path ≡ Some w → AnswersFor (Some w) most_file_bytes c.in-Ok-Some.grammar → OpensAs c.args.names.now files path c.args.paths.script.now (HasRisen (g.P.Patterns.refusals c.args.patterns.now) (g.P.Patterns.refusals c.read_script.new.patterns)) (g.P.Patterns.sources c.args.patterns.now) (g.P.Patterns.sources c.read_script.new.patterns) o)
+    (λ (o : Opened). (files : Files) → g.F.Folder.files c.args.folder.now ≡ Some files → OpensAs c.args.names.now files c.args.paths.grammar.now c.args.paths.script.now (HasRisen (g.P.Patterns.refusals c.args.patterns.now) (g.P.Patterns.refusals c.read_script.new.patterns)) (g.P.Patterns.sources c.args.patterns.now) (g.P.Patterns.sources c.read_script.new.patterns) o)
     (λ o j. λ files told.
     let found = subst (IsFoundAt files c.args.paths.grammar.now most_file_bytes) c.in-Ok-Some.field-0-is (c.in-Ok-Some.ensures.found files told) in
     j files c.args.paths.grammar.now found.0 (c.found_at.ensures.files ∙ told) found.1 found.2) c.read_script.ensures.opened

@@ -8,7 +8,7 @@ use Rattle.ts_rules.specs.Names.{told}
 use Rattle.ts_rules.specs.Sights.{NamedRule}
 use Rattle.ts_tokens.specs.Inlining.{NamesApart, IsRuleGraph}
 use Rattle.ts_tokens.specs.Names.{HaveSame}
-use Rattle.ts_tokens.specs.Paths.{graph_of, StaysInside, HasNoCircle, Path, AreRanks}
+use Rattle.ts_tokens.specs.Paths.{graph_of, StaysInside, HasNoCircle, Path, AreNodeRanks}
 use Rattle.ts_tokens.proofs.InliningLemmas.{names_distinct, closed, acyclic_of, none_left, ranks_fall}
 use Rattle.ts_tokens.proofs.inlining.inline_ranks.Goals as goal
 
@@ -38,7 +38,7 @@ first_bad-requires-clause-ranked c =
     let inline = told c.in_ok-inline.inline.keys in
     let same = subst (λ (xs : List Bytes). HaveSame inline xs) c.as_slice.ensures c.in_ok-inline.ensures in
     let graph = subst (λ (rs : List NamedRule). IsRuleGraph rs inline (length rs) (graph_of c.in_ok-rows.rows.items)) c.as_slice-2.ensures c.in_ok-rows.ensures in
-    let found = subst (λ (rows : List (Vec ℕ)). MatchOption c.in_ok-ranks.ranks ((k : ℕ) × Path (graph_of rows) k k) (λ ranks. AreRanks (graph_of rows) ranks.items)) c.as_slice-3.ensures.value c.in_ok-ranks.ensures in
+    let found = subst (λ (rows : List (Vec ℕ)). MatchOption c.in_ok-ranks.ranks ((k : ℕ) × Path (graph_of rows) k k) (λ ranks. AreNodeRanks (graph_of rows) ranks.items)) c.as_slice-3.ensures.value c.in_ok-ranks.ensures in
     subst (λ (rows : List (Vec ℕ)). c.is_some-ranked.result ≡ true → HasNoCircle (graph_of rows)) (sym c.as_slice-4.ensures.value)
     (acyclic_of (graph_of c.in_ok-rows.rows.items) c.in_ok-ranks.ranks c.is_some-ranked.result (closed g inline (graph_of c.in_ok-rows.rows.items) c.requires.file same graph) found c.is_some-ranked.ensures)
 
@@ -48,8 +48,8 @@ returns-in-Some-ranks-clause-ranks c =
     let inline = told c.in_ok-inline.inline.keys in
     let same = subst (λ (xs : List Bytes). HaveSame inline xs) c.as_slice.ensures c.in_ok-inline.ensures in
     let graph = subst (λ (rs : List NamedRule). IsRuleGraph rs inline (length rs) (graph_of c.in_ok-rows.rows.items)) c.as_slice-2.ensures c.in_ok-rows.ensures in
-    let found = subst (λ (rows : List (Vec ℕ)). MatchOption c.in_ok-ranks.ranks ((k : ℕ) × Path (graph_of rows) k k) (λ ranks. AreRanks (graph_of rows) ranks.items)) c.as_slice-3.ensures.value c.in_ok-ranks.ensures in
-    let are = subst (λ (o : Option (Vec ℕ)). MatchOption o ((k : ℕ) × Path (graph_of c.in_ok-rows.rows.items) k k) (λ ranks. AreRanks (graph_of c.in_ok-rows.rows.items) ranks.items)) c.in-Some-ranks.is found in
+    let found = subst (λ (rows : List (Vec ℕ)). MatchOption c.in_ok-ranks.ranks ((k : ℕ) × Path (graph_of rows) k k) (λ ranks. AreNodeRanks (graph_of rows) ranks.items)) c.as_slice-3.ensures.value c.in_ok-ranks.ensures in
+    let are = subst (λ (o : Option (Vec ℕ)). MatchOption o ((k : ℕ) × Path (graph_of c.in_ok-rows.rows.items) k k) (λ ranks. AreNodeRanks (graph_of c.in_ok-rows.rows.items) ranks.items)) c.in-Some-ranks.is found in
     ranks_fall g inline (graph_of c.in_ok-rows.rows.items) c.requires.file same graph c.in-Some-ranks.ranks.items are
 
 pub unreachable-requires : goal.unreachable-requires
@@ -58,7 +58,7 @@ unreachable-requires c =
     let inline = told c.in_ok-inline.inline.keys in
     let same = subst (λ (xs : List Bytes). HaveSame inline xs) c.as_slice.ensures c.in_ok-inline.ensures in
     let graph = subst (λ (rs : List NamedRule). IsRuleGraph rs inline (length rs) (graph_of c.in_ok-rows.rows.items)) c.as_slice-2.ensures c.in_ok-rows.ensures in
-    let found = subst (λ (rows : List (Vec ℕ)). MatchOption c.in_ok-ranks.ranks ((k : ℕ) × Path (graph_of rows) k k) (λ ranks. AreRanks (graph_of rows) ranks.items)) c.as_slice-3.ensures.value c.in_ok-ranks.ensures in
-    let circle = subst (λ (o : Option (Vec ℕ)). MatchOption o ((k : ℕ) × Path (graph_of c.in_ok-rows.rows.items) k k) (λ ranks. AreRanks (graph_of c.in_ok-rows.rows.items) ranks.items)) c.in-None-ranks.is found in
+    let found = subst (λ (rows : List (Vec ℕ)). MatchOption c.in_ok-ranks.ranks ((k : ℕ) × Path (graph_of rows) k k) (λ ranks. AreNodeRanks (graph_of rows) ranks.items)) c.as_slice-3.ensures.value c.in_ok-ranks.ensures in
+    let circle = subst (λ (o : Option (Vec ℕ)). MatchOption o ((k : ℕ) × Path (graph_of c.in_ok-rows.rows.items) k k) (λ ranks. AreNodeRanks (graph_of c.in_ok-rows.rows.items) ranks.items)) c.in-None-ranks.is found in
     let clear = subst (λ (o : Option (Bor Bytes)). MatchOption o (Clear (IsBadInline g) (rule_names g)) (λ name. First (IsBadInline g) (rule_names g) name.now)) c.in-None.is c.in_ok-name.ensures in
     none_left g (graph_of c.in_ok-rows.rows.items) inline c.requires.file same graph clear circle

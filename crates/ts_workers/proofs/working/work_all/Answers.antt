@@ -16,6 +16,7 @@ for_each_mut-requires-send-T g c = λ κs lives. search (sendable, worker_send)
 pub for_each_mut-requires-sync-F : goal.for_each_mut-requires-sync-F
 for_each_mut-requires-sync-F g c = λ κs lives.
     let r = c.type_bounds.sync-R in
+    let gate = c.type_bounds.sync-G in
     let f = c.type_bounds.sync-F in
     search (table_sync, plan.the_sync, shelf.the_sync, book_send, book_sync, sendable, crosses) depth 30 fits 5000
 

@@ -1,6 +1,6 @@
 use Rattle.std.proofs.Common.{sym, subst}
 use Rattle.ts_client.specs.declared.working.Client.{Client}
-use Rattle.ts_client.specs.Working.{Begins, HasWorked}
+use Rattle.ts_client.specs.Working.{IsNewClient, HasWorked}
 use Rattle.ts_workers.proofs.ListLemmas.{there_is}
 use Rattle.ts_workers.proofs.working.work_one.Goals as goal
 
@@ -11,7 +11,7 @@ work-requires-clause-lexer g c =
 
 pub work-requires-clause-begins : goal.work-requires-clause-begins
 work-requires-clause-begins g c steps is =
-    subst (λ (x : Client). Begins c.args.table.now c.args.shelves.now steps x) (sym c.replace-client.ensures.value) (c.requires.next.may steps is).begins
+    subst (λ (x : Client). IsNewClient c.args.table.now c.args.shelves.now steps x) (sym c.replace-client.ensures.value) (c.requires.next.may steps is).begins
 
 pub returns : goal.returns
 returns g c steps is =

@@ -3,7 +3,7 @@ use Rattle.ts_core.specs.declared.symbol.Symbol.{Symbol}
 use Rattle.ts_automata.specs.Walks.{walk_room}
 use Rattle.ts_lexer.specs.Ahead.{contents_of}
 use Rattle.ts_lexer.specs.Ways.{IsWayOf, IsReadyFor}
-use Rattle.ts_lexer.specs.Answers.{IsAnswer}
+use Rattle.ts_lexer.specs.Answers.{IsLexedAnswer}
 use Rattle.ts_lexer.proofs.WayLemmas.{listed}
 use Rattle.ts_lexer.proofs.engine.Engine.lex.Goals as goal
 
@@ -28,7 +28,7 @@ returns-clause-answer c g valid made at =
     let same : Some c.list_at-valid.result.now ≡ Some valid = sym c.list_at-valid.ensures ∙ at in
     let is : c.list_at-valid.result.now ≡ valid = cc in
     let below : c.args.list < length s.pairs.items = (let l = c.requires.list in let n = made.count in omega arith) in
-    subst (λ (l : List Symbol). IsAnswer g l c.args.text.now c.args.place c.answer_at.result) is
+    subst (λ (l : List Symbol). IsLexedAnswer g l c.args.text.now c.args.place c.answer_at.result) is
     (c.answer_at.ensures.answer g (record {
       made = made.way;
       ready = c.prepare.ensures.ready g (walk_room s.walk) made.way made.marks

@@ -1,0 +1,4 @@
+pub mod MovedLemmas
+pub mod LayerLemmas
+pub mod WholeLemmas
+pub mod SoundLemmas
