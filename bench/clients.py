@@ -8,6 +8,7 @@ seconds by the clock and of processor time, the most memory, and how many edits 
 
 - sixteen clients, each of which edits a JSON text of 100 KB of its own twenty times and asks a query after each edit
 - sixteen clients that edit one text, a hundred times each, and look before each edit
+- one client that asks 64 queries in one step, of a JSON text of 1 MB, and of the same without that step
 """
 import json
 import os
@@ -53,6 +54,16 @@ def together():
     return script
 
 
+def asking(asks):
+    """One client asks all queries at once."""
+    script = line(op="open", text=numbers(1_000_000))
+    for k in range(64):
+        script += line(op="load", source=f'((number) @n (#eq? @n "{k}"))')
+    if asks:
+        script += line(client=0, op="query", document=0, queries=list(range(64)))
+    return script
+
+
 def measured(words):
     """The seconds by the clock and of processor time, the most memory in MiB, what was printed, and the status."""
     start = time.monotonic()
@@ -67,9 +78,15 @@ def main():
     grammar = f"{TOP}/examples/json.json"
     with tempfile.TemporaryDirectory() as folder:
         path = f"{folder}/script"
-        for name, make in (("sixteen documents", apart), ("one document", together)):
+        cases = (
+            ("sixteen documents", apart()),
+            ("one document", together()),
+            ("64 queries", asking(True)),
+            ("no queries", asking(False)),
+        )
+        for name, script in cases:
             with open(path, "w") as out:
-                out.write(make())
+                out.write(script)
             for words in ([program, "run", grammar, path], [program, "replay", grammar, path, ""]):
                 clock, spent, memory, printed, status = measured(words)
                 if status:

@@ -3,7 +3,7 @@
 use spec_trees::Tree;
 
 /// A state at a place of the text, in bytes. There is one head for both.
-#[derive(Clone, Copy, Debug, PartialEq, Eq, Drop)]
+#[derive(Clone, Copy, Debug, PartialEq, Eq, Hash, Drop)]
 pub struct Head {
     pub state: u16,
     pub place: u32,

@@ -1,8 +1,9 @@
 //! Queries as a run sees them: a text, its tree and the numbers of queries go in, and what each of
 //! them finds comes out.
-ghost use Rattle.std.specs.Prelude.{◌≡◌, ℕ, ◌<◌, List as AnyList, All, IfOk};
+ghost use Rattle.std.specs.Prelude.{◌≡◌, ℕ, ◌<◌, List as AnyList, All, IfOk, Some, length, slice_get};
 ghost use Rattle.ts_base.specs.Bytes.{Bytes};
 ghost use Rattle.ts_core.specs.declared.flat.FlatGrammar.{FlatGrammar as AnyForm};
+ghost use Rattle.spec_trees.specs.declared.tree.Tree.{Tree as AnyTree};
 ghost use Rattle.spec_runs.specs.Outcomes.{tree_outcome, Fresh};
 ghost use Rattle.ts_replies.specs.declared.reply.ShownResult.{ShownResult as AnyResult};
 
@@ -23,6 +24,9 @@ pub trait Finder {
     /// What queries of some numbers find in a text.
     ghost finds: { Self → Bytes → AnyList ℕ → AnyList AnyResult → Type 0 };
 
+    /// What the query of a number comes to in a tree of a text.
+    ghost finds_one: { Self → Bytes → AnyTree → ℕ → AnyResult → Type 0 };
+
     /// What queries of these numbers find in a text, in the tree that it comes to.
     ///
     /// # Errors
@@ -38,4 +42,28 @@ pub trait Finder {
         requires fresh { Fresh (form self.now) text.now (tree_outcome root.now) }
         requires there { All (λ (number : ℕ). number < count self.now) numbers.now }
         ensures { IfOk result (finds self.now text.now numbers.now) };
+
+    /// What the query of this number comes to in the tree of the text.
+    ///
+    /// # Errors
+    ///
+    /// `AllocError` where memory runs out.
+    fn find_one(
+        &self,
+        alloc: Global,
+        text: &Text,
+        root: &Node,
+        number: u32,
+    ) -> Result<ShownResult, AllocError>
+        requires fresh { Fresh (form self.now) text.now (tree_outcome root.now) }
+        requires there { number < count self.now }
+        ensures { IfOk result (finds_one self.now text.now root.now number) };
+
+    /// What queries find in a text is what each of them comes to in its tree, one after another.
+    ghost one_by_one: { (finder : Self) (text : Bytes) (tree : AnyTree) (numbers : AnyList ℕ)
+        (results : AnyList AnyResult) → Fresh (form finder) text (tree_outcome tree)
+        → length results ≡ length numbers
+        → ((place number : ℕ) (result : AnyResult) → slice_get numbers place ≡ Some number
+        → slice_get results place ≡ Some result → finds_one finder text tree number result)
+        → finds finder text numbers results };
 }

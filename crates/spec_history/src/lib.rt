@@ -6,4 +6,4 @@ mod finder;
 mod laws;
 
 pub use finder::Finder;
-pub use laws::held_never_falls;
+pub use laws::{found_one_by_one, held_never_falls};

@@ -13,7 +13,7 @@ pub(crate) enum RowFault {
     Rules,
     #[error("`most` is 0, so no write takes a byte")]
     Most,
-    #[error("a client that the gate held was not met by the other")]
+    #[error("a client or a host waited for one that did not come")]
     Unmet,
     #[error("out of memory")]
     Memory,

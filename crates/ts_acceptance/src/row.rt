@@ -2,7 +2,7 @@
 //! is wanted.
 use crate::content::Content;
 use crate::fault::DataFault;
-use crate::holding::Hold;
+use crate::holding::{Hold, Meeting};
 use crate::rules::Held;
 use serde::Deserialize;
 use serde_json::Value;
@@ -37,6 +37,8 @@ pub(crate) struct Row {
     /// Where a gate holds clients, and until when.
     #[serde(default)]
     pub holds: Vec<Hold>,
+    /// A host that waits, and whom the gate holds meanwhile.
+    pub meeting: Option<Meeting>,
     /// Whether any turns will do, since clients look until something comes.
     #[serde(default)]
     pub turns_are_free: bool,

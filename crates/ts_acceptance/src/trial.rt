@@ -1,6 +1,6 @@
 //! One row in; the answer that it wants and the answer that its run gives out.
 use crate::fault::RowFault;
-use crate::holding::Holding;
+use crate::holding::{Holding, WaitingHost};
 use crate::row::Row;
 use crate::turns::without_turns;
 use serde_json::Value;
@@ -8,6 +8,7 @@ use std::alloc::Global;
 use std::sync::Wait;
 use std::thread::Threads;
 use ts_io::{MemFolder, MemSink};
+use ts_predicate::Hosts;
 use ts_query_syntax::Builder;
 use ts_top::AsciiHost;
 
@@ -27,8 +28,8 @@ pub(crate) struct Trial {
 }
 
 impl Trial {
-    /// Makes the run of a row, over files and a sink in memory, with the host of the program and a
-    /// gate that holds the row's clients.
+    /// Makes the run of a row, over files and a sink in memory, with a gate that holds the row's
+    /// clients, and with the host of the program or one that waits.
     pub(crate) fn of<R: AllocGlobal + Threads + Wait + Sync>(
         rt: &R,
         row: Value,
@@ -70,24 +71,36 @@ fn answer_of<R: AllocGlobal + Threads + Wait + Sync>(
     let mut folder = folder_of(alloc, row)?;
     let failing = Vec::from_slice(alloc, row.failing_writes.as_slice())?;
     let mut sink = MemSink::new(alloc, most, failing)?;
-    let hosts = AsciiHost::new(alloc)?;
-    let mut patterns = patterns_of(alloc, row)?;
-    let words = row.words.as_slice();
-    let gate = Holding::new(alloc, row.holds.as_slice())?;
-    let status = ts_top::run(
-        rt,
-        words,
-        &mut folder,
-        &mut sink,
-        &gate,
-        &hosts,
-        &mut patterns,
-    );
+    let gate = Holding::new(alloc, row.holds.as_slice(), row.meeting)?;
+    let status = match row.meeting {
+        None => {
+            let hosts = AsciiHost::new(alloc)?;
+            status_of(rt, row, &mut folder, &mut sink, &gate, &hosts)?
+        }
+        Some(meeting) => {
+            let hosts = WaitingHost::new(alloc, &gate, meeting.until)?;
+            status_of(rt, row, &mut folder, &mut sink, &gate, &hosts)?
+        }
+    };
     if gate.overran() {
         return Err(RowFault::Unmet);
     }
     let bytes = Vec::from_slice(alloc, sink.bytes())?;
     Ok(Answer { status, bytes })
+}
+
+/// The status with which the row's run ends, with this host.
+fn status_of<R: AllocGlobal + Threads + Wait + Sync, H: Hosts + Sync>(
+    rt: &R,
+    row: &Row,
+    folder: &mut MemFolder,
+    sink: &mut MemSink,
+    gate: &Holding,
+    hosts: &H,
+) -> Result<u8, RowFault> {
+    let mut patterns = patterns_of(rt.alloc(), row)?;
+    let words = row.words.as_slice();
+    Ok(ts_top::run(rt, words, folder, sink, gate, hosts, &mut patterns))
 }
 
 /// The row's files, of which the reads fail that the row lists.

@@ -2,7 +2,7 @@
 ghost use Rattle.std.specs.Prelude.{◌<◌, ◌^◌, All, length};
 ghost use Rattle.ts_query_syntax.specs.declared.read_query.ReadQuery.{ReadQuery as AnyQuery};
 
-use crate::answering::answers;
+use crate::answering::{answer, answers};
 use spec_history::Finder;
 use std::alloc::{AllocError, Global};
 use ts_base::List;
@@ -26,7 +26,7 @@ pub struct Queries<'a, H: Hosts> {
 impl<H: Hosts> Finder for Queries<'_, H> {
     ghost use Rattle.std.specs.Prelude.{length};
     ghost use Rattle.ts_predicate.specs.Predicates.{AnswersOf};
-    ghost use Rattle.spec_history.specs.Queries.{Finds};
+    ghost use Rattle.spec_history.specs.Queries.{Finds, IsResultOf};
 
     ghost form = { λ q. q.grammar.now };
 
@@ -34,6 +34,15 @@ impl<H: Hosts> Finder for Queries<'_, H> {
 
     ghost finds = { λ q. Finds q.grammar.now q.queries.now
         (AnswersOf (H.called q.hosts.now) (H.accepts q.hosts.now)) };
+
+    ghost finds_one = { λ q. IsResultOf q.grammar.now q.queries.now
+        (AnswersOf (H.called q.hosts.now) (H.accepts q.hosts.now)) };
+
+    ghost one_by_one = { λ q text tree numbers results fresh count each. record {
+      tree = tree;
+      fresh = fresh;
+      results_are = record { count = count; each = each };
+    } };
 
     fn find(
         &self,
@@ -51,5 +60,16 @@ impl<H: Hosts> Finder for Queries<'_, H> {
             numbers,
             self.hosts,
         )
+    }
+
+    fn find_one(
+        &self,
+        alloc: Global,
+        text: &Text,
+        root: &Node,
+        number: u32,
+    ) -> Result<ShownResult, AllocError> {
+        let query = &self.queries[number as usize];
+        answer(alloc, self.grammar, text, root, query, self.hosts)
     }
 }

@@ -5,3 +5,4 @@ pub mod HeldLemmas
 pub mod LookLemmas
 pub mod SeenFirst
 pub mod ServeLemmas
+pub mod SpreadLemmas

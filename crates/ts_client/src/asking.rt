@@ -6,8 +6,10 @@ ghost use Rattle.spec_history.specs.Legal.{HasTree};
 ghost use Rattle.ts_client.specs.Steps.{standing_at, Serves, TellsNoTree};
 
 use crate::desk::Desk;
+use crate::spreading::found_in;
 use spec_history::Finder;
 use std::alloc::Global;
+use std::thread::Threads;
 use ts_glr::Outcome;
 use ts_node::Node;
 use ts_replay::shown;
@@ -15,7 +17,8 @@ use ts_replies::Reply;
 use ts_table::Table;
 
 /// What queries find in the held version.
-pub(crate) fn query<F: Finder>(
+pub(crate) fn query<R: Threads + Sync, F: Finder + Sync>(
+    rt: &R,
     alloc: Global,
     table: &Table,
     finder: &F,
@@ -32,13 +35,20 @@ pub(crate) fn query<F: Finder>(
     let held = desk.version.get();
     held.stands();
     match held.outcome() {
-        Outcome::Accepted(root) => found(alloc, finder, desk, root, queries),
+        Outcome::Accepted(root) => found(rt, alloc, finder, desk, root, queries),
         Outcome::Stuck(_) | Outcome::Deep => absent(alloc, table, desk),
     }
 }
 
 /// What queries find in the tree of the held version.
-fn found<F: Finder>(alloc: Global, finder: &F, desk: &Desk, root: &Node, queries: &[u32]) -> Reply
+fn found<R: Threads + Sync, F: Finder + Sync>(
+    rt: &R,
+    alloc: Global,
+    finder: &F,
+    desk: &Desk,
+    root: &Node,
+    queries: &[u32],
+) -> Reply
     requires form { F.form finder.now ≡ desk.now.version.table.grammar }
     requires fresh { Fresh desk.now.version.table.grammar desk.now.version.text
         (tree_outcome root.now) }
@@ -48,7 +58,7 @@ fn found<F: Finder>(alloc: Global, finder: &F, desk: &Desk, root: &Node, queries
         (standing_at desk.now) }
 {
     let version = desk.number;
-    match finder.find(alloc, desk.version.get().text(), root, queries) {
+    match found_in(rt, alloc, finder, desk.version.get().text(), root, queries) {
         Ok(results) => Reply::Results { results, version },
         Err(_) => Reply::Memory { version },
     }

@@ -8,6 +8,7 @@ mod desk;
 mod laws;
 mod looking;
 mod serving;
+mod spreading;
 mod working;
 
 pub use desk::Desk;

@@ -20,6 +20,7 @@ use crate::looking::watch;
 use spec_history::Finder;
 use std::alloc::Global;
 use std::sync::Wait;
+use std::thread::Threads;
 use ts_docs::{Book, Draft, Refused, Version, prepare};
 use ts_lexer::Lexer;
 use ts_replay::shown;
@@ -39,7 +40,10 @@ pub struct Asker {
 
 /// Does a step, and gives the reply to it. Want of memory is a reply, and then the held version
 /// stays. `None` comes where all turns of the document are over.
-pub fn serve<R: Wait, F: Finder>(
+///
+/// Several queries are asked at once, on 16 threads at most, where the tree of the held version has
+/// 1,000 nodes or more. Else they are asked one after another, on the calling thread.
+pub fn serve<R: Threads + Wait + Sync, F: Finder + Sync>(
     rt: &R,
     alloc: Global,
     table: &Table,
@@ -71,7 +75,7 @@ pub fn serve<R: Wait, F: Finder>(
         ScriptStep::Query {
             document: _,
             queries,
-        } => Some(query(alloc, table, finder, desk, queries.as_slice())),
+        } => Some(query(rt, alloc, table, finder, desk, queries.as_slice())),
         ScriptStep::Tree { document: _ } => Some(tree(alloc, table, desk)),
         ScriptStep::Await {
             document: _,

@@ -15,6 +15,7 @@ use spec_clients::next_reply_is_served;
 use spec_history::Finder;
 use std::alloc::Global;
 use std::sync::Wait;
+use std::thread::Threads;
 use ts_docs::Book;
 use ts_io::Gate;
 use ts_lexer::Lexer;
@@ -38,11 +39,12 @@ pub struct Client {
 /// An edit is made in the version that the client holds of the document, and is published where
 /// that is still the newest one; else the client then holds the newest. A look takes the newest
 /// version, and an await looks until there is one of its number, 10,000,000 times at most. Of the
-/// held version the tree is shown, and queries are asked in it.
+/// held version the tree is shown, and queries are asked in it, several of one step at once where
+/// the tree is not small (`serve`).
 ///
 /// A step that finds no memory for itself is answered so, and the replies take none. The steps end
 /// early only where all turns of a document are over.
-pub fn work<R: Wait, G: Gate, F: Finder>(
+pub fn work<R: Threads + Wait + Sync, G: Gate, F: Finder + Sync>(
     rt: &R,
     alloc: Global,
     gate: &G,
@@ -89,7 +91,7 @@ pub fn work<R: Wait, G: Gate, F: Finder>(
 }
 
 /// Does the next step, and tells whether there was a turn for it.
-fn go_on<R: Wait, G: Gate, F: Finder>(
+fn go_on<R: Threads + Wait + Sync, G: Gate, F: Finder + Sync>(
     rt: &R,
     alloc: Global,
     gate: &G,
@@ -129,7 +131,7 @@ fn go_on<R: Wait, G: Gate, F: Finder>(
 }
 
 /// The same, without what holds of all replies.
-fn serve_next<R: Wait, G: Gate, F: Finder>(
+fn serve_next<R: Threads + Wait + Sync, G: Gate, F: Finder + Sync>(
     rt: &R,
     alloc: Global,
     gate: &G,

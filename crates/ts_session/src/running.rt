@@ -14,16 +14,18 @@ use ts_predicate::Hosts;
 use ts_script::Plan;
 use ts_table::Table;
 use ts_text::Text;
-use ts_transcript::transcript;
+use ts_transcript::transcript_on_threads;
 use ts_workers::{Ran, run};
 
 impl Session {
     /// Runs the steps of all clients of the script at once, each client on a thread of its own, and
-    /// answers what is printed of that run. The host's predicates answer in its queries, on each of
-    /// these threads. Each client passes the gate before each of its steps.
+    /// answers what is printed of that run. Several queries of one step are asked on up to 16
+    /// threads, where the tree has 1,000 nodes or more. The host's predicates answer in the queries,
+    /// on each of all these threads. Each client passes the gate before each of its steps.
     ///
     /// A client for which no thread can be started is run by the thread that would have started it.
-    /// The call waits until all clients are done; an await ends after 10,000,000 looks.
+    /// The call waits until all clients are done; an await ends after 10,000,000 looks. Where much
+    /// is to be printed, its lines are made on threads too.
     ///
     /// # Errors
     ///
@@ -74,5 +76,11 @@ fn ran<R: Threads + Wait + Sync, G: Gate + Sync, H: Hosts + Sync>(
         (H.accepts queries.entry.now.hosts.now)) texts.items bytes.items) }
 {
     let Ran { books, replies } = run(rt, alloc, gate, table, queries, plan, texts)?;
-    transcript(alloc, table.grammar(), books.as_slice(), replies.as_slice())
+    transcript_on_threads(
+        rt,
+        alloc,
+        table.grammar(),
+        books.as_slice(),
+        replies.as_slice(),
+    )
 }

@@ -63,7 +63,7 @@ compile_or_play words path grammar script at_once p a = compile_or_run words pat
 plain_or_usage : (files : Files) (words : List Bytes) (s : Status) (b : Bytes) → PlainAnswers files words s b → IsUsage words → ⊥
 plain_or_usage files words s b a u = plain_asks ⊥ files words s b a u.no_parse u.no_compile
 
-plain_or_play : (files : Files) (words : List Bytes) (s : Status) (b grammar script : Bytes) (schedule : Schedule) → PlainAnswers files words s b → AsksSession words grammar script schedule → ⊥
+pub plain_or_play : (files : Files) (words : List Bytes) (s : Status) (b grammar script : Bytes) (schedule : Schedule) → PlainAnswers files words s b → AsksSession words grammar script schedule → ⊥
 plain_or_play files words s b grammar script schedule a asks =
     plain_asks ⊥ files words s b a (λ g t p. parse_or_play words g t grammar script schedule p asks) (λ path c. compile_or_play words path grammar script schedule c asks)
 
@@ -77,7 +77,7 @@ asks_replay_once words g c g2 c2 o o2 spelled_once a d =
     let word : a.word ≡ d.word = cc in
     (grammar, script, spelled_once a.word o o2 a.spells (subst (λ (w : Bytes). Spells w o2) (sym word) d.spells))
 
-asks_once : (words : List Bytes) (g c g2 c2 : Bytes) (s s2 : Schedule) → ((word : Bytes) (a b : List ℕ) → Spells word a → Spells word b → a ≡ b)
+pub asks_once : (words : List Bytes) (g c g2 c2 : Bytes) (s s2 : Schedule) → ((word : Bytes) (a b : List ℕ) → Spells word a → Spells word b → a ≡ b)
     → AsksSession words g c s → AsksSession words g2 c2 s2 → (g ≡ g2) × (c ≡ c2) × (s ≡ s2)
 asks_once words g c g2 c2 (in_order o) (in_order o2) spelled_once a d =
     let e = asks_replay_once words g c g2 c2 o o2 spelled_once a d in

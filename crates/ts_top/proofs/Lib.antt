@@ -1,4 +1,5 @@
 pub mod AnswerLemmas
+pub mod HeadlineLemmas
 pub mod JudgeLemmas
 pub mod PlainLemmas
 pub mod ProgramLemmas

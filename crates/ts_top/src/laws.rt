@@ -4,7 +4,8 @@ ghost use Rattle.ts_base.specs.Bytes.{Bytes};
 ghost use Rattle.ts_io.specs.Outside.{Files};
 ghost use Rattle.spec_output.specs.declared.status.Status.{Status as AnyStatus};
 ghost use Rattle.spec_output.specs.declared.status.Status.TheVariants.{Done};
-ghost use Rattle.ts_top.specs.Answer.{Answers, Compiles, IsClean, IsCompilable, CanPlay};
+ghost use Rattle.ts_top.specs.Answer.{Answers, AsksSession, Schedule, Compiles, IsClean, IsCompilable, CanPlay};
+ghost use Rattle.ts_top.specs.Headline.{IsLawfulRun};
 
 use ts_predicate::Hosts;
 
@@ -54,4 +55,16 @@ pub fn clean_is_done<H: Hosts>(hosts: &H)
     ts_session::runs_once(hosts);
     ts_session::clear_is_replayed(hosts);
     ts_session::clear_is_run(hosts);
+}
+
+/// Where words ask to run a script and the program is done, what it answers is the print of a
+/// lawful run.
+pub fn done_is_lawful<H: Hosts>(hosts: &H)
+    ensures { (files : Files) (words : List Bytes) (grammar script : Bytes) (schedule : Schedule)
+        (bytes : Bytes) → AsksSession words grammar script schedule
+        → Answers (H.called hosts.now) (H.accepts hosts.now) files words Done bytes
+        → IsLawfulRun (H.called hosts.now) (H.accepts hosts.now) files grammar script schedule
+        bytes }
+{
+    ts_turns::spelled_once();
 }

@@ -12,6 +12,6 @@ mod program;
 mod stop;
 
 pub use host::AsciiHost;
-pub use laws::{answers_once, clean_is_done};
+pub use laws::{answers_once, clean_is_done, done_is_lawful};
 pub use program::run;
 pub use spec_output::Status;

@@ -9,10 +9,11 @@ ghost use Rattle.spec_output.specs.declared.status.Status.TheVariants as ends;
 ghost use Rattle.ts_io.specs.Outside.{Files, Rose, Appends, AppendsPrefix};
 ghost use Rattle.ts_query_syntax.specs.Refusals.{HasRisen};
 ghost use Rattle.ts_top.specs.Answer.{texts, IsUsage, Compiles, Schedule, AsksSession, Answers, ComesTo, IsClean, IsCompilable, CanPlay, Told, Writes, WritesPrefix};
+ghost use Rattle.ts_top.specs.Headline.{IsLawfulRun};
 ghost use Rattle.ts_top.specs.Status.{IsStatus, IsCutShort, IsUnbuilt};
 ghost use Rattle.ts_top.specs.Stops.{IsAnswer, Stopped};
 
-use crate::laws::{answers_once, clean_is_done};
+use crate::laws::{answers_once, clean_is_done, done_is_lawful};
 use crate::plain::{compile, compile_path, parse, paths_in};
 use crate::play::play;
 use crate::stop::Stop;
@@ -79,6 +80,15 @@ pub fn run<
     patterns: &mut P,
 ) -> u8
     ensures statuses { IsStatus result }
+
+    // The headline: after every interleaving of the clients' steps, what is written is the print of
+    // a lawful run.
+    ensures headline { result ≡ number_of ends.Done
+        → (grammar script : Bytes) (schedule : Schedule)
+        → AsksSession (texts words.now) grammar script schedule
+        → Told (F.files folder.old) (λ files. Writes (IsLawfulRun (H.called hosts.now)
+        (H.accepts hosts.now) files grammar script schedule) (S.taken sink.old)
+        (S.taken sink.new)) }
 
     // What was written, at each status.
     ensures done { result ≡ number_of ends.Done → Told (F.files folder.old) (λ files.
@@ -159,6 +169,7 @@ pub fn run<
 {
     answers_once(hosts);
     clean_is_done(hosts);
+    done_is_lawful(hosts);
     match answer_to(rt, rt.alloc(), words, folder, gate, hosts, patterns) {
         Ok(answer) => match put(sink, answer.bytes.as_slice()) {
             Ok(()) => number(answer.status),

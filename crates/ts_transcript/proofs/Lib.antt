@@ -1,2 +1,6 @@
+mod ColumnLemmas
+mod LineLemmas
+mod MadeLemmas
 mod PieceLemmas
 mod RunLemmas
+mod SyncLemmas

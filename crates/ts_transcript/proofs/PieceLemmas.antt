@@ -1,10 +1,13 @@
--- Bytes that are pieces, one for each item of a list.
-use Rattle.std.proofs.Common.{arith, ◌≡◌, ◌∙◌, refl, sym, ap, subst, ℕ, zero, suc, ◌+◌, ◌<◌, ◌≤◌, ◌⊎◌, inl, inr, List, [], ◌∷◌, ◌++◌, append_assoc, length, length-append, length-take-le, get_or, take, take_all, map, option_map, Option, Some, slice_get}
+-- Bytes that are pieces, one for each item of a list, and lists of lines that tell them.
+use Rattle.std.proofs.Common.{arith, ◌≡◌, ◌∙◌, refl, sym, ap, subst, ℕ, zero, suc, ◌+◌, ◌<◌, ◌≤◌, ◌⊎◌, inl, inr, List, [], ◌∷◌, ◌++◌, append-nil, length, length-append, length-take-le, get_or, take, take_all, map, option_map, Option, Some, slice_get}
 use Rattle.std.proofs.lemmas.Option.{none-some, same_Some, slice_get_within, slice_get-map}
 use Rattle.std.proofs.lemmas.List.{take_more, length-map, flat_map_more}
 use Rattle.ts_base.specs.Bytes.{Bytes}
+use Rattle.ts_core.specs.declared.flat.FlatGrammar.{FlatGrammar}
 use Rattle.spec_history.specs.Printed.{TellsEach}
-use Rattle.ts_transcript.specs.Told.{AddsBytes}
+use Rattle.ts_transcript.specs.declared.line.RunLine.{RunLine}
+use Rattle.ts_transcript.specs.Told.{AddsLines}
+use Rattle.ts_transcript.proofs.LineLemmas.{Then, added_then, tells_as_well}
 
 -- ---- places of lists
 
@@ -27,7 +30,19 @@ there_is [] n lt = let f : ⊥ = omega (arith, lt) in elim f [ ]
 there_is (x ∷ xs) zero lt = (x, refl)
 there_is (x ∷ xs) (suc n) lt = there_is xs n (omega (arith, lt))
 
--- ---- one more piece
+-- ---- no piece, one more piece
+
+no_piece : {A : Type 0} (Tells : ℕ → A → Bytes → Type 0) (bytes : Bytes) → bytes ≡ [] → TellsEach Tells [] bytes
+no_piece {A = A} Tells bytes is = record {
+  pieces = [];
+  count = refl;
+  each = λ n x piece here there.
+      let nothing : List A = [] in
+      let within = slice_get_within nothing n x here in
+      let f : ⊥ = omega (arith, within) in
+      elim f [ ];
+  bytes_are = is;
+}
 
 picked : {A : Type 0} (Tells : ℕ → A → Bytes → Type 0) (xs : List A) (pieces : List Bytes) (x y : A) (piece p : Bytes) (n : ℕ) → length pieces ≡ length xs
     → (slice_get xs n ≡ Some y → slice_get pieces n ≡ Some p → Tells n y p) → Tells (length xs) x piece
@@ -62,20 +77,29 @@ one_more Tells xs x bytes piece tells so =
 
 -- ---- loops
 
-module _ {A : Type 0} (Tells : ℕ → A → Bytes → Type 0) (xs : List A) where
-  pub add_more : (i : ℕ) (x : A) (start before after : Bytes) → i < length xs → x ≡ get_or xs i x → AddsBytes (Tells i x) before after
-      → AddsBytes (TellsEach Tells (take i xs)) start before → AddsBytes (TellsEach Tells (take (i + 1) xs)) start after
+module _ {A : Type 0} (Tells : FlatGrammar → ℕ → A → Bytes → Type 0) (xs : List A) where
+  pub add_none : (start : List RunLine) → AddsLines (λ g. TellsEach (Tells g) (take 0 xs)) start start
+  add_none start = record {
+    added = [];
+    tell = λ g bytes are. no_piece (Tells g) bytes are;
+    after_is = sym (append-nil start);
+  }
+
+  pub add_more : (i : ℕ) (x : A) (start before after : List RunLine) → i < length xs → x ≡ get_or xs i x → AddsLines (λ g. Tells g i x) before after
+      → AddsLines (λ g. TellsEach (Tells g) (take i xs)) start before → AddsLines (λ g. TellsEach (Tells g) (take (i + 1) xs)) start after
   add_more i x start before after lt is new so =
       let count : length (take i xs) ≡ i = length-take-le i xs (omega (arith, lt)) in
       let next : take (i + 1) xs ≡ take i xs ++ x ∷ [] = take_more xs i x lt ∙ ap (λ (y : A). take i xs ++ y ∷ []) (sym is) in
-      let told : Tells (length (take i xs)) x new.0 = subst (λ (k : ℕ). Tells k x new.0) (sym count) new.1 in (
-        so.0 ++ new.0,
-        subst (λ (ys : List A). TellsEach Tells ys (so.0 ++ new.0)) (sym next) (one_more Tells (take i xs) x so.0 new.0 told so.1),
-        new.2 ∙ ap (λ (w : Bytes). w ++ new.0) so.2 ∙ append_assoc start so.0 new.0,
-      )
+      tells_as_well (Then (λ g. TellsEach (Tells g) (take i xs)) (λ g. Tells g i x)) (λ g. TellsEach (Tells g) (take (i + 1) xs)) start after
+      (λ g bytes s.
+      let told : Tells g (length (take i xs)) x s.1 = subst (λ (k : ℕ). Tells g k x s.1) (sym count) s.3 in
+      subst (λ (w : Bytes). TellsEach (Tells g) (take (i + 1) xs) w) (sym s.4)
+      (subst (λ (ys : List A). TellsEach (Tells g) ys (s.0 ++ s.1)) (sym next) (one_more (Tells g) (take i xs) x s.0 s.1 told s.2)))
+      (added_then (λ g. TellsEach (Tells g) (take i xs)) (λ g. Tells g i x) start before after so new)
 
-  pub add_all : (i : ℕ) (start after : Bytes) → length xs ≤ i → AddsBytes (TellsEach Tells (take i xs)) start after → AddsBytes (TellsEach Tells xs) start after
-  add_all i start after end so = subst (λ (ys : List A). AddsBytes (TellsEach Tells ys) start after) (take_all i xs end) so
+  pub add_all : (i : ℕ) (start after : List RunLine) → length xs ≤ i → AddsLines (λ g. TellsEach (Tells g) (take i xs)) start after
+      → AddsLines (λ g. TellsEach (Tells g) xs) start after
+  add_all i start after end so = subst (λ (ys : List A). AddsLines (λ g. TellsEach (Tells g) ys) start after) (take_all i xs end) so
 
 -- ---- another list
 

@@ -15,7 +15,9 @@ use Rattle.ts_docs.specs.Versions.{IsOfTable}
 use Rattle.spec_history.specs.Histories.{JournalEntry, History, version_text}
 use Rattle.spec_history.specs.Books.{journal_entry_of, journal_of, TellsTexts, IsHistoryOf}
 use Rattle.spec_history.specs.Printed.{TellsEach, IsVersionLine, AreOpeningLines, AreEntryLines, AreReplyLines, IsPrinted}
-use Rattle.ts_transcript.specs.Told.{AddsBytes, entry_head, TellsOpening, TellsEntry, IsEntryLine, TellsJournal}
+use Rattle.ts_transcript.specs.declared.line.RunLine.{RunLine}
+use Rattle.ts_transcript.specs.Told.{AreLines, AddsLines, entry_head, TellsOpening, TellsEntry, IsEntryLine, TellsJournal, TellsRun}
+use Rattle.ts_transcript.proofs.LineLemmas.{Then, added_then}
 use Rattle.ts_transcript.proofs.PieceLemmas.{there_is, beside, told_mapped}
 
 -- ---- one document
@@ -82,17 +84,27 @@ module _ (g : FlatGrammar) (h : History) (books : List Pages) (replies : List (L
   replies_told : (bytes : Bytes) → TellsEach AreReplyLines replies bytes → TellsEach AreReplyLines h.replies bytes
   replies_told bytes told = subst (λ (all : List (List Reply)). TellsEach AreReplyLines all bytes) (sym is.replies_are) told
 
-  -- lines that were added one after another are what is printed of the run
-  pub is_printed : (first second bytes : Bytes) → AddsBytes (TellsEach (TellsOpening g) books) [] first → AddsBytes (TellsEach (TellsJournal g) books) first second
-      → AddsBytes (TellsEach AreReplyLines replies) second bytes → IsPrinted h bytes
-  is_printed first second bytes a b c = record {
-    openings = a.0;
-    journals = b.0;
-    replies = c.0;
-    openings_are = openings_told a.0 a.1;
-    journals_are = journals_told b.0 b.1;
-    replies_are = replies_told c.0 c.1;
-    bytes_are = c.2
-        ∙ ap (λ (w : Bytes). w ++ c.0) (b.2 ∙ ap (λ (w : Bytes). w ++ b.0) a.2)
-        ∙ append_assoc a.0 b.0 c.0;
+  printed_of : (a b c bytes : Bytes) → TellsEach (TellsOpening g) books a → TellsEach (TellsJournal g) books b → TellsEach AreReplyLines replies c → bytes ≡ (a ++ b) ++ c
+      → IsPrinted h bytes
+  printed_of a b c bytes openings journals answers is_all = record {
+    openings = a;
+    journals = b;
+    replies = c;
+    openings_are = openings_told a openings;
+    journals_are = journals_told b journals;
+    replies_are = replies_told c answers;
+    bytes_are = is_all ∙ append_assoc a b c;
   }
+
+-- lines that were added one after another tell the run
+pub run_told : (books : List Pages) (replies : List (List Reply)) (first second lines : List RunLine) → AddsLines (λ g. TellsEach (TellsOpening g) books) [] first
+    → AddsLines (λ g. TellsEach (TellsJournal g) books) first second → AddsLines (λ g. TellsEach AreReplyLines replies) second lines
+    → (g : FlatGrammar) (bytes : Bytes) → AreLines g lines bytes → TellsRun g books replies bytes
+run_told books replies first second lines o j r g bytes are h grammar is =
+    let Opened = λ (f : FlatGrammar). TellsEach (TellsOpening f) books in
+    let Kept = λ (f : FlatGrammar). TellsEach (TellsJournal f) books in
+    let Answered = λ (f : FlatGrammar). TellsEach AreReplyLines replies in
+    let whole = added_then (Then Opened Kept) Answered [] second lines (added_then Opened Kept [] first second o j) r in
+    let told = whole.tell g bytes (subst (λ (ls : List RunLine). AreLines g ls bytes) whole.after_is are) in
+    let before = told.2 in
+    printed_of g h books replies grammar is before.0 before.1 told.1 bytes before.2 before.3 told.3 (told.4 ∙ ap (λ (w : Bytes). w ++ told.1) before.4)

@@ -1,6 +1,6 @@
 -- What is printed of journals and replies, whatever the run is that left them. It serves proofs
 -- alone.
-use Rattle.std.specs.Prelude.{◌≡◌, ℕ, suc, ◌++◌}
+use Rattle.std.specs.Prelude.{◌≡◌, ℕ, suc, List, [], ◌∷◌, ◌++◌}
 use Rattle.ts_base.specs.Bytes.{Bytes}
 use Rattle.ts_core.specs.declared.flat.FlatGrammar.{FlatGrammar}
 use Rattle.ts_shelf.specs.declared.journal.Entry.{Entry}
@@ -13,11 +13,11 @@ use Rattle.ts_docs.specs.declared.book.Accepted.{Accepted}
 use Rattle.ts_docs.specs.declared.parsed.ParsedText.{ParsedText}
 use Rattle.ts_docs.specs.declared.parsed.Drafted.{Drafted}
 use Rattle.ts_docs.specs.declared.parsed.Pages.{Pages}
-use Rattle.spec_history.specs.Printed.{TellsEach, IsVersionLine}
-
--- bytes that are so were added at the end
-abbrev pub AddsBytes : (Bytes → Type 0) → Bytes → Bytes → Type 0
-AddsBytes Is before after = (added : Bytes) × Is added × (after ≡ before ++ added)
+use Rattle.spec_history.specs.Books.{IsHistoryOf}
+use Rattle.spec_history.specs.Histories.{History}
+use Rattle.spec_history.specs.Printed.{TellsEach, IsVersionLine, IsPrinted}
+use Rattle.ts_transcript.specs.declared.line.RunLine.{RunLine}
+use Rattle.ts_transcript.specs.declared.line.RunLine.TheVariants as line
 
 -- what the line of an accepted edit begins with, where so many are before it
 abbrev pub entry_head : ℕ → ℕ → Entry Drafted → Head
@@ -54,3 +54,28 @@ TellsJournal g document b lines = b.opening.table.grammar ≡ g
 -- the line of the reply to a step of a client
 abbrev pub TellsReply : ℕ → ℕ → Reply → Bytes → Type 0
 TellsReply client step answer line = line ≡ reply_line client step answer
+
+-- what is printed of each run that left these journals and replies, by this grammar
+abbrev pub TellsRun : FlatGrammar → List Pages → List (List Reply) → Bytes → Type 0
+TellsRun g books replies bytes = (h : History) → h.grammar ≡ g → IsHistoryOf h books replies
+    → IsPrinted h bytes
+
+-- ---- lines before their bytes are made
+
+-- the bytes of a line
+abbrev pub TellsLine : FlatGrammar → RunLine → Bytes → Type 0
+TellsLine g (line.Version head version) bytes = TellsVersion g head version.now bytes
+TellsLine g (line.Reply client step answer) bytes = TellsReply client step answer.now bytes
+
+-- the bytes of these lines, one after another
+abbrev pub AreLines : FlatGrammar → List RunLine → Bytes → Type 0
+AreLines g [] bytes = bytes ≡ []
+AreLines g (l ∷ ls) bytes = (first : Bytes) × (others : Bytes) × TellsLine g l first
+    × AreLines g ls others × (bytes ≡ first ++ others)
+
+-- lines were added at the end, whose bytes tell so by each grammar
+pub record AddsLines (Tells : FlatGrammar → Bytes → Type 0) (before after : List RunLine) : Type 0
+  where
+    pub added : List RunLine
+    pub tell : (g : FlatGrammar) (bytes : Bytes) → AreLines g added bytes → Tells g bytes
+    pub after_is : after ≡ before ++ added

@@ -3,7 +3,10 @@
 #![tactic(auto)]
 
 mod entry;
+mod line;
+mod making;
 mod printing;
+mod threads;
 mod told;
 
-pub use printing::transcript;
+pub use printing::{transcript, transcript_on_threads};

@@ -5,8 +5,11 @@ ghost use Rattle.spec_history.specs.Histories.{History};
 ghost use Rattle.spec_history.specs.Books.{IsHistoryOf};
 ghost use Rattle.spec_history.specs.Printed.{IsPrinted};
 
-use crate::told::{add_clients, add_journals, add_openings};
+use crate::making::one_by_one;
+use crate::threads::{are_long, on_threads};
+use crate::told::lines;
 use std::alloc::{AllocError, Global};
+use std::thread::Threads;
 use ts_core::{FlatGrammar, List};
 use ts_docs::Book;
 use ts_replies::Reply;
@@ -31,9 +34,35 @@ pub fn transcript(
     ensures printed { IfOk result (λ bytes. (h : History) → h.grammar ≡ grammar.now
         → IsHistoryOf h books.now replies.now → IsPrinted h bytes.items) }
 {
-    let mut out = Vec::new(alloc);
-    add_openings(alloc, grammar, books, &mut out)?;
-    add_journals(alloc, grammar, books, &mut out)?;
-    add_clients(alloc, replies, &mut out)?;
-    Ok(out)
+    let lines = lines(alloc, books, replies)?;
+    one_by_one(alloc, grammar, lines.as_slice())
+}
+
+/// The same lines, made by as many threads as there are processors, where the versions' texts have
+/// 65,536 bytes or more, and by one thread where they have fewer.
+///
+/// Where several threads make them, each line is kept until all are made: about twice the memory of
+/// what is printed.
+///
+/// # Errors
+///
+/// `AllocError` where memory runs out.
+pub fn transcript_on_threads<R: Threads + Sync>(
+    rt: &R,
+    alloc: Global,
+    grammar: &FlatGrammar,
+    books: &[Book],
+    replies: &[List<Reply>],
+) -> Result<Vec<u8>, AllocError>
+    requires documents { length books.now ≤ 2 ^ 32 }
+    requires clients { length replies.now ≤ 2 ^ 32 }
+    requires steps { All (λ (own : Values AnyReply). length own ≤ 2 ^ 32) replies.now }
+    ensures printed { IfOk result (λ bytes. (h : History) → h.grammar ≡ grammar.now
+        → IsHistoryOf h books.now replies.now → IsPrinted h bytes.items) }
+{
+    let lines = lines(alloc, books, replies)?;
+    if are_long(lines.as_slice()) {
+        return on_threads(rt, alloc, grammar, lines.as_slice());
+    }
+    one_by_one(alloc, grammar, lines.as_slice())
 }

@@ -61,7 +61,7 @@ pub(crate) fn work_all<R: Threads + Wait + Sync, G: Gate + Sync, F: Finder + Syn
 }
 
 /// Does the steps of the client of this number.
-fn work_one<R: Wait, G: Gate, F: Finder>(
+fn work_one<R: Threads + Wait + Sync, G: Gate, F: Finder + Sync>(
     rt: &R,
     alloc: Global,
     gate: &G,

@@ -8,7 +8,7 @@ use Rattle.ts_client.proofs.AskLemmas.{no_tree, asked_in_vain}
 use Rattle.ts_client.proofs.asking.query.Goals as goal
 
 pub found-requires-clause-fresh : goal.found-requires-clause-fresh
-found-requires-clause-fresh g c =
+found-requires-clause-fresh g c = λ κs lives.
     subst (λ (v : ParsedText). Fresh v.table.grammar v.text (tree_outcome c.in-Accepted.root)) c.get-held.ensures
     (subst (λ (o : Outcome). Fresh c.get-held.result.now.table.grammar c.get-held.result.now.text (value_of_outcome o))
     (sym c.outcome.ensures ∙ c.in-Accepted.is) c.stands.ensures.fresh)

@@ -2,7 +2,7 @@ use Rattle.ts_client.proofs.BetweenLemmas.{may_next, next_or_stopped, one_reply_
 use Rattle.ts_client.proofs.working.go_on.Goals as goal
 
 pub serve_next-requires-clause-may : goal.serve_next-requires-clause-may
-serve_next-requires-clause-may g c = may_next (g.F.Finder.finds c.args.finder.now) c.args.plan.now c.args.table.now c.args.number c.args.steps.now c.args.shelves.now
+serve_next-requires-clause-may g c = λ κs lives. may_next (g.F.Finder.finds c.args.finder.now) c.args.plan.now c.args.table.now c.args.number c.args.steps.now c.args.shelves.now
     c.requires.at.0 c.args.client.now c.requires.at.1 (g.F.Finder.count c.args.finder.now) c.requires.plan c.requires.queries c.requires.steps c.requires.shelves c.requires.more
 
 pub returns-clause-next : goal.returns-clause-next

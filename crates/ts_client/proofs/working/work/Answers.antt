@@ -11,14 +11,14 @@ loop-steps-init g c = record {
 }
 
 pub go_on-requires-clause-steps : goal.go_on-requires-clause-steps
-go_on-requires-clause-steps g c = own_steps c.args.plan.now c.args.number c.as_slice.result.now c.index-as_slice-number.result c.as_slice-steps.result.now
+go_on-requires-clause-steps g c = λ κs lives. own_steps c.args.plan.now c.args.number c.as_slice.result.now c.index-as_slice-number.result c.as_slice-steps.result.now
     c.as_slice.ensures c.requires.number c.index-as_slice-number.is c.as_slice-steps.ensures
 
 pub go_on-requires-clause-at : goal.go_on-requires-clause-at
-go_on-requires-clause-at g c = (c.args.client.desks.items, c.loop-steps.invariant.at)
+go_on-requires-clause-at g c = λ κs lives. (c.args.client.desks.items, c.loop-steps.invariant.at)
 
 pub go_on-requires-clause-more : goal.go_on-requires-clause-more
-go_on-requires-clause-more g c =
+go_on-requires-clause-more g c = λ κs lives.
     let count : vec_len c.loop-steps.client.replies ≡ length c.loop-steps.client.replies.items = c.loop-steps.client.replies.ok.0 in
     subst (λ (n : ℕ). n < length c.as_slice-steps.result.now) (c.len.ensures ∙ count) c.loop-steps-test.true
 

@@ -4,6 +4,7 @@ use Rattle.ts_io.specs.Outside.{Appends, AppendsPrefix}
 use Rattle.spec_output.specs.Status.{number_of}
 use Rattle.spec_output.specs.declared.status.Status.TheVariants.{Done, Grammar, Query, Script, Absent, Text}
 use Rattle.ts_top.proofs.ProgramLemmas.{answer_writes, answer_queries, answer_exact, answer_complete, answer_compilable, answer_playable, answer_usage, answer_prefix, answer_whole, cut_low, cut_high, exact_or}
+use Rattle.ts_top.proofs.HeadlineLemmas.{writes_lawful}
 use Rattle.ts_top.proofs.program.run.Goals as goal
 
 pub returns-in-Ok-put-clause-usage : goal.returns-in-Ok-put-clause-usage
@@ -15,6 +16,12 @@ pub returns-in-Ok-put-clause-done : goal.returns-in-Ok-put-clause-done
 returns-in-Ok-put-clause-done g c = λ is.
     answer_writes _ _ _ _ _ _ _ _ Done _ _ _ _ c.number.ensures.number is (λ e. let never : ⊥ = cc in never) c.in-Ok.ensures.answers
     (subst (λ (bytes : Bytes). Appends (g.S.Sink.taken c.args.sink.now) (g.S.Sink.taken c.put.new.sink) bytes) c.as_slice.ensures.value c.in-Ok-put.ensures.ok)
+
+pub returns-in-Ok-put-clause-headline : goal.returns-in-Ok-put-clause-headline
+returns-in-Ok-put-clause-headline g c = λ is grammar script schedule asks.
+    writes_lawful _ _ c.done_is_lawful.ensures _ _ grammar script schedule _ _ asks
+    (answer_writes _ _ _ _ _ _ _ _ Done _ _ _ _ c.number.ensures.number is (λ e. let never : ⊥ = cc in never) c.in-Ok.ensures.answers
+    (subst (λ (bytes : Bytes). Appends (g.S.Sink.taken c.args.sink.now) (g.S.Sink.taken c.put.new.sink) bytes) c.as_slice.ensures.value c.in-Ok-put.ensures.ok))
 
 pub returns-in-Ok-put-clause-grammar : goal.returns-in-Ok-put-clause-grammar
 returns-in-Ok-put-clause-grammar g c = λ is.

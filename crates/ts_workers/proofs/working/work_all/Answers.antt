@@ -21,16 +21,22 @@ for_each_mut-requires-sync-F g c = λ κs lives.
     search (table_sync, plan.the_sync, shelf.the_sync, book_send, book_sync, sendable, crosses) depth 30 fits 5000
 
 pub for_each_mut-requires-clause-accepts : goal.for_each_mut-requires-clause-accepts
-for_each_mut-requires-clause-accepts g c = λ κs lives i p lt is. (
-  c.requires.plan,
-  c.requires.form,
-  c.requires.queries,
-  c.requires.shelves,
-  record {
-    there = (let same = c.requires.hired.1.count in omega (arith, lt, same));
-    may = λ steps s_is. (c.requires.hired.1.each i steps p.now s_is (read_at c.args.workers.now i p.now lt is)).may;
-  },
-)
+for_each_mut-requires-clause-accepts g c = λ κs lives i p lt is.
+    let r = c.type_bounds.sync-R in
+    let gate = c.type_bounds.sync-G in
+    let f = c.type_bounds.sync-F in (
+      (
+        c.requires.plan,
+        c.requires.form,
+        c.requires.queries,
+        c.requires.shelves,
+        record {
+          there = (let same = c.requires.hired.1.count in omega (arith, lt, same));
+          may = λ steps s_is. (c.requires.hired.1.each i steps p.now s_is (read_at c.args.workers.now i p.now lt is)).may;
+        },
+      ),
+      search (sendable, crosses) depth 30 fits 5000,
+    )
 
 pub returns-clause-worked : goal.returns-clause-worked
 returns-clause-worked g c client steps o n s_is o_is n_is =

@@ -1,0 +1,125 @@
+//! Queries of one step and the tree of a text in; what each of them finds out. They are asked on
+//! several threads where that is worth while.
+ghost use Rattle.std.specs.Prelude.{◌≡◌, ℕ, ◌<◌, All, IfOk, IfSome, Some, None, map, length, slice_get, slice_index_or};
+ghost use Rattle.spec_runs.specs.Outcomes.{tree_outcome, Fresh};
+
+use spec_history::{Finder, found_one_by_one};
+use std::alloc::{AllocError, Global};
+use std::thread::{self, Threads};
+use ts_base::List;
+use ts_node::Node;
+use ts_replies::ShownResult;
+use ts_text::Text;
+
+/// On how many threads the queries of a step are asked at most.
+const MOST_THREADS: usize = 16;
+
+/// How many nodes a tree has at least where queries are asked on several threads. In a smaller one
+/// most are answered within a millisecond.
+const FEWEST_NODES: u32 = 1000;
+
+/// What queries of these numbers find in a text, in the tree that it comes to.
+///
+/// # Errors
+///
+/// `AllocError` where memory runs out.
+pub(crate) fn found_in<R: Threads + Sync, F: Finder + Sync>(
+    rt: &R,
+    alloc: Global,
+    finder: &F,
+    text: &Text,
+    root: &Node,
+    numbers: &[u32],
+) -> Result<List<ShownResult>, AllocError>
+    requires fresh { Fresh (F.form finder.now) text.now (tree_outcome root.now) }
+    requires there { All (λ (number : ℕ). number < F.count finder.now) numbers.now }
+    ensures { IfOk result (F.finds finder.now text.now numbers.now) }
+{
+    if numbers.len() < 2 || root.nodes() < FEWEST_NODES {
+        finder.find(alloc, text, root, numbers)
+    } else {
+        found_at_once(rt, alloc, finder, text, root, numbers)
+    }
+}
+
+/// The same, with the queries asked on several threads at once.
+fn found_at_once<R: Threads + Sync, F: Finder + Sync>(
+    rt: &R,
+    alloc: Global,
+    finder: &F,
+    text: &Text,
+    root: &Node,
+    numbers: &[u32],
+) -> Result<List<ShownResult>, AllocError>
+    requires fresh { Fresh (F.form finder.now) text.now (tree_outcome root.now) }
+    requires there { All (λ (number : ℕ). number < F.count finder.now) numbers.now }
+    ensures { IfOk result (F.finds finder.now text.now numbers.now) }
+{
+    found_one_by_one(finder);
+    let mut places = empty_places(alloc, numbers.len())?;
+    find_each(rt, alloc, finder, text, root, numbers, &mut places);
+    all_found(alloc, places)
+}
+
+/// Puts what each query comes to at its place, and leaves nothing there where memory runs out. The
+/// queries are dealt out to the threads in runs of neighbours. Where no thread can be started, the
+/// thread that would have started it asks them.
+fn find_each<R: Threads + Sync, F: Finder + Sync>(
+    rt: &R,
+    alloc: Global,
+    finder: &F,
+    text: &Text,
+    root: &Node,
+    numbers: &[u32],
+    places: &mut [Option<ShownResult>],
+)
+    requires fresh { Fresh (F.form finder.now) text.now (tree_outcome root.now) }
+    requires there { All (λ (number : ℕ). number < F.count finder.now) numbers.now }
+    requires count { length places.old ≡ length numbers.now }
+    ensures count { length places.new ≡ length places.old }
+    ensures each { (index number : ℕ) → slice_get numbers.now index ≡ Some number
+        → IfSome (slice_index_or places.new index None)
+        (F.finds_one finder.now text.now root.now number) }
+{
+    thread::for_each_mut(
+        rt,
+        places,
+        MOST_THREADS,
+        &|index: usize, place: &mut Option<ShownResult>|
+            requires { Fresh (F.form finder.now) text.now (tree_outcome root.now)
+                × All (λ (number : ℕ). number < F.count finder.now) numbers.now
+                × (index < length numbers.now) }
+            ensures { (number : ℕ) → slice_get numbers.entry.now index ≡ Some number
+                → IfSome place.exit.now
+                (F.finds_one finder.entry.now text.entry.now root.entry.now number) }
+        { *place = finder.find_one(alloc, text, root, numbers[index]).ok() },
+    );
+}
+
+/// So many places with nothing in them.
+fn empty_places(alloc: Global, count: usize) -> Result<Vec<Option<ShownResult>>, AllocError>
+    ensures { IfOk result (λ places. length places.items ≡ count) }
+{
+    let mut places = Vec::with_capacity(alloc, count)?;
+    for _ in 0..count {
+        places.push(None)?;
+    }
+    Ok(places)
+}
+
+/// What stands at all places, if there is something at each.
+fn all_found(
+    alloc: Global,
+    places: Vec<Option<ShownResult>>,
+) -> Result<List<ShownResult>, AllocError>
+    ensures { IfOk result (λ results. places.items ≡ map Some results) }
+{
+    let mut results = List::with_capacity(alloc, places.len())?;
+    for place in places {
+        match place {
+            Some(result) => results.push(result)?,
+            None => return Err(AllocError),
+        }
+    }
+    Ok(results)
+}

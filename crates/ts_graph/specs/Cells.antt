@@ -1,0 +1,33 @@
+-- The graph that is kept as cells.
+use Rattle.std.specs.Prelude.{◌≡◌, ℕ, ◌≤◌, List, length, map, take, slice_get, Option, Some}
+use Rattle.spec_graph.specs.declared.graph.Head.{Head}
+use Rattle.spec_graph.specs.declared.graph.Link.{Link}
+use Rattle.ts_graph.specs.declared.graph.Cell.{Cell}
+use Rattle.ts_graph.specs.declared.view.GraphView.{GraphView}
+use Rattle.ts_graph.specs.Down.{links_down, links_from, HoldsEachOnce}
+
+-- the link of a cell
+abbrev pub link_of : Cell → Link
+link_of c = record { above = c.above; below = c.below; tree = c.node; depth = c.depth }
+
+-- the links of cells
+abbrev pub links_of : List Cell → List Link
+links_of cells = map link_of cells
+
+-- heads and links as one value
+abbrev pub graph_of : List Head → List Link → GraphView
+graph_of heads links = record { heads = heads; links = links }
+
+-- each cell tells where to go on down from its head
+abbrev pub AreChained : List Cell → Type 0
+AreChained cells = (k : ℕ) (c : Cell) → slice_get cells k ≡ Some c
+    → links_from (links_of cells) c.above c.earlier ≡ links_down (take k (links_of cells)) c.above
+
+-- there is room for each head's newest link, and each place tells where to begin
+pub record IsSound (heads : List Head) (newest : List (Option ℕ)) (cells : List Cell)
+    : Type 0 where
+  pub each_once : HoldsEachOnce heads (links_of cells)
+  pub chained : AreChained cells
+  pub room : length heads ≤ length newest
+  pub begins : (h : ℕ) (o : Option ℕ) → slice_get newest h ≡ Some o
+      → links_from (links_of cells) h o ≡ links_down (links_of cells) h

@@ -1,0 +1,4 @@
+pub mod Down
+pub mod Cells
+pub mod Ways
+pub mod Parts

@@ -1,0 +1,29 @@
+-- The ways down that a reduction takes.
+use Rattle.std.specs.Prelude.{◌≡◌, ℕ, List, [], ◌∷◌, length, slice_get, Some}
+use Rattle.std.specs.List.{Contains}
+use Rattle.spec_trees.specs.Made.{filling, EndsFilled}
+use Rattle.spec_graph.specs.declared.graph.Link.{Link}
+use Rattle.spec_graph.specs.Links.{IsWay, way_trees}
+use Rattle.ts_graph.specs.declared.ways.Way.{Way}
+
+-- the links of these numbers, one after another
+abbrev pub AreAt : List Link → List ℕ → List Link → Type 0
+AreAt links [] [] = Unit {0}
+AreAt links [] (l ∷ taken) = ⊥
+AreAt links (k ∷ numbers) [] = ⊥
+AreAt links (k ∷ numbers) (l ∷ taken) = (slice_get links k ≡ Some l) × AreAt links numbers taken
+
+-- a way down with so many trees that are no extras, the lowest of which is one
+pub record TakesFilled (links : List Link) (h count : ℕ) (taken : List Link) (b : ℕ)
+    : Type 0 where
+  pub way : IsWay links h taken b
+  pub filled : length (filling (way_trees taken)) ≡ count
+  pub ends : EndsFilled (way_trees taken)
+
+-- all such ways by the numbers of their links, each once
+pub record ListsWays (links : List Link) (h count : ℕ) (ways : List Way) : Type 0 where
+  pub each : (w : Way) → Contains ways w
+      → (taken : List Link) × AreAt links w.links taken × TakesFilled links h count taken w.below
+  pub all : (taken : List Link) (b : ℕ) → TakesFilled links h count taken b
+      → (w : Way) × Contains ways w × AreAt links w.links taken × (w.below ≡ b)
+  pub once : (i j : ℕ) (w : Way) → slice_get ways i ≡ Some w → slice_get ways j ≡ Some w → i ≡ j

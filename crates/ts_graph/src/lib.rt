@@ -1,0 +1,16 @@
+//! The stacks of a parser as one graph, in which each head and each link stands once: heads, and
+//! trees between heads, go in; out come the links that lead down from a head, and the ways down
+//! that a reduction takes.
+#![tactic(auto)]
+
+mod graph;
+mod links;
+#[cfg(test)]
+mod tests;
+mod view;
+mod ways;
+
+pub use graph::Graph;
+pub use links::Edge;
+pub use view::GraphView;
+pub use ways::Way;

@@ -1,0 +1,159 @@
+//! Links between heads: a tree between two heads goes in, as a new link or packed into the one that
+//! is there, and the links that lead down from a head come out, the newest first.
+ghost use Rattle.std.specs.Prelude.{◌≡◌, ℕ, ◌<◌, ◌++◌, ◌∷◌, [], length, take, slice_get, Some, OnOk, OnErr, MatchOption};
+ghost use Rattle.spec_trees.specs.Choice.{AreOfOneGrammar};
+ghost use Rattle.spec_graph.specs.declared.graph.Link.{Link};
+ghost use Rattle.ts_graph.specs.Cells.{link_of};
+ghost use Rattle.ts_graph.specs.Down.{link_with, links_down, links_from, place_at, HasNone, IsBetween, IsPacked};
+
+use crate::graph::{Cell, Graph};
+use std::alloc::AllocError;
+use ts_node::Node;
+use ts_order::better;
+
+/// A link without its tree: the heads above and below it, by their numbers, and its depth.
+#[derive(Clone, Copy, Drop)]
+pub struct Edge {
+    pub above: usize,
+    pub below: usize,
+    pub depth: u32,
+}
+
+impl Graph {
+    /// A link as it is kept.
+    fn cell(&self, link: usize) -> &Cell
+        requires { link < length self.now.links }
+        ensures link { slice_get self.now.links link ≡ Some (link_of result.now) }
+        ensures earlier { links_from self.now.links result.now.above result.now.earlier
+            ≡ links_down (take link self.now.links) result.now.above }
+    {
+        &self.cells[link]
+    }
+
+    /// The heads and the depth of a link.
+    pub fn link(&self, link: usize) -> Edge
+        requires { link < length self.now.links }
+        ensures above { (l : Link) → slice_get self.now.links link ≡ Some l
+            → result.above ≡ l.above }
+        ensures below { (l : Link) → slice_get self.now.links link ≡ Some l
+            → result.below ≡ l.below }
+        ensures depth { (l : Link) → slice_get self.now.links link ≡ Some l
+            → result.depth ≡ l.depth }
+    {
+        let cell = self.cell(link);
+        Edge {
+            above: cell.above,
+            below: cell.below,
+            depth: cell.depth,
+        }
+    }
+
+    /// The tree of a link.
+    pub fn node(&self, link: usize) -> &Node
+        requires { link < length self.now.links }
+        ensures { (l : Link) → slice_get self.now.links link ≡ Some l → result.now ≡ l.tree }
+    {
+        &self.cell(link).node
+    }
+
+    /// The newest link that leads down from a head.
+    pub fn first_down(&self, head: usize) -> Option<usize>
+        requires { head < length self.now.heads }
+        ensures { links_from self.now.links head result ≡ links_down self.now.links head }
+    {
+        self.newest[head]
+    }
+
+    /// The newest of the earlier links that lead down from the same head as this one.
+    pub fn next_down(&self, link: usize) -> Option<usize>
+        requires { link < length self.now.links }
+        ensures { (l : Link) → slice_get self.now.links link ≡ Some l
+            → links_from self.now.links l.above result
+            ≡ links_down (take link self.now.links) l.above }
+    {
+        self.cell(link).earlier
+    }
+
+    /// The link between two heads, and none where there is none. It passes the links that lead down
+    /// from the head above.
+    pub fn between(&self, above: usize, below: usize) -> Option<usize>
+        requires { above < length self.now.heads }
+        ensures { MatchOption result (HasNone self.now.links above below)
+            (λ link. IsBetween self.now.links above below link) }
+    {
+        let mut next = self.first_down(above);
+        while let Some(link) = next {
+            let cell = self.cell(link);
+            if cell.below == below {
+                return Some(link);
+            }
+            next = cell.earlier;
+        }
+        None
+    }
+
+    /// Adds a link at the end, between two heads that have none yet. The head below stands at an
+    /// earlier place.
+    ///
+    /// # Errors
+    ///
+    /// `AllocError` where memory runs out. No link is added then.
+    pub fn push(
+        &mut self,
+        above: usize,
+        below: usize,
+        node: Node,
+        depth: u32,
+    ) -> Result<(), AllocError>
+        requires above { above < length self.old.heads }
+        requires below { below < length self.old.heads }
+        requires falls { place_at self.old.heads below < place_at self.old.heads above }
+        requires new { HasNone self.old.links above below }
+        ensures heads { self.new.heads ≡ self.old.heads }
+        ensures pushed { OnOk result
+            (self.new.links ≡ self.old.links ++ link_with above below node depth ∷ []) }
+        ensures kept { OnErr result (self.new ≡ self.old) }
+    {
+        let earlier = self.first_down(above);
+        let number = self.cells.len();
+        self.cells.push(Cell {
+            above,
+            below,
+            node,
+            depth,
+            earlier,
+        })?;
+        self.newest[above] = Some(number);
+        Ok(())
+    }
+
+    /// Packs one more tree into a link: the better of the two trees stays, the one that was there
+    /// where neither is better, and the greater of the two depths.
+    pub fn pack(&mut self, link: usize, node: Node, depth: u32)
+        requires there { link < length self.old.links }
+        requires form { (l : Link) → slice_get self.old.links link ≡ Some l
+            → AreOfOneGrammar node l.tree }
+        ensures heads { self.new.heads ≡ self.old.heads }
+        ensures count { length self.new.links ≡ length self.old.links }
+        ensures packed { (l m : Link) → slice_get self.old.links link ≡ Some l
+            → slice_get self.new.links link ≡ Some m → IsPacked l node depth m }
+        ensures others { (k : ℕ) → (k ≡ link → ⊥)
+            → slice_get self.new.links k ≡ slice_get self.old.links k }
+    {
+        self.cells[link].pack(node, depth);
+    }
+}
+
+impl Cell {
+    /// The same of its cell.
+    fn pack(&mut self, node: Node, depth: u32)
+        requires { AreOfOneGrammar node self.old.node }
+        ensures packed { IsPacked (link_of self.old) node depth (link_of self.new) }
+        ensures earlier { self.new.earlier ≡ self.old.earlier }
+    {
+        if better(&node, &self.node) {
+            self.node = node;
+        }
+        self.depth = self.depth.max(depth);
+    }
+}

@@ -1,0 +1,21 @@
+//! One link and the way over it: what takes memory, each call once.
+use crate::Graph;
+use spec_graph::Head;
+use std::test::Fail;
+use ts_core::Symbol;
+use ts_node::Node;
+
+#[test]
+fn a_way_leads_down(rt: HostRuntime) -> Result<(), Fail> {
+    let alloc = rt.alloc();
+    let mut graph = Graph::new(alloc);
+    let bottom = graph.open(Head { state: 0, place: 0 })?;
+    let top = graph.open(Head { state: 7, place: 3 })?;
+    let None = graph.between(top, bottom) else {
+        panic!(rt; "a link before one was put there")
+    };
+    graph.push(top, bottom, Node::leaf(Symbol(2), 0, 3, 4, None), 1)?;
+    assert_eq!(rt; graph.between(top, bottom), Some(0));
+    assert_eq!(rt; graph.ways(alloc, top, 1)?.len(), 1);
+    Ok(())
+}
