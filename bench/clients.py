@@ -3,8 +3,9 @@
 
     python3 bench/clients.py [PROGRAM]
 
-PROGRAM is `crates/ts_cli/out/ts_cli` if none is given, which `./hemshale build` makes. Printed are, for both words, the
-seconds by the clock and of processor time, the most memory, and how many edits were published, of:
+PROGRAM is `crates/ts_cli/out/ts_cli` if none is given, which `./hemshale build` makes. Each case is run twice, once to
+read what is printed, and once to be timed. Printed are, for both words, the seconds by the clock and of processor time,
+the most memory, and how many edits were published, of:
 
 - sixteen clients, each of which edits a JSON text of 100 KB of its own twenty times and asks a query after each edit
 - sixteen clients that edit one text, a hundred times each, and look before each edit
@@ -65,11 +66,13 @@ def asking(asks):
 
 
 def measured(words):
-    """The seconds by the clock and of processor time, the most memory in MiB, what was printed, and the status."""
+    """The seconds by the clock and of processor time, the most memory in MiB, and what was printed by a run before,
+    since whoever reads takes a processor; and the status."""
+    printed = subprocess.run(words, stdout=subprocess.PIPE).stdout
     start = time.monotonic()
-    with subprocess.Popen(words, stdout=subprocess.PIPE) as child:
-        printed = child.stdout.read()
+    with subprocess.Popen(words, stdout=subprocess.DEVNULL) as child:
         _, status, used = os.wait4(child.pid, 0)
+        child.returncode = status
     return time.monotonic() - start, used.ru_utime + used.ru_stime, used.ru_maxrss >> 10, printed, status >> 8
 
 

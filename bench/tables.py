@@ -1,7 +1,7 @@
 #!/usr/bin/env python3
 """Builds a small program over `ts_items` and `ts_table` in a copy of the crates, runs it, and prints what tables cost.
 
-    python3 bench/tables.py                                the grammars of examples/, and two of levels
+    python3 bench/tables.py                                those of examples/, a wider C-like one, and two of levels
     python3 bench/tables.py GRAMMAR.json ..                the tables of grammar files
     python3 bench/tables.py levels LEVELS BRACKETS         some 6 * LEVELS * (BRACKETS + 1) states
 
@@ -23,9 +23,25 @@ sys.dont_write_bytecode = True
 from built import TOP, built, copied, trusting
 
 NAME = "bench_tables"
+MORE_STATEMENTS = {
+    "do_statement": "'do _statement 'while '( _expression ') ';",
+    "switch_statement": "'switch '( _expression ') block",
+    "case_statement": "'case _expression ': _statement",
+    "default_statement": "'default ': _statement",
+    "goto_statement": "'goto identifier ';",
+    "assert_statement": "'assert '( _expression ', _expression ') ';",
+}
+MORE_RULES = {
+    "type_definition": "'typedef _type identifier ';",
+    "enumeration": "'enum identifier '{ enumerator '} ';",
+    "enumerator": "identifier '= _expression",
+    "union": "'union identifier field_list ';",
+    "size_of": "'sizeof '( _expression ')",
+}
+MORE_OPERATORS = (("bit_or", "|"), ("bit_xor", "^"), ("bit_and", "&"), ("shift", "<<"), ("shift", ">>"))
 BELOW = "spec_lexing spec_grammar spec_tables ts_base ts_core ts_bits ts_items ts_table indexmap thiserror"
 ROUNDS = 20
-LEVELS = ((13, 14), (60, 54))
+LEVELS = ((13, 14), (60, 58))
 
 PROGRAM = r"""//! Item sets and tables: the path of a grammar, as numbers, how often they are made, and whether the sets
 //! alone are, go in as arguments.
@@ -455,9 +471,40 @@ def numbers(tokens, rules, conflicts=(), orderings=()):
     return [tokens] + sum((listed(part) for part in (rules, conflicts, orderings)), [])
 
 
-def of_file(path):
+def read(path):
     with open(path, encoding="utf-8") as file:
-        grammar = json.load(file)
+        return json.load(file)
+
+
+def wider(grammar):
+    """The C-like grammar of examples/ with more statements, operators, types and declarations of C."""
+    def text(value):
+        return {"type": "STRING", "value": value}
+
+    def name(rule):
+        return {"type": "SYMBOL", "name": rule}
+
+    def row(*members):
+        return {"type": "SEQ", "members": [text(one[1:]) if one[0] == "'" else name(one) for one in members]}
+
+    def binary(level, sign):
+        return {"type": "PREC_LEFT", "value": level, "content": row("_expression", "'" + sign, "_expression")}
+
+    rules = grammar["rules"]
+    rules["_statement"]["members"] += [name(rule) for rule in MORE_STATEMENTS]
+    rules["_expression"]["members"] += [name("size_of"), name("list")]
+    rules["_item"]["members"] += [name("type_definition"), name("enumeration"), name("union")]
+    rules["binary"]["members"] += [binary(level, sign) for level, sign in MORE_OPERATORS]
+    more = {rule: row(*members.split()) for rule, members in {**MORE_STATEMENTS, **MORE_RULES}.items()}
+    again = {"type": "REPEAT", "content": row("',", "_expression")}
+    more["list"] = {"type": "SEQ", "members": [text("{"), name("_expression"), again, text("}")]}
+    rules.update(more)
+    levels = dict.fromkeys(level for level, _ in MORE_OPERATORS)
+    grammar["precedences"][0][-4:-4] = [{"type": "STRING", "value": level} for level in levels]
+    return grammar
+
+
+def of_grammar(grammar):
     form = NormalForm(grammar)
     rules = [rule(form.symbols[name], form.alternatives(form.rules[name]), form.names) for name in form.own]
     for content, owner in form.contents:
@@ -518,11 +565,12 @@ def figures(program, path, name, form):
 
 def main():
     words = sys.argv[1:]
-    chosen = [(os.path.basename(word), of_file(word)) for word in words if words[0] != "levels"]
+    chosen = [(os.path.basename(word), of_grammar(read(word))) for word in words if words[0] != "levels"]
     if words and words[0] == "levels":
         chosen = [(" ".join(words), of_levels(int(words[1]), int(words[2])))]
     if not words:
-        chosen = [(name, of_file(f"{TOP}/examples/{name}.json")) for name in ("json", "clike", "lisp")]
+        chosen = [(name, of_grammar(read(f"{TOP}/examples/{name}.json"))) for name in ("json", "clike", "lisp")]
+        chosen += [("clike, wider", of_grammar(wider(read(f"{TOP}/examples/clike.json"))))]
         chosen += [(f"levels {many} {kinds}", of_levels(many, kinds)) for many, kinds in LEVELS]
     with tempfile.TemporaryDirectory() as folder:
         program = built(trusting(copied(folder, NAME, BELOW, PROGRAM)))

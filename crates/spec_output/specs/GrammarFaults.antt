@@ -19,8 +19,6 @@ use Rattle.ts_normalise.specs.declared.fault.NFault.{NFault}
 use Rattle.ts_normalise.specs.declared.fault.NFault.TheVariants as normal
 use Rattle.ts_langfile.specs.declared.fault.LangFault.{LangFault}
 use Rattle.ts_langfile.specs.declared.fault.LangFault.TheVariants as file
-use Rattle.ts_items.specs.declared.numbering.ItemFault.{ItemFault}
-use Rattle.ts_items.specs.declared.numbering.ItemFault.TheVariants as items
 use Rattle.spec_grammar.specs.Symbols.{node_name}
 use Rattle.spec_tables.specs.Conflicts.{owner_of}
 use Rattle.spec_output.specs.Lines.{object_line, numeral, text_list}
@@ -49,10 +47,6 @@ pattern_line_at word place rule =
     (member (codes "rule") (string rule) (with_status Grammar no_members))))
 
 -- ---- what is not read
-
--- the grammar has a form that is not built
-abbrev pub unbuilt_line : Bytes
-unbuilt_line = word_line (codes "unbuilt")
 
 -- there is too much of something
 abbrev pub limit_line : Limited → Bytes
@@ -134,11 +128,6 @@ language_line (file.Misfit cause) = None
 language_line file.Memory = None
 
 -- ---- tables
-
--- with so many states
-abbrev pub states_line : ItemFault → Option Bytes
-states_line (items.TooManyStates states) = Some (place_line (codes "states") states)
-states_line items.Memory = None
 
 -- Several actions on a token that are not declared, with the names of their rules in the order of
 -- the symbols, and that of the token.

@@ -28,8 +28,8 @@ use ts_query_syntax::Builder;
 use ts_top::AsciiHost;
 
 const HELP: &str = "\
-hemshale builds parsers from grammar files, parses texts with them, and replays edits and queries
-of texts.
+hemshale parses texts by Tree-sitter grammars, and replays or runs clients that edit and query
+texts.
 
   hemshale parse GRAMMAR TEXT           parse the file TEXT by the grammar GRAMMAR, and print the tree
   hemshale compile GRAMMAR              write the language file of the grammar GRAMMAR

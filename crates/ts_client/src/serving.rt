@@ -38,7 +38,7 @@ pub struct Asker {
     pub number: u32,
 }
 
-/// Does a step, and gives the reply to it. Want of memory is a reply, and then the held version
+/// Does a step, and gives the reply to it. Out of memory is a reply, and then the held version
 /// stays. `None` comes where all turns of the document are over.
 ///
 /// Several queries are asked at once, on 16 threads at most, where the tree of the held version has
@@ -116,7 +116,7 @@ fn change<R: Wait>(
 }
 
 /// The version after an edit of the held one. That there is no number for one more version is taken
-/// as want of memory.
+/// as out of memory.
 fn drafted(
     alloc: Global,
     table: &Table,

@@ -15,7 +15,7 @@ use Rattle.ts_grammar_json.specs.Faults.{first}
 use Rattle.ts_grammar_json.specs.Rules.{Looked}
 use Rattle.ts_grammar_json.specs.File.{FileMembers}
 
--- the answer is the value where there are no faults, else the first of them, or want of memory
+-- the answer is the value where there are no faults, else the first of them, or out of memory
 abbrev pub Gives : {X : Type 0} → List GFault → X → Result X GFault → Type 0
 Gives faults value (Ok x) = (faults ≡ []) × (x ≡ value)
 Gives faults value (Err fault) = fault ≢ Memory → first faults ≡ Some fault

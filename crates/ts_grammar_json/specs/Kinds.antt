@@ -82,6 +82,10 @@ negative_of digits =
     then Some (neg_ℤ (pos (digits_value 10 digits)))
     else None
 
+-- a plus, as a byte: no whole number of JSON begins with one
+abbrev pub plus_sign : ℕ
+plus_sign = 43
+
 -- the whole number that is spelled so, if one is
 abbrev pub integer_of : Bytes → Option ℤ
 integer_of spelling =

@@ -82,7 +82,7 @@ pub record HasShape (t : RuleType) (m : Looked) (shape : Shape) : Type 0 where
   pub tree : tree_of t m (tree_of_content m.content) (trees_of_members m.members) ≡ tree_in shape
   pub lower : height shape ≤ max (depth_of m.content) (depth_of m.members)
 
--- a shape that the rule has, or else the first fault of its own members, or want of memory
+-- a shape that the rule has, or else the first fault of its own members, or out of memory
 abbrev pub GivesShape : RuleType → Looked → Result Shape GFault → Type 0
 GivesShape t m (Ok shape) = HasShape t m shape
 GivesShape t m (Err fault) = fault ≢ Memory → first (own_faults t m) ≡ Some fault
@@ -93,7 +93,7 @@ pub record IsShape (ms : Members) (shape : Shape) : Type 0 where
   pub tree : rule_of (object ms) ≡ tree_in shape
   pub lower : height shape ≤ members_depth ms
 
--- a shape that the object has, or else its first fault as a rule, or want of memory
+-- a shape that the object has, or else its first fault as a rule, or out of memory
 abbrev pub GivesIsShape : Members → Result Shape GFault → Type 0
 GivesIsShape ms (Ok shape) = IsShape ms shape
 GivesIsShape ms (Err fault) = fault ≢ Memory → first (rule_faults (object ms)) ≡ Some fault

@@ -1,10 +1,10 @@
-//! What a JSON value is read as, where it is of the kind that is asked for.
+//! A JSON value in; what it is read as out, where it is of the kind that is asked for.
 ghost use Rattle.std.specs.Prelude.{◌≡◌, ◌==◌, option_map, slice_index, IfOk};
 ghost use Rattle.std.specs.Option.{option_copied};
 ghost use Rattle.std.specs.List.{list_all, list_any};
 ghost use Rattle.ts_ojson.specs.Json.{json_of};
 ghost use Rattle.ts_grammar_json.specs.Members.{members_json, items_json};
-ghost use Rattle.ts_grammar_json.specs.Kinds.{text_of, truth_of, array_of, some_of, some_items_of, object_of, is_i, is_flag, flags_in, flags_of, integer_of, whole_of, precedence_of, word_of};
+ghost use Rattle.ts_grammar_json.specs.Kinds.{text_of, truth_of, array_of, some_of, some_items_of, object_of, is_i, is_flag, flags_in, flags_of, plus_sign, integer_of, whole_of, precedence_of, word_of};
 
 use std::alloc::{AllocError, Global};
 use ts_core::{PrecValue, Str};
@@ -115,7 +115,7 @@ fn integer(spelling: &str) -> Option<i32>
 }
 
 fn has_plus(spelling: &str) -> bool
-    ensures { result ≡ (slice_index spelling.now 0 == 43) }
+    ensures { result ≡ (slice_index spelling.now 0 == plus_sign) }
 {
     spelling.starts_with('+')
 }

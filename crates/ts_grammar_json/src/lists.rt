@@ -1,4 +1,5 @@
-//! Lists of a grammar file: names, lists of names, and orderings of precedences.
+//! A member of a grammar file that is a list in; its names, lists of names or orderings of
+//! precedences out, or its first fault.
 ghost use Rattle.std.specs.Prelude.{◌≡◌, ◌≢◌, IfOk, IfErr, Ok, Err};
 ghost use Rattle.ts_ojson.specs.Json.{json_of};
 ghost use Rattle.ts_grammar_json.specs.Members.{items_json, members_json};

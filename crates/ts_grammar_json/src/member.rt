@@ -1,4 +1,5 @@
-//! Members of an object that have to be of one kind: the value that each is read as, or its fault.
+//! A member of an object that has to be of one kind in; the value that it is read as, or its fault,
+//! out.
 ghost use Rattle.std.specs.Prelude.{◌≡◌, ◌≢◌, List, option_map, IfOk, IfErr, Some, None, [], false, pos};
 ghost use Rattle.ts_ojson.specs.Json.{json_of, array as array_json};
 ghost use Rattle.ts_grammar_json.specs.declared.fault.GFault.{GFault as AnyFault};

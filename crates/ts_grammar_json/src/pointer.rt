@@ -1,5 +1,5 @@
-//! Pointers of faults: each begins at the value that is judged, and grows by a step at its start on
-//! the way up to the file's top.
+//! A fault's pointer and a step in; the pointer with the step at its start out: each begins at the
+//! value that is judged, and grows on the way up to the file's top.
 ghost use Rattle.std.specs.Prelude.{◌≡◌, ◌≢◌, ◌++◌, ◌∷◌, [], IfOk, OnOk, string_bytes};
 ghost use Rattle.std.specs.Char.{encode_utf8};
 ghost use Rattle.ts_grammar_json.specs.Pointer.{escaped, step, place};

@@ -1,4 +1,4 @@
-//! The types of rules, by their words.
+//! A word in; the type of rules that it names out, and the other way round.
 ghost use Rattle.std.specs.Prelude.{◌≡◌, ◌≢◌, IfOk, IfErr};
 ghost use Rattle.ts_grammar_json.specs.Rules.{type_named, known_type, type_of};
 ghost use Rattle.ts_grammar_json.specs.Found.{json_at};

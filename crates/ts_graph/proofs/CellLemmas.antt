@@ -18,20 +18,6 @@ use Rattle.ts_graph.proofs.DownLemmas.{down_none, down_more, down_other, from_pu
 
 -- ---- no head, and one more head
 
-pub sound_empty : IsSound [] [] []
-sound_empty = record {
-  each_once = record {
-    once = λ i j x e f. absurd (let g : None ≡ Some x = e in cc);
-    above_there = λ k l at. absurd (let g : None ≡ Some l = at in cc);
-    below_there = λ k l at. absurd (let g : None ≡ Some l = at in cc);
-    falls = λ k l at. absurd (let g : None ≡ Some l = at in cc);
-    one_each = λ j k a b p q. absurd (let g : None ≡ Some p.link = p.at in cc);
-  };
-  chained = λ k c at. absurd (let g : None ≡ Some c = at in cc);
-  room = omega arith;
-  begins = λ h o at. absurd (let g : None ≡ Some o = at in cc);
-}
-
 module _ (heads : List Head) (newest : List (Option ℕ)) (cells : List Cell) (s : IsSound heads newest cells) where
   -- a head that is not there yet has no link
   none_past : (h : ℕ) → length heads ≤ h → links_down (links_of cells) h ≡ []

@@ -1,10 +1,8 @@
 -- Ways that are made longer by a link: the steps of the loops, and how far down they can go.
-use Rattle.std.proofs.Common.{◌≡◌, ◌∙◌, sym, ap, refl, subst, ℕ, zero, suc, ◌+◌, ◌<◌, ◌≤◌, inl, inr, Bool, true, false, true≢false, List, [], ◌∷◌, ◌++◌, append-nil, append_assoc, length, take, map, get_or, slice_get, Option, Some, None, nat_eq, arith}
+use Rattle.std.proofs.Common.{◌≡◌, ◌∙◌, sym, ap, refl, subst, ℕ, zero, suc, ◌+◌, ◌<◌, ◌≤◌, inl, inr, Bool, true, false, true≢false, List, [], ◌∷◌, ◌++◌, append-nil, append_assoc, length, take, map, get_or, slice_get, Option, Some, nat_eq, arith}
 use Rattle.std.specs.Prelude.{All, if◌then◌else◌}
 use Rattle.std.specs.List.{flat_map}
 use Rattle.std.specs.Option.{option_map_or}
-use Rattle.std.proofs.lemmas.List.{take_more}
-use Rattle.std.proofs.lemmas.List.Concat.{flat_map-append}
 use Rattle.std.proofs.lemmas.List.Elements.{Contains-get_or}
 use Rattle.spec_graph.specs.declared.graph.Head.{Head}
 use Rattle.spec_graph.specs.declared.graph.Link.{Link}
@@ -33,30 +31,6 @@ module _ {A : Type 0} (f : Part → List A) (links : List Link) (p : Part) where
         ∙ ap (λ (ks : List ℕ). found ++ (f (next_of links p k) ++ flat_map f (map (next_of links p) ks))) goes
         ∙ so_far.is;
   }
-
-  pub lengthens_last : (before found : List A) → Lengthens A f links p None before found → found ≡ before ++ flat_map f (nexts_of links p)
-  lengthens_last before found so_far = sym (append-nil found) ∙ so_far.is
-
--- ---- all ways
-
-module _ {A : Type 0} (f : Part → List A) (links : List Link) where
-  pub sorted_more : (parts : List Part) (i : ℕ) (p : Part) (before found new : List A) → i < length parts → p ≡ get_or parts i p
-      → found ≡ before ++ flat_map f (all_nexts links (take i parts)) → new ≡ found ++ flat_map f (nexts_of links p)
-      → new ≡ before ++ flat_map f (all_nexts links (take (i + 1) parts))
-  sorted_more parts i p before found new low is so_far more =
-      more
-      ∙ ap (λ (xs : List A). xs ++ flat_map f (nexts_of links p)) so_far
-      ∙ append_assoc before (flat_map f (all_nexts links (take i parts))) (flat_map f (nexts_of links p))
-      ∙ ap (λ (xs : List A). before ++ xs) (sym both)
-    where
-      one : all_nexts links (p ∷ []) ≡ nexts_of links p
-      one = append-nil (nexts_of links p)
-
-      both : flat_map f (all_nexts links (take (i + 1) parts)) ≡ flat_map f (all_nexts links (take i parts)) ++ flat_map f (nexts_of links p)
-      both =
-          ap (λ (ps : List Part). flat_map f (all_nexts links ps)) (take_more parts i p low ∙ ap (λ (q : Part). take i parts ++ q ∷ []) (sym is))
-          ∙ ap (λ (qs : List Part). flat_map f qs) (flat_map-append (nexts_of links) (take i parts) (p ∷ []) ∙ ap (λ (qs : List Part). all_nexts links (take i parts) ++ qs) one)
-          ∙ flat_map-append f (all_nexts links (take i parts)) (nexts_of links p)
 
 -- ---- which ways these are
 

@@ -83,9 +83,13 @@ symbol_at least bound = do
 
 -- ---- expressions
 
--- a number that is a character: below 1114112, and no surrogate
+-- how many numbers there are up to the greatest character
+abbrev pub character_count : ℕ
+character_count = 1114112
+
+-- a number that is a character: not above the greatest, and no surrogate
 abbrev pub is_character : ℕ → Bool
-is_character c = nat_lt c 55296 || (nat_le 57344 c && nat_lt c 1114112)
+is_character c = nat_lt c 55296 || (nat_le 57344 c && nat_lt c character_count)
 
 -- the range does not fall, and lies on one side of the surrogates
 abbrev pub ends_range : ℕ → ℕ → Bool
@@ -130,6 +134,10 @@ re_by inner (suc (suc (suc (suc tag)))) = do
   least ← number32_at
   most ← most_at least
   give (re.Repeat inside least most)
+
+-- the tag of a repeat
+abbrev pub repeat_tag : ℕ
+repeat_tag = 4
 
 -- how many expressions may stand in one another
 abbrev pub most_levels : ℕ

@@ -1,4 +1,4 @@
-//! Where reading stops: a place, told by the bytes from it on, or want of memory.
+//! Where reading stops: a place, told by the bytes from it on, or out of memory.
 
 ghost use Rattle.std.specs.Prelude.{◌≡◌, length};
 

@@ -3,7 +3,7 @@
 ghost use Rattle.std.specs.Prelude.{◌≡◌, ◌<◌, IfOk};
 ghost use Rattle.ts_langfile.specs.Reader.{Gives, times, in_turn};
 ghost use Rattle.ts_langfile.specs.Parts as spec;
-ghost use Rattle.ts_langfile.specs.Parts.{range_at, behind_range, most_at, re_at, re_by, listed_at};
+ghost use Rattle.ts_langfile.specs.Parts.{range_at, behind_range, most_at, re_at, re_by, listed_at, character_count, repeat_tag};
 
 use crate::flaw::{Stop, wrong};
 use crate::part::{flag, number32, tag};
@@ -30,7 +30,7 @@ fn ends_range(low: u32, high: u32) -> bool
 #[tactic(auto, unfolding(crate::specs::Parts::range_at))]
 fn range(bytes: &[u8], least: u32) -> Result<((u32, u32), &[u8]), Stop>
     ensures read { Gives (λ x. (x.0, x.1.now)) result (range_at least bytes.now) }
-    ensures high { IfOk result (λ x. x.0.1 < 1114112) }
+    ensures high { IfOk result (λ x. x.0.1 < character_count) }
 {
     let (low, after) = number32(bytes)?;
     if !(is_character(low) && least <= low) {
@@ -106,7 +106,7 @@ pub(crate) fn re(alloc: Global, bytes: &[u8], room: usize) -> Result<(Re, &[u8])
 /// What stands behind the tag of a repeat.
 #[cycle(re)]
 fn repeat(alloc: Global, bytes: &[u8], room: usize) -> Result<(Re, &[u8]), Stop>
-    ensures { Gives (λ x. (x.0, x.1.now)) result (re_by (re_at room) 4 bytes.now) }
+    ensures { Gives (λ x. (x.0, x.1.now)) result (re_by (re_at room) repeat_tag bytes.now) }
 {
     let (inside, start) = re(alloc, bytes, room)?;
     let (least, start) = number32(start)?;

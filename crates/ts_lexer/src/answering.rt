@@ -1,4 +1,4 @@
-//! What is answered at a place of a text.
+//! What was found behind the separators of a place in; the answer at that place out.
 ghost use Rattle.std.specs.Prelude.{◌≡◌, ◌+◌, ◌≤◌, ◌<◌, ◌^◌, ℕ, length};
 ghost use Rattle.ts_core.specs.declared.flat.FlatGrammar.{FlatGrammar as AnyGrammar};
 ghost use Rattle.std.specs.Prelude.{List, drop, IsTrue, ◌↔◌, true};

@@ -1,4 +1,4 @@
-//! The valid tokens of a place, and what each part of an automaton is for them.
+//! The valid tokens of a place and a part of an automaton in; what the part is for them out.
 ghost use Rattle.std.specs.Prelude.{◌≡◌, ◌<◌, ◌↔◌, ◌&&◌, ◌||◌, not, ℕ, suc, List, Bool, true, false, Some, IsTrue, slice_get, length};
 ghost use Rattle.ts_core.specs.declared.flat.FlatGrammar.{FlatGrammar as AnyGrammar};
 ghost use Rattle.ts_core.specs.declared.symbol.Symbol.{Symbol as AnySymbol};

@@ -42,7 +42,7 @@ pub fn parsed(alloc: Global, outcome: &ShownOutcome) -> Result<String, AllocErro
     ended(object_text(alloc, outcome)?)
 }
 
-/// The object without its newline. The writer fails by want of memory alone.
+/// The object without its newline. The writer fails only where memory runs out.
 fn object_text(alloc: Global, outcome: &ShownOutcome) -> Result<String, AllocError>
     ensures { IfOk result (λ s. string_bytes s
         ≡ compact_text (object (outcome_members outcome.now no_members))) }

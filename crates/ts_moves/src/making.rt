@@ -20,7 +20,7 @@ const MOST_DEPTH: u32 = 1000;
 /// How deep the deepest of some nodes is, 0 where there is none.
 fn deepest(nodes: &[Node]) -> u32
     ensures depth { result ≡ greatest_depth nodes.now }
-    ensures shallow { result ≤ 1000 }
+    ensures shallow { result ≤ most_depth }
 {
     let mut depth = 0;
     for node in nodes {

@@ -6,6 +6,10 @@ use Rattle.std.specs.Prelude.{◌≡◌, ◌≢◌, ℕ, zero, suc, ◌+◌, ◌
 use Rattle.std.specs.Char.{encode_utf8, digit_value}
 use Rattle.ts_base.specs.Bytes.{Bytes}
 
+-- the quote that begins a string and ends it, as a byte
+abbrev pub quote_mark : ℕ
+quote_mark = 34
+
 -- the byte stands for itself: it is no control character, quote or backslash
 abbrev pub IsRaw : ℕ → Type 0
 IsRaw c = (32 ≤ c) × (c ≢ 34) × (c ≢ 92)

@@ -1,4 +1,4 @@
-//! The bytes of a text, one at a place and in runs.
+//! A text and a place in; the byte there, or the end of a run of bytes from there, out.
 
 ghost use Rattle.std.specs.Prelude.{◌≡◌, ◌<◌, ◌≤◌, length};
 ghost use Rattle.std.specs.Str.{IsCharBoundary};

@@ -1,6 +1,6 @@
 //! Escapes in strings: from the place behind a backslash to the character and the place behind it.
 
-ghost use Rattle.std.specs.Prelude.{◌≡◌, ℕ, List, ◌∷◌, [], ◌++◌, ◌+◌, ◌-◌, ◌<◌, ◌≤◌, length, get_or, IfOk, IfErr, IfSome};
+ghost use Rattle.std.specs.Prelude.{◌≡◌, ℕ, List, ◌∷◌, [], ◌++◌, ◌+◌, ◌-◌, ◌^◌, ◌<◌, ◌≤◌, length, get_or, IfOk, IfErr, IfSome};
 ghost use Rattle.std.specs.Str.{IsCharBoundary};
 ghost use Rattle.std.specs.Char.{digit_value, encode_utf8};
 ghost use Rattle.ts_base.specs.Bytes.{Bytes};
@@ -81,7 +81,7 @@ fn backslash(byte: u8) -> Option<Next>
 
 /// After all four digits of a code unit that is no second of a pair.
 fn unit(unit: u32) -> Option<Next>
-    requires { unit < 65536 }
+    requires { unit < 2 ^ 16 }
     ensures piece { (s : Bytes) → unit_piece s unit ≡ piece_of s result }
     ensures going { IfSome result IsGoing }
 {

@@ -3,6 +3,7 @@
 
 ghost use Rattle.std.specs.Prelude.{◌≡◌, ℕ, ◌<◌, ◌≤◌, length, [], Some, IfOk, IfErr};
 ghost use Rattle.std.specs.Str.{IsCharBoundary};
+ghost use Rattle.ts_ojson.specs.Characters.{quote_mark};
 ghost use Rattle.ts_ojson.specs.Machine.{Frames};
 ghost use Rattle.ts_ojson.specs.Roles.{Role};
 ghost use Rattle.ts_ojson.specs.States.{text as in_text};
@@ -20,7 +21,7 @@ pub(crate) fn string(alloc: Global, text: &str, from: usize) -> Result<(Str, usi
     requires within { from ≤ length text.now }
     requires boundary { IsCharBoundary text.now from }
     ensures later { IfOk result (λ r. (from ≤ r.1) × (r.1 < length text.now)) }
-    ensures quote { IfOk result (λ r. byte_there text.now r.1 ≡ Some 34) }
+    ensures quote { IfOk result (λ r. byte_there text.now r.1 ≡ Some quote_mark) }
     ensures ok { IfOk result (λ r. (role : Role) (k : Frames)
         → Reaches text.now from (in_text Escape.Plain [] role) k
         → Reaches text.now r.1 (in_text Escape.Plain r.0 role) k) }

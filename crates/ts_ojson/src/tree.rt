@@ -1,6 +1,7 @@
 //! Values: from the place where a value begins to the value and the place behind it.
 
 ghost use Rattle.std.specs.Prelude.{◌≡◌, suc, ◌+◌, ◌<◌, ◌≤◌, length, [], ◌∷◌, Some, IfOk, IfErr};
+ghost use Rattle.ts_ojson.specs.Characters.{quote_mark};
 ghost use Rattle.ts_ojson.specs.Machine.{Frames};
 ghost use Rattle.ts_ojson.specs.Frames as frame;
 ghost use Rattle.ts_ojson.specs.Roles as role;
@@ -23,7 +24,7 @@ use ts_base::List;
 
 /// The string whose quote stands at a place, and the place behind it.
 fn text_value(alloc: Global, text: &str, at: usize) -> Result<(OJson, usize), Stop>
-    requires { byte_there text.now at ≡ Some 34 }
+    requires { byte_there text.now at ≡ Some quote_mark }
     ensures later { IfOk result (λ r. (at < r.1) × (r.1 ≤ length text.now)) }
     ensures ok { IfOk result (λ r. (k : Frames)
         → Reaches text.now (at + 1) (state.text Escape.Plain [] role.value) k

@@ -1,5 +1,5 @@
 -- Productions of the normal form, by a list of aliases.
-use Rattle.std.specs.Prelude.{◌≡◌, ℕ, false, List, [], ◌∷◌, ◌++◌, map, get_or, suc}
+use Rattle.std.specs.Prelude.{ℕ, false, List, [], ◌∷◌, map, get_or, suc}
 use Rattle.ts_core.specs.declared.flat.Alias.{Alias}
 use Rattle.ts_core.specs.declared.flat.Production.{Production}
 use Rattle.ts_rules.specs.declared.tree.Tree.{Tree}
@@ -29,15 +29,6 @@ flat aliases e = production (aliased aliases) (plain e)
 -- the productions that alternatives become
 abbrev pub AreExpanded : Table → List Alias → Alternatives → List Production → Type 0
 AreExpanded F aliases xs found = AreFirstSights (map (flat aliases) (spread_all F xs)) found
-
--- For proofs alone: the productions of a repetition, each half by itself
-pub record AreRepeatedly (F : Table) (aliases : List Alias) (part : Alternatives × Alternatives)
-    (found : List Production) : Type 0 where
-  pub once : List Production
-  pub more : List Production
-  pub is : found ≡ once ++ more
-  pub are_once : AreExpanded F aliases part.0 once
-  pub are_more : AreExpanded F aliases part.1 more
 
 -- what the contents of repetitions become, from a repetition's number on
 abbrev pub parts_from : ℕ → List Tree → List (Alternatives × Alternatives)

@@ -66,6 +66,19 @@ text_at w i = string i (quoted w (i + 1))
 abbrev pub mark_at : ℕ → Quantity → Sight
 mark_at i quantity = Sees (sign.Mark (record { at = i; quantity = quantity })) (i + 1)
 
+-- the bytes with which a string, a capture, a field that is not there and a predicate begin
+abbrev pub quote_mark : ℕ
+quote_mark = 34
+
+abbrev pub capture_mark : ℕ
+capture_mark = 64
+
+abbrev pub without_mark : ℕ
+without_mark = 33
+
+abbrev pub predicate_mark : ℕ
+predicate_mark = 35
+
 -- what begins with the byte c: ( ) [ ] . : ? * + " @ ! # or a name
 abbrev pub sign_from : Bytes → ℕ → ℕ → Sight
 sign_from w i c =
@@ -78,10 +91,10 @@ sign_from w i c =
     else if c == 63 then mark_at i Optional
     else if c == 42 then mark_at i Many
     else if c == 43 then mark_at i Several
-    else if c == 34 then text_at w i
-    else if c == 64 then capture_at w i
-    else if c == 33 then without_at w i
-    else if c == 35 then predicate_at w i
+    else if c == quote_mark then text_at w i
+    else if c == capture_mark then capture_at w i
+    else if c == without_mark then without_at w i
+    else if c == predicate_mark then predicate_at w i
     else if is_name_start c then name_at w i
     else Strange
 

@@ -1,4 +1,4 @@
-//! The bytes of a text, one at a place and in runs.
+//! A text and a place in; the byte there, or the end of a run of bytes from there, out.
 ghost use Rattle.std.specs.Prelude.{◌≡◌, ◌+◌, ◌≤◌, ◌<◌, IsTrue, length, slice_get};
 ghost use Rattle.std.specs.Str.{IsCharBoundary};
 ghost use Rattle.ts_query_tree.specs.Words.{is_name_start, is_name_byte, is_blank, is_gap, stays_open, passes, run, gap_end, begins_name};

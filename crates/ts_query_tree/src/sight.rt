@@ -2,7 +2,7 @@
 ghost use Rattle.std.specs.Prelude.{◌≡◌, ◌≤◌, ◌<◌, ◌+◌, ◌^◌, true, length, drop, slice_get, Some, IfOk};
 ghost use Rattle.std.specs.Str.{IsCharBoundary};
 ghost use Rattle.ts_query_tree.specs.Words.{begins_name, name_end, quoted, letter_of};
-ghost use Rattle.ts_query_tree.specs.Signs.{written, name_at, capture_at, without_at, predicate_at, text_at, mark_at, is_predicate_mark, sign_from, sight, IsWithin};
+ghost use Rattle.ts_query_tree.specs.Signs.{written, name_at, capture_at, without_at, predicate_at, text_at, mark_at, is_predicate_mark, quote_mark, capture_mark, without_mark, predicate_mark, sign_from, sight, IsWithin};
 
 use crate::bytes::{Test, begins_name, byte_at, gap_end, is_name_start, run};
 use crate::sign::Sign;
@@ -64,7 +64,7 @@ fn name_at(alloc: Global, text: &str, at: usize) -> Result<Sight, AllocError>
 
 /// `@` and a name.
 fn capture_at(alloc: Global, text: &str, at: usize) -> Result<Sight, AllocError>
-    requires capture { slice_get text.now at ≡ Some 64 }
+    requires capture { slice_get text.now at ≡ Some capture_mark }
     requires short { length text.now < 2 ^ 32 }
     ensures value { IfOk result (λ s. s ≡ capture_at text.now at) }
     ensures within { IfOk result (IsWithin text.now at) }
@@ -81,7 +81,7 @@ fn capture_at(alloc: Global, text: &str, at: usize) -> Result<Sight, AllocError>
 
 /// `!` and a name.
 fn without_at(alloc: Global, text: &str, at: usize) -> Result<Sight, AllocError>
-    requires without { slice_get text.now at ≡ Some 33 }
+    requires without { slice_get text.now at ≡ Some without_mark }
     requires short { length text.now < 2 ^ 32 }
     ensures value { IfOk result (λ s. s ≡ without_at text.now at) }
     ensures within { IfOk result (IsWithin text.now at) }
@@ -104,7 +104,7 @@ fn is_predicate_mark(byte: Option<u8>) -> bool
 
 /// `#` and a name that ends with `?` or `!`.
 fn predicate_at(alloc: Global, text: &str, at: usize) -> Result<Sight, AllocError>
-    requires predicate { slice_get text.now at ≡ Some 35 }
+    requires predicate { slice_get text.now at ≡ Some predicate_mark }
     requires short { length text.now < 2 ^ 32 }
     ensures value { IfOk result (λ s. s ≡ predicate_at text.now at) }
     ensures within { IfOk result (IsWithin text.now at) }
@@ -167,7 +167,7 @@ fn quoted(alloc: Global, text: &str, from: usize) -> Result<Option<(Str, usize)>
 
 /// A string.
 fn text_at(alloc: Global, text: &str, at: usize) -> Result<Sight, AllocError>
-    requires quote { slice_get text.now at ≡ Some 34 }
+    requires quote { slice_get text.now at ≡ Some quote_mark }
     requires short { length text.now < 2 ^ 32 }
     ensures value { IfOk result (λ s. s ≡ text_at text.now at) }
     ensures within { IfOk result (IsWithin text.now at) }

@@ -1,4 +1,5 @@
-//! Puts one sign to the brackets that are open. There is nothing where it cannot stand there.
+//! The brackets that are open and one sign in; the same with the sign put to them out, and nothing
+//! where it cannot stand there.
 ghost use Rattle.std.specs.Prelude.{◌≡◌, Option, Some, None, IfOk};
 ghost use Rattle.ts_query_tree.specs.Machine.{ready, is_nothing, is_asking, with_operand, takes_unit, unit_field, level_with, anchored, colon, level_marked, level_named, wild_in_field, texted, level_captured, level_without, asked, opened, put, frame_closed, closed, choice_closed, next, Follows};
 

@@ -37,7 +37,7 @@ pub(crate) struct Asker {
     pub(crate) number: u32,
 }
 
-/// Does a step. Want of memory is its reply, and then nothing is changed.
+/// Does a step. Out of memory is its reply, and then nothing is changed.
 pub(crate) fn answer<F: Finder>(
     alloc: Global,
     table: &Table,

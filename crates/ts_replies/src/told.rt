@@ -53,7 +53,7 @@ pub fn print_reply(
     ended(object_text(alloc, client, step, reply)?)
 }
 
-/// The object without its newline. The writer fails by want of memory alone.
+/// The object without its newline. The writer fails only where memory runs out.
 fn object_text(alloc: Global, client: u32, step: u32, reply: &Reply) -> Result<String, AllocError>
     ensures { IfOk result (λ s. string_bytes s ≡ compact_text (object
         (with_number (codes "client") client (reply_members step reply.now)))) }

@@ -51,7 +51,7 @@ pub fn print_outcome(
     ended(object_text(alloc, *head, outcome)?)
 }
 
-/// The object without its newline. The writer fails by want of memory alone.
+/// The object without its newline. The writer fails only where memory runs out.
 fn object_text(alloc: Global, head: Head, outcome: &ShownOutcome) -> Result<String, AllocError>
     ensures { IfOk result (λ s. string_bytes s
         ≡ compact_text (object (head_members head outcome.now))) }

@@ -562,7 +562,7 @@ fn ways(
 ///
 /// # Errors
 ///
-/// `AllocError` where memory is wanting.
+/// `AllocError` where memory runs out.
 pub(crate) fn embeddings(
     alloc: Global,
     limit: &mut Limit,

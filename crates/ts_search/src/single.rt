@@ -1,4 +1,5 @@
-//! The matches of a pattern of one plain item: a node that fails at its first test takes no memory.
+//! A pattern of one plain item and a node in; the matches at that node added to a set out. A node
+//! that fails at its first test takes no memory.
 ghost use Rattle.std.specs.Prelude.{◌≡◌, ◌∷◌, [], IfSome, IsTrue, OnOk, false};
 ghost use Rattle.ts_search.specs.Adding.{OfSome};
 ghost use Rattle.ts_search.specs.Gathering.{Gathers, GathersSome};

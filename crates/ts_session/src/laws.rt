@@ -53,7 +53,7 @@ pub fn clear_is_not_refused()
 }
 
 /// The same files, host and order come to one status, and to one list of bytes but for that of a
-/// run: memory may be wanting at each step of it, and two trees may be equally good.
+/// run: memory may run out at each step of it, and two trees may be equally good.
 pub fn replays_once<H: Hosts>(_hosts: &H)
     ensures status { (files : Files) (grammar script : Bytes) (order : List ℕ) (s t : AnyStatus)
         (b c : Bytes)

@@ -3,7 +3,7 @@ use Rattle.std.specs.Prelude.{◌≡◌, ℕ, ◌<◌, List, length, slice_get, 
 use Rattle.std.specs.List.{Contains}
 use Rattle.ts_core.specs.declared.flat.FlatGrammar.{FlatGrammar}
 use Rattle.spec_tables.specs.Items.{Item}
-use Rattle.spec_tables.specs.Actions.{Reduces, ShiftItem}
+use Rattle.spec_tables.specs.Actions.{Reduces}
 use Rattle.ts_bits.specs.declared.set.BitSet.{BitSet}
 use Rattle.ts_items.specs.declared.part.Part.{Part}
 use Rattle.ts_items.specs.Productions.{right_of}
@@ -44,12 +44,4 @@ pub record AreReductions (g : FlatGrammar) (read : List ℕ) (token : ℕ)
   pub only : (c : Candidate) → Contains cs c → (i : Item) × Reduces g read token i
       × StandsForItem g c i
   pub all : (i : Item) → Reduces g read token i → (c : Candidate) × Contains cs c
-      × StandsForItem g c i
-
--- the candidates stand for the shift items on the token
-pub record AreShiftItems (g : FlatGrammar) (read : List ℕ) (token : ℕ)
-    (cs : List Candidate) : Type 0 where
-  pub only : (c : Candidate) → Contains cs c → (i : Item) × ShiftItem g read token i
-      × StandsForItem g c i
-  pub all : (i : Item) → ShiftItem g read token i → (c : Candidate) × Contains cs c
       × StandsForItem g c i

@@ -84,7 +84,7 @@ compile_stopped files words path rose (Absent at) c h = ((λ u. u.no_compile pat
 compile_stopped files words path rose Read c h = (h, (λ u. u.no_compile path c))
 compile_stopped files words path rose Memory c h = tt
 
--- a stop for want of memory says nothing
+-- a stop where memory runs out says nothing
 pub memory_stopped : {T : Type 0} (files : Option Files) (words : List Bytes) (rose : Type 0) (r : Result T Stop) → IfErr r (λ s. s ≡ Memory) → IfErr r (Stopped files words rose)
 memory_stopped files words rose (Ok t) h = tt
 memory_stopped files words rose (Err s) h = subst (Stopped files words rose) (sym h) tt

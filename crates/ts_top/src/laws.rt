@@ -10,7 +10,7 @@ ghost use Rattle.ts_top.specs.Headline.{IsLawfulRun};
 use ts_predicate::Hosts;
 
 /// The same words, files and host come to one status, and to one list of bytes but for the line of
-/// a tree and the print of a run: two trees may be equally good, and memory may be wanting at each
+/// a tree and the print of a run: two trees may be equally good, and memory may run out at each
 /// step of a run.
 pub fn answers_once<H: Hosts>(hosts: &H)
     ensures status { (files : Files) (words : List Bytes) (s t : AnyStatus) (b c : Bytes)

@@ -33,13 +33,6 @@ line_next g xs i x bytes more lt is tells h =
 
 -- ---- lines that were added
 
-pub added_line : (l : RunLine) (before after : List RunLine) → after ≡ before ++ l ∷ [] → AddsLines (λ g. TellsLine g l) before after
-added_line l before after is = record {
-  added = l ∷ [];
-  tell = λ g bytes. one_line g l bytes;
-  after_is = is;
-}
-
 pub tells_as_well : (P Q : FlatGrammar → Bytes → Type 0) (before after : List RunLine) → ((g : FlatGrammar) (bytes : Bytes) → P g bytes → Q g bytes)
     → AddsLines P before after → AddsLines Q before after
 tells_as_well P Q before after as_well so = record {
