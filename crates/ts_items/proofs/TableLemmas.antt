@@ -3,7 +3,7 @@ use Rattle.std.proofs.Common.{◌≡◌, ◌∙◌, sym, ap, refl, subst, ℕ, z
 use Rattle.std.specs.Prelude.{MatchOption}
 use Rattle.std.specs.Global.{Vec}
 use Rattle.std.specs.List.{Contains}
-use Rattle.std.proofs.lemmas.Option.{slice_get_within}
+use Rattle.std.proofs.lemmas.Option.{slice_get_within, slice_get-get_or}
 use Rattle.ts_core.specs.declared.flat.FlatGrammar.{FlatGrammar}
 use Rattle.spec_grammar.specs.Symbols.{start_symbol, symbol_count}
 use Rattle.spec_tables.specs.Items.{CanBeginWith}
@@ -100,7 +100,7 @@ tells_queued old new q r none empty size tells = record {
     in_more y h = subst (λ (l : List ℕ). Contains l y) whole h
 
 -- a dot before a symbol has room for one step more
-pub dot_short : (g : FlatGrammar) (t : Tables) (line k x : ℕ) → IsTables g t → line ≤ length t.productions.items → slice_get (right_of g (line_of line)) k ≡ Some x → k + 1 < 2 ^ 16
+dot_short : (g : FlatGrammar) (t : Tables) (line k x : ℕ) → IsTables g t → line ≤ length t.productions.items → slice_get (right_of g (line_of line)) k ≡ Some x → k + 1 < 2 ^ 16
 dot_short g t zero zero x tables below at = omega arith
 dot_short g t zero (suc k) x tables below at = absurd (none_at_nil k x at)
 dot_short g t (suc n) k x tables below at =
@@ -110,6 +110,17 @@ dot_short g t (suc n) k x tables below at =
     let short = (tables.inside p.0 (there ps n p.0 p.1)).short in
     let w = slice_get_within p.0.right.items k x (ap (λ (l : List ℕ). slice_get l k) (sym pa.right) ∙ at) in
     omega (arith, short, w)
+
+-- the symbols of a line are of the grammar, and a dot before one has room for one step more
+module _ (g : FlatGrammar) (t : Tables) (line k : ℕ) (right : List ℕ) (tables : IsTables g t) (below : line ≤ length t.productions.items) (is : right ≡ right_of g (line_of line)) (inside : k < length right) where
+  at : (d : ℕ) → slice_get (right_of g (line_of line)) k ≡ Some (get_or right k d)
+  at d = ap (λ (l : List ℕ). slice_get l k) (sym is) ∙ slice_get-get_or right k d inside
+
+  pub symbol_inside : (d : ℕ) → get_or right k d < length t.firsts.items
+  symbol_inside d = let lt = right_inside g t line k (get_or right k d) tables below (at d) in let size = tables.firsts.count in omega (arith, lt, size)
+
+  pub symbol_short : k + 1 < 2 ^ 16
+  symbol_short = dot_short g t line k (get_or right k 0) tables below (at 0)
 
 pub move_puts : (g : FlatGrammar) (q past : Part) (at from symbol : ℕ) (a b : List (Vec Part)) → Some symbol ≡ slice_get (right_of g (line_of q.line)) at → at ≡ q.dot → from ≡ symbol → past ≡ record q { dot = q.dot + 1 } → Puts (λ y x. (y ≡ from) × (x ≡ past)) a b
     → Puts (MovesTo g q) a b

@@ -10,11 +10,11 @@ use Rattle.ts_bits.specs.declared.set.BitSet.{BitSet}
 use Rattle.ts_items.specs.declared.part.Part.{Part}
 use Rattle.ts_items.specs.declared.part.Goto.{Goto}
 use Rattle.ts_items.specs.declared.part.State.{State}
-use Rattle.ts_items.specs.declared.tables.Tables.{Tables}
 use Rattle.ts_items.specs.contracts.part.PartOrd.TheImpl as derived
 use Rattle.ts_items.specs.Productions.{right_of}
 use Rattle.ts_items.specs.Parts.{line_of, In}
 use Rattle.ts_items.specs.Rows.{RowHas, FromOne}
+use Rattle.ts_items.specs.Tables.{GrammarTables}
 use Rattle.ts_items.specs.Closing.{AddsSets, AtDot, Closed, SameItems, MovesPast, AreLineParts, HaveOneSetEach, IsKernel, Closes}
 
 -- the order of parts: by line, then by dot, then by the place of the set of tokens
@@ -112,16 +112,17 @@ pub record Collecting (g : FlatGrammar) (lines count : ℕ) (pool : List BitSet)
       → slice_get kernels n ≡ Some k → IsDone g lines count pool kernels k s
 
 -- the same with the numbers of lines and symbols that tables have
-abbrev pub StatesBy : FlatGrammar → Tables → List BitSet → List (Vec Part) → Type 0
-StatesBy g t pool kernels = AreStates g (length t.productions.items) pool kernels
+abbrev pub StatesBy : GrammarTables → List BitSet → List (Vec Part) → Type 0
+StatesBy t pool kernels = AreStates t.grammar (length t.tables.productions.items) pool kernels
 
 -- a set whose parts and whose gotos are there, by the numbers that tables have
-abbrev pub DoneBy : FlatGrammar → Tables → List BitSet → List (Vec Part) → Vec Part → State → Type 0
-DoneBy g t pool kernels k s =
-    IsDone g (length t.productions.items) (length t.firsts.items) pool kernels k s
+abbrev pub DoneBy : GrammarTables → List BitSet → List (Vec Part) → Vec Part → State → Type 0
+DoneBy t pool kernels k s =
+    IsDone t.grammar (length t.tables.productions.items) (length t.tables.firsts.items) pool
+    kernels k s
 
 -- the sets that have been gone through, by the numbers that tables have
-abbrev pub CollectedBy : FlatGrammar → Tables → List BitSet → List (Vec Part) → List State → ℕ
-    → Type 0
-CollectedBy g t pool kernels states next =
-    Collecting g (length t.productions.items) (length t.firsts.items) pool kernels states next
+abbrev pub CollectedBy : GrammarTables → List BitSet → List (Vec Part) → List State → ℕ → Type 0
+CollectedBy t pool kernels states next =
+    Collecting t.grammar (length t.tables.productions.items) (length t.tables.firsts.items) pool
+    kernels states next

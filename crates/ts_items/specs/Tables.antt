@@ -9,6 +9,11 @@ use Rattle.ts_items.specs.Productions.{ArePlainOf}
 use Rattle.ts_items.specs.Rows.{RowHas}
 use Rattle.ts_items.specs.Edges.{IsAskEdge, AreEdges, AreInside, AreFirstSets}
 
+-- a grammar, with tables
+pub record GrammarTables : Type 0 where
+  pub grammar : FlatGrammar
+  pub tables : Tables
+
 -- the line is of a production with this left side
 pub record IsLineOf (ps : List Plain) (y line : ℕ) : Type 0 where
   pub number : ℕ

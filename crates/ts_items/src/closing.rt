@@ -1,18 +1,16 @@
 //! Closed sets of items: the parts with which a set begins go in, and all its parts come out.
 ghost use Rattle.std.specs.Prelude.{◌≡◌, ℕ, ◌+◌, ◌*◌, ◌^◌, ◌<◌, ◌↔◌, length, slice_get, Some, IfOk, OnOk};
 ghost use Rattle.std.specs.List.{Contains};
-ghost use Rattle.ts_core.specs.declared.flat.FlatGrammar.{FlatGrammar};
 ghost use Rattle.ts_bits.specs.Members.{Has, IsWide};
 ghost use Rattle.ts_items.specs.Parts.{line_of, In};
 ghost use Rattle.ts_items.specs.Rows.{FromOne};
 ghost use Rattle.ts_items.specs.Sets.{HasAt, AreWide, GainsTokens, QueuesGains};
-ghost use Rattle.ts_items.specs.Tables.{IsTables};
 ghost use Rattle.ts_items.specs.Closing.{Asked, AskedBy, CanFollow, IsLinePart, AreLineParts, AddsParts, AddsBegun, AreBegun, AddsSets, IsPool, Closes};
 
 use crate::flow::flow;
 use crate::part::Part;
 use crate::sets::{clear_all, join};
-use crate::tables::Tables;
+use crate::tables::Tabled;
 use indexmap::IndexSet;
 use std::alloc::{AllocError, Global};
 use ts_bits::BitSet;
@@ -28,63 +26,61 @@ fn pool_at(pool: &IndexSet<BitSet>, at: usize) -> &BitSet
 }
 
 /// The tokens that can come after the step at the dot.
-fn behind<'a>(tables: &'a Tables, pool: &'a IndexSet<BitSet>, part: Part) -> &'a BitSet
-    requires part { IsLinePart (length tables.now.productions.items) pool.now.keys part }
-    requires tables { (g : FlatGrammar) × IsTables g tables.now }
-    requires pool { AreWide tables.now.width pool.now.keys }
-    ensures members { (g : FlatGrammar) → IsTables g tables.now → (t : ℕ) → Has result.now t
-        ↔ CanFollow g pool.now.keys part t }
-    ensures wide { IsWide tables.now.width result.now }
+fn behind<'a>(tabled: &'a Tabled, pool: &'a IndexSet<BitSet>, part: Part) -> &'a BitSet
+    requires part { IsLinePart (length tabled.now.tables.productions.items) pool.now.keys part }
+    requires pool { AreWide tabled.now.tables.width pool.now.keys }
+    ensures members { (t : ℕ) → Has result.now t ↔ CanFollow tabled.now.grammar pool.now.keys
+        part t }
+    ensures wide { IsWide tabled.now.tables.width result.now }
 {
-    match tables.symbol_at(part.line, usize::from(part.dot) + 1) {
-        Some(symbol) => &tables.firsts.as_slice()[usize::from(symbol)],
+    tabled.stands();
+    match tabled.symbol_at(part.line, usize::from(part.dot) + 1) {
+        Some(symbol) => &tabled.firsts()[usize::from(symbol)],
         None => pool_at(pool, part.tokens),
     }
 }
 
 /// Adds what one part asks for.
 fn ask(
-    tables: &Tables,
+    tabled: &Tabled,
     pool: &IndexSet<BitSet>,
     asked: &mut [BitSet],
     queue: &mut Vec<u16>,
     part: Part,
 ) -> Result<(), AllocError>
-    requires part { IsLinePart (length tables.now.productions.items) pool.now.keys part }
-    requires tables { (g : FlatGrammar) × IsTables g tables.now }
-    requires pool { AreWide tables.now.width pool.now.keys }
-    requires count { length asked.old ≡ length tables.now.firsts.items }
-    requires wide { AreWide tables.now.width asked.old }
-    ensures gains { (g : FlatGrammar) → IsTables g tables.now
-        → OnOk result (GainsTokens (AskedBy g pool.now.keys part) asked.old asked.new) }
+    requires part { IsLinePart (length tabled.now.tables.productions.items) pool.now.keys part }
+    requires pool { AreWide tabled.now.tables.width pool.now.keys }
+    requires count { length asked.old ≡ length tabled.now.tables.firsts.items }
+    requires wide { AreWide tabled.now.tables.width asked.old }
+    ensures gains { OnOk result (GainsTokens (AskedBy tabled.now.grammar pool.now.keys part)
+        asked.old asked.new) }
     ensures tells { OnOk result (QueuesGains asked.old asked.new queue.old.items queue.new.items) }
 {
-    match tables.symbol_at(part.line, usize::from(part.dot)) {
-        Some(symbol) => join(asked, queue, symbol, behind(tables, pool, part)),
+    match tabled.symbol_at(part.line, usize::from(part.dot)) {
+        Some(symbol) => join(asked, queue, symbol, behind(tabled, pool, part)),
         None => Ok(()),
     }
 }
 
 /// Adds what all parts ask for.
 fn ask_all(
-    tables: &Tables,
+    tabled: &Tabled,
     pool: &IndexSet<BitSet>,
     asked: &mut [BitSet],
     queue: &mut Vec<u16>,
     kernel: &[Part],
 ) -> Result<(), AllocError>
-    requires parts { AreLineParts (length tables.now.productions.items) pool.now.keys kernel.now }
-    requires tables { (g : FlatGrammar) × IsTables g tables.now }
-    requires pool { AreWide tables.now.width pool.now.keys }
-    requires count { length asked.old ≡ length tables.now.firsts.items }
-    requires wide { AreWide tables.now.width asked.old }
-    ensures gains { (g : FlatGrammar) → IsTables g tables.now
-        → OnOk result (GainsTokens (FromOne (AskedBy g pool.now.keys) kernel.now) asked.old
-        asked.new) }
+    requires parts { AreLineParts (length tabled.now.tables.productions.items) pool.now.keys
+        kernel.now }
+    requires pool { AreWide tabled.now.tables.width pool.now.keys }
+    requires count { length asked.old ≡ length tabled.now.tables.firsts.items }
+    requires wide { AreWide tabled.now.tables.width asked.old }
+    ensures gains { OnOk result (GainsTokens
+        (FromOne (AskedBy tabled.now.grammar pool.now.keys) kernel.now) asked.old asked.new) }
     ensures tells { OnOk result (QueuesGains asked.old asked.new queue.old.items queue.new.items) }
 {
     for part in kernel {
-        ask(tables, pool, asked, queue, *part)?;
+        ask(tabled, pool, asked, queue, *part)?;
     }
     Ok(())
 }
@@ -175,58 +171,54 @@ fn add_begun(
 /// For each symbol that the parts ask for, over and over, the tokens behind it.
 fn ask_for(
     alloc: Global,
-    tables: &Tables,
+    tabled: &Tabled,
     pool: &IndexSet<BitSet>,
     asked: &mut [BitSet],
     kernel: &[Part],
 ) -> Result<(), AllocError>
-    requires parts { AreLineParts (length tables.now.productions.items) pool.now.keys kernel.now }
-    requires tables { (g : FlatGrammar) × IsTables g tables.now }
-    requires pool { AreWide tables.now.width pool.now.keys }
-    requires count { length asked.old ≡ length tables.now.firsts.items }
-    requires wide { AreWide tables.now.width asked.old }
+    requires parts { AreLineParts (length tabled.now.tables.productions.items) pool.now.keys
+        kernel.now }
+    requires pool { AreWide tabled.now.tables.width pool.now.keys }
+    requires count { length asked.old ≡ length tabled.now.tables.firsts.items }
+    requires wide { AreWide tabled.now.tables.width asked.old }
     ensures count { OnOk result (length asked.new ≡ length asked.old) }
-    ensures wide { OnOk result (AreWide tables.now.width asked.new) }
-    ensures asked { OnOk result ((g : FlatGrammar) → IsTables g tables.now → (y t : ℕ)
-        → HasAt asked.new y t ↔ Asked g (In pool.now.keys kernel.now) y t) }
+    ensures wide { OnOk result (AreWide tabled.now.tables.width asked.new) }
+    ensures asked { OnOk result ((y t : ℕ) → HasAt asked.new y t
+        ↔ Asked tabled.now.grammar (In pool.now.keys kernel.now) y t) }
 {
+    tabled.stands();
     clear_all(asked);
     let mut queue = Vec::new(alloc);
-    ask_all(tables, pool, asked, &mut queue, kernel)?;
-    flow(
-        alloc,
-        tables.edges.as_slice(),
-        tables.firsts.as_slice(),
-        asked,
-        &mut queue,
-    )?;
+    ask_all(tabled, pool, asked, &mut queue, kernel)?;
+    flow(alloc, tabled.edges(), tabled.firsts(), asked, &mut queue)?;
     Ok(())
 }
 
 /// All parts of the closed set of a kernel.
 pub(crate) fn close(
     alloc: Global,
-    tables: &Tables,
+    tabled: &Tabled,
     pool: &mut IndexSet<BitSet>,
     asked: &mut [BitSet],
     kernel: &[Part],
 ) -> Result<Vec<Part>, AllocError>
-    requires parts { AreLineParts (length tables.now.productions.items) pool.old.keys kernel.now }
-    requires tables { (g : FlatGrammar) × IsTables g tables.now }
-    requires pool { IsPool tables.now.width pool.old.keys }
-    requires count { length asked.old ≡ length tables.now.firsts.items }
-    requires wide { AreWide tables.now.width asked.old }
+    requires parts { AreLineParts (length tabled.now.tables.productions.items) pool.old.keys
+        kernel.now }
+    requires pool { IsPool tabled.now.tables.width pool.old.keys }
+    requires count { length asked.old ≡ length tabled.now.tables.firsts.items }
+    requires wide { AreWide tabled.now.tables.width asked.old }
     ensures count { OnOk result (length asked.new ≡ length asked.old) }
-    ensures wide { OnOk result (AreWide tables.now.width asked.new) }
+    ensures wide { OnOk result (AreWide tabled.now.tables.width asked.new) }
     ensures grows { OnOk result (AddsSets pool.old.keys pool.new.keys) }
-    ensures pool { OnOk result (IsPool tables.now.width pool.new.keys) }
-    ensures closes { IfOk result (λ v. (g : FlatGrammar) → IsTables g tables.now
-        → Closes g (length tables.now.productions.items) pool.new.keys kernel.now v.items) }
+    ensures pool { OnOk result (IsPool tabled.now.tables.width pool.new.keys) }
+    ensures closes { IfOk result (λ v. Closes tabled.now.grammar
+        (length tabled.now.tables.productions.items) pool.new.keys kernel.now v.items) }
 {
     ts_bits::same_words();
-    ask_for(alloc, tables, pool, asked, kernel)?;
+    tabled.stands();
+    ask_for(alloc, tabled, pool, asked, kernel)?;
     let mut parts = Vec::new(alloc);
     parts.extend_from_slice(kernel)?;
-    add_begun(alloc, tables.lines.as_slice(), pool, asked, &mut parts)?;
+    add_begun(alloc, tabled.lines(), pool, asked, &mut parts)?;
     Ok(parts)
 }

@@ -9,14 +9,13 @@ ghost use Rattle.ts_items.specs.declared.numbering.ItemFault.TheVariants.{Memory
 ghost use Rattle.ts_items.specs.Numbers.{AreStates, HasRows, AreGotos, Enters, EntersGoto, AreOnce, StatesBy, DoneBy, CollectedBy};
 ghost use Rattle.ts_items.specs.Closing.{AddsSets, IsPool};
 ghost use Rattle.ts_items.specs.Sets.{AreWide};
-ghost use Rattle.ts_items.specs.Tables.{IsTables};
 ghost use Rattle.ts_items.specs.Collection.{most_states, too_many, StandsFor, AreTooManyStates};
 
 use crate::closing::{close, place_of};
 use crate::moving::{in_order, moved};
 use crate::part::{Goto, Items, Part, State};
 use crate::sets::empty_sets;
-use crate::tables::{Tables, tables_of};
+use crate::tables::{Tabled, tables_of};
 use indexmap::IndexSet;
 use std::alloc::{AllocError, AllocFailed, Global};
 use thiserror::Error;
@@ -143,18 +142,17 @@ fn kernel_at(kernels: &IndexSet<Vec<Part>>, at: usize) -> &[Part]
 /// Puts in the start item, with the set of the end alone.
 fn begin(
     alloc: Global,
-    tables: &Tables,
+    tabled: &Tabled,
     pool: &mut IndexSet<BitSet>,
     kernels: &mut IndexSet<Vec<Part>>,
 ) -> Result<(), AllocError>
     requires empty { (pool.old.keys ≡ []) × (kernels.old.keys ≡ []) }
-    requires tables { (g : Flat) × IsTables g tables.now }
-    ensures pool { OnOk result (IsPool tables.now.width pool.new.keys) }
+    ensures pool { OnOk result (IsPool tabled.now.tables.width pool.new.keys) }
     ensures few { OnOk result (length kernels.new.keys ≤ most_states) }
-    ensures begun { OnOk result ((g : Flat) → IsTables g tables.now
-        → CollectedBy g tables.now pool.new.keys kernels.new.keys [] 0) }
+    ensures begun { OnOk result (CollectedBy tabled.now pool.new.keys kernels.new.keys [] 0) }
 {
-    let mut end = BitSet::new(alloc, tables.width)?;
+    tabled.stands();
+    let mut end = BitSet::new(alloc, tabled.width())?;
     end.insert(0);
     let tokens = place_of(alloc, pool, &end)?;
     let mut start = Vec::new(alloc);
@@ -170,40 +168,35 @@ fn begin(
 /// The set of one kernel, and where it leads.
 fn state_of(
     alloc: Global,
-    tables: &Tables,
+    tabled: &Tabled,
     pool: &mut IndexSet<BitSet>,
     kernels: &mut IndexSet<Vec<Part>>,
     asked: &mut [BitSet],
     at: usize,
 ) -> Result<State, ItemFault>
     requires at { at < length kernels.old.keys }
-    requires tables { (g : Flat) × IsTables g tables.now
-        × StatesBy g tables.now pool.old.keys kernels.old.keys }
-    requires pool { IsPool tables.now.width pool.old.keys }
-    requires asked { (length asked.old ≡ length tables.now.firsts.items)
-        × AreWide tables.now.width asked.old }
+    requires states { StatesBy tabled.now pool.old.keys kernels.old.keys }
+    requires pool { IsPool tabled.now.tables.width pool.old.keys }
+    requires asked { (length asked.old ≡ length tabled.now.tables.firsts.items)
+        × AreWide tabled.now.tables.width asked.old }
     ensures asked { OnOk result ((length asked.new ≡ length asked.old)
-        × AreWide tables.now.width asked.new) }
-    ensures pool { OnOk result (IsPool tables.now.width pool.new.keys
+        × AreWide tabled.now.tables.width asked.new) }
+    ensures pool { OnOk result (IsPool tabled.now.tables.width pool.new.keys
         × AddsSets pool.old.keys pool.new.keys) }
     ensures kernels { OnOk result (AddsSets kernels.old.keys kernels.new.keys) }
     ensures once { OnOk result (AreOnce kernels.old.keys → AreOnce kernels.new.keys) }
-    ensures states { OnOk result ((g : Flat) → IsTables g tables.now
-        → StatesBy g tables.now pool.old.keys kernels.old.keys
-        → StatesBy g tables.now pool.new.keys kernels.new.keys) }
-    ensures done { IfOk result (λ s. (g : Flat) (k : Vec Parts) → IsTables g tables.now
-        → StatesBy g tables.now pool.old.keys kernels.old.keys
-        → slice_get kernels.old.keys at ≡ Some k
-        → DoneBy g tables.now pool.new.keys kernels.new.keys k s) }
+    ensures states { OnOk result (StatesBy tabled.now pool.new.keys kernels.new.keys) }
+    ensures done { IfOk result (λ s. (k : Vec Parts) → slice_get kernels.old.keys at ≡ Some k
+        → DoneBy tabled.now pool.new.keys kernels.new.keys k s) }
     ensures few { OnOk result (length kernels.old.keys ≤ most_states
         → length kernels.new.keys ≤ most_states) }
     ensures many { IfErr result (λ e. (e ≡ Memory) ⊎ ((e ≡ TooManyStates too_many)
-        × ((g : Flat) → IsTables g tables.now → StatesBy g tables.now pool.old.keys kernels.old.keys
-        → AreOnce kernels.old.keys → AreTooManyStates g))) }
+        × (AreOnce kernels.old.keys → AreTooManyStates tabled.now.grammar))) }
 {
     ts_bits::same_words();
-    let parts = close(alloc, tables, pool, asked, kernel_at(kernels, at))?;
-    let over = moved(alloc, tables, parts.as_slice())?;
+    tabled.stands();
+    let parts = close(alloc, tabled, pool, asked, kernel_at(kernels, at))?;
+    let over = moved(alloc, tabled, parts.as_slice())?;
     let gotos = gotos_of(alloc, kernels, over.as_slice())?;
     Ok(State { parts, gotos })
 }
@@ -211,32 +204,28 @@ fn state_of(
 /// All states, for the kernels that are there and those to which they lead.
 fn states_of(
     alloc: Global,
-    tables: &Tables,
+    tabled: &Tabled,
     pool: &mut IndexSet<BitSet>,
     kernels: &mut IndexSet<Vec<Part>>,
     asked: &mut [BitSet],
 ) -> Result<Vec<State>, ItemFault>
-    requires begun { (g : Flat) × IsTables g tables.now
-        × CollectedBy g tables.now pool.old.keys kernels.old.keys [] 0 }
-    requires pool { IsPool tables.now.width pool.old.keys }
+    requires begun { CollectedBy tabled.now pool.old.keys kernels.old.keys [] 0 }
+    requires pool { IsPool tabled.now.tables.width pool.old.keys }
     requires few { length kernels.old.keys ≤ most_states }
-    requires asked { (length asked.old ≡ length tables.now.firsts.items)
-        × AreWide tables.now.width asked.old }
-    ensures pool { OnOk result (IsPool tables.now.width pool.new.keys) }
+    requires asked { (length asked.old ≡ length tabled.now.tables.firsts.items)
+        × AreWide tabled.now.tables.width asked.old }
+    ensures pool { OnOk result (IsPool tabled.now.tables.width pool.new.keys) }
     ensures few { OnOk result (length kernels.new.keys ≤ most_states) }
     ensures size { IfOk result (λ v. length v.items ≡ length kernels.new.keys) }
-    ensures states { IfOk result (λ v. (g : Flat) → IsTables g tables.now
-        → CollectedBy g tables.now pool.old.keys kernels.old.keys [] 0
-        → CollectedBy g tables.now pool.new.keys kernels.new.keys v.items
+    ensures states { IfOk result (λ v. CollectedBy tabled.now pool.new.keys kernels.new.keys v.items
         (length kernels.new.keys)) }
     ensures many { IfErr result (λ e. (e ≡ Memory) ⊎ ((e ≡ TooManyStates too_many)
-        × ((g : Flat) → IsTables g tables.now
-        → CollectedBy g tables.now pool.old.keys kernels.old.keys [] 0 → AreTooManyStates g))) }
+        × AreTooManyStates tabled.now.grammar)) }
 {
     let mut states = Vec::new(alloc);
     let mut next = 0;
     while next < kernels.len() {
-        let state = state_of(alloc, tables, pool, kernels, asked, next)?;
+        let state = state_of(alloc, tabled, pool, kernels, asked, next)?;
         states.push(state)?;
         next += 1;
     }
@@ -257,14 +246,15 @@ pub fn collection(alloc: Global, grammar: &FlatGrammar) -> Result<Items, ItemFau
         ⊎ ((e ≡ TooManyStates too_many) × AreTooManyStates grammar.now)) }
 {
     ts_bits::same_words();
-    let tables = tables_of(alloc, grammar)?;
+    let tabled = tables_of(alloc, grammar)?;
+    tabled.stands();
     let mut pool = IndexSet::new(alloc);
     let mut kernels = IndexSet::new(alloc);
-    begin(alloc, &tables, &mut pool, &mut kernels)?;
-    let mut asked = empty_sets(alloc, tables.count(), tables.width)?;
+    begin(alloc, &tabled, &mut pool, &mut kernels)?;
+    let mut asked = empty_sets(alloc, tabled.count(), tabled.width())?;
     let states = states_of(
         alloc,
-        &tables,
+        &tabled,
         &mut pool,
         &mut kernels,
         asked.as_mut_slice(),
@@ -272,6 +262,6 @@ pub fn collection(alloc: Global, grammar: &FlatGrammar) -> Result<Items, ItemFau
     Ok(Items {
         tokens: pool,
         states,
-        firsts: tables.firsts,
+        firsts: tabled.into_firsts(),
     })
 }

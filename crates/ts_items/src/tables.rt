@@ -1,7 +1,6 @@
 //! What closing a set of items needs to know of a grammar: the grammar goes in, and tables with a
 //! row for each production or symbol come out.
-ghost use Rattle.std.specs.Prelude.{◌≡◌, ◌<◌, ◌≤◌, ◌^◌, length, slice_get, IfOk, OnOk};
-ghost use Rattle.ts_core.specs.declared.flat.FlatGrammar.{FlatGrammar as Flat};
+ghost use Rattle.std.specs.Prelude.{◌≡◌, ◌+◌, ◌<◌, ◌≤◌, ◌^◌, length, slice_get, IfOk, IfSome, IsSome, OnOk};
 ghost use Rattle.spec_tables.specs.Fit.{Fit};
 ghost use Rattle.ts_items.specs.Productions.{ArePlainOf, right_of};
 ghost use Rattle.ts_items.specs.Parts.{line_of};
@@ -14,6 +13,7 @@ use crate::flow::Edge;
 use crate::plain::{Plain, plain_productions};
 use crate::rows::{empty_rows, put};
 use std::alloc::{AllocError, Global};
+use std::marker::Model;
 use ts_bits::BitSet;
 use ts_core::FlatGrammar;
 
@@ -31,6 +31,27 @@ pub(crate) struct Tables {
     pub firsts: Vec<BitSet>,
     /// In how many words a set of tokens is held.
     pub width: usize,
+}
+
+/// A grammar with its tables.
+#[derive(Drop)]
+pub(crate) struct Tabled<'g> {
+    grammar: &'g FlatGrammar,
+    tables: Tables,
+}
+
+impl<'g> Model for Tabled<'g> {
+    ghost use Rattle.std.specs.Coded.{codes};
+    ghost use Rattle.ts_core.specs.contracts.flat.FlatGrammar as contract;
+    ghost use Rattle.ts_items.specs.Tables.{GrammarTables, IsTables};
+
+    ghost Value = { GrammarTables };
+
+    ghost coded = { Prim.hlevel (codes, contract.the_row.coded) };
+
+    ghost view = { λ a. record { grammar = a.grammar.now; tables = a.tables } };
+
+    ghost invariant = { λ a. IsTables a.grammar.now a.tables };
 }
 
 /// The second symbol, if there is one.
@@ -92,9 +113,12 @@ fn lines_of(alloc: Global, productions: &[Plain], count: usize) -> Result<Vec<Ve
 }
 
 /// The tables of a grammar.
-pub(crate) fn tables_of(alloc: Global, grammar: &FlatGrammar) -> Result<Tables, AllocError>
+pub(crate) fn tables_of<'g>(
+    alloc: Global,
+    grammar: &'g FlatGrammar,
+) -> Result<Tabled<'g>, AllocError>
     requires { Fit grammar.now }
-    ensures { IfOk result (IsTables grammar.now) }
+    ensures { IfOk result (λ tabled. tabled.grammar ≡ grammar.now) }
 {
     let count = grammar.tokens.len() + grammar.rules.len() + 1;
     let width = grammar.tokens.len() / 64 + 1;
@@ -104,41 +128,87 @@ pub(crate) fn tables_of(alloc: Global, grammar: &FlatGrammar) -> Result<Tables, 
     let firsts = first_sets(alloc, grammar, productions.as_slice(), count, width)?;
     let mut start = Vec::new(alloc);
     start.push(grammar.tokens.len() as u16 + 1)?;
-    Ok(Tables {
+    let tables = Tables {
         start,
         productions,
         lines,
         edges,
         firsts,
         width,
-    })
+    };
+    Ok(Tabled { grammar, tables })
 }
 
-impl Tables {
+impl Tabled<'_> {
+    /// They are the tables of the grammar. A call of it only tells this.
+    pub(crate) fn stands(&self)
+        ensures { IsTables self.now.grammar self.now.tables }
+    {
+        let _ = &self.tables;
+    }
+
     /// How many symbols there are.
     pub(crate) fn count(&self) -> usize
-        ensures { result ≡ length self.now.firsts.items }
+        ensures { result ≡ length self.now.tables.firsts.items }
     {
-        self.firsts.len()
+        self.tables.firsts.len()
+    }
+
+    /// In how many words a set of tokens is held.
+    pub(crate) fn width(&self) -> usize
+        ensures { result ≡ self.now.tables.width }
+    {
+        self.tables.width
+    }
+
+    /// For each symbol the lines of its productions.
+    pub(crate) fn lines(&self) -> &[Vec<u16>]
+        ensures { result.now ≡ self.now.tables.lines.items }
+    {
+        self.tables.lines.as_slice()
+    }
+
+    /// For each symbol those with which its productions begin.
+    pub(crate) fn edges(&self) -> &[Vec<Edge>]
+        ensures { result.now ≡ self.now.tables.edges.items }
+    {
+        self.tables.edges.as_slice()
+    }
+
+    /// For each symbol the tokens with which it can begin.
+    pub(crate) fn firsts(&self) -> &[BitSet]
+        ensures { result.now ≡ self.now.tables.firsts.items }
+    {
+        self.tables.firsts.as_slice()
+    }
+
+    /// The same, where the tables are no longer used.
+    pub(crate) fn into_firsts(self) -> Vec<BitSet>
+        ensures { result.items ≡ self.entry.tables.firsts.items }
+    {
+        self.tables.firsts
     }
 
     /// The symbols of a line's production.
     fn right_of(&self, line: u16) -> &[u16]
-        requires { line ≤ length self.now.productions.items }
-        ensures { (g : Flat) → IsTables g self.now → result.now ≡ right_of g (line_of line) }
+        requires { line ≤ length self.now.tables.productions.items }
+        ensures { result.now ≡ right_of self.now.grammar (line_of line) }
     {
+        let tables = &self.tables;
         if line == 0 {
-            return self.start.as_slice();
+            return tables.start.as_slice();
         }
-        self.productions[usize::from(line) - 1].right.as_slice()
+        tables.productions[usize::from(line) - 1].right.as_slice()
     }
 
     /// The symbol at a place of a line's production.
     pub(crate) fn symbol_at(&self, line: u16, place: usize) -> Option<u16>
-        requires { line ≤ length self.now.productions.items }
-        ensures { (g : Flat) → IsTables g self.now
-            → result ≡ slice_get (right_of g (line_of line)) place }
+        requires { line ≤ length self.now.tables.productions.items }
+        ensures is { result ≡ slice_get (right_of self.now.grammar (line_of line)) place }
+        ensures inside { IfSome result (λ symbol. symbol < length self.now.tables.firsts.items) }
+        ensures short { IsSome result → place + 1 < 2 ^ 16 }
     {
+        self.stands();
         let right = self.right_of(line);
         if place < right.len() {
             Some(right[place])

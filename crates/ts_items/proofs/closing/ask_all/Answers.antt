@@ -6,7 +6,7 @@ use Rattle.ts_items.proofs.closing.ask_all.Goals as goal
 
 pub loop-part-init : goal.loop-part-init
 loop-part-init c = record {
-  gains = λ g t. gains_begin (AskedBy g c.args.pool.now.keys) c.args.kernel.now c.args.asked.now;
+  gains = gains_begin (AskedBy c.args.tabled.now.grammar c.args.pool.now.keys) c.args.kernel.now c.args.asked.now;
   tells = tells_none c.args.asked.now c.args.queue.now.items;
 }
 
@@ -14,13 +14,13 @@ pub ask-requires-clause-part : goal.ask-requires-clause-part
 ask-requires-clause-part c = c.requires.parts _ (Contains-get_or c.args.kernel.now c.loop-part.part-index _ c.loop-part-test.true)
 
 pub ask-requires-clause-count : goal.ask-requires-clause-count
-ask-requires-clause-count c = let t = c.requires.tables in (c.loop-part.invariant.gains t.0 t.1).count ∙ c.requires.count
+ask-requires-clause-count c = c.loop-part.invariant.gains.count ∙ c.requires.count
 
 pub ask-requires-clause-wide : goal.ask-requires-clause-wide
-ask-requires-clause-wide c = let t = c.requires.tables in (c.loop-part.invariant.gains t.0 t.1).wide c.args.tables.now.width c.requires.wide
+ask-requires-clause-wide c = c.loop-part.invariant.gains.wide c.args.tabled.now.tables.width c.requires.wide
 
 pub loop-part-preserved : goal.loop-part-preserved
 loop-part-preserved c = record {
-  gains = λ g t. gains_more (AskedBy g c.args.pool.now.keys) c.args.kernel.now c.loop-part.part-index _ c.args.asked.now c.loop-part.asked c.ask.new.asked c.loop-part-test.true (c.loop-part.invariant.gains g t) (c.in_ok-ask.ensures.gains g t);
-  tells = let t = c.requires.tables in tells_both c.args.asked.now c.loop-part.asked c.ask.new.asked c.args.queue.now.items c.loop-part.queue.items c.ask.new.queue.items (c.loop-part.invariant.gains t.0 t.1).count c.loop-part.invariant.tells c.in_ok-ask.ensures.tells;
+  gains = gains_more (AskedBy c.args.tabled.now.grammar c.args.pool.now.keys) c.args.kernel.now c.loop-part.part-index _ c.args.asked.now c.loop-part.asked c.ask.new.asked c.loop-part-test.true c.loop-part.invariant.gains c.in_ok-ask.ensures.gains;
+  tells = tells_both c.args.asked.now c.loop-part.asked c.ask.new.asked c.args.queue.now.items c.loop-part.queue.items c.ask.new.queue.items c.loop-part.invariant.gains.count c.loop-part.invariant.tells c.in_ok-ask.ensures.tells;
 }

@@ -1,12 +1,10 @@
 use Rattle.std.proofs.Common.{◌≡◌, take, length}
-use Rattle.ts_core.specs.declared.flat.FlatGrammar.{FlatGrammar}
 use Rattle.ts_items.specs.Rows.{FromOne, Puts}
-use Rattle.ts_items.specs.Tables.{IsTables}
 use Rattle.ts_items.specs.Numbers.{MovesTo}
 use Rattle.ts_items.proofs.moving.move_parts.Given as goal
 
 abbrev pub invariant-loop-part : goal.invariant-loop-part
 invariant-loop-part l = record {
   count : length l.moved ≡ length l.initial.moved;
-  moved : (g : FlatGrammar) → IsTables g l.tables → Puts (FromOne (MovesTo g) (take l.part-index l.parts)) l.initial.moved l.moved;
+  moved : Puts (FromOne (MovesTo l.tabled.grammar) (take l.part-index l.parts)) l.initial.moved l.moved;
 }

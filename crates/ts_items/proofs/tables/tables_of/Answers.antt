@@ -18,8 +18,8 @@ ask_edges-requires c = inside_both (symbol_count c.args.grammar.now) _ c.in_ok-p
 pub first_sets-requires-clause-inside : goal.first_sets-requires-clause-inside
 first_sets-requires-clause-inside c = inside_both (symbol_count c.args.grammar.now) _ c.in_ok-productions.productions.items c.as_slice-3.result.now (omega (arith, c.len.ensures, c.len-2.ensures)) c.as_slice-3.ensures.value (plain_inside c.args.grammar.now c.in_ok-productions.productions.items c.requires c.in_ok-productions.ensures)
 
-pub returns : goal.returns
-returns c =
+pub invariant_of-result : goal.invariant_of-result
+invariant_of-result c =
     let g = c.args.grammar.now in
     let ps = c.in_ok-productions.productions.items in
     let count : c.len.result + c.len-2.result + 1 ≡ symbol_count g = omega (arith, c.len.ensures, c.len-2.ensures) in
