@@ -9,7 +9,7 @@ use Rattle.ts_text.specs.declared.edit.Edit.{Edit}
 use Rattle.ts_text.specs.declared.edit.Part.{Part}
 use Rattle.ts_text.specs.Edit.{IsPartOf, InRange, replaced_from, apply_of}
 use Rattle.spec_reuse.specs.Changes.{is_met, moved, moved_from}
-use Rattle.ts_marks.specs.Passing.{AreOrdered}
+use Rattle.ts_marks.specs.Parts.{AreOrdered}
 use Rattle.ts_marks.proofs.MovedLemmas.{ordered, clear, shifted, AreClear, moved_low, moved_high}
 
 get_drop : (n : ℕ) (xs : Bytes) (i : ℕ) → slice_get (drop n xs) i ≡ slice_get xs (n + i)

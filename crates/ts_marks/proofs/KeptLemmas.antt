@@ -9,7 +9,7 @@ use Rattle.spec_trees.specs.Inside as nodes
 use Rattle.spec_reuse.specs.Places.{IsIn, here, inside, later, IsInTree, IsWhole, lead_of}
 use Rattle.spec_reuse.specs.Changes.{is_met, moved, IsEditOver}
 use Rattle.spec_reuse.specs.Marked.{marked_below, all_marked, marked}
-use Rattle.ts_marks.specs.Passing.{AreOrdered}
+use Rattle.ts_marks.specs.Parts.{AreOrdered}
 use Rattle.ts_marks.specs.Kept.{WasClear}
 use Rattle.ts_marks.proofs.MovedLemmas.{moved_rises}
 use Rattle.ts_marks.proofs.MarkedLemmas.{stays, span_is, spans_are, settled_is, children_are, whole_children, AllWhole}

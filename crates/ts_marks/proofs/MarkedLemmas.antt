@@ -14,7 +14,8 @@ use Rattle.spec_trees.specs.Inside as nodes
 use Rattle.spec_reuse.specs.Places.{IsWhole}
 use Rattle.spec_reuse.specs.Changes.{is_met, moved}
 use Rattle.spec_reuse.specs.Marked.{Marking, marked_step, marked_below, all_marked}
-use Rattle.ts_marks.specs.Passing.{AreOrdered, AreDone}
+use Rattle.ts_marks.specs.Parts.{AreOrdered}
+use Rattle.ts_marks.specs.Passing.{AreDone}
 use Rattle.ts_marks.proofs.MovedLemmas.{AreClear, moved_rises, clear, unmet, clear_inside, shifted}
 
 -- ---- one node

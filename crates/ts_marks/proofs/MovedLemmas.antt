@@ -5,7 +5,7 @@ use Rattle.ts_base.specs.Bytes.{Bytes}
 use Rattle.ts_text.specs.declared.edit.Part.{Part}
 use Rattle.ts_text.specs.Edit.{IsPartOf, AreApart}
 use Rattle.spec_reuse.specs.Changes.{is_met_by, is_met, moved_from}
-use Rattle.ts_marks.specs.Passing.{AreOrdered}
+use Rattle.ts_marks.specs.Parts.{AreOrdered}
 
 -- ---- tests of numbers
 

@@ -1,12 +1,14 @@
 -- One part after another of an edit that is gone through.
-use Rattle.std.proofs.Common.{◌≡◌, ℕ, zero, suc, ◌+◌, ◌-◌, ◌<◌, ◌≤◌, ◌⊎◌, inl, inr, sym, ap, subst, ◌∙◌, refl, arith, Bool, true, false, true≢false, nat_lt, List, [], ◌∷◌, length, drop, slice_get, Some}
+use Rattle.std.proofs.Common.{◌≡◌, ℕ, zero, suc, ◌+◌, ◌-◌, ◌<◌, ◌≤◌, ◌⊎◌, inl, inr, sym, ap, subst, ◌∙◌, refl, arith, Bool, true, false, true≢false, nat_lt, List, [], ◌∷◌, length, drop, get_or, slice_get, Some}
 use Rattle.std.proofs.lemmas.List.{drop_all}
+use Rattle.std.proofs.lemmas.Option.{slice_get_read, slice_get_within}
 use Rattle.ts_text.specs.declared.edit.Edit.{Edit}
 use Rattle.ts_text.specs.declared.edit.Part.{Part}
 use Rattle.spec_trees.specs.Made.{most_span}
 use Rattle.spec_reuse.specs.Changes.{is_met, moved, moved_from}
 use Rattle.ts_marks.specs.declared.passed.Passed.{Passed}
-use Rattle.ts_marks.specs.Passing.{AreOrdered, left_of, IsPassed, BeginsBy, EndsBy, HasNext, IsNextOf, IsTowards}
+use Rattle.ts_marks.specs.Parts.{AreOrdered, IsPassed}
+use Rattle.ts_marks.specs.Passing.{left_of, BeginsBy, EndsBy, HasNext, IsNextOf, IsTowards}
 use Rattle.ts_marks.proofs.MovedLemmas.{moved_low, moved_high, met_behind, met_first, less_or, is_lower, is_not_lower}
 use Rattle.ts_marks.proofs.MarkedLemmas.{drop_next}
 
@@ -24,6 +26,12 @@ left_next : (a b : Passed) (n : IsNextOf a b) → left_of a ≡ n.part ∷ left_
 left_next a b n = left_at a n.part n.there
     ∙ ap (λ (k : ℕ). n.part ∷ drop k a.edit.now.parts) (sym n.next)
     ∙ ap (λ (e : Edit). n.part ∷ drop b.next e.parts) (sym n.edit)
+
+-- what an index reads in a list that is those parts
+pub there_is : (ps qs : List Part) (k : ℕ) (o p : Part) → qs ≡ ps → slice_get ps k ≡ Some o → p ≡ get_or qs k p → slice_get ps k ≡ Some p
+there_is ps qs k o p e s h =
+    let within : k < length qs = subst (λ (xs : List Part). k < length xs) (sym e) (slice_get_within ps k o s) in
+    subst (λ (xs : List Part). slice_get xs k ≡ Some p) e (slice_get_read qs (length qs) k p refl within h)
 
 pub begun : (a : Passed) (p : Part) (place : ℕ) → slice_get a.edit.now.parts a.next ≡ Some p → BeginsBy (left_of a) place → p.start ≤ place
 begun a p place e h = subst (λ (ps : List Part). BeginsBy ps place) (left_at a p e) h
@@ -46,8 +54,8 @@ list_ends_begins from (p ∷ ps) place o h = omega (arith, o.1.0, h)
 pub ends_begins : (a : Passed) (place : ℕ) → AreOrdered a.from (left_of a) → EndsBy (left_of a) place → BeginsBy (left_of a) place
 ends_begins a place o h = list_ends_begins a.from (left_of a) place o h
 
-pub towards : (a : Passed) (place : ℕ) → IsPassed a → a.from ≤ place → IsTowards a place
-towards a place w h = record { left = w.left; is = w.moves place h }
+pub towards : (a : Passed) (place : ℕ) → a.from ≤ place → IsTowards a place
+towards a place h = record { left = a.passed.left; is = a.passed.moves place h }
 
 some_begins : (a : Passed) (place : ℕ) → BeginsBy (left_of a) place → (p : Part) × (slice_get a.edit.now.parts a.next ≡ Some p)
 some_begins a place b = by (less_or a.next (length a.edit.now.parts))
@@ -90,22 +98,21 @@ towards_next a b place w n h =
       is = e ∙ w.is ∙ moved_next a b n place s;
     }
 
-pub passed_next : (a b : Passed) → IsPassed a → IsNextOf a b → IsPassed b
-passed_next a b w n =
-    let o : AreOrdered a.from (n.part ∷ left_of b) = next_left a b n w.left in
+pub passed_next : (e : Edit) (next from to : ℕ) (p : Part) → IsPassed e next from to → slice_get e.parts next ≡ Some p → IsPassed e (next + 1) p.end (to + ((p.start - from) + length p.new))
+passed_next e next from to p w there =
+    let l : drop next e.parts ≡ p ∷ drop (next + 1) e.parts = drop_next e.parts next p there in
+    let o : AreOrdered from (p ∷ drop (next + 1) e.parts) = subst (λ (ps : List Part). AreOrdered from ps) l w.left in
     record {
-      whole = subst (λ (e : Edit). AreOrdered 0 e.parts) (sym n.edit) w.whole;
-      left = from_is a b n w.left;
+      whole = w.whole;
+      left = o.1.1;
       moves = λ place h.
-          let s : n.part.start ≤ place = omega (arith, o.1.0, n.from, h) in
-          let e : moved_from 0 b.edit.now.parts place ≡ moved_from 0 a.edit.now.parts place = ap (λ (x : Edit). moved_from 0 x.parts place) n.edit in
-          e ∙ w.moves place (omega (arith, o.0, s)) ∙ moved_next a b n place s;
+          let s : p.start ≤ place = omega (arith, o.1.0, h) in
+          let m : moved_from from (drop next e.parts) place ≡ moved_from from (p ∷ drop (next + 1) e.parts) place = ap (λ (ps : List Part). moved_from from ps place) l in
+          omega (arith, w.moves place (omega (arith, o.0, s)), m, moved_high from p (drop (next + 1) e.parts) place s);
       meets = λ place extent h.
-          let s : n.part.end ≤ place = omega (arith, n.from, h) in
-          ap (λ (x : Edit). is_met x.parts place extent) n.edit
-          ∙ w.meets place extent (omega (arith, o.0, o.1.0, s))
-          ∙ ap (λ (ps : List Part). is_met ps place extent) (left_next a b n)
-          ∙ met_behind n.part (left_of b) place extent s;
+          w.meets place extent (omega (arith, o.0, o.1.0, h))
+          ∙ ap (λ (ps : List Part). is_met ps place extent) l
+          ∙ met_behind p (drop (next + 1) e.parts) place extent h;
     }
 
 pub fewer_left : (a b : Passed) → IsNextOf a b → length (left_of b) < length (left_of a)
@@ -131,12 +138,12 @@ towards_end a place w h = omega (arith, w.is, list_end a.from (left_of a) place 
 
 -- ---- what is met
 
-pub met_left : (a : Passed) (place extent : ℕ) (p : Part) → IsPassed a → a.from ≤ place → (EndsBy (left_of a) place → ⊥) → slice_get a.edit.now.parts a.next ≡ Some p
+pub met_left : (a : Passed) (place extent : ℕ) (p : Part) → a.from ≤ place → (EndsBy (left_of a) place → ⊥) → slice_get a.edit.now.parts a.next ≡ Some p
     → (is_met a.edit.now.parts place extent ≡ true → p.start < place + extent) × (p.start < place + extent → is_met a.edit.now.parts place extent ≡ true)
-met_left a place extent p w h n e =
+met_left a place extent p h n e =
     let l : left_of a ≡ p ∷ drop (a.next + 1) a.edit.now.parts = left_at a p e in
-    let o : AreOrdered a.from (p ∷ drop (a.next + 1) a.edit.now.parts) = subst (λ (ps : List Part). AreOrdered a.from ps) l w.left in
-    let m : is_met a.edit.now.parts place extent ≡ is_met (p ∷ drop (a.next + 1) a.edit.now.parts) place extent = w.meets place extent h ∙ ap (λ (ps : List Part). is_met ps place extent) l in
+    let o : AreOrdered a.from (p ∷ drop (a.next + 1) a.edit.now.parts) = subst (λ (ps : List Part). AreOrdered a.from ps) l a.passed.left in
+    let m : is_met a.edit.now.parts place extent ≡ is_met (p ∷ drop (a.next + 1) a.edit.now.parts) place extent = a.passed.meets place extent h ∙ ap (λ (ps : List Part). is_met ps place extent) l in
     let r = met_first a.from p (drop (a.next + 1) a.edit.now.parts) place extent o (by (less_or place p.end)) in
     (λ t. r.0 (sym m ∙ t), λ t. m ∙ r.1 t)
   where

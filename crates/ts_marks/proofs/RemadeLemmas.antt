@@ -16,7 +16,8 @@ use Rattle.ts_node.specs.Standing.{CanBeRemade}
 use Rattle.spec_reuse.specs.Places.{lead_of}
 use Rattle.spec_reuse.specs.Changes.{is_met, moved, moved_from, IsEditOver}
 use Rattle.spec_reuse.specs.Marked.{marked_below, all_marked, marked}
-use Rattle.ts_marks.specs.Passing.{AreOrdered, Adds, AreDone}
+use Rattle.ts_marks.specs.Parts.{AreOrdered}
+use Rattle.ts_marks.specs.Passing.{Adds, AreDone}
 use Rattle.ts_marks.proofs.MovedLemmas.{ordered, moved_rises, moved_high}
 use Rattle.ts_marks.proofs.MarkedLemmas.{marked_is, spans_are, same_all, one_shared, one_changed}
 

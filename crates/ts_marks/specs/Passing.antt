@@ -4,28 +4,14 @@ use Rattle.ts_text.specs.declared.edit.Edit.{Edit}
 use Rattle.ts_text.specs.declared.edit.Part.{Part}
 use Rattle.spec_trees.specs.declared.tree.Tree.{Tree}
 use Rattle.spec_trees.specs.Made.{replaced, most_span}
-use Rattle.spec_reuse.specs.Changes.{is_met, moved, moved_from}
+use Rattle.spec_reuse.specs.Changes.{moved, moved_from}
 use Rattle.spec_reuse.specs.Marked.{all_marked, marked_below}
 use Rattle.ts_marks.specs.declared.passed.Passed.{Passed}
-
--- parts that begin from a place on, each after the one before it ends
-abbrev pub AreOrdered : ℕ → List Part → Type 0
-AreOrdered from [] = Unit {0}
-AreOrdered from (p ∷ ps) = (from ≤ p.start) × ((p.start ≤ p.end) × AreOrdered p.end ps)
+use Rattle.ts_marks.specs.Parts.{AreOrdered}
 
 -- the parts of an edit that are left
 abbrev pub left_of : Passed → List Part
 left_of p = drop p.next p.edit.now.parts
-
--- The parts that were passed end where the next may begin. From there on places move, and parts are
--- met, as by the parts that are left.
-pub record IsPassed (p : Passed) : Type 0 where
-  pub whole : AreOrdered 0 p.edit.now.parts
-  pub left : AreOrdered p.from (left_of p)
-  pub moves : (place : ℕ) → p.from ≤ place
-      → moved_from 0 p.edit.now.parts place ≡ p.to + moved_from p.from (left_of p) place
-  pub meets : (place extent : ℕ) → p.from ≤ place
-      → is_met p.edit.now.parts place extent ≡ is_met (left_of p) place extent
 
 -- a part is left that begins at a place or before it
 abbrev pub BeginsBy : List Part → ℕ → Type 0

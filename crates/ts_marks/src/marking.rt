@@ -2,10 +2,9 @@
 ghost use Rattle.std.specs.Prelude.{◌≡◌, ◌+◌, ◌<◌, ◌≤◌, true, false, All, IfOk, OnOk, length};
 ghost use Rattle.spec_trees.specs.Trees.{children_of, is_settled, node_extent, span_of, all_spans};
 ghost use Rattle.spec_trees.specs.Made.{most_span, replaced};
-ghost use Rattle.spec_reuse.specs.Places.{IsWhole};
 ghost use Rattle.spec_reuse.specs.Changes.{is_met, moved, IsEditOver};
 ghost use Rattle.spec_reuse.specs.Marked.{marked, marked_below, all_marked};
-ghost use Rattle.ts_marks.specs.Passing.{IsPassed, EndsBy, Adds, left_of};
+ghost use Rattle.ts_marks.specs.Passing.{EndsBy, Adds, left_of};
 
 use crate::passed::Passed;
 use crate::spans::{lead, span};
@@ -44,8 +43,6 @@ fn changed_children<'e>(
     place: u32,
     passed: Passed<'e>,
 ) -> Result<Vec<(u32, Node)>, AllocError>
-    requires whole { IsWhole node.now }
-    requires passed { IsPassed passed }
     requires from { passed.from ≤ place }
     requires short { place + all_spans (children_of node.now) ≤ most_span }
     requires moved { moved passed.edit.now (place + all_spans (children_of node.now)) ≤ most_span }
@@ -76,8 +73,6 @@ fn add_changed<'e>(
     passed: Passed<'e>,
     changed: &mut Vec<(u32, Node)>,
 ) -> Result<(), AllocError>
-    requires whole { IsWhole child.now }
-    requires passed { IsPassed passed }
     requires from { passed.from ≤ place }
     requires behind { EndsBy (left_of passed) place → ⊥ }
     requires short { place + span_of child.now ≤ most_span }
@@ -86,6 +81,7 @@ fn add_changed<'e>(
         changed.old.items changed.new.items) }
 {
     if !is_reached(child, place, passed) {
+        let _ = child.nodes();
         return Ok(());
     }
     let new = remade(alloc, child, place, passed)?;
@@ -95,7 +91,6 @@ fn add_changed<'e>(
 
 /// Whether a node is made anew: it is not settled, or a part meets what was examined for it.
 fn is_reached<'e>(node: &Node, place: u32, passed: Passed<'e>) -> bool
-    requires passed { IsPassed passed }
     requires from { passed.from ≤ place }
     requires behind { EndsBy (left_of passed) place → ⊥ }
     ensures anew { result ≡ true → is_settled node.now ≡ true
@@ -115,8 +110,6 @@ fn remade<'e>(
     place: u32,
     passed: Passed<'e>,
 ) -> Result<Node, AllocError>
-    requires whole { IsWhole node.now }
-    requires passed { IsPassed passed }
     requires from { passed.from ≤ place }
     requires short { place + span_of node.now ≤ most_span }
     requires moved { moved passed.edit.now (place + span_of node.now) ≤ most_span }

@@ -1,9 +1,10 @@
 //! How far the parts of an edit have been gone through: places that do not fall go in, and where
 //! they go and what is met there come out.
 ghost use Rattle.std.specs.Prelude.{◌≡◌, ◌↔◌, ◌≤◌, IsTrue};
+ghost use Rattle.std.proofs.Props.{props};
 ghost use Rattle.spec_trees.specs.Made.{most_span};
 ghost use Rattle.spec_reuse.specs.Changes.{is_met, moved};
-ghost use Rattle.ts_marks.specs.Passing.{AreOrdered, IsPassed, HasNext, IsNextOf, BeginsBy, EndsBy, left_of};
+ghost use Rattle.ts_marks.specs.Parts.{AreOrdered, AreOrdered-prop, IsPassed};
 
 use ts_text::Edit;
 
@@ -17,13 +18,15 @@ pub(crate) struct Passed<'e> {
     pub from: u32,
     /// Where that is in the new text.
     pub to: u32,
+    ghost passed: { IsPassed edit.now next from to } by { Prim.hlevel (props, AreOrdered-prop) },
 }
 
 impl<'e> Passed<'e> {
+    ghost use Rattle.ts_marks.specs.Passing.{HasNext, IsNextOf, BeginsBy, EndsBy, left_of};
+
     /// No part is passed.
     pub(crate) fn start(edit: &'e Edit) -> Passed<'e>
         requires { AreOrdered 0 edit.now.parts }
-        ensures passed { IsPassed result }
         ensures edit { result.edit.now ≡ edit.now }
         ensures from { result.from ≡ 0 }
     {
@@ -68,10 +71,8 @@ impl<'e> Passed<'e> {
     /// Passes all parts that end at a place or before it.
     #[tactic(auto, using(crate::proofs::PassedLemmas::fewer_left))]
     pub(crate) fn up_to(self, place: u32) -> Passed<'e>
-        requires passed { IsPassed self }
         requires from { self.from ≤ place }
         requires short { moved self.edit.now place ≤ most_span }
-        ensures passed { IsPassed result }
         ensures edit { result.edit.now ≡ self.entry.edit.now }
         ensures from { result.from ≤ place }
         ensures behind { EndsBy (left_of result) place → ⊥ }
@@ -86,7 +87,6 @@ impl<'e> Passed<'e> {
     /// Where a place of the old text is in the new one.
     #[tactic(auto, using(crate::proofs::PassedLemmas::towards_end, crate::proofs::PassedLemmas::towards, crate::proofs::PassedLemmas::fewer_left))]
     pub(crate) fn moved(self, place: u32) -> u32
-        requires passed { IsPassed self }
         requires from { self.from ≤ place }
         requires short { moved self.edit.now place ≤ most_span }
         ensures { result ≡ moved self.entry.edit.now place }
@@ -101,7 +101,6 @@ impl<'e> Passed<'e> {
     /// Whether a part of the edit meets so many bytes from a place on, where the first part that is
     /// left ends behind that place.
     pub(crate) fn meets(self, place: u32, extent: u32) -> bool
-        requires passed { IsPassed self }
         requires from { self.from ≤ place }
         requires behind { EndsBy (left_of self) place → ⊥ }
         ensures { result ≡ is_met self.entry.edit.now.parts place extent }

@@ -5,7 +5,6 @@ use Rattle.std.proofs.lemmas.Option.{slice_get_within}
 use Rattle.spec_trees.specs.declared.tree.Tree.{Tree}
 use Rattle.spec_trees.specs.declared.tree.Tree.TheFolds.{fold_out-Tree}
 use Rattle.spec_trees.specs.Trees.{children_of, span_of, all_spans, tree_depth, depth_step, greatest_depth}
-use Rattle.spec_trees.specs.Made.{IsNode}
 use Rattle.spec_trees.specs.Inside.{IsNodeIn}
 use Rattle.spec_trees.specs.Inside as nodes
 use Rattle.spec_reuse.specs.Places.{IsIn, here, inside, later, IsWhole}

@@ -53,7 +53,6 @@ among (t ∷ ts) (suc k) c place u at e z h =
 
 pub first_is : (t c : Tree) (k : ℕ) → IsWhole t → slice_get (children_of t) k ≡ Some c → all_spans (drop k (children_of t)) ≡ all_spans (children_of t) → 0 < span_of c → IsFirst t c
 first_is t c k w e z some = record {
-  whole = whole_children t w k c e;
   falls = child_depth t k c e;
   there = λ u place h. inside t [] place u place (among (children_of t) k c place u place e z h);
   holds = λ u place h n. skip (children_of t) k c place u (whole_children t w) e z some h n;

@@ -330,11 +330,9 @@ roomier root size more ts us place w e le =
 popped : (root : Tree) (size : ℕ) (xs ts : List Turn) (t : Turn) (place : ℕ) → IsOn root size xs place → xs ≡ ts ++ t ∷ [] → IsOn root size (ts ++ t ∷ []) place
 popped root size xs ts t place w e = subst (λ (ys : List Turn). IsOn root size ys place) e w
 
-pub pop_turn : (root : Tree) (size : ℕ) (xs ts : List Turn) (t : Turn) (place : ℕ) → IsOn root size xs place → xs ≡ ts ++ t ∷ [] → IsWhole t.node.now × (t.place + all_spans (rest_of t) ≤ most_span)
+pub pop_turn : (root : Tree) (size : ℕ) (xs ts : List Turn) (t : Turn) (place : ℕ) → IsOn root size xs place → xs ≡ ts ++ t ∷ [] → t.place + all_spans (rest_of t) ≤ most_span
 pop_turn root size xs ts t place w e =
-    let v = popped root size xs ts t place w e in
-    let p = turns_pop (span_of root) (1 + tree_depth root) ts t v.turns in
-    (p.1.whole, omega (arith, ends root size ts t place v, (w.whole root nodes.itself).sized.short))
+    omega (arith, ends root size ts t place (popped root size xs ts t place w e), (w.whole root nodes.itself).sized.short)
 
 pub go_over : (root : Tree) (size more : ℕ) (xs ts : List Turn) (t : Turn) (place : ℕ) → IsOn root size xs place → xs ≡ ts ++ t ∷ [] → (t.next < length (children_of t.node.now) → ⊥) → size ≤ more → IsOn root more ts place
 go_over root size more xs ts t place w e h le = roomier root size more ts ts place (over root size ts t place (popped root size xs ts t place w e) h) refl le

@@ -115,7 +115,6 @@ LeadsTo root place (Some a) = IsNext root place a
 
 -- a child in which all nodes with bytes stand that begin where their parent begins
 pub record IsFirst (t c : Tree) : Type 0 where
-  pub whole : IsWhole c
   pub falls : tree_depth c < tree_depth t
   pub there : (u : Tree) (place : ℕ) → IsIn (c ∷ []) place u place → IsIn (t ∷ []) place u place
   pub holds : (u : Tree) (place : ℕ) → IsIn (children_of t) place u place

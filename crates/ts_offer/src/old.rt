@@ -1,6 +1,5 @@
 //! Offers from an old tree: a marked tree goes in, and its topmost fit nodes come out.
 ghost use Rattle.std.specs.Prelude.{◌≡◌, ◌↔◌, ◌≤◌, IfOk, IsTrue, option_copied};
-ghost use Rattle.spec_reuse.specs.Places.{IsWhole};
 ghost use Rattle.spec_reuse.specs.Offered.{IsFit};
 ghost use Rattle.ts_offer.specs.Answers.{IsOfferAt, offering};
 ghost use Rattle.ts_offer.specs.Ways.{LeadsTo};
@@ -47,7 +46,6 @@ impl<'t> Old<'t> {
     pub fn new(alloc: Global, marked: &'t Node) -> Result<Old<'t>, AllocError>
         ensures { IfOk result (λ old. old ≡ offering marked.now 0) }
     {
-        let _ = marked.nodes();
         let way = Way::new(alloc, marked)?;
         Ok(Old { way, least: 0 })
     }
@@ -79,11 +77,11 @@ fn topmost_at<'t>(
     place: u32,
     state: u16,
 ) -> Option<&'t Node>
-    requires whole { IsWhole root.now }
     requires next { LeadsTo root.now place ahead }
     ensures { IsOfferAt root.now place state (option_copied result) }
 {
     if takes_root(root, place, state) {
+        let _ = root.nodes();
         return Some(root);
     }
     match ahead {

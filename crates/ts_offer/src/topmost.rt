@@ -1,7 +1,7 @@
 //! The topmost fit node among those that begin where one node begins.
 ghost use Rattle.std.specs.Prelude.{◌≡◌, ◌↔◌, IsTrue, option_copied};
 ghost use Rattle.spec_trees.specs.Trees.{span_of};
-ghost use Rattle.spec_reuse.specs.Places.{IsWhole, lead_of};
+ghost use Rattle.spec_reuse.specs.Places.{lead_of};
 ghost use Rattle.spec_reuse.specs.Offered.{IsFit};
 ghost use Rattle.ts_offer.specs.Ways.{IsFirstAt, IsTopmostAt};
 
@@ -36,9 +36,9 @@ pub(crate) fn is_fit(node: &Node, state: u16) -> bool
 
 /// The first child with bytes. It begins with the node itself.
 fn first_child<'t>(node: &'t Node) -> Option<&'t Node>
-    requires { IsWhole node.now }
     ensures { IsFirstAt node.now (option_copied result) }
 {
+    let _ = node.nodes();
     for k in 0..node.children() {
         let child = node.child(k);
         if span(child) > 0 {
@@ -50,7 +50,6 @@ fn first_child<'t>(node: &'t Node) -> Option<&'t Node>
 
 /// The topmost fit node in a node that begins where the node begins.
 pub(crate) fn topmost<'t>(node: &'t Node, state: u16) -> Option<&'t Node>
-    requires { IsWhole node.now }
     ensures { IsTopmostAt node.now state (option_copied result) }
 {
     if is_fit(node, state) {

@@ -3,7 +3,6 @@
 ghost use Rattle.std.specs.Prelude.{◌≡◌, ◌+◌, ◌<◌, ◌≤◌, length, vec_capacity, IfOk};
 ghost use Rattle.spec_trees.specs.Trees.{all_spans};
 ghost use Rattle.spec_trees.specs.Made.{most_span};
-ghost use Rattle.spec_reuse.specs.Places.{IsWhole};
 ghost use Rattle.ts_offer.specs.Ways.{IsWay, LeadsTo, IsLeft, TurnsTo, rest_of};
 
 use crate::topmost::{lead, span};
@@ -50,10 +49,10 @@ pub(crate) struct Way<'t> {
 impl<'t> Way<'t> {
     /// The way from the start of a tree. Its root itself is not ahead.
     pub(crate) fn new(alloc: Global, root: &'t Node) -> Result<Way<'t>, AllocError>
-        requires { IsWhole root.now }
         ensures way { IfOk result (λ way. IsWay way 0) }
         ensures root { IfOk result (λ way. way.root.now ≡ root.now) }
     {
+        let _ = root.nodes();
         let mut turns = Vec::with_capacity(alloc, root.depth() as usize + 1)?;
         let first = Turn {
             node: root,
@@ -103,7 +102,6 @@ impl<'t> Way<'t> {
 
 /// What the next child of a turn is, seen from a place.
 fn toward<'t>(turn: Turn<'t>, place: u32) -> Step<'t>
-    requires whole { IsWhole turn.node.now }
     requires within { turn.place + all_spans (rest_of turn) ≤ most_span }
     ensures { TurnsTo turn.entry place result }
 {

@@ -8,13 +8,13 @@ use Rattle.spec_reuse.specs.Changes.{moved}
 use Rattle.spec_reuse.specs.Marked.{all_marked, marked_below}
 use Rattle.ts_marks.specs.Passing.{Adds}
 use Rattle.ts_marks.proofs.MovedLemmas.{moved_rises}
-use Rattle.ts_marks.proofs.MarkedLemmas.{stays, spans_at, whole_children, child_depth}
+use Rattle.ts_marks.proofs.MarkedLemmas.{stays, spans_at, child_depth}
 use Rattle.ts_marks.proofs.RemadeLemmas.{below_is, below_can, edges_short, moved_short, next_done, next_within}
 use Rattle.ts_marks.proofs.marking.+walk.Goals as goal
 
 pub add_changed-returns-then-not-is_reached : goal.add_changed-returns-then-not-is_reached
 add_changed-returns-then-not-is_reached t c =
-    inl (stays c.args.passed.edit.now c.args.child.now c.args.place c.requires.passed.whole c.requires.whole (c.is_reached.ensures.settled c.if-not-is_reached.true) (c.is_reached.ensures.unmet c.if-not-is_reached.true), refl)
+    inl (stays c.args.passed.edit.now c.args.child.now c.args.place c.args.passed.passed.whole c.nodes.ensures.whole (c.is_reached.ensures.settled c.if-not-is_reached.true) (c.is_reached.ensures.unmet c.if-not-is_reached.true), refl)
 
 pub changed_children-up_to-passed-requires-clause-short : goal.changed_children-up_to-passed-requires-clause-short
 changed_children-up_to-passed-requires-clause-short t c =
@@ -28,18 +28,12 @@ changed_children-add_changed-requires t c =
     let s : moved c.args.passed.edit.now (c.loop-k.at + span_of child) ≤ most_span = moved_short c.args.passed.edit.now (c.loop-k.at + span_of child) (c.args.place + all_spans (children_of c.args.node.now)) (omega (arith, c.loop-k.invariant.left, next)) c.requires.moved in (
       omega (arith, c.decreases, child_depth c.args.node.now c.loop-k.k child c.child-child.ensures),
       (
-        whole_children c.args.node.now c.requires.whole c.loop-k.k child c.child-child.ensures,
+        c.up_to-passed.ensures.from,
         (
-          c.up_to-passed.ensures.passed,
+          c.up_to-passed.ensures.behind,
           (
-            c.up_to-passed.ensures.from,
-            (
-              c.up_to-passed.ensures.behind,
-              (
-                omega (arith, c.loop-k.invariant.left, next, c.requires.short),
-                subst (λ (e : Edit). moved e (c.loop-k.at + span_of child) ≤ most_span) (sym (c.up_to-passed.ensures.edit ∙ c.loop-k.invariant.edit)) s,
-              ),
-            ),
+            omega (arith, c.loop-k.invariant.left, next, c.requires.short),
+            subst (λ (e : Edit). moved e (c.loop-k.at + span_of child) ≤ most_span) (sym (c.up_to-passed.ensures.edit ∙ c.loop-k.invariant.edit)) s,
           ),
         ),
       ),
@@ -53,7 +47,6 @@ changed_children-loop-k-preserved t c =
     subst (λ (e : Edit). Adds e child c.loop-k.k c.loop-k.at c.loop-k.changed.items c.add_changed.new.changed.items) (c.up_to-passed.ensures.edit ∙ c.loop-k.invariant.edit) c.in_ok-add_changed.ensures in
     let n : c.loop-k.at + c.span-at.result ≡ c.loop-k.at + span_of child = omega (arith, c.span-at.ensures.span) in
     record {
-      passed = c.up_to-passed.ensures.passed;
       edit = c.up_to-passed.ensures.edit ∙ c.loop-k.invariant.edit;
       from = omega (arith, c.up_to-passed.ensures.from);
       left = omega (arith, c.loop-k.invariant.left, next, c.span-at.ensures.span);
@@ -72,16 +65,10 @@ pub remade-changed_children-requires : goal.remade-changed_children-requires
 remade-changed_children-requires t c = (
   omega (arith, c.decreases),
   (
-    c.requires.whole,
+    c.requires.from,
     (
-      c.requires.passed,
-      (
-        c.requires.from,
-        (
-          omega (arith, c.requires.short, c.span-whole.ensures.node.sized.within),
-          moved_short c.args.passed.edit.now (c.args.place + all_spans (children_of c.args.node.now)) (c.args.place + span_of c.args.node.now) (omega (arith, c.span-whole.ensures.node.sized.within)) c.requires.moved,
-        ),
-      ),
+      omega (arith, c.requires.short, c.span-whole.ensures.node.sized.within),
+      moved_short c.args.passed.edit.now (c.args.place + all_spans (children_of c.args.node.now)) (c.args.place + span_of c.args.node.now) (omega (arith, c.span-whole.ensures.node.sized.within)) c.requires.moved,
     ),
   ),
 )

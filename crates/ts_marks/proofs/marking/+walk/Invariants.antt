@@ -1,6 +1,6 @@
 use Rattle.std.proofs.Common.{◌≡◌, ◌+◌, ◌*◌, ◌<◌, ◌≤◌, All, length, drop}
 use Rattle.spec_trees.specs.Trees.{children_of, all_spans, tree_depth}
-use Rattle.ts_marks.specs.Passing.{IsPassed, AreDone}
+use Rattle.ts_marks.specs.Passing.{AreDone}
 use Rattle.ts_marks.proofs.marking.+walk.Given as goal
 
 abbrev pub decreases-changed_children : goal.decreases-changed_children
@@ -14,7 +14,6 @@ decreases-remade l = 3 * tree_depth l.node.now + 1
 
 abbrev pub invariant-changed_children-loop-k : goal.invariant-changed_children-loop-k
 invariant-changed_children-loop-k l = record {
-  passed : IsPassed l.passed;
   edit : l.passed.edit.now ≡ l.initial.passed.edit.now;
   from : l.passed.from ≤ l.at;
   left : l.at + all_spans (drop l.k (children_of l.node)) ≡ l.place + all_spans (children_of l.node);

@@ -9,7 +9,7 @@ use Rattle.ts_offer.proofs.old.topmost_at.Goals as goal
 pub returns-then-takes_root : goal.returns-then-takes_root
 returns-then-takes_root c =
     let r = c.takes_root.ensures.0 c.if-takes_root.true in
-    root_answer c.args.root.now c.args.place c.args.state c.requires.whole r.0 r.1
+    root_answer c.args.root.now c.args.place c.args.state c.nodes.ensures.whole r.0 r.1
 
 pub returns-then-ahead-place : goal.returns-then-ahead-place
 returns-then-ahead-place c =

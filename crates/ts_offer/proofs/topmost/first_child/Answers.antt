@@ -7,7 +7,7 @@ use Rattle.ts_offer.proofs.topmost.first_child.Goals as goal
 pub returns-then-span-gt0 : goal.returns-then-span-gt0
 returns-then-span-gt0 c =
     let some : 0 < span_of c.child-child.result.now = omega (arith, c.if-span-gt0.true, c.span.ensures) in
-    first_is c.args.node.now c.child-child.result.now c.loop-k.k c.requires c.child-child.ensures c.loop-k.invariant some
+    first_is c.args.node.now c.child-child.result.now c.loop-k.k c.nodes.ensures.whole c.child-child.ensures c.loop-k.invariant some
 
 pub loop-k-preserved : goal.loop-k-preserved
 loop-k-preserved c =
@@ -20,4 +20,4 @@ pub returns : goal.returns
 returns c =
     let past : length (children_of c.args.node.now) ≤ c.loop-k.k = omega (arith, c.loop-k-test.false, c.children-k-end.ensures) in
     let none : all_spans (children_of c.args.node.now) ≡ 0 = omega (arith, spans_ended (children_of c.args.node.now) c.loop-k.k past, c.loop-k.invariant) in
-    none_with_bytes c.args.node.now c.requires none
+    none_with_bytes c.args.node.now c.nodes.ensures.whole none

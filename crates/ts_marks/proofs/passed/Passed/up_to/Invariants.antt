@@ -1,10 +1,9 @@
 use Rattle.std.proofs.Common.{◌≡◌, ◌≤◌, length}
-use Rattle.ts_marks.specs.Passing.{IsPassed, left_of}
+use Rattle.ts_marks.specs.Passing.{left_of}
 use Rattle.ts_marks.proofs.passed.Passed.up_to.Given as goal
 
 abbrev pub invariant-loop-passed : goal.invariant-loop-passed
 invariant-loop-passed l = record {
-  passed : IsPassed l.passed;
   edit : l.passed.edit.now ≡ l.self.edit.now;
   from : l.passed.from ≤ l.place;
 }

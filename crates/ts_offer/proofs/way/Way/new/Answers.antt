@@ -11,4 +11,4 @@ returns-clause-way c =
     let i : c.push.new.self.items ≡ t ∷ [] = c.in_ok-push.ensures.items ∙ ap (λ (xs : List Turn). xs ++ t ∷ []) c.in_ok-turns.ensures.items in
     let k : 1 + tree_depth c.args.root.now ≤ vec_capacity c.push.new.self = omega (arith, c.in_ok-push.ensures.capacity, c.in_ok-turns.ensures.capacity, c.depth.ensures) in
     subst (λ (xs : List Turn). IsOn c.args.root.now (vec_capacity c.push.new.self) xs 0) (sym i)
-    (first_way c.args.root.now (vec_capacity c.push.new.self) t c.requires k refl refl c.lead.ensures)
+    (first_way c.args.root.now (vec_capacity c.push.new.self) t c.nodes.ensures.whole k refl refl c.lead.ensures)
