@@ -5,7 +5,7 @@ use Rattle.std.specs.Option.{option_map}
 use Rattle.std.proofs.lemmas.List.{length-map}
 use Rattle.std.proofs.lemmas.Option.{slice_get_within, slice_get-map, slice_get_read, slice_get-get_or}
 use Rattle.ts_automata.specs.declared.node.Node.{Node}
-use Rattle.ts_automata.specs.declared.machine.Machine.{Machine}
+use Rattle.ts_automata.specs.declared.tables.SetTables.{SetTables}
 use Rattle.ts_automata.specs.Sets.{IsNextSet, IsRow, IsFirst, IsSubset, sets_of, rows_of}
 use Rattle.ts_automata.specs.Classes.{IsClassOf}
 use Rattle.ts_automata.specs.Machine.{IsMachine, HasRead, state_count}
@@ -22,7 +22,7 @@ first_is T entries bounds begins kernels sets table first one is x =
     let many = x.each in
     x.first 0 first (slice_get_read begins (length begins) 0 first refl (omega arith) is) entries (ap (λ (l : List (List ℕ)). slice_get l 0) one)
 
-module _ (m : Machine) (x : IsMachine m) where
+module _ (m : SetTables) (x : IsMachine m) where
   pub first_within : m.first < state_count m
   first_within = let w = slice_get_within (sets_of m.sets.keys) m.first x.first.set x.first.at in let e = set_count m.sets.keys in omega arith
 

@@ -6,6 +6,7 @@ pub mod Machine
 pub mod Marked
 pub mod NodeSets
 pub mod Parts
+pub mod Readers
 pub mod Reads
 pub mod Sets
 pub mod Walks

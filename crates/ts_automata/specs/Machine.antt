@@ -1,15 +1,12 @@
 -- An automaton by numbered sets of nodes.
 use Rattle.std.specs.Prelude.{◌≡◌, ℕ, List, length, slice_get, Some}
-use Rattle.ts_automata.specs.declared.automaton.Automaton.{Automaton}
-use Rattle.ts_automata.specs.declared.machine.Machine.{Machine}
-use Rattle.ts_automata.specs.declared.machine.Reader.{Reader}
-use Rattle.ts_automata.specs.declared.machine.Reader.TheVariants.{Tables, Nodes}
+use Rattle.ts_automata.specs.declared.tables.SetTables.{SetTables}
 use Rattle.ts_automata.specs.Sets.{EachAt, IsRow, IsFirst, sets_of, rows_of}
 use Rattle.ts_automata.specs.Classes.{IsClassOf, IsCut}
 use Rattle.ts_automata.specs.After.{After}
 
 -- the tables stand for the sets of nodes of the automaton
-pub record IsMachine (m : Machine) : Type 0 where
+pub record IsMachine (m : SetTables) : Type 0 where
   pub rows : EachAt (λ n row. (s : List ℕ) → slice_get (sets_of m.sets.keys) n ≡ Some s
       → IsRow m.automaton.nodes.items (sets_of m.sets.keys) s m.bounds.items row)
       (rows_of m.rows.items)
@@ -21,14 +18,9 @@ pub record IsMachine (m : Machine) : Type 0 where
       (sets_of m.sets.keys) m.automaton.entries.items m.first
 
 -- how many sets there are
-abbrev pub state_count : Machine → ℕ
+abbrev pub state_count : SetTables → ℕ
 state_count m = length m.sets.keys
 
 -- after these characters, read from the first nodes of all parts, the automaton is in this set
-abbrev pub HasRead : Machine → List ℕ → ℕ → Type 0
+abbrev pub HasRead : SetTables → List ℕ → ℕ → Type 0
 HasRead m w n = After m.automaton.nodes.items m.automaton.entries.items (sets_of m.sets.keys) w n
-
--- it reads what the automaton reads: by tables that stand for its sets, or as it is
-abbrev pub IsReader : Automaton → Reader → Type 0
-IsReader a (Tables m) = IsMachine m × (m.automaton ≡ a)
-IsReader a (Nodes b) = b ≡ a

@@ -13,9 +13,11 @@ mod node_set;
 mod numbering;
 mod part;
 mod room;
+mod tables;
 mod walk;
 
 pub use automaton::{Automaton, build};
 pub use machine::{Machine, Reader, reader_of};
 pub use node::Node;
+pub use tables::SetTables;
 pub use walk::Walk;

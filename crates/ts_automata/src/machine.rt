@@ -3,28 +3,37 @@
 //! automaton comes out as it was.
 ghost use Rattle.std.specs.Prelude.{◌≡◌, ◌<◌, ◌++◌, ◌∷◌, [], ℕ, List, slice_get, Some, IfOk};
 ghost use Rattle.ts_automata.specs.Sets.{sets_of};
-ghost use Rattle.ts_automata.specs.Machine.{IsMachine, IsReader, HasRead, state_count};
+ghost use Rattle.ts_automata.specs.Machine.{HasRead, state_count};
+ghost use Rattle.ts_automata.specs.Readers.{IsReader};
 
 use crate::automaton::Automaton;
 use crate::classes::{ascii_of, bounds_of, class_of};
 use crate::numbering::{Numbered, determinise, set_at};
 use crate::room::{Room, Unnumbered};
-use indexmap::IndexSet;
+use crate::tables::SetTables;
 use std::alloc::{AllocError, Global};
+use std::marker::Model;
 
-/// The sets of nodes in which an automaton can be, by number, and where each leads.
+/// An automaton by tables that stand for its sets of nodes. Contracts see the tables.
 #[derive(Drop)]
 pub struct Machine {
-    pub automaton: Automaton,
-    pub sets: IndexSet<Vec<usize>>,
-    /// The set to which each set leads over each class of characters.
-    pub rows: Vec<Vec<usize>>,
-    /// The first character of each class.
-    pub bounds: Vec<u32>,
-    /// The class of each ASCII character.
-    pub ascii: Vec<usize>,
-    /// The set of the first nodes of all parts.
-    pub first: usize,
+    tables: SetTables,
+}
+
+impl Model for Machine {
+    ghost use Rattle.ts_automata.specs.declared.tables.SetTables.{SetTables};
+    ghost use Rattle.ts_automata.specs.contracts.tables.SetTables as contract;
+    ghost use Rattle.std.specs.Coded.{codes};
+
+    ghost Value = { SetTables };
+
+    ghost coded = { Prim.hlevel (codes, contract.the_row.coded) };
+
+    ghost use Rattle.ts_automata.specs.Machine.{IsMachine};
+
+    ghost view = { λ a. a.tables };
+
+    ghost invariant = { λ a. IsMachine a.tables };
 }
 
 /// What reads an automaton's texts: its tables, or its nodes where its sets are too many for
@@ -62,14 +71,15 @@ pub fn reader_of(alloc: Global, automaton: Automaton) -> Result<Reader, AllocErr
     };
     let Numbered { sets, firsts, rows } = numbered;
     let first = firsts[0];
-    Ok(Reader::Tables(Machine {
+    let tables = SetTables {
         automaton,
         sets,
         rows,
         bounds,
         ascii,
         first,
-    }))
+    };
+    Ok(Reader::Tables(Machine { tables }))
 }
 
 /// One list of first nodes.
@@ -82,25 +92,31 @@ fn kernels_of(alloc: Global, entries: &[usize]) -> Result<Vec<Vec<usize>>, Alloc
 }
 
 impl Machine {
+    /// The automaton.
+    pub fn automaton(&self) -> &Automaton
+        ensures { result.now ≡ self.now.automaton }
+    {
+        &self.tables.automaton
+    }
+
     /// The set in which nothing has been read.
     pub fn first(&self) -> usize
-        requires { IsMachine self.now }
         ensures within { result < state_count self.now }
         ensures stands { HasRead self.now [] result }
     {
-        self.first
+        self.tables.first
     }
 
     /// The set to which a set leads over a character.
     pub fn next(&self, state: usize, c: char) -> usize
-        requires made { IsMachine self.now }
-        requires within { state < state_count self.now }
+        requires { state < state_count self.now }
         ensures within { result < state_count self.now }
         ensures stands { (w : List ℕ) → HasRead self.now w state
             → HasRead self.now (w ++ c ∷ []) result }
     {
-        let class = class_of(self.bounds.as_slice(), self.ascii.as_slice(), c as u32);
-        self.rows[state][class]
+        let tables = &self.tables;
+        let class = class_of(tables.bounds.as_slice(), tables.ascii.as_slice(), c as u32);
+        tables.rows[state][class]
     }
 
     /// The nodes of a set, rising.
@@ -108,13 +124,13 @@ impl Machine {
         requires { state < state_count self.now }
         ensures { slice_get (sets_of self.now.sets.keys) state ≡ Some result.now }
     {
-        set_at(&self.sets, state)
+        set_at(&self.tables.sets, state)
     }
 
     /// How many sets there are.
     pub fn states(&self) -> usize
         ensures { result ≡ state_count self.now }
     {
-        self.sets.len()
+        self.tables.sets.len()
     }
 }

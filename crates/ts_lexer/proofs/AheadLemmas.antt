@@ -6,10 +6,10 @@ use Rattle.ts_base.proofs.PlaceLemmas.{in_prefix, push_cases}
 use Rattle.ts_core.specs.declared.flat.FlatGrammar.{FlatGrammar}
 use Rattle.ts_core.specs.declared.symbol.Symbol.{Symbol}
 use Rattle.ts_automata.specs.declared.automaton.Automaton.{Automaton}
-use Rattle.ts_automata.specs.declared.machine.Machine.{Machine}
+use Rattle.ts_automata.specs.declared.tables.SetTables.{SetTables}
 use Rattle.ts_automata.specs.Automata.{IsAutomaton}
 use Rattle.ts_automata.specs.Sets.{EachAt, sets_of}
-use Rattle.ts_automata.specs.Machine.{IsMachine, state_count}
+use Rattle.ts_automata.specs.Machine.{state_count}
 use Rattle.ts_lexer.specs.declared.ahead.LexTables.{LexTables}
 use Rattle.ts_lexer.specs.declared.ahead.RowPair.{RowPair}
 use Rattle.ts_lexer.specs.declared.verdict.Verdict.{Verdict}
@@ -19,14 +19,14 @@ use Rattle.ts_lexer.specs.Judged.{JudgesNodes}
 use Rattle.ts_lexer.specs.Rules.{IsRules}
 
 -- the row has the verdicts on the first so many sets
-pub record Judging (g : FlatGrammar) (valid : List Symbol) (first : Bool) (m : Machine) (row : List Verdict) (k : ℕ) : Type 0 where
+pub record Judging (g : FlatGrammar) (valid : List Symbol) (first : Bool) (m : SetTables) (row : List Verdict) (k : ℕ) : Type 0 where
   pub count : length row ≡ k
   pub each : EachAt (λ n v. (s : List ℕ) → slice_get (sets_of m.sets.keys) n ≡ Some s → JudgesNodes g valid first m.automaton s v) row
 
-pub judging_none : (g : FlatGrammar) (valid : List Symbol) (first : Bool) (m : Machine) → Judging g valid first m [] 0
+pub judging_none : (g : FlatGrammar) (valid : List Symbol) (first : Bool) (m : SetTables) → Judging g valid first m [] 0
 judging_none g valid first m = record { count = refl; each = λ n v at. absurd (let w = slice_get_within [] n v at in omega (arith, w)) }
 
-pub judging_more : (g : FlatGrammar) (valid : List Symbol) (first : Bool) (m : Machine) (row : List Verdict) (k : ℕ) (v : Verdict) (set : List ℕ) → Judging g valid first m row k
+pub judging_more : (g : FlatGrammar) (valid : List Symbol) (first : Bool) (m : SetTables) (row : List Verdict) (k : ℕ) (v : Verdict) (set : List ℕ) → Judging g valid first m row k
     → slice_get (sets_of m.sets.keys) k ≡ Some set → JudgesNodes g valid first m.automaton set v → Judging g valid first m (row ++ v ∷ []) (k + 1)
 judging_more g valid first m row k v set before at judged = record {
   count = (let c = before.count in let l = length-append row (v ∷ []) in omega arith);
@@ -40,7 +40,7 @@ judging_more g valid first m row k v set before at judged = record {
       (push_cases row v n x there);
 }
 
-pub judging_all : (g : FlatGrammar) (valid : List Symbol) (first : Bool) (m : Machine) (row : List Verdict) (k : ℕ) → k ≡ state_count m → Judging g valid first m row k → AreVerdicts g valid first m row
+pub judging_all : (g : FlatGrammar) (valid : List Symbol) (first : Bool) (m : SetTables) (row : List Verdict) (k : ℕ) → k ≡ state_count m → Judging g valid first m row k → AreVerdicts g valid first m row
 judging_all g valid first m row k all j = record { count = j.count ∙ all; each = j.each }
 
 -- ---- more rows
@@ -68,10 +68,10 @@ pub pair_kept : (g : FlatGrammar) (valid : List Symbol) (old new : LexTables) (p
 pair_kept g valid old new p more has = record {
   early = has.early;
   early_at = kept old new p.first has.early more has.early_at;
-  early_is = subst (λ (m : Machine). AreVerdicts g valid true m has.early) (sym more.machine) has.early_is;
+  early_is = subst (λ (m : SetTables). AreVerdicts g valid true m has.early) (sym more.machine) has.early_is;
   late = has.late;
   late_at = kept old new p.later has.late more has.late_at;
-  late_is = subst (λ (m : Machine). AreVerdicts g valid false m has.late) (sym more.machine) has.late_is;
+  late_is = subst (λ (m : SetTables). AreVerdicts g valid false m has.late) (sym more.machine) has.late_is;
 }
 
 pub pair_made : (g : FlatGrammar) (valid : List Symbol) (a b c : LexTables) (xs ys : List Verdict) (m n : ℕ) → c.machine ≡ b.machine → c.rules ≡ b.rules

@@ -6,7 +6,7 @@ use Rattle.ts_core.specs.declared.flat.FlatGrammar.{FlatGrammar}
 use Rattle.ts_core.specs.declared.symbol.Symbol.{Symbol}
 use Rattle.spec_lexing.specs.Words.{Regular}
 use Rattle.ts_automata.specs.declared.automaton.Automaton.{Automaton}
-use Rattle.ts_automata.specs.declared.machine.Machine.{Machine}
+use Rattle.ts_automata.specs.declared.tables.SetTables.{SetTables}
 use Rattle.ts_automata.specs.declared.walk.Walk.{Walk}
 use Rattle.ts_automata.specs.After.{LeadsToNode}
 use Rattle.ts_automata.specs.Walks.{HasCome, walk_nodes}
@@ -106,7 +106,7 @@ module _ (g : FlatGrammar) (a : Automaton) (is : IsAutomaton g a) (w : List ℕ)
       }
 
 -- what a machine's set says, once it has been reached
-pub knows : (g : FlatGrammar) (m : Machine) → IsAutomaton g m.automaton → (w : List ℕ) (n : ℕ) → HasRead m w n → (members : List ℕ) → slice_get (sets_of m.sets.keys) n ≡ Some members
+pub knows : (g : FlatGrammar) (m : SetTables) → IsAutomaton g m.automaton → (w : List ℕ) (n : ℕ) → HasRead m w n → (members : List ℕ) → slice_get (sets_of m.sets.keys) n ≡ Some members
     → (valid : List Symbol) (first : Bool) (v : Verdict) → JudgesNodes g valid first m.automaton members v → Knows g valid first w v
 knows g m is w n read members at = members_know g m.automaton is w members
     (λ t h. (read.holds t).0 (subst (λ (l : List ℕ). Contains l t) (sym same) h))
@@ -123,6 +123,6 @@ walk_knows g a is w walk come members same = members_know g a is w members
     (λ t c lt. subst (λ (l : List ℕ). Contains l t) (sym same) ((come t).1 (c, lt)))
 
 -- what a row says of a set, once it has been reached
-pub row_knows : (g : FlatGrammar) (valid : List Symbol) (first : Bool) (m : Machine) → IsAutomaton g m.automaton → (row : List Verdict) → AreVerdicts g valid first m row
+pub row_knows : (g : FlatGrammar) (valid : List Symbol) (first : Bool) (m : SetTables) → IsAutomaton g m.automaton → (row : List Verdict) → AreVerdicts g valid first m row
     → (w : List ℕ) (n : ℕ) (v : Verdict) → HasRead m w n → slice_get row n ≡ Some v → Knows g valid first w v
 row_knows g valid first m is row rows w n v read at = knows g m is w n read read.set read.at valid first v (rows.each n v at read.set read.at)

@@ -4,10 +4,10 @@ use Rattle.std.proofs.lemmas.Option.{slice_get_read}
 use Rattle.ts_core.specs.declared.flat.FlatGrammar.{FlatGrammar}
 use Rattle.ts_core.specs.declared.symbol.Symbol.{Symbol}
 use Rattle.ts_automata.specs.declared.automaton.Automaton.{Automaton}
-use Rattle.ts_automata.specs.declared.machine.Machine.{Machine}
+use Rattle.ts_automata.specs.declared.tables.SetTables.{SetTables}
 use Rattle.ts_automata.specs.declared.machine.Reader.{Reader}
 use Rattle.ts_automata.specs.declared.machine.Reader.TheVariants.{Tables as ReaderTables, Nodes as ReaderNodes}
-use Rattle.ts_automata.specs.Machine.{IsMachine, IsReader}
+use Rattle.ts_automata.specs.Readers.{IsReader}
 use Rattle.ts_lexer.specs.declared.ahead.LexTables.{LexTables}
 use Rattle.ts_lexer.specs.declared.ahead.RowPair.{RowPair}
 use Rattle.ts_lexer.specs.declared.view.View.{View}
@@ -19,7 +19,7 @@ use Rattle.ts_lexer.specs.Views.{IsView}
 use Rattle.ts_lexer.specs.Ways.{AreTablesOf, AreNodesOf, IsWayOf, IsReadyOn, IsReadyFor, HasPairOn, HavePairsOn}
 
 -- what was made of an automaton
-pub tables_read : (a : Automaton) (r : Reader) (m : Machine) → r ≡ ReaderTables m → IsReader a r → IsMachine m × (m.automaton ≡ a)
+pub tables_read : (a : Automaton) (r : Reader) (m : SetTables) → r ≡ ReaderTables m → IsReader a r → m.automaton ≡ a
 tables_read a r m is h = subst (λ (x : Reader). IsReader a x) is h
 
 pub nodes_read : (a : Automaton) (r : Reader) (b : Automaton) → r ≡ ReaderNodes b → IsReader a r → b ≡ a

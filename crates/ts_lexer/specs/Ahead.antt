@@ -3,7 +3,7 @@ use Rattle.std.specs.Prelude.{◌≡◌, ℕ, ◌++◌, Bool, true, false, List,
 use Rattle.std.specs.Global.{Vec}
 use Rattle.ts_core.specs.declared.flat.FlatGrammar.{FlatGrammar}
 use Rattle.ts_core.specs.declared.symbol.Symbol.{Symbol}
-use Rattle.ts_automata.specs.declared.machine.Machine.{Machine}
+use Rattle.ts_automata.specs.declared.tables.SetTables.{SetTables}
 use Rattle.ts_automata.specs.Sets.{EachAt, sets_of}
 use Rattle.ts_automata.specs.Machine.{state_count}
 use Rattle.ts_lexer.specs.declared.ahead.LexTables.{LexTables}
@@ -31,7 +31,7 @@ pub record HasMoreRows (old new : LexTables) : Type 0 where
   pub rows : contents_of new.rows.keys ≡ contents_of old.rows.keys ++ more
 
 -- the row has what the valid tokens make of each set of the machine
-pub record AreVerdicts (g : FlatGrammar) (valid : List Symbol) (first : Bool) (m : Machine)
+pub record AreVerdicts (g : FlatGrammar) (valid : List Symbol) (first : Bool) (m : SetTables)
     (row : List Verdict) : Type 0 where
   pub count : length row ≡ state_count m
   pub each : EachAt

@@ -3,7 +3,6 @@ use Rattle.std.specs.Prelude.{◌≡◌, ℕ, List, length, slice_get, Option, S
 use Rattle.ts_core.specs.declared.flat.FlatGrammar.{FlatGrammar}
 use Rattle.ts_core.specs.declared.symbol.Symbol.{Symbol}
 use Rattle.ts_automata.specs.Automata.{IsAutomaton}
-use Rattle.ts_automata.specs.Machine.{IsMachine}
 use Rattle.ts_lexer.specs.declared.ahead.LexTables.{LexTables}
 use Rattle.ts_lexer.specs.declared.ahead.RowPair.{RowPair}
 use Rattle.ts_lexer.specs.declared.view.View.{View}
@@ -16,7 +15,6 @@ use Rattle.ts_lexer.specs.Views.{IsView}
 
 -- the tables were made for the grammar
 pub record AreTablesOf (g : FlatGrammar) (t : LexTables) : Type 0 where
-  pub machine : IsMachine t.machine
   pub rules : IsRules g t.rules
   pub automaton : IsAutomaton g t.machine.automaton
 

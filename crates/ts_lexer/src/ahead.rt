@@ -3,7 +3,6 @@
 ghost use Rattle.std.specs.Prelude.{◌≡◌, ◌<◌, ℕ, List, Option, Some, length, slice_get, true, false, IfOk, OnOk};
 ghost use Rattle.ts_core.specs.declared.flat.FlatGrammar.{FlatGrammar as AnyGrammar};
 ghost use Rattle.ts_core.specs.declared.symbol.Symbol.{Symbol as AnySymbol};
-ghost use Rattle.ts_automata.specs.Machine.{IsMachine};
 ghost use Rattle.ts_lexer.specs.Rules.{IsRules};
 ghost use Rattle.ts_lexer.specs.Views.{IsView};
 ghost use Rattle.ts_lexer.specs.Ahead.{contents_of, IsNumbered, AreVerdicts, HasMoreRows, HasPair, HavePairs};
@@ -48,7 +47,6 @@ fn verdicts_of(
     first: bool,
     machine: &Machine,
 ) -> Result<Vec<Verdict>, AllocError>
-    requires { IsMachine machine.now }
     ensures { IfOk result
         (λ row. (g : AnyGrammar) (valid : List AnySymbol) → IsRules g rules.now
         → IsView g valid view.now → AreVerdicts g valid first machine.now row.items) }
@@ -56,7 +54,7 @@ fn verdicts_of(
     let mut row: Vec<Verdict> = Vec::new(alloc);
     for state in 0..machine.states() {
         let members = machine.members(state);
-        row.push(judge(rules, view, first, &machine.automaton, members))?;
+        row.push(judge(rules, view, first, machine.automaton(), members))?;
     }
     Ok(row)
 }
@@ -106,7 +104,6 @@ fn pair_of(
     tables: &mut LexTables,
     view: &View,
 ) -> Result<Option<RowPair>, AllocError>
-    requires { IsMachine tables.old.machine }
     ensures grows { OnOk result (HasMoreRows tables.old tables.new) }
     ensures pair { IfOk result
         (λ o. (g : AnyGrammar) (valid : List AnySymbol) (p : AnyPair) → o ≡ Some p
@@ -129,7 +126,6 @@ pub(crate) fn pairs_of(
     view: &mut View,
     lists: &IndexSet<Vec<Symbol>>,
 ) -> Result<Vec<Option<RowPair>>, AllocError>
-    requires { IsMachine tables.old.machine }
     ensures marks { length view.new.marks.items ≡ length view.old.marks.items }
     ensures grows { OnOk result (HasMoreRows tables.old tables.new) }
     ensures count { IfOk result (λ pairs. length pairs.items ≡ length lists.now.keys) }

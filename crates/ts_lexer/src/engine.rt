@@ -5,7 +5,6 @@ ghost use Rattle.std.specs.Str.{IsUtf8};
 ghost use Rattle.ts_core.specs.declared.flat.FlatGrammar.{FlatGrammar as AnyGrammar};
 ghost use Rattle.ts_core.specs.declared.symbol.Symbol.{Symbol as AnySymbol};
 ghost use Rattle.ts_automata.specs.Automata.{IsAutomaton};
-ghost use Rattle.ts_automata.specs.Machine.{IsMachine};
 ghost use Rattle.ts_lexer.specs.Ahead.{contents_of, HasPair, IsReady};
 ghost use Rattle.ts_lexer.specs.declared.ahead.RowPair.{RowPair as AnyPair};
 ghost use Rattle.ts_lexer.specs.Answers.{IsLexedAnswer};
@@ -72,7 +71,6 @@ fn by_tables(
     mut view: View,
     lists: IndexSet<Vec<Symbol>>,
 ) -> Result<Engine, AllocError>
-    requires { IsMachine machine }
     ensures engine { IfOk result
         (λ engine. (g : AnyGrammar) → IsRules g rules → IsAutomaton g machine.automaton
         → length view.marks.items ≡ length g.tokens → IsEngine g engine) }

@@ -4,7 +4,7 @@ ghost use Rattle.std.specs.Prelude.{◌≡◌, ◌<◌, ◌^◌, ℕ, List, Bool
 ghost use Rattle.ts_core.specs.declared.flat.FlatGrammar.{FlatGrammar as AnyGrammar};
 ghost use Rattle.ts_core.specs.declared.symbol.Symbol.{Symbol as AnySymbol};
 ghost use Rattle.ts_automata.specs.Automata.{IsAutomaton};
-ghost use Rattle.ts_automata.specs.Machine.{IsMachine, state_count};
+ghost use Rattle.ts_automata.specs.Machine.{state_count};
 ghost use Rattle.ts_lexer.specs.Rules.{IsRules};
 ghost use Rattle.ts_lexer.specs.Views.{IsView};
 ghost use Rattle.ts_lexer.specs.Scanned.{IsScanned};
@@ -32,7 +32,6 @@ fn verdict_at(row: &[Verdict], set: usize) -> Verdict
 /// What stands at the beginning of a text, by verdicts that were made ahead: a look-up each for the
 /// character's class, the next set and its verdict.
 fn scan_by_row(machine: &Machine, rules: &Rules, row: &[Verdict], rest: &str) -> Scanned
-    requires made { IsMachine machine.now }
     requires count { length row.now ≡ state_count machine.now }
     requires size { length rest.now < 2 ^ 32 }
     ensures { (g : AnyGrammar) (valid : List AnySymbol) (first : Bool) → IsRules g rules.now
@@ -75,7 +74,6 @@ fn scan_by_row(machine: &Machine, rules: &Rules, row: &[Verdict], rest: &str) ->
 /// What stands at the beginning of a text, where what the valid tokens make of a set is folded from
 /// its nodes.
 fn scan_by_nodes(machine: &Machine, rules: &Rules, view: &View, first: bool, rest: &str) -> Scanned
-    requires made { IsMachine machine.now }
     requires size { length rest.now < 2 ^ 32 }
     ensures { (g : AnyGrammar) (valid : List AnySymbol) → IsRules g rules.now
         → IsView g valid view.now → IsAutomaton g machine.now.automaton
@@ -95,7 +93,7 @@ fn scan_by_nodes(machine: &Machine, rules: &Rules, view: &View, first: bool, res
     };
     for c in rest.chars() {
         let to = machine.next(state, c);
-        let verdict = judge(rules, view, first, &machine.automaton, machine.members(to));
+        let verdict = judge(rules, view, first, machine.automaton(), machine.members(to));
         if !verdict.lives {
             return Scanned {
                 best: chosen(rules, &progress),
@@ -123,7 +121,6 @@ pub(crate) fn scan_by_tables(
     first: bool,
     rest: &str,
 ) -> Scanned
-    requires made { IsMachine tables.now.machine }
     requires size { length rest.now < 2 ^ 32 }
     requires ready { (g : AnyGrammar) × (valid : List AnySymbol)
         × IsReady g valid tables.now view.now pair }

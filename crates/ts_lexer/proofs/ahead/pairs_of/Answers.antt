@@ -1,6 +1,4 @@
 use Rattle.std.proofs.Common.{◌≡◌, ◌∙◌, sym, ap, refl, subst, ℕ, ◌+◌, List, ◌++◌, ◌∷◌, [], length, Option, length-append, arith}
-use Rattle.ts_automata.specs.declared.machine.Machine.{Machine}
-use Rattle.ts_automata.specs.Machine.{IsMachine}
 use Rattle.ts_lexer.specs.declared.ahead.RowPair.{RowPair}
 use Rattle.ts_lexer.specs.declared.rules.Rules.{Rules}
 use Rattle.ts_lexer.specs.Ahead.{contents_of, HavePairs}
@@ -12,7 +10,6 @@ pub loop-at-init : goal.loop-at-init
 loop-at-init c = record {
   marks = refl;
   count = ap (λ (l : List (Option RowPair)). length l) c.new-pairs.ensures.items;
-  made = c.requires;
   more = more_none c.args.tables.now;
   pairs = λ g rules marks. subst (λ (l : List (Option RowPair)). HavePairs g c.args.tables.now (contents_of c.args.lists.now.keys) l) (sym c.new-pairs.ensures.items)
       (pairs_none g c.args.tables.now (contents_of c.args.lists.now.keys));
@@ -30,7 +27,6 @@ loop-at-preserved c =
           let n = inv.count in
           omega arith
           );
-      made = subst (λ (m : Machine). IsMachine m) (sym grows.machine) inv.made;
       more = more_both c.args.tables.now c.loop-at.tables c.pair_of.new.tables inv.more grows;
       pairs = λ g rules marks.
           let here = subst (λ (r : Rules). IsRules g r) (sym inv.more.rules) rules in

@@ -1,5 +1,7 @@
-use Rattle.std.proofs.Common.{◌≡◌, ℕ, arith}
+use Rattle.std.proofs.Common.{◌≡◌, ℕ, arith, subst}
+use Rattle.ts_automata.specs.declared.automaton.Automaton.{Automaton}
 use Rattle.ts_automata.specs.Machine.{state_count}
+use Rattle.ts_lexer.specs.Judged.{JudgesNodes}
 use Rattle.ts_lexer.proofs.AheadLemmas.{judging_none, judging_more, judging_all}
 use Rattle.ts_lexer.proofs.ahead.verdicts_of.Goals as goal
 
@@ -9,7 +11,8 @@ loop-state-init c g valid rules view = rw c.new-row.ensures.items (judging_none 
 pub loop-state-preserved : goal.loop-state-preserved
 loop-state-preserved c g valid rules view = rw c.in_ok-push.ensures.items
     (judging_more g valid c.args.first c.args.machine.now c.loop-state.row.items c.loop-state.state c.judge.result c.members-members.result.now (c.loop-state.invariant g valid rules view)
-    c.members-members.ensures (c.judge.ensures g valid rules view))
+    c.members-members.ensures
+    (subst (λ (a : Automaton). JudgesNodes g valid c.args.first a c.members-members.result.now c.judge.result) c.automaton.ensures (c.judge.ensures g valid rules view)))
 
 pub returns : goal.returns
 returns c g valid rules view =

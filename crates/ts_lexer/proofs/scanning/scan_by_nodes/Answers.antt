@@ -1,8 +1,10 @@
-use Rattle.std.proofs.Common.{ap, length, length-append, arith, ℕ, List}
+use Rattle.std.proofs.Common.{ap, subst, length, length-append, arith, ℕ, List}
 use Rattle.std.specs.Str.Iter.{chars_rest}
 use Rattle.std.proofs.Math.Utf8.{encode}
 use Rattle.std.proofs.lemmas.Str.{length-encode}
+use Rattle.ts_automata.specs.declared.automaton.Automaton.{Automaton}
 use Rattle.ts_automata.specs.Machine.{HasRead}
+use Rattle.ts_lexer.specs.Judged.{JudgesNodes}
 use Rattle.ts_lexer.proofs.KnowLemmas.{knows}
 use Rattle.ts_lexer.proofs.RunLemmas.{Laws}
 use Rattle.ts_lexer.proofs.ScannedLemmas.{step_at, dead_at, more_at, end_at}
@@ -24,7 +26,7 @@ returns-then-not-verdict c g valid rules view automaton =
     let run = c.loop-c.invariant.running g valid rules view automaton in
     let m = c.args.machine.now in
     let read = c.next-to.ensures.stands run.characters run.read in
-    let judged = c.judge-verdict.ensures g valid rules view in
+    let judged = subst (λ (a : Automaton). JudgesNodes g valid c.args.first a c.members.result.now c.judge-verdict.result) c.automaton.ensures (c.judge-verdict.ensures g valid rules view) in
     let known = knows g m automaton _ c.next-to.result read c.members.result.now c.members.ensures valid c.args.first c.judge-verdict.result judged in
     let o = c.chosen.ensures in
     dead_at laws g valid c.args.first c.args.rest.now (λ w. HasRead m w c.loop-c.state) (chars_rest c.loop-c.c-iterator) c.loop-c.size c.loop-c.progress run c.in-Some.c _ c.in-Some.ensures.steps.0 c.len_utf8.result c.len_utf8.ensures.value
@@ -58,7 +60,7 @@ loop-c-preserved c =
           let run = inv.running g valid rules view automaton in
           let m = c.args.machine.now in
           let read = c.next-to.ensures.stands run.characters run.read in
-          let judged = c.judge-verdict.ensures g valid rules view in
+          let judged = subst (λ (a : Automaton). JudgesNodes g valid c.args.first a c.members.result.now c.judge-verdict.result) c.automaton.ensures (c.judge-verdict.ensures g valid rules view) in
           let known = knows g m automaton _ c.next-to.result read c.members.result.now c.members.ensures valid c.args.first c.judge-verdict.result judged in
           let step = step_at laws g valid c.args.first c.args.rest.now (λ w. HasRead m w c.loop-c.state) (chars_rest c.loop-c.c-iterator) c.loop-c.size c.loop-c.progress run c.in-Some.c _ c.in-Some.ensures.steps.0 c.len_utf8-size.result c.len_utf8-size.ensures.value in
           let sofar = c.advance-progress.ensures g valid c.args.first c.args.rest.now c.loop-c.size _ rules step known run.sofar in
