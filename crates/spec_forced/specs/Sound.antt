@@ -56,11 +56,6 @@ pub record IsHonest (g : FlatGrammar) (states : States) (text : Bytes) (place st
   pub stands : StandsForState g states text place state t
   pub inner : AllSound g states text (t ∷ []) place
 
--- all that may be offered is honest
-abbrev pub AreHonest : FlatGrammar → States → Bytes → (ℕ → ℕ → Tree → Type 0) → Type 0
-AreHonest g states text Gives =
-    (place state : ℕ) (t : Tree) → Gives place state t → IsHonest g states text place state t
-
 -- ---- what a parser keeps of its stacks
 
 -- the node has a state: no choice of moves was made while it was made

@@ -76,7 +76,8 @@ where
     ensures made { X.made_for lexer.new table.now }
     ensures drafts { IfOk result (Drafts base.now client step edit.now) }
     ensures range { IsErrOf result Refused.Range ↔ ¬ (InRange base.now.text edit.now) }
-    ensures size { (n : ℕ) → IsErrOf result (Refused.Size n) ↔ IsOver base.now.text edit.now n }
+    ensures size { (n : ℕ) →
+        IsErrOf result (Refused.Size n) ↔ IsOver base.now.text edit.now n }
     ensures accepts { IsOkUnless result Refused.Memory ↔
         InRange base.now.text edit.now × Fits base.now.text edit.now }
 {
@@ -98,10 +99,12 @@ fn edited<X: Tokens>(
     text: &X::Text,
     edit: &Edit,
 ) -> Result<X::Text, Refused>
-    ensures ok { IfOk result (λ after. X.Text.bytes after ≡ apply_of (X.Text.bytes text.now) edit.now) }
+    ensures ok { IfOk result (λ after.
+        X.Text.bytes after ≡ apply_of (X.Text.bytes text.now) edit.now) }
     ensures within { IfOk result (λ after. length (X.Text.bytes after) ≤ most_bytes) }
     ensures range { IsErrOf result Refused.Range ↔ ¬ (InRange (X.Text.bytes text.now) edit.now) }
-    ensures size { (n : ℕ) → IsErrOf result (Refused.Size n) ↔ IsOver (X.Text.bytes text.now) edit.now n }
+    ensures size { (n : ℕ) →
+        IsErrOf result (Refused.Size n) ↔ IsOver (X.Text.bytes text.now) edit.now n }
     ensures accepts { IsOkUnless result Refused.Memory ↔
         InRange (X.Text.bytes text.now) edit.now × Fits (X.Text.bytes text.now) edit.now }
 {

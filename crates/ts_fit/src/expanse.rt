@@ -1,4 +1,5 @@
-//! The positions of a regular expression: how many sets it has once its repeats are written out.
+//! The positions of a regular expression once its repeats are written out: the expression comes in,
+//! and what goes out is their count, up to a bound.
 
 ghost use Rattle.std.specs.Prelude.{◌≡◌, ◌+◌, ◌*◌, ◌<◌, ◌≤◌, ◌^◌, min, sum, map};
 ghost use Rattle.ts_fit.specs.Bounds.{many_positions};

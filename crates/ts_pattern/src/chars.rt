@@ -1,4 +1,5 @@
-//! Looks at the characters of a pattern's text, by their places from 0.
+//! Looks at the characters of a pattern: its text and a place come in, counted in characters from
+//! 0, and what goes out is what stands there: a character, the length of a run, or a number.
 ghost use Rattle.std.specs.Prelude.{◌≡◌, ◌+◌, ◌≤◌, ◌<◌, min, IsTrue, nat_lt, length, take, drop};
 ghost use Rattle.std.specs.Char.{digit_value};
 ghost use Rattle.ts_pattern.specs.Characters.{ending, peek, passes, run, goes_on, value, padded_digit, AreDecimal, is_scalar};

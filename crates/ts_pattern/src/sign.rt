@@ -1,4 +1,5 @@
-//! Signs: what a pattern is written with, one sign after another.
+//! Signs, with which a pattern is written one after another: the text and a place come in, and the
+//! sign that begins there goes out, or its flaw.
 ghost use Rattle.std.specs.Prelude.{◌≡◌, ◌≤◌, ◌<◌, ◌+◌, ◌^◌, length, IfOk};
 ghost use Rattle.ts_pattern.specs.Characters.{IsSightWithin, run, is_decimal};
 ghost use Rattle.ts_pattern.specs.Signs.{count, set_of, char, dot, brace, two_counts, counts, opened, escaped, plain, bracketed, IsSight};

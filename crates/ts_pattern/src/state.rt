@@ -1,4 +1,5 @@
-//! The walk over the signs of a text, with the open patterns on a stack of its own.
+//! The walk over the signs of a text: the text of a pattern comes in, and its tree and measures go
+//! out, or its first flaw. Open patterns stand on a stack of its own.
 ghost use Rattle.std.specs.Prelude.{◌≡◌, ◌<◌, ◌==◌, ◌&&◌, length, IfOk, if◌then◌else◌};
 ghost use Rattle.ts_pattern.specs.Trees.{Token};
 ghost use Rattle.ts_pattern.specs.Reads.{Means, is_quantifier, flaw_at, IsOutcome};

@@ -1,4 +1,6 @@
-//! Alternatives up to the limits on productions and on the steps of one.
+//! Alternatives up to the limits on productions and on the steps of one: what comes in is a rule
+//! tree by numbers and what stands round it, and what goes out are its alternatives, or the limit
+//! that it passes.
 
 ghost use Rattle.std.specs.Prelude.{◌≡◌, ◌<◌, ◌≤◌, ◌↔◌, length, IfOk};
 ghost use Rattle.std.specs.Result.{IsErrOf, IsOkUnless};

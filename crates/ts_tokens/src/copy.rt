@@ -1,4 +1,4 @@
-//! Copies of regular expressions.
+//! Copies of regular expressions: an expression comes in, and one like it goes out.
 
 ghost use Rattle.std.specs.Prelude.{◌≡◌, IfOk};
 
