@@ -1,0 +1,14 @@
+pub mod NodeLemmas
+pub mod StackLemmas
+pub mod MakingLemmas
+pub mod LineLemmas
+pub mod GatherLemmas
+pub mod PutLemmas
+pub mod AcceptLemmas
+pub mod OwnLemmas
+pub mod TableLemmas
+pub mod HeadLemmas
+pub mod ReduceLemmas
+pub mod MadeLemmas
+pub mod RootLemmas
+pub mod LookLemmas

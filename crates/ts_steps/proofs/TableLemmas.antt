@@ -1,0 +1,140 @@
+-- The states of a table: symbols that lead to them, their items and their valid tokens.
+use Rattle.std.proofs.Common.{◌≡◌, ◌∙◌, sym, ap, refl, subst, ℕ, zero, suc, ◌<◌, ◌≤◌, ◌⊎◌, inl, inr, ⊎_elim, Bool, true, false, nat_eq, List, [], ◌∷◌, ◌++◌, length, length-append, get_or, slice_get, Option, Some, None, arith}
+use Rattle.std.specs.List.{Contains}
+use Rattle.std.proofs.lemmas.Bool.{eq-eqb, eqb-true}
+use Rattle.std.proofs.lemmas.Option.{slice_get_within, slice_get-get_or}
+use Rattle.ts_base.proofs.PlaceLemmas.{push_cases}
+use Rattle.ts_core.specs.declared.action.Action.{Action}
+use Rattle.ts_core.specs.declared.action.Action.TheVariants.{Shift, Reduce, Accept}
+use Rattle.ts_core.specs.declared.flat.FlatGrammar.{FlatGrammar}
+use Rattle.ts_core.specs.declared.flat.Step.{Step}
+use Rattle.ts_core.specs.declared.symbol.Symbol.{Symbol}
+use Rattle.spec_grammar.specs.Symbols.{is_among, is_extra}
+use Rattle.spec_tables.specs.Actions.{Move, shift, reduce, accept, Act, may_shift, may_reduce, may_accept}
+use Rattle.spec_tables.specs.Items.{Item, IsToken, CanBeginWith, itself, by_first, MayStandBehind, Valid, begun, asked, advanced_past, line_steps}
+use Rattle.spec_runs.specs.Configurations.{HasMove, AreValidTokens}
+use Rattle.spec_forced.specs.Sound.{States, IsStateAfter}
+use Rattle.ts_table.specs.declared.view.ParseTable.{ParseTable}
+use Rattle.ts_table.specs.Tables.{IsTable, IsStateOf, at_first, by_goto, goto_of, ActsBy, shifts, reduces, accepts}
+use Rattle.ts_lexer.specs.States.{AreValid, IsValidToken, acts, extra}
+use Rattle.ts_moves.specs.Laws.{Laws}
+use Rattle.ts_steps.specs.Heads.{AreStatesOf}
+
+-- ---- names of states
+
+-- lists for the first so many states
+record Named (t : ParseTable) (n : ℕ) : Type 0 where
+  states : States
+  count : length states ≡ n
+  each : (state : ℕ) (way : List ℕ) → slice_get states state ≡ Some way → IsStateOf t way state
+
+named : (t : ParseTable) → IsTable t → (n : ℕ) → n ≤ length t.rows → Named t n
+named t table zero le = record { states = []; count = refl; each = λ state way e. absurd (let f = slice_get_within [] state way e in omega arith) }
+named t table (suc n) le =
+    let before = named t table n (omega (arith, le)) in
+    let r = table.reached n (omega (arith, le)) in
+    record {
+      states = before.states ++ r.0 ∷ [];
+      count = omega (arith, before.count, length-append before.states (r.0 ∷ []));
+      each = λ state way e.
+          ⊎_elim (λ w. before.each state way w.1)
+          (λ w. subst (λ (l : List ℕ). IsStateOf t l state) w.1 (subst (λ (k : ℕ). IsStateOf t r.0 k) (sym (w.0 ∙ before.count)) r.1))
+          (push_cases before.states r.0 state way e);
+    }
+
+pub names : (t : ParseTable) → IsTable t → (states : States) × AreStatesOf t states
+names t table = let n = named t table (length t.rows) (omega arith) in (n.states, record { count = n.count; each = n.each })
+
+pub state_after : (t : ParseTable) (states : States) (read : List ℕ) (state : ℕ) → IsTable t → AreStatesOf t states → IsStateOf t read state → IsStateAfter t.grammar states state read
+state_after t states read state table are st =
+    let low : state < length states = let i = table.inside read state st in let c = are.count in omega arith in
+    let at : slice_get states state ≡ Some (get_or states state []) = slice_get-get_or states state [] low in
+    record {
+      way = get_or states state [];
+      at = at;
+      same = table.same (get_or states state []) read state (are.each state (get_or states state []) at) st;
+    }
+
+-- a state that is led to over a symbol is led to from the state before it
+pub came : (t : ParseTable) (x : ℕ) (read more : List ℕ) (n : ℕ) → IsStateOf t more n → more ≡ x ∷ read → (m : ℕ) × IsStateOf t read m × (goto_of t m x ≡ Some n)
+came t x read _ _ at_first e = absurd (let h : [] ≡ x ∷ read = e in cc)
+came t x read _ n (by_goto r m y _ st go) e =
+    let a : y ≡ x = cc in
+    let b : r ≡ read = cc in
+    (m, subst (λ (l : List ℕ). IsStateOf t l m) b st, subst (λ (k : ℕ). goto_of t m k ≡ Some n) a go)
+
+-- ---- tokens of moves
+
+begins_token : (g : FlatGrammar) (s t : ℕ) → CanBeginWith g s t → IsToken g t
+begins_token g _ _ (itself token is) = is
+begins_token g _ _ (by_first symbol number token st is first rest) = begins_token g st.symbol.0 token rest
+
+valid_token : (g : FlatGrammar) (read : List ℕ) (i : Item) → Valid g read i → i.token ≤ length g.tokens
+valid_token g _ _ begun = omega arith
+valid_token g read _ (asked _ i j v e) = by (valid_token g read i v) (slice_get (line_steps g i.line) (suc i.dot)) e.follows
+  where
+    by : i.token ≤ length g.tokens → (o : Option Step) → MayStandBehind g o i.token j.token → j.token ≤ length g.tokens
+    by le None f = omega (arith, le, f)
+    by le (Some s) f = (begins_token g s.symbol.0 j.token f).1
+valid_token g _ _ (advanced_past read i s v b) = valid_token g read i v
+
+act_token : (g : FlatGrammar) (read : List ℕ) (token : ℕ) (move : Move) → Act g read token move → token ≤ length g.tokens
+act_token g read token _ (may_shift s free) = s.is_token.1
+act_token g read token _ (may_reduce i number r e free) = omega (arith, r.reduces.on, valid_token g read i r.reduces.valid)
+act_token g read token _ (may_accept e v) = omega (arith, e)
+
+-- ---- actions
+
+pub move_of : (t : ParseTable) (read : List ℕ) (token : ℕ) (a : Action) → ActsBy t read token a → HasMove t.grammar read token
+move_of t read token _ (shifts next act state) = (shift, act)
+move_of t read token _ (reduces number act) = (reduce number, act)
+move_of t read token _ (accepts act) = (accept, act)
+
+-- a shift that stays is one of the table's actions
+shift_acts : (laws : Laws) (t : ParseTable) (read : List ℕ) (n token : ℕ) → IsTable t → IsStateOf t read n → Act t.grammar read token shift → (next : ℕ) × ActsBy t read token (Shift next)
+shift_acts laws t read n token table st act =
+    let s = (laws.shifts t.grammar read token act).1 in
+    let m = (table.gotos read n token st).1 s in
+    (m.0, shifts m.0 act (by_goto read n token m.0 st m.1))
+
+has_action : (laws : Laws) (t : ParseTable) (read : List ℕ) (n token : ℕ) (move : Move) → IsTable t → IsStateOf t read n → Act t.grammar read token move → (a : Action) × ActsBy t read token a
+has_action laws t read n token shift table st act = let s = shift_acts laws t read n token table st act in (Shift s.0, s.1)
+has_action laws t read n token (reduce number) table st act = (Reduce number, reduces number act)
+has_action laws t read n token accept table st act = (Accept, accepts act)
+
+-- ---- extras
+
+among_there : (ss : List Symbol) (s : Symbol) → Contains ss s → is_among s.0 ss ≡ true
+among_there ss s w = go ss w.0 w.1 w.2
+  where
+    by : (x : Symbol) (xs : List Symbol) (b : Bool) → nat_eq x.0 s.0 ≡ b → (b ≡ false → is_among s.0 xs ≡ true) → is_among s.0 (x ∷ xs) ≡ true
+    by x xs true e h = rw e refl
+    by x xs false e h = rw e (h refl)
+
+    go : (xs : List Symbol) (k : ℕ) → k < length xs → get_or xs k s ≡ s → is_among s.0 xs ≡ true
+    go [] k lt is = absurd (omega arith)
+    go (x ∷ xs) zero lt is = by x xs (nat_eq x.0 s.0) refl (λ no. absurd (let e : nat_eq x.0 s.0 ≡ true = eq-eqb x.0 s.0 (ap (λ (y : Symbol). y.0) is) in let f : nat_eq x.0 s.0 ≡ false = no in cc))
+    go (x ∷ xs) (suc k) lt is = by x xs (nat_eq x.0 s.0) refl (λ no. go xs k (omega arith) is)
+
+among_back : (ss : List Symbol) (s : Symbol) → is_among s.0 ss ≡ true → Contains ss s
+among_back [] s e = absurd (let h : false ≡ true = e in cc)
+among_back (x ∷ xs) s e = by (nat_eq x.0 s.0) refl (among_back xs s)
+  where
+    by : (b : Bool) → nat_eq x.0 s.0 ≡ b → (is_among s.0 xs ≡ true → Contains xs s) → Contains (x ∷ xs) s
+    by true h deeper = (0, (omega arith), (let q : x.0 ≡ s.0 = eqb-true x.0 s.0 h in ap {B = Symbol} (λ (n : ℕ). record { 0 = n }) q))
+    by false h deeper = let r = deeper (let f : is_among s.0 (x ∷ xs) ≡ is_among s.0 xs = rw h refl in sym f ∙ e) in (suc r.0, (let lt : r.0 < length xs = r.1 in omega arith), r.2)
+
+-- ---- valid tokens
+
+pub valid_tokens : (laws : Laws) (t : ParseTable) (read : List ℕ) (n : ℕ) (valid : List Symbol) → IsTable t → IsStateOf t read n → AreValid t n valid → AreValidTokens t.grammar read valid
+valid_tokens laws t read n valid table st are s = ((λ w. forth ((are s).0 w)), (λ h. (are s).1 (back h)))
+  where
+    forth : IsValidToken t n s → HasMove t.grammar read s.0 ⊎ (is_extra t.grammar s.0 ≡ true)
+    forth (acts low has) = inl (move_of t read s.0 has.0 ((table.actions read n s.0 has.0 st).0 has.1))
+    forth (extra w) = inr (among_there t.grammar.extras s w)
+
+    back : HasMove t.grammar read s.0 ⊎ (is_extra t.grammar s.0 ≡ true) → IsValidToken t n s
+    back (inl m) =
+        let a = has_action laws t read n s.0 m.0 table st m.1 in
+        acts (act_token t.grammar read s.0 m.0 m.1) (a.0, (table.actions read n s.0 a.0 st).1 a.1)
+    back (inr e) = extra (among_back t.grammar.extras s e)

@@ -1,0 +1,77 @@
+-- The laws of nodes that stand on which the proofs here rest. It serves private clauses and proofs
+-- alone.
+use Rattle.std.specs.Prelude.{◌≡◌, ℕ, ◌≤◌, ◌⊎◌, true, List, [], ◌∷◌, ◌++◌, length, reverse, drop, Option, Some}
+use Rattle.ts_base.specs.Bytes.{Bytes}
+use Rattle.ts_core.specs.declared.flat.FlatGrammar.{FlatGrammar}
+use Rattle.ts_core.specs.declared.flat.Production.{Production}
+use Rattle.ts_core.specs.declared.symbol.Symbol.{Symbol}
+use Rattle.spec_grammar.specs.Symbols.{is_extra, production_at}
+use Rattle.spec_lexing.specs.Lexing.{token, Lex}
+use Rattle.spec_lexing.specs.Seen.{Agree}
+use Rattle.spec_tables.specs.Actions.{shift}
+use Rattle.spec_tables.specs.Fit.{Fit}
+use Rattle.spec_trees.specs.declared.tree.Tree.{Tree}
+use Rattle.spec_trees.specs.Trees.{is_settled, state_of, node_extent, children_of, span_of, all_spans, tree_depth}
+use Rattle.spec_trees.specs.Made.{leaf_of, as_extra, reduced, accepted, step_symbols, most_depth}
+use Rattle.spec_runs.specs.Configurations.{stack_symbols, HasMove, AreValidTokens, AreExtras}
+use Rattle.spec_forced.specs.Forced.{IsOnlyMove, IsDecided, Stands, StandInTurn, MakesNode}
+use Rattle.spec_forced.specs.Sound.{States, IsStateAfter, StandsForState, AllSound, IsSound, EachHasState, IsWholeSoFar, StandOnStack}
+use Rattle.ts_table.specs.declared.view.ParseTable.{ParseTable}
+use Rattle.ts_lexer.specs.States.{AreValid}
+
+-- For proofs alone: laws of lexings that are decided, of nodes that stand, and of stacks of them.
+pub record SoundLaws : Type 0 where
+  pub lists : (g : FlatGrammar) (read : List ℕ) (rest : Bytes) (s : Symbol) (pad size extent : ℕ)
+      (valid : List Symbol)
+      → AreValidTokens g read valid → HasMove g read s.0 ⊎ (is_extra g s.0 ≡ true)
+      → ((other : Bytes) → Agree extent rest other
+      → (v : List Symbol) × AreValidTokens g read v × Lex g v other (token s pad size))
+      → IsDecided g read rest (token s pad size) extent
+  pub leaf : (g : FlatGrammar) (read : List ℕ) (rest : Bytes) (s : Symbol)
+      (pad size e extent : ℕ) (state : Option ℕ)
+      → IsDecided g read rest (token s pad size) e → IsOnlyMove g read s.0 shift
+      → Stands g read rest (leaf_of s.0 pad size extent state) e
+  pub extra : (g : FlatGrammar) (read : List ℕ) (rest : Bytes) (s : Symbol)
+      (pad size e extent : ℕ) (state : Option ℕ)
+      → IsDecided g read rest (token s pad size) e → is_extra g s.0 ≡ true
+      → (HasMove g read s.0 → ⊥)
+      → Stands g read rest (as_extra (leaf_of s.0 pad size extent state)) e
+  pub node : (g : FlatGrammar) → Fit g → (read : List ℕ) (rest : Bytes) (number : ℕ)
+      (children lifted : List Tree) (extent e : ℕ) (state : Option ℕ)
+      → MakesNode g read rest number children lifted extent
+      → tree_depth (reduced g number e state children) ≤ most_depth
+      → Stands g read rest (reduced g number e state children) extent
+  pub childless : (g : FlatGrammar) (states : States) (text : Bytes) (t : Tree) (place : ℕ)
+      → children_of t ≡ []
+      → ((state : ℕ) → is_settled t ≡ true → state_of t ≡ Some state
+      → StandsForState g states text place state t)
+      → AllSound g states text (t ∷ []) place
+  pub in_turn : (g : FlatGrammar) (states : States) (text : Bytes) (ts below : List Tree)
+      → EachHasState ts → StandOnStack g states text (reverse ts ++ below)
+      → StandInTurn g (stack_symbols below) (drop (all_spans below) text) ts
+  pub put : (g : FlatGrammar) → Fit g → (states : States) (text : Bytes)
+      (number left : ℕ) (p : Production) (children lifted below : List Tree) (extent : ℕ)
+      (state : Option ℕ) (valid : List Symbol)
+      → production_at g number ≡ Some (left, p) → stack_symbols children ≡ step_symbols p
+      → IsWholeSoFar g left number children → AreExtras lifted
+      → AreValidTokens g (left ∷ stack_symbols below) valid
+      → ((s : ℕ) → state ≡ Some s → IsStateAfter g states s (stack_symbols below)
+      × Stands g (stack_symbols below) (drop (all_spans below) text)
+      (reduced g number extent state children) extent)
+      → StandOnStack g states text (lifted ++ (reverse children ++ below))
+      → StandOnStack g states text (lifted ++ reduced g number extent state children ∷ below)
+  pub root : (g : FlatGrammar) (states : States) (text : Bytes) (before after : List Tree)
+      (root : Tree) (extent : ℕ)
+      → span_of root ≡ all_spans (children_of root)
+      → StandOnStack g states text (reverse after ++ root ∷ reverse before)
+      → all_spans (reverse after ++ root ∷ reverse before) ≤ length text
+      → IsSound g states text (accepted root before after extent)
+  pub told : (g : FlatGrammar) (states : States) (text : Bytes) (place state : ℕ) (t : Tree)
+      (read : List ℕ)
+      → IsStateAfter g states state read → Stands g read (drop place text) t (node_extent t)
+      → StandsForState g states text place state t
+  pub after : (g : FlatGrammar) (states : States) (text : Bytes) (place state : ℕ) (t : Tree)
+      (read : List ℕ)
+      → IsStateAfter g states state read → StandsForState g states text place state t
+      → Stands g read (drop place text) t (node_extent t)
+  pub tokens : (t : ParseTable) (state : ℕ) → (valid : List Symbol) × AreValid t state valid

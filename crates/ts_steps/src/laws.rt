@@ -1,0 +1,62 @@
+//! The laws that the moves rest on. No value goes in or out.
+ghost use Rattle.std.specs.Prelude.{◌≡◌, ℕ, List};
+ghost use Rattle.ts_core.specs.declared.symbol.Symbol.{Symbol as AnySymbol};
+ghost use Rattle.spec_runs.specs.Configurations.{AreValidTokens};
+ghost use Rattle.spec_forced.specs.Sound.{States, IsStateAfter};
+ghost use Rattle.ts_table.specs.declared.view.ParseTable.{ParseTable};
+ghost use Rattle.ts_table.specs.Tables.{IsTable, IsStateOf};
+ghost use Rattle.ts_lexer.specs.States.{AreValid};
+ghost use Rattle.ts_moves.specs.Laws.{Laws};
+ghost use Rattle.ts_steps.specs.Laws.{SoundLaws};
+ghost use Rattle.ts_steps.specs.Heads.{AreStatesOf};
+
+use spec_forced::{leaves_stand, lexings_are_decided, nodes_stand, stacks_stay_sound, states_tell};
+use spec_lexing::{beginnings, token_within};
+use spec_runs::{
+    bare_trees, empty_rules_are_unused, moves_have_their_place, one_reduction, one_sight,
+    repetitions_repeat, start_is_no_repetition,
+};
+use ts_lexer::tokens_of_states;
+
+/// The laws of moves hold.
+pub(crate) fn laws_hold()
+    ensures { Laws }
+{
+    bare_trees();
+    empty_rules_are_unused();
+    moves_have_their_place();
+    one_reduction();
+    one_sight();
+    repetitions_repeat();
+    start_is_no_repetition();
+    beginnings();
+    token_within();
+}
+
+/// The laws of nodes that stand hold.
+pub(crate) fn sound_laws_hold()
+    ensures { SoundLaws }
+{
+    leaves_stand();
+    lexings_are_decided();
+    nodes_stand();
+    stacks_stay_sound();
+    states_tell();
+    tokens_of_states();
+}
+
+/// The states of a table can be named by lists of symbols that lead to them. And whichever lists
+/// these are, a state has just the items that are valid after all symbols that lead to it.
+pub fn states_are_named()
+    ensures names { (t : ParseTable) → IsTable t → (states : States) × AreStatesOf t states }
+    ensures after { (t : ParseTable) (states : States) (read : List ℕ) (state : ℕ) → IsTable t
+        → AreStatesOf t states → IsStateOf t read state → IsStateAfter t.grammar states state read }
+{}
+
+/// The valid tokens of a state are those that are valid after all symbols that lead to it.
+pub fn tokens_are_known()
+    ensures { (t : ParseTable) (read : List ℕ) (state : ℕ) (valid : List AnySymbol) → IsTable t
+        → IsStateOf t read state → AreValid t state valid → AreValidTokens t.grammar read valid }
+{
+    laws_hold();
+}

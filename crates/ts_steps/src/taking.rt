@@ -1,0 +1,94 @@
+//! Taking a node over: a node of an old tree goes in; the head of the stack with it on top comes
+//! out, or that it cannot be laid there.
+ghost use Rattle.std.specs.Prelude.{◌≡◌, ℕ, ◌+◌, ◌<◌, ◌≤◌, ◌∷◌, ◌↔◌, suc, true, length, IfOk, IfSome, IsTrue, MatchOption, None, OnOk};
+ghost use Rattle.ts_base.specs.Bytes.{Bytes};
+ghost use Rattle.spec_trees.specs.Trees.{is_settled, node_extent};
+ghost use Rattle.spec_trees.specs.Made.{filling, most_span};
+ghost use Rattle.spec_forced.specs.Sound.{States, IsHonest};
+ghost use Rattle.ts_table.specs.Tables.{IsStateOf};
+ghost use Rattle.ts_gss.specs.Stacks.{stack_at, state_on, trees_on};
+ghost use Rattle.ts_moves.specs.Heads.{GainsStacks, HaveStates};
+ghost use Rattle.ts_steps.specs.Heads.{AreStatesOf, IsOwnWithin, IsOwnHead, StandOnHead, CanTake, IsTaken};
+
+use crate::laws::{laws_hold, sound_laws_hold};
+use std::alloc::AllocError;
+use ts_gss::Graph;
+use ts_moves::StackHead;
+use ts_node::Node;
+use ts_table::Table;
+
+/// The state above a node that is put on a stack, where the table leads over its symbol. An extra
+/// leaves the state as it is.
+fn state_above(table: &Table, graph: &Graph, head: usize, node: &Node) -> Option<u16>
+    requires there { head < length graph.now }
+    requires states { HaveStates table.now (stack_at graph.now head) }
+    ensures { MatchOption result
+        ((n : ℕ) → IsStateOf table.now (filling (node.now ∷ trees_on (stack_at graph.now head))) n
+        → ⊥)
+        (IsStateOf table.now (filling (node.now ∷ trees_on (stack_at graph.now head)))) }
+{
+    table.stands();
+    let state = graph.state(head);
+    if node.extra() {
+        Some(state)
+    } else {
+        table.goto(state, node.symbol())
+    }
+}
+
+/// Whether what was examined for a node at a place lies in a text of so many bytes, and its end.
+fn lies_within(node: &Node, place: u32, size: u32) -> bool
+    requires { (place ≤ size) × (size ≤ most_span) }
+    ensures { IsTrue result ↔ place + node_extent node.now ≤ suc size }
+{
+    node.extent() <= size + 1 - place
+}
+
+/// Takes a node over whole: it is put on the stack as one more owner of it, with the state to which
+/// the table leads over its symbol. None where the table does not lead over it, or where it was
+/// examined past the end of the text, which has so many bytes; nothing is put there then.
+///
+/// # Errors
+///
+/// `AllocError` where memory runs out.
+pub fn take_over(
+    table: &Table,
+    graph: &mut Graph,
+    head: StackHead,
+    node: &Node,
+    size: u32,
+) -> Result<Option<StackHead>, AllocError>
+    requires short { size ≤ most_span }
+    requires live { IsOwnHead table.now size graph.old head }
+    requires settled { is_settled node.now ≡ true }
+    requires own { IsOwnWithin table.now.grammar node.now }
+    ensures grows { OnOk result (GainsStacks graph.old graph.new) }
+    ensures kept { IfOk result (λ o. o ≡ None → graph.new ≡ graph.old) }
+    ensures taken { IfOk result (λ o. MatchOption o
+        ((state : ℕ) → CanTake table.now size graph.old head node.now state → ⊥)
+        (IsTaken table.now size graph.old graph.new head node.now)) }
+    ensures stand { IfOk result (λ o. IfSome o (λ k. (states : States) (text : Bytes)
+        → length text ≡ size → AreStatesOf table.now states
+        → IsHonest table.now.grammar states text head.place
+        (state_on (stack_at graph.old head.top)) node.now
+        → StandOnHead table.now states text graph.old head
+        → StandOnHead table.now states text graph.new k)) }
+{
+    laws_hold();
+    sound_laws_hold();
+    table.stands();
+    let _ = node.nodes();
+    if lies_within(node, head.place, size) {
+        match state_above(table, graph, head.top, node) {
+            None => Ok(None),
+            Some(state) => {
+                let place = head.place + (node.pad() + node.size());
+                let owner = node.try_clone()?;
+                let top = graph.push(head.top, owner, state)?;
+                Ok(Some(StackHead { top, place }))
+            }
+        }
+    } else {
+        Ok(None)
+    }
+}
