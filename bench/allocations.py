@@ -3,11 +3,12 @@
 
     python3 bench/allocations.py [PROGRAM [CLIENTS [SEED]]]
 
-PROGRAM is `crates/ts_cli/out/ts_cli` if none is given, which `./hemshale build` makes; CLIENTS is 4 and SEED, the number
-of the script, 0. For both words, `replay` and `run`, the script is that of `bench/soak.py` with so many clients. A small
-library, which this script compiles with `cc` and which the program loads before others, counts the calls of `malloc`,
-`calloc` and `realloc` and refuses the one of a number. Tried are the numbers from 0 until a run ends before its number
-comes. Each run has to end
+PROGRAM is `crates/ts_cli/out/ts_cli` if none is given, which `./hemshale build` makes; CLIENTS is 2 and SEED, the number
+of the script, 0. For both words, `replay` and `run`, the script is that of `bench/soak.py` with so many clients, four
+steps for each, and awaits of version 0 alone: where the edit that makes a version is refused its memory, whoever awaits
+that version on a thread takes its 10,000,000 looks, seconds a run. A small library, which this script compiles with `cc`
+and which the program loads before others, counts the calls of `malloc`, `calloc` and `realloc` and refuses the one of a
+number. Tried are the numbers from 0 until a run ends before its number comes. Each run has to end
 
 - with status 0 and a lawful print, as `bench/soak.py` tests it, in which a step may be answered `memory`, or
 - with status 4 and nothing printed
@@ -24,9 +25,11 @@ sys.dont_write_bytecode = True
 sys.path.insert(0, os.path.dirname(os.path.abspath(__file__)))
 import soak  # noqa: E402
 
+STEPS = 4
 REFUSING = r"""
 #define _GNU_SOURCE
 #include <dlfcn.h>
+#include <errno.h>
 #include <fcntl.h>
 #include <stdatomic.h>
 #include <stdlib.h>
@@ -56,8 +59,19 @@ __attribute__((constructor)) static void begin(void) {
     if (number) refused = atol(number);
 }
 
+/* The program ends without calling destructors, so it is told here that the call came. */
+static void tell(void) {
+    const char *path = getenv("REFUSED_TOLD");
+    int file = path ? open(path, O_WRONLY | O_CREAT | O_TRUNC, 0600) : -1;
+    if (file < 0 || write(file, "1", 1) != 1) _exit(99);
+    close(file);
+}
+
 static int is_refused(void) {
-    return refused >= 0 && atomic_fetch_add(&calls, 1) == refused;
+    if (refused < 0 || atomic_fetch_add(&calls, 1) != refused) return 0;
+    tell();
+    errno = ENOMEM;
+    return 1;
 }
 
 void *malloc(size_t size) {
@@ -73,16 +87,6 @@ void *calloc(size_t count, size_t size) {
 void *realloc(void *old, size_t size) {
     if (!real_realloc) return early(size);
     return is_refused() ? NULL : real_realloc(old, size);
-}
-
-__attribute__((destructor)) static void end(void) {
-    const char *path = getenv("REFUSED_TOLD");
-    int file = path ? open(path, O_WRONLY | O_CREAT | O_TRUNC, 0600) : -1;
-    if (file >= 0) {
-        const char told = atomic_load(&calls) > refused ? '1' : '0';
-        if (write(file, &told, 1) != 1) _exit(99);
-        close(file);
-    }
 }
 """
 
@@ -104,12 +108,12 @@ def refused(words, library, folder, number):
     given = {**os.environ, "LD_PRELOAD": library, "REFUSED": str(number), "REFUSED_TOLD": told}
     done = subprocess.run(words, capture_output=True, env=given, timeout=600)
     with open(told) as said:
-        return done, said.read() != "0"
+        return done, said.read() == "1"
 
 
 def tried(program, word, clients, seed):
     """The numbers of runs that ended with either status, by refused allocations."""
-    soak.CLIENTS = clients
+    soak.CLIENTS, soak.STEPS, soak.AWAITED = clients, STEPS, 1
     chance = random.Random(seed)
     texts, steps, lines = soak.script(chance)
     ended = {0: 0, 4: 0}
@@ -142,7 +146,7 @@ def tried(program, word, clients, seed):
 
 def main():
     program = os.path.abspath(sys.argv[1]) if len(sys.argv) > 1 else f"{soak.TOP}/crates/ts_cli/out/ts_cli"
-    clients = int(sys.argv[2]) if len(sys.argv) > 2 else 4
+    clients = int(sys.argv[2]) if len(sys.argv) > 2 else 2
     seed = int(sys.argv[3]) if len(sys.argv) > 3 else 0
     for word in ("replay", "run"):
         count, ended, memory = tried(program, word, clients, seed)

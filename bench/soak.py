@@ -27,6 +27,8 @@ sys.dont_write_bytecode = True
 TOP = os.path.dirname(os.path.dirname(os.path.abspath(__file__)))
 CLIENTS, DOCUMENTS, STEPS = 16, 3, 12
 MOST_LOOKS = 10_000_000
+# Awaited are versions below this one. The first step of each client makes version 1 come.
+AWAITED = 2
 GRAMMAR = {
     "name": "soak",
     "rules": {
@@ -105,7 +107,7 @@ def step(chance, client, first):
     elif made["op"] == "query":
         made["queries"] = [chance.randrange(len(QUERIES)) for _ in range(chance.randrange(1, 4))]
     elif made["op"] == "await":
-        made["version"] = chance.randrange(2)
+        made["version"] = chance.randrange(AWAITED)
     return made
 
 
