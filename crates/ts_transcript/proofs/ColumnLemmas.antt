@@ -1,5 +1,5 @@
 -- Lines in columns: the pieces of each column are made alone, and then put in the order of the lines.
-use Rattle.std.proofs.Common.{arith, ◌≡◌, ◌∙◌, refl, sym, ap, subst, ℕ, zero, suc, ◌+◌, ◌/◌, ◌%◌, ◌<◌, ◌≤◌, List, [], ◌∷◌, ◌++◌, length, length-append, get_or, take, slice_get, Some, ⊎_elim}
+use Rattle.std.proofs.Common.{arith, ◌≡◌, ◌∙◌, refl, sym, ap, subst, ℕ, zero, suc, ◌+◌, ◌*◌, ◌/◌, ◌%◌, ◌<◌, ◌≤◌, List, [], ◌∷◌, ◌++◌, length, length-append, get_or, take, slice_get, Some, ⊎_elim}
 use Rattle.std.proofs.lemmas.Bool.{cases_lt}
 use Rattle.std.proofs.lemmas.Option.{same_Some, slice_get_within, slice_get-get_or, get_or_from_slice_get}
 use Rattle.std.specs.Global.{Vec}
@@ -9,14 +9,14 @@ use Rattle.ts_base.proofs.PlaceLemmas.{in_prefix, at_end}
 use Rattle.ts_core.specs.declared.flat.FlatGrammar.{FlatGrammar}
 use Rattle.ts_transcript.specs.declared.line.RunLine.{RunLine}
 use Rattle.ts_transcript.specs.Told.{TellsLine, AreLines}
-use Rattle.ts_transcript.specs.Columns.{column_count, place_in, TellsRow, IsColumn, AreColumns, IsPieceAt, HasRows}
+use Rattle.ts_transcript.specs.Columns.{column_count, dealt_to, place_in, TellsRow, IsColumn, AreColumns, IsPieceAt, HasRows}
 use Rattle.ts_transcript.proofs.LineLemmas.{line_next}
 use Rattle.ts_transcript.proofs.PieceLemmas.{there_is}
 
 -- ---- one column
 
 module _ (g : FlatGrammar) (lines : List RunLine) (column : ℕ) where
-  pub no_row : HasRows g lines column column []
+  pub no_row : HasRows g lines column (dealt_to column) []
   no_row = record {
     place_is = omega arith;
     each = λ row lt. let f : ⊥ = omega (arith, lt) in elim f [ ];
@@ -77,12 +77,24 @@ each_column g lines columns zipped column lt =
     let same : 0 + column ≡ column = omega arith in
     (found.0, found.1, subst (λ (k : ℕ). IsColumn g lines k found.0.items) same found.2)
 
+-- dealing twice leads back
+dealt_back : (place : ℕ) → place < column_count → dealt_to (dealt_to place) ≡ place
+dealt_back place lt = omega (arith, lt)
+
+dealt_within : (place : ℕ) → place < column_count → dealt_to place < column_count
+dealt_within place lt = omega (arith, lt)
+
+place_again : (place : ℕ) → place ≡ place_in (dealt_to (place % column_count)) (place / column_count)
+place_again place =
+    let back = dealt_back (place % column_count) (omega arith) in
+    let whole : place ≡ place / column_count * column_count + place % column_count = omega arith in
+    whole ∙ ap (λ (k : ℕ). place / column_count * column_count + k) (sym back)
+
 module _ (g : FlatGrammar) (lines : List RunLine) (columns : List (Vec (Vec ℕ))) (are : AreColumns g lines columns) where
   piece_of : (place : ℕ) (l : RunLine) → slice_get lines place ≡ Some l → (piece : Vec ℕ) × IsPieceAt columns place piece × TellsLine g l piece.items
   piece_of place l is =
-      let own = are (place % column_count) (omega arith) in
-      let same : place ≡ place_in (place % column_count) (place / column_count) = omega arith in
-      let made = own.2 (place / column_count) l (subst (λ (k : ℕ). slice_get lines k ≡ Some l) same is) in
+      let own = are (dealt_to (place % column_count)) (dealt_within (place % column_count) (omega arith)) in
+      let made = own.2 (place / column_count) l (subst (λ (k : ℕ). slice_get lines k ≡ Some l) (place_again place) is) in
       (made.0, (own.0, own.1, made.1), made.2)
 
   pub has_piece : (place : ℕ) → place < length lines → (piece : Vec ℕ) × IsPieceAt columns place piece

@@ -1,3 +1,4 @@
+mod BatchLemmas
 mod ColumnLemmas
 mod LineLemmas
 mod MadeLemmas

@@ -1,5 +1,5 @@
--- Lines that are dealt to columns, one after another and again from the first column on, with what is
--- made of each. It serves proofs alone.
+-- Lines that are dealt to columns, a row of one line for each column after another, with what is made
+-- of each. It serves proofs alone.
 use Rattle.std.specs.Prelude.{◌≡◌, ℕ, ◌+◌, ◌*◌, ◌/◌, ◌%◌, ◌<◌, List, length, slice_get, Some}
 use Rattle.std.specs.Global.{Vec}
 use Rattle.ts_core.specs.declared.flat.FlatGrammar.{FlatGrammar}
@@ -10,9 +10,13 @@ use Rattle.ts_transcript.specs.Told.{TellsLine}
 abbrev pub column_count : ℕ
 column_count = 64
 
+-- the column of the line at a place of a row, and the place of the line of a column
+abbrev pub dealt_to : ℕ → ℕ
+dealt_to place = place % 8 * 8 + place / 8
+
 -- the place of the line in a row of a column
 abbrev pub place_in : ℕ → ℕ → ℕ
-place_in column row = row * column_count + column
+place_in column row = row * column_count + dealt_to column
 
 -- the pieces have the bytes of the line in this row of the column, if there is one
 abbrev pub TellsRow : FlatGrammar → List RunLine → ℕ → List (Vec ℕ) → ℕ → Type 0
@@ -32,7 +36,7 @@ AreColumns g lines columns = (column : ℕ) → column < column_count
 -- the piece stands in the columns where the line at this place was dealt to
 abbrev pub IsPieceAt : List (Vec (Vec ℕ)) → ℕ → Vec ℕ → Type 0
 IsPieceAt columns place piece = (pieces : Vec (Vec ℕ))
-    × (slice_get columns (place % column_count) ≡ Some pieces)
+    × (slice_get columns (dealt_to (place % column_count)) ≡ Some pieces)
     × (slice_get pieces.items (place / column_count) ≡ Some piece)
 
 -- the pieces are the bytes of the first lines of a column, up to the line at this place

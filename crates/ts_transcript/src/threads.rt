@@ -1,8 +1,10 @@
 //! Lines in; their bytes out, made by several threads where that pays.
-ghost use Rattle.std.specs.Prelude.{◌≡◌, ℕ, IfOk};
+ghost use Rattle.std.specs.Prelude.{◌≡◌, ◌≤◌, ◌<◌, ℕ, length, IfOk};
 ghost use Rattle.std.specs.Global.{Vec as AnyVec};
+ghost use Rattle.ts_core.specs.declared.flat.FlatGrammar.{FlatGrammar as AnyGrammar};
 ghost use Rattle.ts_transcript.specs.Told.{AreLines};
-ghost use Rattle.ts_transcript.specs.Columns.{IsColumn, AreColumns, IsPieceAt};
+ghost use Rattle.ts_transcript.specs.Columns.{IsColumn, AreColumns, IsPieceAt, dealt_to};
+ghost use Rattle.ts_transcript.specs.Batches.{AddsBytes};
 
 use crate::line::RunLine;
 use crate::making::bytes_of;
@@ -14,8 +16,22 @@ use ts_core::FlatGrammar;
 /// Below so many bytes of texts a thread costs more than it saves.
 const LEAST_BYTES: u64 = 65_536;
 
-/// How many columns there are. A thread has one or more of them.
+/// How many bytes of texts the lines of a batch have, but for its last line and for the last batch.
+const BATCH_BYTES: u64 = 8_388_608;
+
+/// How many columns there are. A thread has one or more of them, side by side.
 const COLUMNS: usize = 64;
+
+/// How many columns lie between those of two neighbours.
+const STEP: usize = 8;
+
+/// What was made of the first lines: the bytes of those that were added up, and then those of a
+/// batch, by columns.
+#[derive(Drop)]
+struct Made {
+    bytes: Vec<u8>,
+    columns: Vec<Vec<Vec<u8>>>,
+}
 
 /// Whether the versions of these lines have so many bytes that threads pay. It changes no line.
 pub(crate) fn are_long(lines: &[RunLine<'_>]) -> bool {
@@ -38,11 +54,10 @@ fn text_len(line: &RunLine<'_>) -> u64 {
     }
 }
 
-/// The bytes of these lines, made by several threads, in the order of the lines. All lines and what
-/// they are together are kept at once.
+/// The bytes of these lines, made by several threads, in the order of the lines.
 ///
-/// The lines are dealt to columns, one after another, and each thread makes those of its columns: so
-/// all threads have as much to do where many long lines stand side by side.
+/// They are made in batches, and those of a batch are added to the whole and let go before those of
+/// the next one are made. So what is kept beside the whole is one batch.
 pub(crate) fn on_threads<R: Threads + Sync>(
     rt: &R,
     alloc: Global,
@@ -51,10 +66,70 @@ pub(crate) fn on_threads<R: Threads + Sync>(
 ) -> Result<Vec<u8>, AllocError>
     ensures { IfOk result (λ bytes. AreLines grammar.now lines.now bytes.items) }
 {
-    let made = all_columns(rt, alloc, grammar, lines)?;
-    let columns = made.as_slice();
-    let mut out = Vec::with_capacity(alloc, len_of(columns))?;
+    let (mut batch, mut rest) = lines.split_at(batch_len(lines));
+    let mut made = Made {
+        bytes: Vec::new(alloc),
+        columns: all_columns(rt, alloc, grammar, batch)?,
+    };
+    while !rest.is_empty() {
+        let (next, later) = rest.split_at(batch_len(rest));
+        made = next_batch(rt, alloc, grammar, made, batch, next)?;
+        batch = next;
+        rest = later;
+    }
+    added(made.bytes, made.columns, batch)
+}
+
+/// How many of these lines are made at once: those until the texts of their versions have so many
+/// bytes.
+fn batch_len(lines: &[RunLine<'_>]) -> usize
+    ensures within { result ≤ length lines.now }
+    ensures some { 0 < length lines.now → 0 < result }
+{
+    let mut bytes: u64 = 0;
     for place in 0..lines.len() {
+        bytes = bytes.saturating_add(text_len(&lines[place]));
+        if BATCH_BYTES <= bytes {
+            return place + 1;
+        }
+    }
+    lines.len()
+}
+
+/// Adds the lines of a batch to the bytes, and makes those of the next batch.
+fn next_batch<R: Threads + Sync>(
+    rt: &R,
+    alloc: Global,
+    grammar: &FlatGrammar,
+    made: Made,
+    batch: &[RunLine<'_>],
+    next: &[RunLine<'_>],
+) -> Result<Made, AllocError>
+    requires { AreColumns grammar.now batch.now made.columns.items }
+    ensures added { IfOk result (λ m.
+        AddsBytes grammar.now batch.now made.bytes.items m.bytes.items) }
+    ensures next { IfOk result (λ m. AreColumns grammar.now next.now m.columns.items) }
+{
+    let Made { bytes, columns } = made;
+    let bytes = added(bytes, columns, batch)?;
+    let columns = all_columns(rt, alloc, grammar, next)?;
+    Ok(Made { bytes, columns })
+}
+
+/// The bytes, and after them those of the lines of the batch, which were made in these columns.
+fn added(
+    bytes: Vec<u8>,
+    made: Vec<Vec<Vec<u8>>>,
+    batch: &[RunLine<'_>],
+) -> Result<Vec<u8>, AllocError>
+    requires { (g : AnyGrammar) × AreColumns g batch.now made.items }
+    ensures { IfOk result (λ all. (g : AnyGrammar) → AreColumns g batch.now made.items
+        → AddsBytes g batch.now bytes.items all.items) }
+{
+    let mut out = bytes;
+    let columns = made.as_slice();
+    out.reserve_exact(len_of(columns))?;
+    for place in 0..batch.len() {
         out.extend_from_slice(piece_at(columns, place))?;
     }
     Ok(out)
@@ -91,7 +166,7 @@ fn column_of(
     ensures { IfOk result (λ pieces. IsColumn grammar.now lines.now column pieces.items) }
 {
     let mut pieces = Vec::new(alloc);
-    let mut place = column;
+    let mut place = dealt(column);
     while place < lines.len() {
         let bytes = bytes_of(alloc, grammar, &lines[place])?;
         pieces.push(bytes)?;
@@ -100,12 +175,20 @@ fn column_of(
     Ok(pieces)
 }
 
+/// The column to which the line at this place of a row of columns is dealt, and the place of the line
+/// that is dealt to this column. Neighbours go to columns that lie apart, and so to several threads.
+fn dealt(place: usize) -> usize
+    ensures { result ≡ dealt_to place }
+{
+    place % STEP * STEP + place / STEP
+}
+
 /// The bytes of the line at a place.
 fn piece_at(columns: &[Vec<Vec<u8>>], place: usize) -> &[u8]
     requires { (piece : AnyVec ℕ) × IsPieceAt columns.now place piece }
     ensures { (piece : AnyVec ℕ) → IsPieceAt columns.now place piece → result.now ≡ piece.items }
 {
-    let pieces = columns[place % COLUMNS].as_slice();
+    let pieces = columns[dealt(place % COLUMNS)].as_slice();
     pieces[place / COLUMNS].as_slice()
 }
 

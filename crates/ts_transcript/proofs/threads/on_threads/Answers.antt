@@ -1,24 +1,48 @@
-use Rattle.std.proofs.Common.{ℕ, ◌+◌, List, sym, subst, take}
-use Rattle.std.specs.Global.{Vec}
+use Rattle.std.proofs.Common.{arith, ◌++◌, List, length, sym, subst}
+use Rattle.rayon.proofs.ListFacts.{IfOk-then}
 use Rattle.ts_base.specs.Bytes.{Bytes}
-use Rattle.ts_transcript.specs.Told.{AreLines}
-use Rattle.ts_transcript.specs.Columns.{AreColumns}
-use Rattle.ts_transcript.proofs.ColumnLemmas.{has_piece, next_piece}
+use Rattle.ts_transcript.specs.Batches.{Begins}
+use Rattle.ts_transcript.specs.declared.line.RunLine.{RunLine}
+use Rattle.ts_transcript.proofs.BatchLemmas.{none_left, some_left, begins_empty, begins_more, begins_all}
 use Rattle.ts_transcript.proofs.threads.on_threads.Goals as goal
 
-pub piece_at-requires : goal.piece_at-requires
-piece_at-requires g c =
+pub loop-rest-init : goal.loop-rest-init
+loop-rest-init g c =
     let grammar = c.args.grammar.now in
     let lines = c.args.lines.now in
-    let are : AreColumns grammar lines c.as_slice-columns.result.now =
-    subst (λ (columns : List (Vec (Vec ℕ))). AreColumns grammar lines columns) (sym c.as_slice-columns.ensures.value) c.in_ok-made.ensures in
-    has_piece grammar lines c.as_slice-columns.result.now are c.loop-place.place c.loop-place-test.true
+    let left = c.split_at.result.0.now ++ c.split_at.result.1.now in (
+      subst (λ (bytes : Bytes). Begins grammar lines bytes left) (sym c.new.ensures.items) (begins_empty grammar lines left c.split_at.ensures.by_index.0),
+      c.in_ok-all_columns.ensures,
+    )
 
-pub loop-place-preserved : goal.loop-place-preserved
-loop-place-preserved g c =
+pub next_batch-requires-after_bounds : goal.next_batch-requires-after_bounds
+next_batch-requires-after_bounds g c κs within = c.loop-rest.invariant.1
+
+pub loop-rest-smaller : goal.loop-rest-smaller
+loop-rest-smaller g c =
+    let filled = some_left (length c.loop-rest.rest.now) c.is_empty.result c.loop-rest-test.true c.is_empty.ensures in
+    let some = c.batch_len-in-loop-rest.ensures.some filled in
+    let whole = c.split_at-in-loop-rest.ensures.back_len in
+    omega (arith, some, whole)
+
+pub loop-rest-preserved : goal.loop-rest-preserved
+loop-rest-preserved g c =
     let grammar = c.args.grammar.now in
     let lines = c.args.lines.now in
-    let are : AreColumns grammar lines c.as_slice-columns.result.now =
-    subst (λ (columns : List (Vec (Vec ℕ))). AreColumns grammar lines columns) (sym c.as_slice-columns.ensures.value) c.in_ok-made.ensures in
-    subst (λ (all : Bytes). AreLines grammar (take (c.loop-place.place + 1) lines) all) (sym c.in_ok-extend_from_slice.ensures.items)
-    (next_piece grammar lines c.as_slice-columns.result.now are c.loop-place.place c.loop-place.out.items c.piece_at.result.now c.loop-place-test.true c.piece_at.ensures c.loop-place.invariant)
+    let bytes = c.in_ok-made.made.bytes.items in
+    let made = c.in_ok-made.ensures in
+    let more = begins_more grammar lines c.loop-rest.batch.now c.loop-rest.rest.now c.loop-rest.made.bytes.items bytes c.loop-rest.invariant.0 made.added in
+    (subst (λ (left : List RunLine). Begins grammar lines bytes left) c.split_at-in-loop-rest.ensures.by_index.0 more, made.next)
+
+pub added-requires : goal.added-requires
+added-requires g c = (c.args.grammar.now, c.loop-rest.invariant.1)
+
+pub returns : goal.returns
+returns g c =
+    let grammar = c.args.grammar.now in
+    let lines = c.args.lines.now in
+    let rest = c.loop-rest.rest.now in
+    let none = none_left rest c.is_empty.result c.loop-rest-test.false c.is_empty.ensures in
+    IfOk-then c.added.result _ _ c.added.ensures (λ all adds.
+    begins_all grammar lines rest all.items none
+    (begins_more grammar lines c.loop-rest.batch.now rest c.loop-rest.made.bytes.items all.items c.loop-rest.invariant.0 (adds grammar c.loop-rest.invariant.1)))

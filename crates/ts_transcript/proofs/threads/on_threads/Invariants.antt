@@ -1,7 +1,12 @@
-use Rattle.std.proofs.Common.{take}
-use Rattle.ts_transcript.specs.Told.{AreLines}
+use Rattle.std.proofs.Common.{length, ◌++◌}
+use Rattle.ts_transcript.specs.Columns.{AreColumns}
+use Rattle.ts_transcript.specs.Batches.{Begins}
 use Rattle.ts_transcript.proofs.threads.on_threads.Given as goal
 
--- the bytes of the first lines were added
-abbrev pub invariant-loop-place : goal.invariant-loop-place
-invariant-loop-place g l = AreLines l.grammar (take l.place l.lines) l.out.items
+-- the first lines were made, the last of them by columns
+abbrev pub invariant-loop-rest : goal.invariant-loop-rest
+invariant-loop-rest g l =
+    Begins l.grammar l.lines l.made.bytes.items (l.batch ++ l.rest) × AreColumns l.grammar l.batch l.made.columns.items
+
+abbrev pub decreases-loop-rest : goal.decreases-loop-rest
+decreases-loop-rest g l = length l.rest
