@@ -7,3 +7,4 @@ pub mod OpenedLemmas
 pub mod JudgeLemmas
 pub mod PlayedLemmas
 pub mod SyncLemmas
+pub mod SendLemmas

@@ -5,10 +5,13 @@ ghost use Rattle.ts_replay.specs.Replays.{MayReplay};
 ghost use Rattle.ts_session.specs.Replays.{IsRun};
 
 use crate::session::Session;
+use rayon::prelude::*;
 use std::alloc::{AllocError, Global};
 use std::sync::Wait;
 use std::thread::Threads;
 use ts_answers::Queries;
+use ts_base::List;
+use ts_docs::Book;
 use ts_io::Gate;
 use ts_predicate::Hosts;
 use ts_script::Plan;
@@ -76,11 +79,23 @@ fn ran<R: Threads + Wait + Sync, G: Gate + Sync, H: Hosts + Sync>(
         (H.accepts queries.entry.now.hosts.now)) texts.items bytes.items) }
 {
     let Ran { books, replies } = run(rt, alloc, gate, table, queries, plan, texts)?;
-    transcript_on_threads(
+    let bytes = transcript_on_threads(
         rt,
         alloc,
         table.grammar(),
         books.as_slice(),
         replies.as_slice(),
-    )
+    );
+    let_go(rt, books);
+    bytes
+}
+
+/// Lets the journals go, on several threads: each node of the trees of their versions is given back
+/// alone.
+fn let_go<R: Threads + Sync>(rt: &R, books: List<Book>) {
+    books
+        .into_vec()
+        .into_par_iter()
+        .with_min_len(1)
+        .for_each(rt, |book: Book| drop(book));
 }

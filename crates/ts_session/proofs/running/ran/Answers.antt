@@ -19,22 +19,22 @@ use Rattle.ts_session.proofs.running.ran.Goals as goal
 pub run-requires-sync-F : goal.run-requires-sync-F
 run-requires-sync-F g c κs within = let h = c.type_bounds.sync-H in search (query_sync, grammar_sync, sendable, crosses) depth 30 fits 5000
 
-pub transcript_on_threads-requires-clause-documents : goal.transcript_on_threads-requires-clause-documents
-transcript_on_threads-requires-clause-documents g c = λ κs lives.
+pub transcript_on_threads-bytes-requires-clause-documents : goal.transcript_on_threads-bytes-requires-clause-documents
+transcript_on_threads-bytes-requires-clause-documents g c = λ κs lives.
     let may = c.requires.may in
     let legal = c.in_ok-books.ensures.legal in
     let few = few_books c.args.plan.now c.args.table.now c.args.texts.items c.in_ok-books.field-0.books c.in_ok-books.field-0.replies may legal.whole in
     subst (λ (books : List Pages). length books ≤ 4294967296) (sym c.as_slice.ensures) few
 
-pub transcript_on_threads-requires-clause-clients : goal.transcript_on_threads-requires-clause-clients
-transcript_on_threads-requires-clause-clients g c = λ κs lives.
+pub transcript_on_threads-bytes-requires-clause-clients : goal.transcript_on_threads-bytes-requires-clause-clients
+transcript_on_threads-bytes-requires-clause-clients g c = λ κs lives.
     let may = c.requires.may in
     let legal = c.in_ok-books.ensures.legal in
     let few = few_clients c.args.plan.now c.args.table.now c.args.texts.items c.in_ok-books.field-0.books c.in_ok-books.field-0.replies may legal.whole in
     subst (λ (replies : List (List Reply)). length replies ≤ 4294967296) (sym c.as_slice-2.ensures) few
 
-pub transcript_on_threads-requires-clause-steps : goal.transcript_on_threads-requires-clause-steps
-transcript_on_threads-requires-clause-steps g c = λ κs lives.
+pub transcript_on_threads-bytes-requires-clause-steps : goal.transcript_on_threads-bytes-requires-clause-steps
+transcript_on_threads-bytes-requires-clause-steps g c = λ κs lives.
     let may = c.requires.may in
     let legal = c.in_ok-books.ensures.legal in
     let few = few_replies c.args.plan.now c.args.table.now c.args.texts.items c.in_ok-books.field-0.books c.in_ok-books.field-0.replies may legal.whole in
@@ -47,7 +47,7 @@ returns g c =
     let left = is_history c.args.plan.now c.args.table.now c.args.texts.items c.in_ok-books.field-0.books c.in_ok-books.field-0.replies legal.whole c.in_ok-books.ensures.versions in
     let with_books : IsHistoryOf h c.as_slice.result.now c.in_ok-books.field-0.replies = subst (λ (books : List Pages). IsHistoryOf h books c.in_ok-books.field-0.replies) (sym c.as_slice.ensures) left in
     let whole : IsHistoryOf h c.as_slice.result.now c.as_slice-2.result.now = subst (λ (replies : List (List Reply)). IsHistoryOf h c.as_slice.result.now replies) (sym c.as_slice-2.ensures) with_books in
-    ok_then c.transcript_on_threads.result (λ (bytes : Vec ℕ). (k : History) → k.grammar ≡ c.grammar.result.now → IsHistoryOf k c.as_slice.result.now c.as_slice-2.result.now → IsPrinted k bytes.items)
+    ok_then c.transcript_on_threads-bytes.result (λ (bytes : Vec ℕ). (k : History) → k.grammar ≡ c.grammar.result.now → IsHistoryOf k c.as_slice.result.now c.as_slice-2.result.now → IsPrinted k bytes.items)
     (λ (bytes : Vec ℕ). IsRun c.args.queries.now.grammar.now c.args.plan.now c.args.queries.now.queries.now (AnswersOf (g.H.Hosts.called c.args.queries.now.hosts.now) (g.H.Hosts.accepts c.args.queries.now.hosts.now)) c.args.texts.items bytes.items)
     (λ bytes printed. record {
       history = h;
@@ -56,4 +56,4 @@ returns g c =
       openings_are = refl;
       legal = legal;
       printed = printed h (sym c.grammar.ensures) whole;
-    }) c.transcript_on_threads.ensures.printed
+    }) c.transcript_on_threads-bytes.ensures.printed
