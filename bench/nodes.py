@@ -13,8 +13,10 @@ The bytes are reckoned from the layout of the structs and the chunks of the allo
 - builds that tree and drops it, and tells what memory the process takes for each node, by the difference between half
   as many records and all,
 - walks it with a cursor,
-- builds the deepest trees with as many tokens as a text of 1 MiB has room for, and drops them, all on a stack of 1 MiB,
-  and of less: one with all tokens in the deepest repetition, and one with 500 repetitions in one another,
+- builds the deepest trees with as many tokens as a text of 1 MiB has room for, and drops them, and tells the least
+  stack with which that goes well: one with all tokens in the deepest repetition, one with 500 repetitions and nodes of
+  a rule by turns in one another, and one with 999 repetitions in one another. The inner node of each stands where the
+  tree of the run is highest,
 - lengthens repetitions by one token, and changes one of their children, where repetitions of 1,000 and of 1,000,000
   tokens lie in as much memory.
 """
@@ -36,7 +38,9 @@ ELEMENT = 8
 # The count of owners of what is shared.
 OWNERS = 8
 # The most elements and children together in a leaf of a run.
-LEAF = 192
+LEAF = 768
+# The most bytes of a text.
+TEXT = 2**20
 
 PROGRAM = r"""//! Memory and times of nodes: what is to be done and how many records go in as arguments.
 #![tactic(auto)]
@@ -117,7 +121,25 @@ fn rules(alloc: Global) -> Result<List<FlatRule>, AllocError> {
     Ok(rules)
 }
 
-fn grammar(alloc: Global) -> Result<FlatGrammar, AllocError> {
+/// The rules, and behind them one of a repetition whose elements are words, and rules like it in
+/// brackets; then repetitions whose elements are words, and the next of the repetitions in brackets.
+fn nesting_rules(alloc: Global) -> Result<List<FlatRule>, AllocError> {
+    trust();
+    let mut rules = rules(alloc)?;
+    rules.push(rule(alloc, "nest", 20, "21")?)?;
+    rules.push(rule(alloc, "_", 20, "9|3 20 4|21 9|21 3 20 4")?)?;
+    for k in 0..REPETITIONS {
+        let (own, mut next) = (22 + k, 23 + k);
+        if k + 1 == REPETITIONS {
+            next = 19;
+        }
+        let rows = format!(in alloc; "9|3 {next} 4|{own} 9|{own} 3 {next} 4")?;
+        rules.push(rule(alloc, "_", 11, rows.as_str())?)?;
+    }
+    Ok(rules)
+}
+
+fn grammar(alloc: Global, rules: List<FlatRule>) -> Result<FlatGrammar, AllocError> {
     trust();
     let mut tokens = List::new(alloc);
     for name in "{ } [ ] : , \" content number word".split(' ') {
@@ -126,7 +148,7 @@ fn grammar(alloc: Global) -> Result<FlatGrammar, AllocError> {
     Ok(FlatGrammar {
         name: Str::from_text(alloc, "json")?,
         tokens,
-        rules: rules(alloc)?,
+        rules,
         separators: List::new(alloc),
         extras: List::new(alloc),
         word: None,
@@ -136,6 +158,16 @@ fn grammar(alloc: Global) -> Result<FlatGrammar, AllocError> {
         precedences: List::new(alloc),
         supertypes: List::new(alloc),
     })
+}
+
+/// How many repetitions have one another among their elements; the last one has only words.
+const REPETITIONS: u16 = 998;
+
+/// So many words before a node in brackets, and so many after it.
+#[derive(Clone, Copy)]
+struct Words {
+    before: u32,
+    after: u32,
 }
 
 /// What builds nodes: the productions and the allocator.
@@ -311,17 +343,47 @@ impl Maker {
         Ok(value)
     }
 
-    /// A node of depth 1,000: repetitions of so many tokens, each but the deepest over a node of the
-    /// next, and then its tokens.
-    fn nested(&self, alloc: Global, count: u32) -> Result<Node, AllocError> {
+    /// A repetition of words and a node in brackets, where the repetition's productions begin with
+    /// this number.
+    fn around(&self, alloc: Global, number: u32, inner: Node, words: Words) -> Result<Node, AllocError> {
         trust();
-        let mut value = self.tokens(alloc, count)?;
-        for _ in 0..499u32 {
-            let inner = self.one(alloc, 2, value)?;
-            value = self.one(alloc, 19, inner)?;
-            for _ in 0..count {
-                value = self.two(alloc, 20, value, leaf(9, 0, 1))?;
+        let (open, close) = (leaf(3, 0, 1), leaf(4, 0, 1));
+        let mut run = if words.before == 0 {
+            self.three(alloc, number + 1, open, inner, close)?
+        } else {
+            let mut first = self.one(alloc, number, leaf(9, 0, 1))?;
+            for _ in 1..words.before {
+                first = self.two(alloc, number + 2, first, leaf(9, 0, 1))?;
             }
+            self.four(alloc, number + 3, first, open, inner, close)?
+        };
+        for _ in 0..words.after {
+            run = self.two(alloc, number + 2, run, leaf(9, 0, 1))?;
+        }
+        Ok(run)
+    }
+
+    /// A node of depth 1,000: nodes of a rule, each over a repetition with the next such node among
+    /// these words.
+    fn nested(&self, alloc: Global, words: Words) -> Result<Node, AllocError> {
+        trust();
+        let mut value = self.tokens(alloc, 1)?;
+        for _ in 0..499u32 {
+            let inner = self.one(alloc, 21, value)?;
+            value = self.around(alloc, 22, inner, words)?;
+        }
+        Ok(value)
+    }
+
+    /// A node of depth 1,000: repetitions, each with the next one among its words. So many of the
+    /// deepest have many words, and the others few.
+    fn chain(&self, alloc: Global, deepest: u32, many: Words, few: Words) -> Result<Node, AllocError> {
+        trust();
+        let mut value = self.tokens(alloc, 1)?;
+        for k in 0..REPETITIONS {
+            let number = 26 + 4 * (REPETITIONS - 1 - k) as u32;
+            let words = if (k as u32) < deepest { many } else { few };
+            value = self.around(alloc, number, value, words)?;
         }
         Ok(value)
     }
@@ -466,7 +528,10 @@ fn main(rt: HostRuntime) -> io::Result<()> {
     let alloc = rt.alloc();
     let todo = argument(&rt, 1)?;
     let count = argument(&rt, 2)?;
-    let flat = grammar(alloc)?;
+    let more = argument(&rt, 3)?;
+    let words = Words { before: count, after: more };
+    let rules = if todo < 4 { rules(alloc)? } else { nesting_rules(alloc)? };
+    let flat = grammar(alloc, rules)?;
     let maker = Maker {
         productions: Productions::new(alloc, &flat)?,
     };
@@ -474,8 +539,12 @@ fn main(rt: HostRuntime) -> io::Result<()> {
         1 => held(&rt, &maker, count)?,
         2 => measured(&rt, &maker, &flat, count)?,
         3 => dropped(&rt, maker.deep(alloc, count)?)?,
-        4 => dropped(&rt, maker.nested(alloc, count)?)?,
-        _ => lengthened(&rt, &maker, count, argument(&rt, 3)?)?,
+        4 => dropped(&rt, maker.nested(alloc, words)?)?,
+        5 => {
+            let few = Words { before: argument(&rt, 4)?, after: argument(&rt, 5)? };
+            dropped(&rt, maker.chain(alloc, argument(&rt, 6)?, words, few)?)?;
+        }
+        _ => lengthened(&rt, &maker, count, more)?,
     }
     Ok(())
 }
@@ -514,6 +583,43 @@ def reckoned():
     return record + place, 1 + 5 + 8 + 1 + tokens
 
 
+def words(height):
+    """The fewest words before and after a node in brackets with so many levels above it in the run's tree."""
+    if height == 1:
+        return 0, 15
+    if height == 2:
+        return 15, LEAF // 2 - 1
+    after = LEAF // 2 + 15
+    return LEAF // 2 * 2 ** (height - 2) + 14 - after, after
+
+
+def shapes():
+    """The deepest trees with the bytes of a text of 1 MiB, and the words that make each."""
+    yield "all words in the deepest repetition", ("3", str(TEXT - 998))
+    nested = "500 repetitions, each over a node of a rule over the next", 499
+    for name, count in (nested, ("999 repetitions in one another", 998)):
+        height = max(h for h in range(1, 20) if count * (sum(words(h)) + 2) < TEXT)
+        few, many = words(height), words(height + 1)
+        deepest = (TEXT - count * (sum(few) + 2) - 1) // (sum(many) - sum(few))
+        if count < 998:
+            yield name, ("4", *map(str, few))
+        else:
+            yield name, ("5", *map(str, (*many, *few, deepest)))
+
+
+def least_stack(program, words):
+    """The least stack, in KiB, with which the program builds the tree and drops it, and what it tells."""
+    low, high, told = 16, 8192, ""
+    while high - low > 4:
+        middle = (low + high) // 2
+        text, _, status = run(program, *words, stack=middle * 1024)
+        if status == 0:
+            high, told = middle, text
+        else:
+            low = middle
+    return high, told
+
+
 def main():
     records = int(sys.argv[1]) if len(sys.argv) > 1 else 12_700
     size, visible = reckoned()
@@ -524,13 +630,12 @@ def main():
         told, most, _ = run(program, "1", str(records))
         print(f"{told}; {(most - less) / (records - records // 2) / visible:.1f} bytes a visible node at the most")
         print(run(program, "2", str(records))[0])
-        for todo, count in (("3", 2**20 - 998), ("4", 2**20 // 500)):
-            for stack in (1024, 512, 256):
-                told, _, status = run(program, todo, str(count), stack=stack * 1024)
-                print(f"stack of {stack} KiB: {told or 'status ' + str(status)}")
+        for name, words in shapes():
+            stack, told = least_stack(program, words)
+            print(f"{name}: {stack} KiB of stack; {told}")
         rounds = 100_000
         for count in (1_000, 1_000_000):
-            longer, changed, *_ = map(int, run(program, "5", str(count), str(rounds))[0].split())
+            longer, changed, *_ = map(int, run(program, "6", str(count), str(rounds))[0].split())
             longer, changed = (1000 * time / rounds for time in (longer, changed))
             print(f"a repetition of {count}: lengthened in {longer:.0f} ns, a child changed in {changed:.0f} ns")
 

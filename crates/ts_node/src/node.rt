@@ -63,10 +63,19 @@ pub(crate) struct RuleNode {
 
 /// A node of a repetition, with its elements one after another.
 #[cycle(node)]
-#[derive(Drop)]
 pub(crate) struct Repetition {
     pub summary: Summary,
     pub run: Shared<Run>,
+}
+
+/// Written out so that it takes little stack, as is that of `Shape`.
+impl Drop for Repetition {
+    #[cycle(node)]
+    #[inline(always)]
+    fn drop(self) {
+        let Repetition { summary: _, run } = self;
+        drop_run(run);
+    }
 }
 
 /// Elements of a repetition one after another, with their children, in a balanced tree of shared
@@ -99,10 +108,38 @@ pub(crate) struct Sums {
 }
 
 #[cycle(node)]
-#[derive(Drop)]
 pub(crate) enum Shape {
     Leaf(List<Element>, List<Node>),
     Branch(Shared<Run>, Shared<Run>),
+}
+
+/// Written out, with functions of their own for a part and for a leaf: a derived drop copies the
+/// whole value to the stack at each level.
+impl Drop for Shape {
+    #[cycle(node)]
+    #[inline(always)]
+    fn drop(self) {
+        match self {
+            Shape::Leaf(elements, children) => drop_leaf(elements, children),
+            Shape::Branch(left, right) => {
+                drop_run(left);
+                drop_run(right);
+            }
+        }
+    }
+}
+
+#[cycle(node)]
+#[inline(never)]
+fn drop_run(run: Shared<Run>) {
+    drop(run);
+}
+
+#[cycle(node)]
+#[inline(never)]
+fn drop_leaf(elements: List<Element>, children: List<Node>) {
+    drop(elements);
+    drop(children);
 }
 
 impl Model for Node {

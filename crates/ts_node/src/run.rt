@@ -12,7 +12,7 @@ use std::alloc::{AllocError, Global};
 use ts_base::{List, Shared};
 
 /// The most elements and children together in a leaf, but for a leaf of one long element.
-const MOST_IN_LEAF: u64 = 192;
+const MOST_IN_LEAF: u64 = 768;
 
 /// The most elements and children together in the last leaf of a run that is lengthened by one
 /// element after another, so that few are copied for each.
