@@ -115,6 +115,18 @@ knows g m is w n read members at = members_know g m.automaton is w members
     same : read.set ≡ members
     same = let e : Some read.set ≡ Some members = sym read.at ∙ at in cc
 
+-- the nodes of a set that has been reached are at the end of just the parts that have the characters
+ends_read : (g : FlatGrammar) (m : SetTables) → IsAutomaton g m.automaton → (w : List ℕ) (n : ℕ) → (read : HasRead m w n)
+    → (k : ℕ) → EndsIn m.automaton.nodes.items m.automaton.owners.items read.set k ↔ PartWord g w k
+ends_read g m is w n read k = ends_same g m.automaton is w read.set (λ t h. (read.holds t).0 h) (λ t c lt. (read.holds t).1 c) k
+
+-- characters that lead to the same set are words of the same parts
+pub same_words : (g : FlatGrammar) (m : SetTables) → IsAutomaton g m.automaton → (u w : List ℕ) (n : ℕ) → HasRead m u n → HasRead m w n → (k : ℕ) → PartWord g u k → PartWord g w k
+same_words g m is u w n a b k x =
+    let e : Some a.set ≡ Some b.set = sym a.at ∙ b.at in
+    let same : a.set ≡ b.set = cc in
+    (ends_read g m is w n b k).0 (subst (λ (l : List ℕ). EndsIn m.automaton.nodes.items m.automaton.owners.items l k) same ((ends_read g m is u n a k).1 x))
+
 -- what the nodes of a walk say, where it has come
 pub walk_knows : (g : FlatGrammar) (a : Automaton) → IsAutomaton g a → (w : List ℕ) (walk : Walk) → HasCome a w walk → (members : List ℕ) → members ≡ walk_nodes walk
     → (valid : List Symbol) (first : Bool) (v : Verdict) → JudgesNodes g valid first a members v → Knows g valid first w v

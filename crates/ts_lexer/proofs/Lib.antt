@@ -17,5 +17,6 @@ pub mod SameLemmas
 pub mod ScannedLemmas
 pub mod SofarLemmas
 pub mod StateLemmas
+pub mod StayLemmas
 pub mod VerdictLemmas
 pub mod WayLemmas

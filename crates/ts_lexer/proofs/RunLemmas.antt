@@ -31,14 +31,18 @@ pub record Laws : Type 0 where
   pub within : (rest : Bytes) (u : List ℕ) (n : ℕ) → BeginsSpelled rest u n → n ≤ length rest
   pub one : (c : ℕ) (more : Bytes) → IsScalar c → IsUtf8 more → one_character (encode_utf8 c ++ more) ≡ length (encode_utf8 c)
 
--- what has been read so far, where `R` says of characters how they have been read
-pub record Running (R : List ℕ → Type 0) (g : FlatGrammar) (valid : List Symbol) (first : Bool) (rest tail : Bytes) (size : ℕ) (p : Progress) : Type 0 where
-  pub characters : List ℕ
+-- these characters have been read, and so many bytes
+pub record Reading (g : FlatGrammar) (valid : List Symbol) (rest tail : Bytes) (size : ℕ) (characters : List ℕ) : Type 0 where
   pub begins : BeginsSpelled rest characters size
   pub rest_is : drop size rest ≡ tail
   pub utf8 : IsUtf8 tail
-  pub read : R characters
   pub front : (characters ≡ []) ⊎ CanBegin g valid characters
+
+-- what has been read and found so far, where `R` says of characters how they have been read
+pub record Running (R : List ℕ → Type 0) (g : FlatGrammar) (valid : List Symbol) (first : Bool) (rest tail : Bytes) (size : ℕ) (p : Progress) : Type 0 where
+  pub characters : List ℕ
+  pub read : R characters
+  pub reading : Reading g valid rest tail size characters
   pub sofar : Sofar g valid first (PartMatches g rest) size p
 
 module _ (laws : Laws) (g : FlatGrammar) (valid : List Symbol) (first : Bool) (rest : Bytes) where
@@ -50,7 +54,7 @@ module _ (laws : Laws) (g : FlatGrammar) (valid : List Symbol) (first : Bool) (r
   same_size : (u w : List ℕ) (n k : ℕ) → BeginsSpelled rest u n → BeginsSpelled rest w k → u ≡ w → n ≡ k
   same_size u w n k a b e = a.size ∙ ap (λ (l : List ℕ). length (encode_utf8_all l)) e ∙ sym b.size
 
-  module _ (R : List ℕ → Type 0) (tail : Bytes) (size : ℕ) (p : Progress) (run : Running R g valid first rest tail size p) where
+  module _ (tail : Bytes) (size : ℕ) (u : List ℕ) (run : Reading g valid rest tail size u) where
     -- nothing that can begin so is longer: every wanted match has been seen
     pub all_seen : ((n : ℕ) → HasFront g valid rest n → n ≤ size) → (k n : ℕ) → Wanted g valid k → PartMatches g rest k n → n ≤ size
     all_seen longest k n wanted x = longest n (record {
@@ -62,9 +66,9 @@ module _ (laws : Laws) (g : FlatGrammar) (valid : List Symbol) (first : Bool) (r
     front_here : (size ≡ 0) ⊎ HasFront g valid rest size
     front_here = by run.front
       where
-        by : (run.characters ≡ []) ⊎ CanBegin g valid run.characters → (size ≡ 0) ⊎ HasFront g valid rest size
-        by (inl none) = inl (same_size run.characters [] size 0 run.begins (laws.nothing rest) none)
-        by (inr can) = inr (record { characters = run.characters; begins = run.begins; front = can })
+        by : (u ≡ []) ⊎ CanBegin g valid u → (size ≡ 0) ⊎ HasFront g valid rest size
+        by (inl none) = inl (same_size u [] size 0 run.begins (laws.nothing rest) none)
+        by (inr can) = inr (record { characters = u; begins = run.begins; front = can })
 
     pub reach_is : ((n : ℕ) → HasFront g valid rest n → n ≤ size) → (far : ℕ) → far ≡ one_character tail → IsReach g valid rest (size + far)
     reach_is longest far is = record {
@@ -97,48 +101,43 @@ module _ (laws : Laws) (g : FlatGrammar) (valid : List Symbol) (first : Bool) (r
       next = size + length (encode_utf8 c)
 
       abbrev pub w : List ℕ
-      w = run.characters ++ c ∷ []
+      w = u ++ c ∷ []
 
       begins_next : BeginsSpelled rest w next
-      begins_next = laws.more rest later run.characters c size scalar_c run.begins here
+      begins_next = laws.more rest later u c size scalar_c run.begins here
 
       rises : size < next
-      rises = laws.longer rest run.characters [] c size next run.begins begins_next
+      rises = laws.longer rest u [] c size next run.begins begins_next
 
       -- another beginning is no longer than what was read, or goes on with the character
-      data Other (u : List ℕ) (n : ℕ) : Type 0 where
-        short : n ≤ size → Other u n
-        long : (v : List ℕ) → u ≡ w ++ v → Other u n
+      data Other (x : List ℕ) (n : ℕ) : Type 0 where
+        short : n ≤ size → Other x n
+        long : (v : List ℕ) → x ≡ w ++ v → Other x n
 
-      other : (u : List ℕ) (n : ℕ) → BeginsSpelled rest u n → Other u n
-      other u n b = by (leb_tells n size)
+      other : (x : List ℕ) (n : ℕ) → BeginsSpelled rest x n → Other x n
+      other x n b = by (leb_tells n size)
         where
-          goes_on : size < n → (v : List ℕ) → u ≡ run.characters ++ v → Other u n
-          goes_on lt [] e = absurd (let s = same_size u run.characters n size b run.begins (e ∙ append-nil run.characters) in omega arith)
+          goes_on : size < n → (v : List ℕ) → x ≡ u ++ v → Other x n
+          goes_on lt [] e = absurd (let s = same_size x u n size b run.begins (e ∙ append-nil u) in omega arith)
           goes_on lt (d ∷ v) e =
-              let same = laws.follows rest later run.characters v c d size n run.begins here (subst (λ (l : List ℕ). BeginsSpelled rest l n) e b) in
-              long v (e ∙ ap (λ (x : ℕ). run.characters ++ x ∷ v) same ∙ sym (append_assoc run.characters (c ∷ []) v))
+              let same = laws.follows rest later u v c d size n run.begins here (subst (λ (l : List ℕ). BeginsSpelled rest l n) e b) in
+              long v (e ∙ ap (λ (y : ℕ). u ++ y ∷ v) same ∙ sym (append_assoc u (c ∷ []) v))
 
-          by : ((leb n size ≡ true) × (n ≤ size)) ⊎ ((leb n size ≡ false) × (size < n)) → Other u n
+          by : ((leb n size ≡ true) × (n ≤ size)) ⊎ ((leb n size ≡ false) × (size < n)) → Other x n
           by (inl (_, le)) = short le
-          by (inr (_, lt)) = let v = laws.prefix rest run.characters u size n run.begins b (omega arith) in goes_on lt v.0 v.1
+          by (inr (_, lt)) = let v = laws.prefix rest u x size n run.begins b (omega arith) in goes_on lt v.0 v.1
 
       pub step : IsStep g rest size next w
       step = record { rises = rises; from = from; now = now }
         where
-          from : (k n : ℕ) → n ≤ next → PartMatches g rest k n → (n ≤ size) ⊎ ((n ≡ next) × PartWord g w k)
+          from : (k n : ℕ) → n ≤ next → PartMatches g rest k n → (n ≤ size) ⊎ PartWord g w k
           from k n le x = by (other x.matches.characters n x.matches.begins)
             where
-              exact : (v : List ℕ) → x.matches.characters ≡ w ++ v → (n ≤ size) ⊎ ((n ≡ next) × PartWord g w k)
-              exact [] e =
-                  let f = e ∙ append-nil w in
-                  inr (
-                    same_size x.matches.characters w n next x.matches.begins begins_next f,
-                    record { expression = x.expression; at = x.at; word = subst (λ (l : List ℕ). Word x.expression l) f x.matches.word },
-                  )
+              exact : (v : List ℕ) → x.matches.characters ≡ w ++ v → (n ≤ size) ⊎ PartWord g w k
+              exact [] e = inr (record { expression = x.expression; at = x.at; word = subst (λ (l : List ℕ). Word x.expression l) (e ∙ append-nil w) x.matches.word })
               exact (d ∷ v) e = absurd (let l = laws.longer rest w v d next n begins_next (subst (λ (y : List ℕ). BeginsSpelled rest y n) e x.matches.begins) in omega arith)
 
-              by : Other x.matches.characters n → (n ≤ size) ⊎ ((n ≡ next) × PartWord g w k)
+              by : Other x.matches.characters n → (n ≤ size) ⊎ PartWord g w k
               by (short low) = inl low
               by (long v e) = exact v e
 
@@ -154,25 +153,21 @@ module _ (laws : Laws) (g : FlatGrammar) (valid : List Symbol) (first : Bool) (r
         where
           by : Other f.characters n → n ≤ size
           by (short le) = le
-          by (long u e) =
-              let can = can_prefix w u (subst (λ (l : List ℕ). CanBegin g valid l) e f.front) in
-              let x = knows.lives.1 (begin_part g valid w can) in
-              let h : false ≡ true = sym dead ∙ x in
+          by (long x e) =
+              let can = can_prefix w x (subst (λ (l : List ℕ). CanBegin g valid l) e f.front) in
+              let y = knows.lives.1 (begin_part g valid w can) in
+              let h : false ≡ true = sym dead ∙ y in
               cc
 
       pub far : len_utf8 c ≡ one_character tail
       far = sym (length-encode c) ∙ sym (laws.one c later scalar_c utf8) ∙ ap one_character (sym is)
 
-      pub run_more : (v : Verdict) (S : List ℕ → Type 0) (after : Progress) → Knows g valid first w v → v.lives ≡ true → S w → Sofar g valid first (PartMatches g rest) next after
-          → Running S g valid first rest later next after
-      run_more v S after knows alive read sofar = record {
-        characters = w;
+      pub read_more : (v : Verdict) → Knows g valid first w v → v.lives ≡ true → Reading g valid rest later next w
+      read_more v knows alive = record {
         begins = begins_next;
         rest_is = drops;
         utf8 = utf8;
-        read = read;
         front = inr (let x = knows.lives.0 alive in can_begin g valid w x.0 x.1 x.2);
-        sofar = sofar;
       }
         where
           drops : drop next rest ≡ later
@@ -181,14 +176,20 @@ module _ (laws : Laws) (g : FlatGrammar) (valid : List Symbol) (first : Bool) (r
               ∙ drop-append_seam (encode_utf8 c) later
 
 -- nothing has been read
+pub read_begins : Laws → (g : FlatGrammar) (valid : List Symbol) (rest : Bytes) → IsUtf8 rest → Reading g valid rest rest 0 []
+read_begins laws g valid rest utf8 = record {
+  begins = laws.nothing rest;
+  rest_is = refl;
+  utf8 = utf8;
+  front = inl refl;
+}
+
+-- the same, and nothing has been found
 pub run_begins : Laws → (R : List ℕ → Type 0) (g : FlatGrammar) (valid : List Symbol) (first : Bool) (rest : Bytes) (p : Progress) → IsUtf8 rest → R []
     → Sofar g valid first (PartMatches g rest) 0 p → Running R g valid first rest rest 0 p
 run_begins laws R g valid first rest p utf8 read sofar = record {
   characters = [];
-  begins = laws.nothing rest;
-  rest_is = refl;
-  utf8 = utf8;
   read = read;
-  front = inl refl;
+  reading = read_begins laws g valid rest utf8;
   sofar = sofar;
 }

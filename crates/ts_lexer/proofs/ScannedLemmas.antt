@@ -23,7 +23,7 @@ use Rattle.ts_lexer.specs.declared.verdict.Verdict.{Verdict}
 use Rattle.ts_lexer.specs.Scanned.{PartMatches, IsFirstPlain, IsStep, Sofar, IsBetterMatch, IsScanned}
 use Rattle.ts_lexer.proofs.ChooseLemmas.{none_chosen, plain_best, keyword_best, both_best}
 use Rattle.ts_lexer.proofs.FrontLemmas.{part_of_separator}
-use Rattle.ts_lexer.proofs.RunLemmas.{Laws, Running, all_seen, reach_is, end_longest, end_far, step, dead_longest, far, run_more}
+use Rattle.ts_lexer.proofs.RunLemmas.{Laws, Reading, Running, all_seen, reach_is, end_longest, end_far, step, dead_longest, far, read_more}
 
 -- what `chosen` says
 pub record Chosen (g : FlatGrammar) (p : Progress) (best : Option Match) : Type 0 where
@@ -35,7 +35,7 @@ pub record Chosen (g : FlatGrammar) (p : Progress) (best : Option Match) : Type 
 module _ (laws : Laws) (g : FlatGrammar) (valid : List Symbol) (first : Bool) (rest : Bytes) (R : List ℕ → Type 0) (tail : Bytes) (size : ℕ) (p : Progress)
     (run : Running R g valid first rest tail size p) (longest : (n : ℕ) → HasFront g valid rest n → n ≤ size) where
   all : (k n : ℕ) → Wanted g valid k → PartMatches g rest k n → n ≤ size
-  all = all_seen laws g valid first rest R tail size p run longest
+  all = all_seen laws g valid first rest tail size run.characters run.reading longest
 
   separator_of : (k n : ℕ) → IsSeparatorPart g k → PartMatches g rest k n → MatchesSeparator g rest n
   separator_of k n s x =
@@ -73,7 +73,7 @@ module _ (laws : Laws) (g : FlatGrammar) (valid : List Symbol) (first : Bool) (r
     best = best_is best p.plain p.keyword c refl refl;
     separator = λ lt. let w = run.sofar.separator_matches lt in separator_of w.0 p.separator w.1 w.2;
     longest = separators;
-    reach = reach_is laws g valid first rest R tail size p run longest far is;
+    reach = reach_is laws g valid first rest tail size run.characters run.reading longest far is;
   }
 
 split_and : (a b : Bool) → a && b ≡ true → (a ≡ true) × (b ≡ true)
@@ -93,33 +93,44 @@ scalar_of tail later c (d ∷ ds, (good, spells)) is =
     let same = encode_same d c (encodes ds) later (spells ∙ is) in
     (subst IsScalar same.0 both.0, (ds, (both.1, same.1)))
 
+module _ (laws : Laws) (g : FlatGrammar) (valid : List Symbol) (first : Bool) (rest tail : Bytes) (size : ℕ) (u : List ℕ) (run : Reading g valid rest tail size u)
+    (c : ℕ) (later : Bytes) (is : tail ≡ encode c ++ later) (len : ℕ) (len_is : len ≡ len_utf8 c) where
+  both_of : IsScalar c × IsUtf8 later
+  both_of = scalar_of tail later c run.utf8 is
+
+  next_is : size + length (encode c) ≡ size + len
+  next_is = ap (λ (n : ℕ). size + n) (length-encode c ∙ sym len_is)
+
+  pub step_on : IsStep g rest size (size + len) (u ++ c ∷ [])
+  step_on = subst (λ (n : ℕ). IsStep g rest size n (u ++ c ∷ [])) next_is (step laws g valid first rest tail size u run c later is both_of.0 both_of.1)
+
+  pub read_on : (v : Verdict) → Knows g valid first (u ++ c ∷ []) v → v.lives ≡ true → Reading g valid rest later (size + len) (u ++ c ∷ [])
+  read_on v knows alive = subst (λ (n : ℕ). Reading g valid rest later n (u ++ c ∷ [])) next_is (read_more laws g valid first rest tail size u run c later is both_of.0 both_of.1 v knows alive)
+
 module _ (laws : Laws) (g : FlatGrammar) (valid : List Symbol) (first : Bool) (rest : Bytes) (R : List ℕ → Type 0) (tail : Bytes) (size : ℕ) (p : Progress)
     (run : Running R g valid first rest tail size p) where
   pub end_at : length tail ≡ 0 → (best : Option Match) → Chosen g p best → IsScanned g valid first rest (record { best = best; separator = p.separator; reach = size + 1 })
   end_at none best c =
-      scanned laws g valid first rest R tail size p run (end_longest laws g valid first rest R tail size p run none) best 1 c (end_far laws g valid first rest R tail size p run tail none)
+      scanned laws g valid first rest R tail size p run (end_longest laws g valid first rest tail size run.characters run.reading none) best 1 c (end_far laws g valid first rest tail size run.characters run.reading tail none)
 
   module _ (c : ℕ) (later : Bytes) (is : tail ≡ encode c ++ later) (len : ℕ) (len_is : len ≡ len_utf8 c) where
-    both_of : IsScalar c × IsUtf8 later
-    both_of = scalar_of tail later c run.utf8 is
-
     abbrev pub read : List ℕ
     read = run.characters ++ c ∷ []
 
-    next_is : size + length (encode c) ≡ size + len
-    next_is = ap (λ (n : ℕ). size + n) (length-encode c ∙ sym len_is)
-
     pub step_at : IsStep g rest size (size + len) read
-    step_at = subst (λ (n : ℕ). IsStep g rest size n read) next_is (step laws g valid first rest R tail size p run c later is both_of.0 both_of.1)
+    step_at = step_on laws g valid first rest tail size run.characters run.reading c later is len len_is
 
     pub dead_at : (v : Verdict) → Knows g valid first read v → v.lives ≡ false → (best : Option Match) → Chosen g p best → IsScanned g valid first rest (record { best = best; separator = p.separator; reach = size + len })
     dead_at v knows dead best chosen =
-        scanned laws g valid first rest R tail size p run (dead_longest laws g valid first rest R tail size p run c later is both_of.0 both_of.1 v knows dead) best len chosen
-        (len_is ∙ far laws g valid first rest R tail size p run c later is both_of.0 both_of.1)
+        let both = scalar_of tail later c run.reading.utf8 is in
+        scanned laws g valid first rest R tail size p run (dead_longest laws g valid first rest tail size run.characters run.reading c later is both.0 both.1 v knows dead) best len chosen
+        (len_is ∙ far laws g valid first rest tail size run.characters run.reading c later is both.0 both.1)
 
     pub more_at : (v : Verdict) (S : List ℕ → Type 0) (after : Progress) → Knows g valid first read v → v.lives ≡ true → S read → Sofar g valid first (PartMatches g rest) (size + len) after
         → Running S g valid first rest later (size + len) after
-    more_at v S after knows alive reads sofar =
-        subst (λ (n : ℕ). Running S g valid first rest later n after) next_is
-        (run_more laws g valid first rest R tail size p run c later is both_of.0 both_of.1 v S after knows alive reads
-        (subst (λ (n : ℕ). Sofar g valid first (PartMatches g rest) n after) (sym next_is) sofar))
+    more_at v S after knows alive reads sofar = record {
+      characters = read;
+      read = reads;
+      reading = read_on laws g valid first rest tail size run.characters run.reading c later is len len_is v knows alive;
+      sofar = sofar;
+    }

@@ -2,6 +2,8 @@
 use Rattle.std.proofs.Common.{◌≡◌, sym, refl, subst, ℕ, ◌≤◌, ◌<◌, ◌⊎◌, inl, inr, ⊎_elim, Bool, true, false, List, Option, Some, None, ◌↔◌, IsTrue, ℤ, ◌<ℤ◌, arith}
 use Rattle.std.specs.Option.{MatchOption}
 use Rattle.std.specs.Cmp.{int_chain}
+use Rattle.std.proofs.Math.Dec.{leb}
+use Rattle.std.proofs.lemmas.Bool.Decides.{leb_tells}
 use Rattle.std.specs.Int.Signed.{<ℤ_irrefl}
 use Rattle.ts_core.specs.declared.flat.FlatGrammar.{FlatGrammar}
 use Rattle.ts_core.specs.declared.flat.TokenDef.{TokenDef}
@@ -20,6 +22,15 @@ same_length : (a b : TokenDef) (s t : Symbol) (n : ℕ) → Over (kind_of a) s (
 same_length a b s t n (inl more) = inl more
 same_length a b s t n (inr (e, h)) = inr (e, inr (refl, h))
 
+-- at no greater length
+up_to : (a b : TokenDef) (s t : Symbol) (n m : ℕ) → n ≤ m → Over (kind_of a) s (kind_of b) t → Beats a s m b t n
+up_to a b s t n m le over = by (leb_tells m n) over
+  where
+    by : ((leb m n ≡ true) × (m ≤ n)) ⊎ ((leb m n ≡ false) × (n < m)) → Over (kind_of a) s (kind_of b) t → Beats a s m b t n
+    by (inl (_, same)) o = let e : m ≡ n = omega arith in subst (λ (x : ℕ). Beats a s m b t x) e (same_length a b s t m o)
+    by (inr _) (inl more) = inl more
+    by (inr (_, lt)) (inr (e, _)) = inr (e, inl lt)
+
 -- what `longer` says
 pub record Longer (g : FlatGrammar) (old : Option Match) (pick : Option Symbol) (size : ℕ) (result : Option Match) : Type 0 where
   pub none : pick ≡ None → result ≡ old
@@ -28,7 +39,7 @@ pub record Longer (g : FlatGrammar) (old : Option Match) (pick : Option Symbol) 
       → (n : Match) × (result ≡ Some n) × IsLonger a b m (record { symbol = s; size = size }) n
 
 module _ (g : FlatGrammar) (valid : List Symbol) (first : Bool) (M : ℕ → ℕ → Type 0) (E : ℕ → Type 0) (bound next : ℕ) (rises : bound < next)
-    (from : (k n : ℕ) → n ≤ next → M k n → (n ≤ bound) ⊎ ((n ≡ next) × E k)) (now : (k : ℕ) → E k → M k next) where
+    (from : (k n : ℕ) → n ≤ next → M k n → (n ≤ bound) ⊎ E k) (now : (k : ℕ) → E k → M k next) where
   abbrev Plain : ℕ → Option Match → Type 0
   Plain b o = MatchOption o
       ((k n : ℕ) (s : Symbol) (t : TokenDef) → Offered g valid first false k s t → M k n → n ≤ b → ⊥)
@@ -36,14 +47,14 @@ module _ (g : FlatGrammar) (valid : List Symbol) (first : Bool) (M : ℕ → ℕ
 
   -- nothing new is taken
   plain_same : (old : Option Match) → IsPick g valid first false E None → Plain bound old → Plain next old
-  plain_same None nothing h = λ k n s t o m le. ⊎_elim (λ low. h k n s t o m low) (λ e. nothing k s t o e.1) (from k n le m)
+  plain_same None nothing h = λ k n s t o m le. ⊎_elim (λ low. h k n s t o m low) (λ e. nothing k s t o e) (from k n le m)
   plain_same (Some b) nothing h = record {
     part = h.part;
     token = h.token;
     offered = h.offered;
     matches = h.matches;
     within = (let w = h.within in omega arith);
-    best = λ k n s t o m le. ⊎_elim (λ low. h.best k n s t o m low) (λ e. absurd (nothing k s t o e.1)) (from k n le m);
+    best = λ k n s t o m le. ⊎_elim (λ low. h.best k n s t o m low) (λ e. absurd (nothing k s t o e)) (from k n le m);
   }
 
   plain_first : (s : Symbol) → IsPicked g valid first false E s → Plain bound None → Plain next (Some (record { symbol = s; size = next }))
@@ -54,7 +65,7 @@ module _ (g : FlatGrammar) (valid : List Symbol) (first : Bool) (M : ℕ → ℕ
     matches = now p.part p.ends;
     within = omega arith;
     best = λ k n t other o m le. ⊎_elim (λ low. absurd (h k n t other o m low))
-        (λ e. subst (λ (x : ℕ). Beats p.token s next other t x) (sym e.0) (same_length p.token other s t next (p.best k t other o e.1))) (from k n le m);
+        (λ e. up_to p.token other s t n next le (p.best k t other o e)) (from k n le m);
   }
 
   -- the longer match is taken where its precedence is no lower
@@ -67,7 +78,7 @@ module _ (g : FlatGrammar) (valid : List Symbol) (first : Bool) (M : ℕ → ℕ
     matches = now p.part p.ends;
     within = omega arith;
     best = λ k n t other o h le. ⊎_elim (λ low. before n t other low (x.best k n t other o h low) (three_ways p.token.prec other.prec))
-        (λ e. subst (λ (y : ℕ). Beats p.token s next other t y) (sym e.0) (same_length p.token other s t next (p.best k t other o e.1))) (from k n le h);
+        (λ e. up_to p.token other s t n next le (p.best k t other o e)) (from k n le h);
   }
     where
       not_less : (other : TokenDef) → p.token.prec <ℤ other.prec → (other.prec <ℤ x.token.prec) ⊎ (x.token.prec ≡ other.prec) → ⊥
@@ -92,7 +103,7 @@ module _ (g : FlatGrammar) (valid : List Symbol) (first : Bool) (M : ℕ → ℕ
     offered = x.offered;
     matches = x.matches;
     within = (let w = x.within in omega arith);
-    best = λ k n t other o h le. ⊎_elim (λ low. x.best k n t other o h low) (λ e. inl (lower other t (p.best k t other o e.1))) (from k n le h);
+    best = λ k n t other o h le. ⊎_elim (λ low. x.best k n t other o h low) (λ e. inl (lower other t (p.best k t other o e))) (from k n le h);
   }
     where
       lower : (other : TokenDef) (t : Symbol) → Over (kind_of p.token) s (kind_of other) t → other.prec <ℤ x.token.prec
@@ -137,7 +148,7 @@ module _ (g : FlatGrammar) (valid : List Symbol) (first : Bool) (M : ℕ → ℕ
   longest_next P false old result s there h = subst (λ (n : ℕ). LongestOf P next n) (sym (s.no refl)) (record {
     matches = h.matches;
     within = (let w = h.within in omega arith);
-    longest = λ k n p m le. ⊎_elim (λ low. h.longest k n p m low) (λ e. absurd (let f : false ≡ true = there.1 (k, p, e.1) in cc)) (from k n le m);
+    longest = λ k n p m le. ⊎_elim (λ low. h.longest k n p m low) (λ e. absurd (let f : false ≡ true = there.1 (k, p, e) in cc)) (from k n le m);
   })
 
   pick_by : (F G : ℕ → Type 0) (pick : Option Symbol) → ((k : ℕ) → F k → G k) → ((k : ℕ) → G k → F k) → IsPick g valid first true F pick → IsPick g valid first true G pick
@@ -155,7 +166,7 @@ module _ (g : FlatGrammar) (valid : List Symbol) (first : Bool) (M : ℕ → ℕ
       subst (λ (o : Option Symbol). IsPick g valid first true (λ k. (0 < size) × M k size) o) (sym (kept.yes refl))
       (subst (λ (n : ℕ). IsPick g valid first true (λ k. (0 < n) × M k n) fresh) (sym (sized.yes refl))
       (pick_by E (λ k. (0 < next) × M k next) fresh (λ k e. ((omega arith), now k e))
-      (λ k w. ⊎_elim (λ low. absurd (omega arith)) (λ e. e.1) (from k next (omega arith) w.1)) p))
+      (λ k w. ⊎_elim (λ low. absurd (omega arith)) (λ e. e) (from k next (omega arith) w.1)) p))
   keyword_next false fresh old result word size kept sized p h =
       subst (λ (o : Option Symbol). IsPick g valid first true (λ k. (0 < size) × M k size) o) (sym (kept.no refl))
       (subst (λ (n : ℕ). IsPick g valid first true (λ k. (0 < n) × M k n) old) (sym (sized.no refl)) h)

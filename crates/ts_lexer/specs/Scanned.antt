@@ -59,12 +59,11 @@ pub record IsScanned (g : FlatGrammar) (valid : List Symbol) (first : Bool) (res
   pub longest : (n : ℕ) → MatchesSeparator g rest n → n ≤ s.separator
   pub reach : IsReach g valid rest s.reach
 
--- with one character more, so many bytes have been read, which are these characters; nothing
--- matches with a length in between
+-- more bytes have been read, which are these characters; what matches with more bytes than before
+-- has the characters as a word too
 pub record IsStep (g : FlatGrammar) (rest : Bytes) (bound next : ℕ) (w : List ℕ) : Type 0 where
   pub rises : bound < next
-  pub from : (k n : ℕ) → n ≤ next → PartMatches g rest k n → (n ≤ bound)
-      ⊎ ((n ≡ next) × PartWord g w k)
+  pub from : (k n : ℕ) → n ≤ next → PartMatches g rest k n → (n ≤ bound) ⊎ PartWord g w k
   pub now : (k : ℕ) → PartWord g w k → PartMatches g rest k next
 
 -- of two matches of tokens that are no keywords, the second longer, this one is taken

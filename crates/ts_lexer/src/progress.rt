@@ -54,10 +54,13 @@ fn keyword_of(there: bool, new: Option<Symbol>, old: Option<Symbol>) -> Option<S
     if there { new } else { old }
 }
 
-/// What was found with one character more, after which so many bytes have been read.
+/// What was found with one character more, or with more of them over which the verdict stayed, after
+/// which so many bytes have been read.
 pub(crate) fn advance(rules: &Rules, old: &Progress, verdict: &Verdict, size: usize) -> Progress
-    ensures { (g : AnyGrammar) (valid : List AnySymbol) (first : Bool) (rest : Bytes) (bound : ℕ)
-        (w : List ℕ)
+    ensures silent { verdict.now.plain ≡ None → verdict.now.word ≡ false
+        → verdict.now.separator ≡ false → result ≡ old.now }
+    ensures sofar { (g : AnyGrammar) (valid : List AnySymbol) (first : Bool) (rest : Bytes)
+        (bound : ℕ) (w : List ℕ)
         → IsRules g rules.now → IsStep g rest bound size w → Knows g valid first w verdict.now
         → Sofar g valid first (PartMatches g rest) bound old.now
         → Sofar g valid first (PartMatches g rest) size result }

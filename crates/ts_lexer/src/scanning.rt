@@ -1,6 +1,6 @@
 //! One place of a text, by tables: the rest of the text goes in, and what matches there comes out,
 //! found in one pass over its bytes for all valid tokens and all separators.
-ghost use Rattle.std.specs.Prelude.{◌≡◌, ◌<◌, ◌^◌, ℕ, List, Bool, Option, Some, length, slice_get};
+ghost use Rattle.std.specs.Prelude.{◌≡◌, ◌<◌, ◌^◌, ◌↔◌, ℕ, List, Bool, Option, Some, IsTrue, length, slice_get};
 ghost use Rattle.ts_core.specs.declared.flat.FlatGrammar.{FlatGrammar as AnyGrammar};
 ghost use Rattle.ts_core.specs.declared.symbol.Symbol.{Symbol as AnySymbol};
 ghost use Rattle.ts_automata.specs.Automata.{IsAutomaton};
@@ -16,7 +16,7 @@ use crate::judging::judge;
 use crate::progress::advance;
 use crate::rules::Rules;
 use crate::scanned::{Progress, Scanned};
-use crate::verdict::Verdict;
+use crate::verdict::{Verdict, unread};
 use crate::view::View;
 use spec_lexing::{a_front_has_fronts, beginnings, every_word_is_a_front, one_character_at_a_time};
 use ts_automata::Machine;
@@ -29,8 +29,19 @@ fn verdict_at(row: &[Verdict], set: usize) -> Verdict
     row[set]
 }
 
+/// Whether a character, which is not the first, leads from a set to itself.
+fn stays(size: usize, from: usize, to: usize) -> bool
+    ensures { IsTrue result ↔ ((0 < size) × (from ≡ to)) }
+{
+    if from == to {
+        return 0 < size;
+    }
+    false
+}
+
 /// What stands at the beginning of a text, by verdicts that were made ahead: a look-up each for the
-/// character's class, the next set and its verdict.
+/// character's class and the next set, and one for the verdict of a set that is new. What a set says
+/// is told once it is left.
 fn scan_by_row(machine: &Machine, rules: &Rules, row: &[Verdict], rest: &str) -> Scanned
     requires count { length row.now ≡ state_count machine.now }
     requires size { length rest.now < 2 ^ 32 }
@@ -43,6 +54,7 @@ fn scan_by_row(machine: &Machine, rules: &Rules, row: &[Verdict], rest: &str) ->
     beginnings();
     one_character_at_a_time();
     let mut state = machine.first();
+    let mut verdict = unread();
     let mut size: usize = 0;
     let mut progress = Progress {
         plain: None,
@@ -52,7 +64,12 @@ fn scan_by_row(machine: &Machine, rules: &Rules, row: &[Verdict], rest: &str) ->
     };
     for c in rest.chars() {
         let to = machine.next(state, c);
-        let verdict = verdict_at(row, to);
+        if stays(size, state, to) {
+            size += c.len_utf8();
+            continue;
+        }
+        progress = advance(rules, &progress, &verdict, size);
+        verdict = verdict_at(row, to);
         if !verdict.lives {
             return Scanned {
                 best: chosen(rules, &progress),
@@ -62,8 +79,8 @@ fn scan_by_row(machine: &Machine, rules: &Rules, row: &[Verdict], rest: &str) ->
         }
         state = to;
         size += c.len_utf8();
-        progress = advance(rules, &progress, &verdict, size);
     }
+    progress = advance(rules, &progress, &verdict, size);
     Scanned {
         best: chosen(rules, &progress),
         separator: progress.separator,

@@ -3,8 +3,8 @@ use Rattle.ts_lexer.specs.Scanned.{PartMatches}
 use Rattle.ts_lexer.proofs.SofarLemmas.{sofar_next}
 use Rattle.ts_lexer.proofs.progress.advance.Goals as goal
 
-pub returns : goal.returns
-returns c g valid first rest bound w rules step knows sofar =
+pub returns-clause-sofar : goal.returns-clause-sofar
+returns-clause-sofar c g valid first rest bound w rules step knows sofar =
     let l = c.longer-plain.ensures in
     let s = c.size_of-word.ensures in
     let k = c.keyword_of-keyword.ensures in

@@ -63,7 +63,7 @@ loop-c-preserved c =
           let judged = subst (λ (a : Automaton). JudgesNodes g valid c.args.first a c.members.result.now c.judge-verdict.result) c.automaton.ensures (c.judge-verdict.ensures g valid rules view) in
           let known = knows g m automaton _ c.next-to.result read c.members.result.now c.members.ensures valid c.args.first c.judge-verdict.result judged in
           let step = step_at laws g valid c.args.first c.args.rest.now (λ w. HasRead m w c.loop-c.state) (chars_rest c.loop-c.c-iterator) c.loop-c.size c.loop-c.progress run c.in-Some.c _ c.in-Some.ensures.steps.0 c.len_utf8-size.result c.len_utf8-size.ensures.value in
-          let sofar = c.advance-progress.ensures g valid c.args.first c.args.rest.now c.loop-c.size _ rules step known run.sofar in
+          let sofar = c.advance-progress.ensures.sofar g valid c.args.first c.args.rest.now c.loop-c.size _ rules step known run.sofar in
           more_at laws g valid c.args.first c.args.rest.now (λ w. HasRead m w c.loop-c.state) (chars_rest c.loop-c.c-iterator) c.loop-c.size c.loop-c.progress run c.in-Some.c _ c.in-Some.ensures.steps.0 c.len_utf8-size.result c.len_utf8-size.ensures.value
           c.judge-verdict.result (λ w. HasRead m w c.next-to.result) c.advance-progress.result known c.if-not-verdict.false read sofar;
     }

@@ -85,7 +85,7 @@ loop-c-preserved c =
           let judged = c.judge-verdict.ensures g valid made.rules view in
           let known = walk_knows g a made.automaton _ c.step.new.self read c.members.result.now c.members.ensures valid c.args.first c.judge-verdict.result judged in
           let step = step_at laws g valid c.args.first c.args.rest.now (λ w. HasCome a w c.loop-c.walk) (chars_rest c.loop-c.c-iterator) c.loop-c.size c.loop-c.progress run c.in-Some.c _ c.in-Some.ensures.steps.0 c.len_utf8-size.result c.len_utf8-size.ensures.value in
-          let sofar = c.advance-progress.ensures g valid c.args.first c.args.rest.now c.loop-c.size _ made.rules step known run.sofar in
+          let sofar = c.advance-progress.ensures.sofar g valid c.args.first c.args.rest.now c.loop-c.size _ made.rules step known run.sofar in
           more_at laws g valid c.args.first c.args.rest.now (λ w. HasCome a w c.loop-c.walk) (chars_rest c.loop-c.c-iterator) c.loop-c.size c.loop-c.progress run c.in-Some.c _ c.in-Some.ensures.steps.0 c.len_utf8-size.result c.len_utf8-size.ensures.value
           c.judge-verdict.result (λ w. HasCome a w c.step.new.self) c.advance-progress.result known c.if-not-verdict.false read sofar;
     }
