@@ -19,6 +19,8 @@ import tempfile
 import time
 
 sys.dont_write_bytecode = True
+from memory import most, under_time
+
 TOP = os.path.dirname(os.path.dirname(os.path.abspath(__file__)))
 CLIENTS = 16
 
@@ -65,15 +67,15 @@ def asking(asks):
     return script
 
 
-def measured(words):
+def measured(words, report):
     """The seconds by the clock and of processor time, the most memory in MiB, and what was printed by a run before,
     since whoever reads takes a processor; and the status."""
     printed = subprocess.run(words, stdout=subprocess.PIPE).stdout
     start = time.monotonic()
-    with subprocess.Popen(words, stdout=subprocess.DEVNULL) as child:
+    with subprocess.Popen(under_time(report, words), stdout=subprocess.DEVNULL) as child:
         _, status, used = os.wait4(child.pid, 0)
         child.returncode = status
-    return time.monotonic() - start, used.ru_utime + used.ru_stime, used.ru_maxrss >> 10, printed, status >> 8
+    return time.monotonic() - start, used.ru_utime + used.ru_stime, most(report) >> 20, printed, status >> 8
 
 
 def main():
@@ -91,7 +93,7 @@ def main():
             with open(path, "w") as out:
                 out.write(script)
             for words in ([program, "run", grammar, path], [program, "replay", grammar, path, ""]):
-                clock, spent, memory, printed, status = measured(words)
+                clock, spent, memory, printed, status = measured(words, f"{folder}/most")
                 if status:
                     print(f"{name}, {words[1]}: status {status}, {printed[:100].decode()}", flush=True)
                     continue

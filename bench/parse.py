@@ -16,6 +16,8 @@ import sys
 import tempfile
 
 sys.dont_write_bytecode = True
+from memory import most, under_time
+
 TOP = os.path.dirname(os.path.dirname(os.path.abspath(__file__)))
 SIZES = [10_000, 100_000, 1_000_000]
 ROUNDS = 3
@@ -59,11 +61,11 @@ def lisp(size):
 TEXTS = [("nested", "json", nested), ("flat", "json", flat), ("clike", "clike", clike), ("lisp", "lisp", lisp)]
 
 
-def measured(program, grammar, text):
+def measured(program, grammar, text, report):
     """The least seconds of processor time, the most memory in bytes, and what was printed."""
     best = None
     for _ in range(ROUNDS):
-        words = [program, "parse", grammar, text]
+        words = under_time(report, [program, "parse", grammar, text])
         with subprocess.Popen(words, stdout=subprocess.PIPE) as child:
             line = child.stdout.read()
             _, status, used = os.wait4(child.pid, 0)
@@ -71,24 +73,24 @@ def measured(program, grammar, text):
             sys.exit(f"status {status >> 8}: {line[:200]}")
         seconds = used.ru_utime + used.ru_stime
         best = min(best, seconds) if best is not None else seconds
-    return best, used.ru_maxrss * 1024, line
+    return best, most(report), line
 
 
 def main():
     program = sys.argv[1] if len(sys.argv) > 1 else f"{TOP}/crates/ts_cli/out/ts_cli"
     with tempfile.TemporaryDirectory() as folder:
-        path = f"{folder}/text"
+        path, report = f"{folder}/text", f"{folder}/most"
         for name, grammar, make in TEXTS:
             rules = f"{TOP}/examples/{grammar}.json"
             with open(path, "w") as out:
                 out.write("")
-            none, room, _ = measured(program, rules, path)
+            none, room, _ = measured(program, rules, path, report)
             print(f"{name}: {none:.3f} s and {room >> 20} MiB for the tables of {grammar}.json", flush=True)
             for size in SIZES:
                 text = make(size)
                 with open(path, "w") as out:
                     out.write(text)
-                seconds, memory, line = measured(program, rules, path)
+                seconds, memory, line = measured(program, rules, path, report)
                 spent = max(seconds - none, 1e-6)
                 nodes = line.count(b"],[") + 1
                 tree = line.startswith(b'{"nodes"')

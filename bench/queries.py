@@ -15,12 +15,15 @@ which this script writes:
 """
 import json
 import os
+import signal
 import subprocess
 import sys
 import tempfile
 import time
 
 sys.dont_write_bytecode = True
+from memory import most, started, under_time
+
 TOP = os.path.dirname(os.path.dirname(os.path.abspath(__file__)))
 TEXT_BYTES = 1_048_576
 MOST_MEMORY = 4 << 30
@@ -70,7 +73,7 @@ class Stopped(Exception):
 def resident(child):
     """The bytes of memory that it has now."""
     try:
-        with open(f"/proc/{child.pid}/statm") as file:
+        with open(f"/proc/{started(child)}/statm") as file:
             return int(file.read().split()[1]) * os.sysconf("SC_PAGE_SIZE")
     except (FileNotFoundError, IndexError):
         return 0
@@ -86,7 +89,7 @@ def ended(child, seconds):
             return status, used
         late = time.monotonic() - start > seconds
         if late or resident(child) > MOST_MEMORY:
-            child.kill()
+            os.kill(started(child), signal.SIGKILL)
             child.wait()
             raise Stopped(f"more than {seconds} s" if late else f"more than {MOST_MEMORY >> 30} GiB")
         time.sleep(0.05)
@@ -100,13 +103,14 @@ def replayed(program, grammar, folder, query, asks, seconds):
     with open(f"{folder}/script", "w") as out:
         out.write(script)
     with open(f"{folder}/printed", "wb") as printed:
-        child = subprocess.Popen([program, "replay", grammar, f"{folder}/script", ""], stdout=printed)
+        words = [program, "replay", grammar, f"{folder}/script", ""]
+        child = subprocess.Popen(under_time(f"{folder}/most", words), stdout=printed)
         status, used = ended(child, seconds)
     with open(f"{folder}/printed", "rb") as printed:
         lines = printed.read().splitlines()
     if status:
         sys.exit(f"status {status >> 8}: {lines[-1:]}")
-    return used.ru_utime + used.ru_stime, used.ru_maxrss >> 10, lines
+    return used.ru_utime + used.ru_stime, most(f"{folder}/most") >> 20, lines
 
 
 def matches_in(printed):

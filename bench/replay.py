@@ -15,6 +15,8 @@ import sys
 import tempfile
 
 sys.dont_write_bytecode = True
+from memory import most, under_time
+
 TOP = os.path.dirname(os.path.dirname(os.path.abspath(__file__)))
 STEPS = 100_000
 SCRIPT_BYTES = 16 * 1024 * 1024
@@ -63,18 +65,18 @@ def main():
     program = sys.argv[1] if len(sys.argv) > 1 else f"{TOP}/crates/ts_cli/out/ts_cli"
     grammar = f"{TOP}/examples/ab.json"
     with tempfile.TemporaryDirectory() as folder:
-        path = f"{folder}/script"
+        path, report = f"{folder}/script", f"{folder}/most"
         for name, make, order in SCRIPTS:
             script = line(op="open", text="ab") + make()
             with open(path, "w") as out:
                 out.write(script)
-            words = [program, "replay", grammar, path, order]
+            words = under_time(report, [program, "replay", grammar, path, order])
             with subprocess.Popen(words, stdout=subprocess.PIPE) as child:
                 printed = child.stdout.read()
                 _, status, used = os.wait4(child.pid, 0)
             seconds = used.ru_utime + used.ru_stime
             print(
-                f"{name}: {seconds:.2f} s, {used.ru_maxrss >> 10} MiB, {len(script) / seconds / 1e6:.1f} MB/s of script, "
+                f"{name}: {seconds:.2f} s, {most(report) >> 20} MiB, {len(script) / seconds / 1e6:.1f} MB/s of script, "
                 f"{printed.count(b'published')} published, {len(printed):,} bytes printed, status {status >> 8}",
                 flush=True,
             )
