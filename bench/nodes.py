@@ -12,7 +12,7 @@ The bytes are reckoned from the layout of the structs and the chunks of the allo
 
 - builds that tree and drops it, and tells what memory the process takes for each node, by the difference between half
   as many records and all,
-- walks it with a cursor,
+- walks it with a cursor, and compares it with an equal one,
 - builds the deepest trees with as many tokens as a text of 1 MiB has room for, and drops them, and tells the least
   stack with which that goes well: one with all tokens in the deepest repetition, one with 500 repetitions and nodes of
   a rule by turns in one another, and one with 999 repetitions in one another. The inner node of each stands where the
@@ -27,7 +27,7 @@ sys.dont_write_bytecode = True
 from built import built, copied, run, trusting
 
 NAME = "bench_nodes"
-BELOW = "ts_base ts_core ts_text spec_grammar spec_trees ts_node ts_cursor"
+BELOW = "ts_base ts_core ts_text spec_grammar spec_trees ts_node ts_order ts_cursor"
 
 # Bytes of each struct; its fields lie in their order, an enum has a tag of its own.
 NODE = 24
@@ -52,6 +52,7 @@ use ts_base::{List, Str};
 use ts_core::{Assoc, FlatGrammar, FlatRule, Kind, Prec, Production, Re, Step, Symbol, TokenDef};
 use ts_cursor::Cursor;
 use ts_node::{Node, Productions, reduce, remake};
+use ts_order::better;
 
 unsafe extern "C" {
     safe fn trust()
@@ -485,6 +486,19 @@ fn measured(rt: &HostRuntime, maker: &Maker, flat: &FlatGrammar, count: u32) -> 
     Ok(())
 }
 
+/// Compares two trees of so many records, which are equal, so that both are read whole.
+fn compared(rt: &HostRuntime, maker: &Maker, count: u32) -> io::Result<()> {
+    trust();
+    let alloc = rt.alloc();
+    let first = maker.document(alloc, count)?;
+    let second = maker.document(alloc, count)?;
+    let start = Instant::now(rt)?;
+    let answer = better(&first, &second);
+    let spent = micros(rt, &start)?;
+    println!(rt; "compared in {spent} us, better: {answer}")?;
+    Ok(())
+}
+
 /// Drops a tree.
 fn dropped(rt: &HostRuntime, root: Node) -> io::Result<()> {
     trust();
@@ -530,7 +544,7 @@ fn main(rt: HostRuntime) -> io::Result<()> {
     let count = argument(&rt, 2)?;
     let more = argument(&rt, 3)?;
     let words = Words { before: count, after: more };
-    let rules = if todo < 4 { rules(alloc)? } else { nesting_rules(alloc)? };
+    let rules = if todo < 4 || todo == 7 { rules(alloc)? } else { nesting_rules(alloc)? };
     let flat = grammar(alloc, rules)?;
     let maker = Maker {
         productions: Productions::new(alloc, &flat)?,
@@ -544,6 +558,7 @@ fn main(rt: HostRuntime) -> io::Result<()> {
             let few = Words { before: argument(&rt, 4)?, after: argument(&rt, 5)? };
             dropped(&rt, maker.chain(alloc, argument(&rt, 6)?, words, few)?)?;
         }
+        7 => compared(&rt, &maker, count)?,
         _ => lengthened(&rt, &maker, count, more)?,
     }
     Ok(())
@@ -629,7 +644,9 @@ def main():
         _, less, _ = run(program, "1", str(records // 2))
         told, most, _ = run(program, "1", str(records))
         print(f"{told}; {(most - less) / (records - records // 2) / visible:.1f} bytes a visible node at the most")
-        print(run(program, "2", str(records))[0])
+        told, walked, _ = run(program, "2", str(records))
+        print(f"{told}; {(walked - most) / records / visible:.1f} bytes of the cursor a visible node")
+        print(run(program, "7", str(records))[0])
         for name, words in shapes():
             stack, told = least_stack(program, words)
             print(f"{name}: {stack} KiB of stack; {told}")
