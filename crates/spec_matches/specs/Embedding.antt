@@ -90,7 +90,8 @@ abbrev pub GivesCaptures : (ℕ → ℕ → ℕ → List Capture → Type 0) →
 GivesCaptures takes [] k rs c = c ≡ []
 GivesCaptures takes (i ∷ is) k [] c = c ≡ []
 GivesCaptures takes (i ∷ is) k (None ∷ rs) c = GivesCaptures takes is (k + 1) rs c
-GivesCaptures takes (i ∷ is) k (Some r ∷ rs) c = (u : List Capture) × (v : List Capture) × (c ≡ u ++ v)
+GivesCaptures takes (i ∷ is) k (Some r ∷ rs) c =
+    (u : List Capture) × (v : List Capture) × (c ≡ u ++ v)
     × Along takes k i r.first (r.past - r.first) r.first u × GivesCaptures takes is (k + 1) rs v
 
 -- the place of the first sibling taken

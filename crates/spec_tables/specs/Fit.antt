@@ -1,6 +1,7 @@
 -- When a flat grammar is fit for what is made of it.
 use Rattle.std.specs.Prelude.{◌≡◌, ℕ, ◌+◌, ◌*◌, ◌<◌, ◌≤◌, ◌^◌, suc, true, List, [], ◌∷◌, ◌++◌, map, length, sum, max, slice_get, Option, Some, None, All, ◌⊎◌}
 use Rattle.std.specs.List.{Contains, flat_map}
+use Rattle.ts_base.specs.Characters.{first_surrogate, past_surrogates, character_count}
 use Rattle.ts_core.specs.declared.flat.Alias.{Alias}
 use Rattle.ts_core.specs.declared.flat.Assoc.{Assoc}
 use Rattle.ts_core.specs.declared.flat.Entry.{Entry}
@@ -73,12 +74,12 @@ positions = fold-Re ℕ positions_step
 
 -- no character stands for half of another one
 abbrev pub IsCharacter : ℕ → Type 0
-IsCharacter c = (c < 55296) ⊎ ((57344 ≤ c) × (c < 1114112))
+IsCharacter c = (c < first_surrogate) ⊎ ((past_surrogates ≤ c) × (c < character_count))
 
 -- The range rises and lies on one side of the surrogates.
 abbrev pub IsRange : ℕ × ℕ → Type 0
 IsRange range = (range.0 ≤ range.1) × IsCharacter range.0 × IsCharacter range.1
-    × ((range.1 < 55296) ⊎ (57344 ≤ range.0))
+    × ((range.1 < first_surrogate) ⊎ (past_surrogates ≤ range.0))
 
 -- neither meets nor touches the range before it
 abbrev pub AreApartRanges : List (ℕ × ℕ) → Type 0

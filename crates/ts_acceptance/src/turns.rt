@@ -6,7 +6,8 @@ use std::str;
 /// What stands before the number of a turn.
 const TURN: &str = "\"turn\":";
 
-/// The lines, in which the number of each turn is left out. Bytes that are no text stay as they are.
+/// The lines, in which the number of each turn is left out. Bytes that are no text stay as they
+/// are.
 pub(crate) fn without_turns(alloc: Global, bytes: &[u8]) -> Result<Vec<u8>, RowFault> {
     let Ok(mut rest) = str::from_utf8(bytes) else {
         return Ok(Vec::from_slice(alloc, bytes)?);

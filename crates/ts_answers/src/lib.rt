@@ -1,5 +1,5 @@
-//! The answers of queries: queries that were read, a grammar, a text, its tree and a host go in; what
-//! each query comes to comes out, as lines tell it.
+//! The answers of queries: queries that were read, a grammar, a text, its tree and a host go in;
+//! what each query comes to comes out, as lines tell it.
 #![tactic(auto)]
 
 mod answering;

@@ -31,12 +31,12 @@ const HELP: &str = "\
 hemshale parses texts by Tree-sitter grammars, and replays or runs clients that edit and query
 texts.
 
-  hemshale parse GRAMMAR TEXT           parse the file TEXT by the grammar GRAMMAR, and print the tree
+  hemshale parse GRAMMAR TEXT           print the tree of the file TEXT by the grammar GRAMMAR
   hemshale compile GRAMMAR              write the language file of the grammar GRAMMAR
   hemshale replay GRAMMAR SCRIPT ORDER  run the clients' steps in the file SCRIPT in this order of
                                         clients, as 0,1,0, and print each version and each reply
-  hemshale run GRAMMAR SCRIPT           run the clients in the file SCRIPT at once, each on a thread of
-                                        its own, and print each version and each reply
+  hemshale run GRAMMAR SCRIPT           run the clients in the file SCRIPT at once, each on a
+                                        thread of its own, and print each version and each reply
   hemshale --help                       print this
   hemshale --version                    print the version
 

@@ -1,4 +1,5 @@
-//! What is known while the ways to read a text are followed: it begins with the one empty stack.
+//! What is known while the ways to read a text are followed. Nothing goes in; what is known at the
+//! start comes out: the one empty stack.
 ghost use Rattle.std.specs.Prelude.{◌≡◌, [], ◌∷◌, None, IfOk};
 
 use std::alloc::{AllocError, Global};

@@ -1,5 +1,5 @@
-//! Ways down a stack: the extras on top of it, or its topmost nodes that are no extras, with the
-//! extras between them, come out, and the stack that is left.
+//! Ways down a stack: its number goes in; the extras on top of it, or its topmost nodes that are no
+//! extras with the extras between them, come out, and the stack that is left.
 ghost use Rattle.std.specs.Prelude.{◌≡◌, ◌<◌, ◌≤◌, length, IfOk};
 ghost use Rattle.spec_trees.specs.Made.{filling};
 ghost use Rattle.ts_gss.specs.Stacks.{stack_at, trees_on};

@@ -3,6 +3,7 @@ use Rattle.std.specs.Prelude.{ℕ, zero, suc, ◌+◌, ◌-◌, ℤ, Bool, true,
 use Rattle.std.specs.Int.{w16, w32, cast_signed}
 use Rattle.std.specs.Str.{is_utf8}
 use Rattle.ts_base.specs.Bytes.{Bytes}
+use Rattle.ts_base.specs.Characters.{first_surrogate, past_surrogates, character_count}
 use Rattle.ts_core.specs.declared.flat.Alias.{Alias}
 use Rattle.ts_core.specs.declared.flat.Assoc.{Assoc}
 use Rattle.ts_core.specs.declared.flat.Entry.{Entry}
@@ -83,18 +84,15 @@ symbol_at least bound = do
 
 -- ---- expressions
 
--- how many numbers there are up to the greatest character
-abbrev pub character_count : ℕ
-character_count = 1114112
-
 -- a number that is a character: not above the greatest, and no surrogate
 abbrev pub is_character : ℕ → Bool
-is_character c = nat_lt c 55296 || (nat_le 57344 c && nat_lt c character_count)
+is_character c = nat_lt c first_surrogate
+    || (nat_le past_surrogates c && nat_lt c character_count)
 
 -- the range does not fall, and lies on one side of the surrogates
 abbrev pub ends_range : ℕ → ℕ → Bool
 ends_range low high = is_character high && nat_le low high
-    && (nat_lt high 55296 || nat_le 57344 low)
+    && (nat_lt high first_surrogate || nat_le past_surrogates low)
 
 -- a range that begins at the least or above
 unfoldable pub range_at : ℕ → Reader (ℕ × ℕ)

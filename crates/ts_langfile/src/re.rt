@@ -3,7 +3,8 @@
 ghost use Rattle.std.specs.Prelude.{◌≡◌, ◌<◌, IfOk};
 ghost use Rattle.ts_langfile.specs.Reader.{Gives, times, in_turn};
 ghost use Rattle.ts_langfile.specs.Parts as spec;
-ghost use Rattle.ts_langfile.specs.Parts.{range_at, behind_range, most_at, re_at, re_by, listed_at, character_count, repeat_tag};
+ghost use Rattle.ts_base.specs.Characters.{character_count};
+ghost use Rattle.ts_langfile.specs.Parts.{range_at, behind_range, most_at, re_at, re_by, listed_at, repeat_tag};
 
 use crate::flaw::{Stop, wrong};
 use crate::part::{flag, number32, tag};

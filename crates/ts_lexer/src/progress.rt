@@ -54,8 +54,8 @@ fn keyword_of(there: bool, new: Option<Symbol>, old: Option<Symbol>) -> Option<S
     if there { new } else { old }
 }
 
-/// What was found with one character more, or with more of them over which the verdict stayed, after
-/// which so many bytes have been read.
+/// What was found with one character more, or with more of them over which the verdict stayed,
+/// after which so many bytes have been read.
 pub(crate) fn advance(rules: &Rules, old: &Progress, verdict: &Verdict, size: usize) -> Progress
     ensures silent { verdict.now.plain ≡ None → verdict.now.word ≡ false
         → verdict.now.separator ≡ false → result ≡ old.now }

@@ -40,8 +40,8 @@ fn stays(size: usize, from: usize, to: usize) -> bool
 }
 
 /// What stands at the beginning of a text, by verdicts that were made ahead: a look-up each for the
-/// character's class and the next set, and one for the verdict of a set that is new. What a set says
-/// is told once it is left.
+/// character's class and the next set, and one for the verdict of a set that is new. What a set
+/// says is told once it is left.
 fn scan_by_row(machine: &Machine, rules: &Rules, row: &[Verdict], rest: &str) -> Scanned
     requires count { length row.now ≡ state_count machine.now }
     requires size { length rest.now < 2 ^ 32 }

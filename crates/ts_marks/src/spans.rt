@@ -1,4 +1,4 @@
-//! How many bytes nodes take.
+//! A node goes in; how many bytes it takes, or how many stand before its first child, come out.
 ghost use Rattle.std.specs.Prelude.{◌≡◌};
 ghost use Rattle.spec_trees.specs.Trees.{span_of};
 ghost use Rattle.spec_trees.specs.Made.{IsNode};

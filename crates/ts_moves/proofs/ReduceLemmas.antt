@@ -12,7 +12,7 @@ use Rattle.spec_trees.specs.Trees.{symbol_of, is_extra_node, span_of, all_spans,
 use Rattle.spec_trees.specs.Made.{filling, step_symbols, BeginsFilled, EndBy, form_of, reduced, most_span, most_depth}
 use Rattle.spec_runs.specs.Configurations.{IsReduction}
 use Rattle.spec_runs.specs.Moves.{StandsBefore, EndsWithProduction}
-use Rattle.ts_node.specs.Entries.{HasSmallValue}
+use Rattle.spec_trees.specs.Reducible.{HasSmallValue}
 use Rattle.ts_table.specs.declared.view.ParseTable.{ParseTable}
 use Rattle.ts_table.specs.Tables.{IsTable, IsStateOf}
 use Rattle.ts_gss.specs.declared.layer.Layer.{Layer}

@@ -10,7 +10,7 @@ use Rattle.spec_trees.specs.Trees.{symbol_of, production_of, elements_of, childr
 use Rattle.spec_trees.specs.Made.{IsNode, EndBy, filling, step_symbols, BeginsFilled, most_span}
 use Rattle.spec_trees.specs.Choice.{IsInForm}
 use Rattle.spec_runs.specs.Moves.{IsUnused}
-use Rattle.ts_node.specs.Entries.{HasSmallValue}
+use Rattle.spec_trees.specs.Reducible.{HasSmallValue}
 
 -- each tree of a list is of this kind
 abbrev pub EachTree : (Tree → Type 0) → List Tree → Type 0

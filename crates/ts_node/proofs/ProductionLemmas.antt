@@ -4,7 +4,8 @@ use Rattle.ts_base.proofs.PlaceLemmas.{in_prefix, push_cases}
 use Rattle.std.proofs.lemmas.List.{length-map}
 use Rattle.std.proofs.lemmas.List.Sums.{sum_by-cons}
 use Rattle.ts_node.specs.declared.productions.Entry.{Entry}
-use Rattle.ts_node.specs.Entries.{form_is, IsEntry, AreUpTo, HasAllEntries, HasSmallValue}
+use Rattle.ts_node.specs.Entries.{form_is, IsEntry, AreUpTo, HasAllEntries}
+use Rattle.spec_trees.specs.Reducible.{HasSmallValue}
 use Rattle.std.specs.Prelude.{option_map, unwrap_or, nat_le, if◌then◌else◌, ◌⊎◌}
 use Rattle.std.proofs.Common.{inl, inr}
 use Rattle.std.specs.Int.RustNames.{unsigned_abs}

@@ -1,10 +1,10 @@
 -- What is kept of each production.
 use Rattle.std.specs.Prelude.{◌≡◌, ◌≤◌, ◌^◌, ℕ, List, length, slice_get, Some}
-use Rattle.std.specs.Int.RustNames.{unsigned_abs}
 use Rattle.ts_core.specs.declared.flat.FlatGrammar.{FlatGrammar}
 use Rattle.spec_grammar.specs.Symbols.{all_productions}
 use Rattle.spec_trees.specs.Made as made
 use Rattle.spec_trees.specs.Made.{left_of, value_of, form_of}
+use Rattle.spec_trees.specs.Reducible.{HasSmallValue}
 use Rattle.ts_node.specs.declared.productions.Entry.{Entry}
 use Rattle.ts_node.specs.declared.productions.Form.{Form}
 use Rattle.ts_node.specs.declared.productions.Form.TheVariants as form
@@ -14,10 +14,6 @@ abbrev pub form_is : Form → made.Form
 form_is form.Rule = made.of_rule
 form_is (form.First alternative) = made.of_first alternative
 form_is (form.Next alternative) = made.of_next alternative
-
--- the value of the production of a number has 32 bits
-abbrev pub HasSmallValue : FlatGrammar → ℕ → Type 0
-HasSmallValue g number = unsigned_abs (value_of g number) ≤ 2 ^ 31
 
 -- what is kept of the production of a number
 pub record IsEntry (g : FlatGrammar) (number : ℕ) (e : Entry) : Type 0 where

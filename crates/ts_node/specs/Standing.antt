@@ -1,11 +1,11 @@
 -- What is so of the nodes that are made, and when children can be reduced, a root accepted and a
 -- node remade.
 use Rattle.std.specs.Prelude.{◌≡◌, ℕ, ◌+◌, ◌<◌, ◌≤◌, ◌^◌, max, true, false, List, [], ◌∷◌, ◌++◌, length, Option, All}
-use Rattle.std.specs.Int.RustNames.{unsigned_abs}
 use Rattle.ts_core.specs.declared.flat.FlatGrammar.{FlatGrammar}
 use Rattle.spec_trees.specs.declared.tree.Tree.{Tree}
 use Rattle.spec_trees.specs.Trees.{symbol_of, node_extent, state_of, elements_of, children_of, is_settled, is_extra_node, node_count, all_nodes, span_of, all_spans, tree_depth, greatest_depth}
-use Rattle.spec_trees.specs.Made.{Form, of_rule, of_first, of_next, FitsProduction, EndBy, IsNode, reduced, replaced, value_of, most_span, most_depth, node_limit}
+use Rattle.spec_trees.specs.Made.{Form, of_rule, of_first, of_next, FitsProduction, EndBy, IsNode, reduced, replaced, most_span, most_depth, node_limit}
+use Rattle.spec_trees.specs.Reducible.{HasSmallValue}
 
 -- a settled node of this symbol that is no extra, with this extent and state
 pub record IsMadeWith (symbol extent : ℕ) (state : Option ℕ) (t : Tree) : Type 0 where
@@ -29,7 +29,7 @@ depth_by (of_next alternative) (before ∷ more) = max (tree_depth before) (1 + 
 pub record CanBeReduced
     (g : FlatGrammar) (number extent : ℕ) (state : Option ℕ) (children : List Tree) : Type 0 where
   pub fits : FitsProduction g number children
-  pub value : unsigned_abs (value_of g number) ≤ 2 ^ 31
+  pub value : HasSmallValue g number
   pub nodes : All IsNode children
   pub settled : All (λ child. is_settled child ≡ true) children
   pub few : 2 + all_nodes children < node_limit

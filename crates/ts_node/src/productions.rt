@@ -1,9 +1,10 @@
-//! The productions of a grammar by their numbers: what a reduction has to know of each, found at
-//! once.
+//! The productions of a grammar by their numbers: a grammar goes in, and then a number; what a
+//! reduction has to know of that production comes out, found at once.
 ghost use Rattle.std.specs.Prelude.{◌≡◌, ℕ, ◌+◌, ◌<◌, ◌≤◌, ◌^◌, suc, length, take, slice_get, Some, IfOk, OnOk, if◌then◌else◌};
 ghost use Rattle.spec_grammar.specs.Symbols.{all_productions, symbol_count, count_productions};
 ghost use Rattle.spec_trees.specs.Made.{repetition_form, of_rule};
-ghost use Rattle.ts_node.specs.Entries.{IsEntry, HasAllEntries, HasSmallValue, AreUpTo, form_is};
+ghost use Rattle.spec_trees.specs.Reducible.{HasSmallValue};
+ghost use Rattle.ts_node.specs.Entries.{IsEntry, HasAllEntries, AreUpTo, form_is};
 
 use std::alloc::{AllocError, Global};
 use std::marker::Model;

@@ -1,4 +1,5 @@
-//! The topmost fit node among those that begin where one node begins.
+//! A node of the old tree and a state go in; out comes the topmost fit node among those that begin
+//! where the node begins.
 ghost use Rattle.std.specs.Prelude.{◌≡◌, ◌↔◌, IsTrue, option_copied};
 ghost use Rattle.spec_trees.specs.Trees.{span_of};
 ghost use Rattle.spec_reuse.specs.Places.{lead_of};

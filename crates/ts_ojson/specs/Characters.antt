@@ -5,6 +5,7 @@
 use Rattle.std.specs.Prelude.{◌≡◌, ◌≢◌, ℕ, zero, suc, ◌+◌, ◌-◌, ◌*◌, ◌<◌, ◌≤◌, ◌⊎◌, List, [], ◌∷◌, ◌++◌, cond, ◌==◌, Option, Some, None}
 use Rattle.std.specs.Char.{encode_utf8, digit_value}
 use Rattle.ts_base.specs.Bytes.{Bytes}
+use Rattle.ts_base.specs.Characters.{first_surrogate, first_low_surrogate, past_surrogates}
 
 -- the quote that begins a string and ends it, as a byte
 abbrev pub quote_mark : ℕ
@@ -39,19 +40,19 @@ Unit16 u w r = (v : Bytes) × (w ≡ 92 ∷ 117 ∷ v) × Hex 4 0 u v r
 
 -- the code unit is a high surrogate
 abbrev pub IsHigh : ℕ → Type 0
-IsHigh u = (55296 ≤ u) × (u < 56320)
+IsHigh u = (first_surrogate ≤ u) × (u < first_low_surrogate)
 
 -- the code unit is a low surrogate
 abbrev pub IsLow : ℕ → Type 0
-IsLow u = (56320 ≤ u) × (u < 57344)
+IsLow u = (first_low_surrogate ≤ u) × (u < past_surrogates)
 
 -- the code unit is no surrogate, and so a character by itself
 abbrev pub IsAlone : ℕ → Type 0
-IsAlone u = (u < 55296) ⊎ (57344 ≤ u)
+IsAlone u = (u < first_surrogate) ⊎ (past_surrogates ≤ u)
 
 -- the character of a high and a low surrogate
 abbrev pub pair_of : ℕ → ℕ → ℕ
-pair_of high low = 65536 + (high - 55296) * 1024 + (low - 56320)
+pair_of high low = 65536 + (high - first_surrogate) * 1024 + (low - first_low_surrogate)
 
 -- how one character is written
 pub data Mark : Type 0 where

@@ -2,6 +2,7 @@
 use Rattle.std.specs.Prelude.{ℕ, ◌+◌, ◌*◌, ◌<◌, ◌≤◌, ◌⊎◌, List, [], ◌∷◌, ◌++◌, cond, ◌==◌, nat_lt, Option, Some, None, ⊤}
 use Rattle.std.specs.Char.{encode_utf8, digit_value}
 use Rattle.ts_base.specs.Bytes.{Bytes}
+use Rattle.ts_base.specs.Characters.{first_surrogate, first_low_surrogate, past_surrogates}
 use Rattle.ts_ojson.specs.declared.escape.Escape.{Escape}
 use Rattle.ts_ojson.specs.declared.escape.Escape.TheVariants.{Plain, Backslash, First, Second, Third, Fourth, High, HighBackslash, LowFirst, LowSecond, LowThird, LowFourth}
 use Rattle.ts_ojson.specs.declared.escape.Next.{Next}
@@ -29,9 +30,9 @@ backslash_piece s b = cond (b == 117) (Some (reading First s)) (shorted s (short
 -- the string with a code unit: a high surrogate waits for a low one, and no low one comes first
 abbrev pub unit_piece : Bytes → ℕ → Option Piece
 unit_piece s u =
-    cond (nat_lt u 55296) (Some (reading Plain (s ++ encode_utf8 u)))
-    (cond (nat_lt u 56320) (Some (reading (High u) s))
-    (cond (nat_lt u 57344) None (Some (reading Plain (s ++ encode_utf8 u)))))
+    cond (nat_lt u first_surrogate) (Some (reading Plain (s ++ encode_utf8 u)))
+    (cond (nat_lt u first_low_surrogate) (Some (reading (High u) s))
+    (cond (nat_lt u past_surrogates) None (Some (reading Plain (s ++ encode_utf8 u)))))
 
 -- the string with the character of two surrogates
 abbrev pub pair_piece : Bytes → ℕ → ℕ → Option Piece

@@ -3,6 +3,7 @@ use Rattle.std.specs.Prelude.{ℕ, ◌+◌, ◌-◌, ◌*◌, ◌<◌, ◌≤◌
 use Rattle.std.specs.List.{prefix_len}
 use Rattle.std.specs.Char.{digit_value, is_digit, is_ascii_alphanumeric}
 use Prim.Native.String.{String}
+use Rattle.ts_base.specs.Characters.{first_surrogate, past_surrogates, greatest_character}
 use Rattle.ts_pattern.specs.declared.chars.Test.{Test}
 use Rattle.ts_pattern.specs.declared.chars.Test.TheVariants.{Decimal, Hex, Name}
 use Rattle.ts_pattern.specs.declared.sight.Sight.{Sight}
@@ -99,7 +100,8 @@ AreDecimal digits = (k : ℕ) → k < length digits → digit_value (slice_index
 
 -- a character's code is no surrogate and at most 10FFFF
 abbrev pub is_scalar : ℕ → Bool
-is_scalar c = nat_lt c 0xD800 || (nat_le 0xE000 c && nat_le c 0x10FFFF)
+is_scalar c = nat_lt c first_surrogate
+    || (nat_le past_surrogates c && nat_le c greatest_character)
 
 -- what is seen at place i ends after it, and what is wrong stands no earlier; both are within the
 -- text

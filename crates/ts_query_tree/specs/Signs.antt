@@ -66,16 +66,19 @@ text_at w i = string i (quoted w (i + 1))
 abbrev pub mark_at : ℕ → Quantity → Sight
 mark_at i quantity = Sees (sign.Mark (record { at = i; quantity = quantity })) (i + 1)
 
--- the bytes with which a string, a capture, a field that is not there and a predicate begin
+-- the quote with which a string begins, as a byte
 abbrev pub quote_mark : ℕ
 quote_mark = 34
 
+-- `@`, with which a capture begins
 abbrev pub capture_mark : ℕ
 capture_mark = 64
 
+-- `!`, with which a field that is not there begins
 abbrev pub without_mark : ℕ
 without_mark = 33
 
+-- `#`, with which a predicate begins
 abbrev pub predicate_mark : ℕ
 predicate_mark = 35
 

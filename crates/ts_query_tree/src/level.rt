@@ -1,4 +1,5 @@
-//! Brackets that are open: what is in them so far, and what may follow there.
+//! Brackets that are open: what is in one so far and what comes next go in; what is in it then
+//! comes out, or that this may not follow there.
 ghost use Rattle.std.specs.Prelude.{◌≡◌, ◌&&◌, ◌++◌, ◌∷◌, [], Bool, true, false, IfOk};
 ghost use Rattle.ts_query_tree.specs.Words.{is_wild};
 ghost use Rattle.ts_query_tree.specs.Machine.{no_content, is_begun, flushed, content_with, content_and, marked, captured, awaiting, sealed, any_last, bare_wild, new_frame, entered, lone_wild, regrouped, frame_with, frame_and, named, wild_is_field, colon_in, with_content, takes_unit, holds_groups, holds_predicates, frame_marked, frame_captured, holds_anchors};

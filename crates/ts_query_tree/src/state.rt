@@ -1,4 +1,5 @@
-//! The walk over the signs of a text, with the brackets that are open on a stack.
+//! The walk over the signs of a text, with the brackets that are open on a stack: the bytes go in;
+//! the parts of the query come out, or the place at which the text is wrong or nested too deep.
 ghost use Rattle.std.specs.Prelude.{◌≡◌, ◌&&◌, nat_le, ◌≤◌, ◌<◌, ◌^◌, length, IfOk};
 ghost use Rattle.ts_query_tree.specs.Reads.{IsOutcome, most_open};
 ghost use Rattle.ts_query_tree.specs.Words.{gap_end};

@@ -36,5 +36,5 @@ Told Captures lo W f = (g : Placing) × W g × IsBare g f
 -- each list that is kept has ways that its key asks for, and all of them but for what was left out
 abbrev pub IsMemo : Siblings → List Slot → Bool → (Key → Option (List Placing)) → Type 0
 IsMemo s all cut look = (key : Key) (v : List Placing) → look key ≡ Some v
-    → FindsMost (Told key.wanted key.lo (WaysOf s (drop key.number all) key.number key.lo key.beside))
-    cut cut v
+    → FindsMost (Told key.wanted key.lo
+    (WaysOf s (drop key.number all) key.number key.lo key.beside)) cut cut v

@@ -1,4 +1,5 @@
-//! How far a list of ways may grow.
+//! How far a list of ways may grow: the limit and how many there are go in; whether the list grows
+//! no more comes out.
 ghost use Rattle.std.specs.Prelude.{◌≡◌, IsTrue, true, false};
 
 /// How many ways there are in a list when it grows no more, and whether ways were left out of some

@@ -1,4 +1,5 @@
-//! The answer where files are refused: a status and a line. Or why there is no answer.
+//! A fault of a script, of a query or of a file goes in; the answer comes out where files are
+//! refused, a status and a line, or why there is none.
 ghost use Rattle.std.specs.Prelude.{◌≡◌, Some, string_bytes, IfOk};
 ghost use Rattle.spec_output.specs.Faults.{absent_line};
 ghost use Rattle.spec_output.specs.GrammarFaults.{limit_line};

@@ -9,7 +9,7 @@ use Rattle.spec_trees.specs.declared.tree.Tree.{Tree}
 use Rattle.spec_trees.specs.Trees.{tree_depth}
 use Rattle.spec_trees.specs.Made.{form_of, reduced, most_depth}
 use Rattle.spec_runs.specs.Moves.{EndsWithProduction}
-use Rattle.ts_node.specs.Entries.{HasSmallValue}
+use Rattle.spec_trees.specs.Reducible.{HasSmallValue}
 use Rattle.ts_table.specs.declared.view.ParseTable.{ParseTable}
 use Rattle.ts_moves.specs.Lines.{IsLine, lengthens_by}
 use Rattle.ts_moves.specs.Good.{CanReduce}

@@ -17,7 +17,7 @@ use Rattle.spec_trees.specs.Made.{Form, of_rule, of_first, of_next, form_of, val
 use Rattle.spec_runs.specs.Configurations.{IsReduction, AreValidTokens, stack_symbols}
 use Rattle.spec_forced.specs.Forced.{IsDecided, IsOnlyMove, Stands, StandInTurn, MakesNode}
 use Rattle.spec_forced.specs.Sound.{States, IsStateAfter, EachHasState, IsWholeSoFar, StandOnStack}
-use Rattle.ts_node.specs.Entries.{HasSmallValue}
+use Rattle.spec_trees.specs.Reducible.{HasSmallValue}
 use Rattle.ts_table.specs.declared.view.ParseTable.{ParseTable}
 use Rattle.ts_table.specs.Tables.{IsTable, IsStateOf, by_goto}
 use Rattle.ts_gss.specs.declared.layer.Layer.{Layer}

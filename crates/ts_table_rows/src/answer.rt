@@ -1,5 +1,5 @@
-//! The bytes of a language file in; out comes, in one line, why there is no table of it, or how many
-//! states the table has and its actions that a row asks for.
+//! The bytes of a language file in; out comes, in one line, why there is no table of it, or how
+//! many states the table has and its actions that a row asks for.
 ghost use Rattle.spec_tables.specs.Fit.{Fit};
 ghost use Rattle.ts_items.specs.Collection.{StandsFor};
 

@@ -33,9 +33,10 @@ pub record IsLawfulRun (called : List Bytes) (accepts : ℕ → Bytes → Type 0
   pub grammar_is : history.grammar ≡ form
   pub plan_is : history.plan ≡ plan
   pub openings_are : history.openings ≡ openings
-  -- Each reply is right for its step: what queries find is exactly their matches in the version that
-  -- the client holds, which is never older than one that it was shown; an edit is refused only where
-  -- a newer version is shown, where its range or its size is out, or where memory runs out.
+  -- Each reply is right for its step: what queries find is exactly their matches in the version
+  -- that the client holds, which is never older than one that it was shown; an edit is refused
+  -- only where a newer version is shown, where its range or its size is out, or where memory runs
+  -- out.
   pub legal : Legal (Finds form queries (AnswersOf called accepts)) history
   pub on_schedule : IsOnSchedule schedule history
   -- the line of each published version tells the outcome of freshly parsing its whole text

@@ -1,5 +1,5 @@
-//! The words that ask for a script's run, the files, a gate, a host and a builder of expressions in;
-//! the answer out.
+//! The words that ask for a script's run, the files, a gate, a host and a builder of expressions
+//! in; the answer out.
 ghost use Rattle.std.specs.Prelude.{◌≡◌, ◌≤◌, ◌^◌, ◌⊎◌, ℕ, List, length, IsTrue, IfOk, IfErr, IfSome, IfNone, MatchOption};
 ghost use Rattle.ts_base.specs.Bytes.{Bytes};
 ghost use Rattle.spec_output.specs.declared.status.Status.TheVariants.{Done};

@@ -8,9 +8,6 @@ use Rattle.ts_transcript.specs.Told.{TellsLine, AreLines, AddsLines}
 
 -- ---- the bytes of lines
 
-pub one_line : (g : FlatGrammar) (l : RunLine) (bytes : Bytes) → AreLines g (l ∷ []) bytes → TellsLine g l bytes
-one_line g l bytes h = subst (TellsLine g l) (sym (h.4 ∙ ap (λ (rest : Bytes). h.0 ++ rest) h.3 ∙ append-nil h.0)) h.2
-
 -- lines of two lists: their bytes are those of the one and then those of the other
 pub in_two : (g : FlatGrammar) (xs ys : List RunLine) (bytes : Bytes) → AreLines g (xs ++ ys) bytes
     → (a : Bytes) × (b : Bytes) × AreLines g xs a × AreLines g ys b × (bytes ≡ a ++ b)

@@ -1,5 +1,5 @@
--- Lines that are dealt to columns, a row of one line for each column after another, with what is made
--- of each. It serves proofs alone.
+-- Lines that are dealt to columns, a row of one line for each column after another, with what is
+-- made of each. It serves proofs alone.
 use Rattle.std.specs.Prelude.{◌≡◌, ℕ, ◌+◌, ◌*◌, ◌/◌, ◌%◌, ◌<◌, List, length, slice_get, Some}
 use Rattle.std.specs.Global.{Vec}
 use Rattle.ts_core.specs.declared.flat.FlatGrammar.{FlatGrammar}

@@ -175,8 +175,9 @@ fn column_of(
     Ok(pieces)
 }
 
-/// The column to which the line at this place of a row of columns is dealt, and the place of the line
-/// that is dealt to this column. Neighbours go to columns that lie apart, and so to several threads.
+/// The column to which the line at this place of a row of columns is dealt, and the place of the
+/// line that is dealt to this column. Neighbours go to columns that lie apart, and so to several
+/// threads.
 fn dealt(place: usize) -> usize
     ensures { result ≡ dealt_to place }
 {

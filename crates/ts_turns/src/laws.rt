@@ -1,4 +1,5 @@
-//! Laws of the definition, for the proofs of the crates above. Each is a function that does nothing.
+//! Laws of the definition, for the proofs of the crates above. Each is a function that does
+//! nothing.
 ghost use Rattle.std.specs.Prelude.{◌≡◌, ℕ, List};
 ghost use Rattle.ts_base.specs.Bytes.{Bytes};
 ghost use Rattle.ts_turns.specs.Turns.{Spells};

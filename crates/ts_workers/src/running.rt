@@ -40,8 +40,8 @@ pub struct Ran {
 /// no thread can be started is run by the thread that would have started it. The call waits until
 /// all clients are done; an await ends after 10,000,000 looks.
 ///
-/// Where a step asks several queries of a tree of 1,000 nodes or more, its client asks them at once,
-/// on 16 threads at most.
+/// Where a step asks several queries of a tree of 1,000 nodes or more, its client asks them at
+/// once, on 16 threads at most.
 ///
 /// # Errors
 ///

@@ -1,6 +1,6 @@
 use Rattle.std.proofs.Common.{ℕ, subst}
 use Rattle.ts_core.specs.declared.flat.FlatGrammar.{FlatGrammar}
-use Rattle.ts_node.specs.Entries.{HasSmallValue}
+use Rattle.spec_trees.specs.Reducible.{HasSmallValue}
 use Rattle.ts_node.proofs.ProductionLemmas.{values_small}
 use Rattle.ts_node.proofs.productions.Productions.values_are_small.Goals as goal
 
