@@ -5,6 +5,7 @@ ghost use Rattle.spec_lexing.specs.Lexing.{Found};
 ghost use Rattle.spec_lexing.specs.Seen.{Agree};
 ghost use Rattle.ts_table.specs.declared.view.ParseTable.{ParseTable};
 ghost use Rattle.ts_text.specs.Edit.{InRange, Fits, IsOver, apply_of};
+ghost use Rattle.ts_text.specs.Text.{IsText};
 ghost use Rattle.ts_lexer.specs.Answers.{IsLexedAt, LexesIn, SaysFound, extent_of};
 
 use crate::lexed::Lexed;
@@ -18,6 +19,10 @@ pub trait Content {
     /// How many bytes the text has.
     fn len(&self) -> u32
         ensures { result ≡ length (bytes self.now) };
+
+    /// The bytes are those of a text. A call of it only tells this.
+    fn stands(&self)
+        ensures { IsText (bytes self.now) };
 }
 
 /// What lexes texts for the states of a parse table.
@@ -65,5 +70,9 @@ impl Content for Text {
 
     fn len(&self) -> u32 {
         self.as_str().len() as u32
+    }
+
+    fn stands(&self) {
+        let _ = self.as_str();
     }
 }
