@@ -8,6 +8,7 @@ pub mod GrowLemmas
 pub mod HeadLemmas
 pub mod HitLemmas
 pub mod LimitLemmas
+pub mod LoneLemmas
 pub mod MemoLemmas
 pub mod OnceLemmas
 pub mod OrderLemmas

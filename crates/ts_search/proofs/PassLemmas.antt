@@ -1,5 +1,5 @@
 -- The ways in which an item takes a node.
-use Rattle.std.proofs.Common.{◌≡◌, ◌∙◌, sym, refl, subst, ℕ, ◌<◌, ◌≤◌, List, [], ◌++◌, map, length, Some, None, Bool, slice_get, true, ◌↔◌, arith}
+use Rattle.std.proofs.Common.{◌≡◌, ◌∙◌, sym, ap, refl, subst, ℕ, ◌<◌, ◌≤◌, List, [], ◌++◌, length, Some, None, Bool, slice_get, true, ◌↔◌, arith}
 use Rattle.std.specs.List.{Contains}
 use Rattle.std.proofs.lemmas.Option.{slice_get_within}
 use Rattle.spec_trees.specs.declared.visible.VisibleNode.{VisibleNode}
@@ -8,16 +8,15 @@ use Rattle.ts_query_syntax.specs.declared.read_query.Test.TheVariants.{Any, Name
 use Rattle.ts_query_syntax.specs.declared.read_query.Item.{Item}
 use Rattle.ts_query_syntax.specs.declared.read_query.Item.TheViews.{out-Item}
 use Rattle.spec_matches.specs.declared.found.Capture.{Capture}
-use Rattle.spec_matches.specs.declared.placing.Placing.{Placing}
 use Rattle.spec_matches.specs.declared.scene.Scene.{Scene}
 use Rattle.spec_matches.specs.Siblings.{AreChildren}
-use Rattle.spec_matches.specs.Embedding.{first_sibling_taken, near_of}
-use Rattle.spec_matches.specs.Taking.{Embedded, Fully, IsField, IsOfKind, NoneHas, captured, shapes_of, slots_of}
+use Rattle.spec_matches.specs.Taking.{IsField, IsOfKind, NoneHas, captured}
 use Rattle.ts_search.specs.Adding.{Adds, OfSome, Yields}
+use Rattle.ts_search.specs.Lone.{WholeOf}
 use Rattle.ts_search.specs.Steps.{Before}
 use Rattle.ts_search.specs.Ways.{AnyTakes, HasOne, InsideOf, ItemTakes, PassesOf, PlainOf, TakenOf, parts_of}
 use Rattle.ts_search.proofs.AddLemmas.{adds_all}
-use Rattle.ts_search.proofs.PlaceLemmas.{at_of, in_map, none_in_nil, of_map, same_at, there}
+use Rattle.ts_search.proofs.PlaceLemmas.{at_of, none_in_nil, same_at, there}
 use Rattle.ts_search.proofs.ShapeLemmas.{taken_at, round_takes, plain_takes}
 use Rattle.ts_search.proofs.ChildLemmas.{same_children}
 use Rattle.ts_search.proofs.YieldLemmas.{yields_exact, yields_none, yields_nothing, yields_same}
@@ -40,33 +39,10 @@ of_none nodes without numbers h = λ n inside w. h n w.0 w.1 inside w.2 w.3 w.4
 
 module _ (scene : Scene) (i : Item) (n : ℕ) where
   module _ (children : List ℕ) (kids : AreChildren scene.nodes n children) where
-    inside_to : NoneHas scene.nodes (out-Item i).without children → (f : Placing) → Embedded scene (parts_of i) (out-Item i).closed children f → InsideOf scene i n f.captures
-    inside_to none f w = record { children = children; are_children = kids; none_has = none; fully = record { runs = w.runs; full = w.full; gives = w.gives } }
-
-    inside_from : (c : List Capture) → InsideOf scene i n c → (f : Placing) × Embedded scene (parts_of i) (out-Item i).closed children f × (f.captures ≡ c)
-    inside_from c h =
-        let same : h.children ≡ children = same_children scene.nodes n h.children children h.are_children kids in
-        let w = subst (λ (l : List ℕ). Fully (TakenOf scene (parts_of i)) (slots_of (shapes_of (parts_of i))) (out-Item i).closed scene.nodes l c) same h.fully in
-        (record { first = first_sibling_taken w.runs; near = near_of w.runs; captures = c }, record { runs = w.runs; full = w.full; gives = w.gives; first = refl; near = refl }, refl)
-
-    pub inside_are : (u v : Bool) (found : List Placing) (cs : List (List Capture)) → NoneHas scene.nodes (out-Item i).without children
-        → Yields (Embedded scene (parts_of i) (out-Item i).closed children) u v found → cs ≡ map (λ (f : Placing). f.captures) found → Yields (InsideOf scene i n) u v cs
-    inside_are u v found cs none are e = record {
-      part = record { only = only; any = λ c h. let f = inside_from c h in let g = are.part.any f.0 f.1 in (g.0.captures, in_of g.0 g.1) };
-      finds = record {
-        only = only;
-        earlier = are.finds.earlier;
-        all = λ t c h. let f = inside_from c h in subst (λ (d : List Capture). Contains cs d) f.2 (in_of f.0 (are.finds.all t f.0 f.1));
-      };
-    }
-      where
-        in_of : (f : Placing) → Contains found f → Contains cs f.captures
-        in_of f h = subst (λ (l : List (List Capture)). Contains l f.captures) (sym e) (in_map (λ (g : Placing). g.captures) found f h)
-
-        only : (c : List Capture) → Contains cs c → InsideOf scene i n c
-        only c h =
-            let f = of_map (λ (g : Placing). g.captures) found (record { first = None; near = true; captures = [] }) c (subst (λ (l : List (List Capture)). Contains l c) e h) in
-            subst (InsideOf scene i n) f.2 (inside_to none f.0 (are.part.only f.0 f.1))
+    pub inside_are : (u v : Bool) (cs : List (List Capture)) → NoneHas scene.nodes (out-Item i).without children → Yields (WholeOf scene (parts_of i) (out-Item i).closed children) u v cs → Yields (InsideOf scene i n) u v cs
+    inside_are u v cs none are = yields_same (WholeOf scene (parts_of i) (out-Item i).closed children) (InsideOf scene i n) u v cs are
+        (λ c h. record { children = children; are_children = kids; none_has = none; fully = h })
+        (λ c h. subst (λ (l : List ℕ). WholeOf scene (parts_of i) (out-Item i).closed l c) (same_children scene.nodes n h.children children h.are_children kids) h.fully)
 
     pub not_inside : (w : Bool) (cs : List (List Capture)) → cs ≡ [] → (NoneHas scene.nodes (out-Item i).without children → ⊥) → Yields (InsideOf scene i n) w w cs
     not_inside w cs e fails =
@@ -104,6 +80,11 @@ module _ (scene : Scene) (i : Item) (n : ℕ) where
 
     pub no_inner : inner ≡ [] → Yields (PlainOf scene i n) u v inner
     no_inner none = yields_none (PlainOf scene i n) u v inner none are.finds.earlier (λ c h. let x = are.part.any h.inner (passes_it c h) in in_none inner x.0 none x.1)
+
+    pub bare_are : (out-Item i).captures ≡ [] → IsField (out-Item i).field node → Yields (PlainOf scene i n) u v inner
+    bare_are none field = yields_same (PassesOf scene i (out-Item i).test n node) (PlainOf scene i n) u v inner are
+        (λ c h. record { node = node; is_node = at; field = field; inner = c; captures = ap (λ (l : List ℕ). captured l n node ++ c) (sym none); passes = h })
+        (λ c h. let e : c ≡ h.inner = h.captures ∙ ap (λ (l : List ℕ). captured l n h.node ++ h.inner) none in subst (PassesOf scene i (out-Item i).test n node) (sym e) (passes_it c h))
 
     pub plain_are : (cs : List (List Capture)) → IsField (out-Item i).field node → Adds (Before inner (captured (out-Item i).captures n node)) [] cs → Yields (PlainOf scene i n) u v cs
     plain_are cs field adds = record {

@@ -14,12 +14,13 @@ use Rattle.spec_matches.specs.declared.placing.Run.{Run}
 use Rattle.spec_matches.specs.declared.placing.Placing.{Placing}
 use Rattle.spec_matches.specs.declared.scene.Scene.{Scene}
 use Rattle.spec_matches.specs.Siblings.{named_at, nameds}
-use Rattle.spec_matches.specs.Embedding.{offset, Rounds, Covers, Placed, Embeds, Widened, Full, Along, GivesCaptures, IsWayFrom, IsQuantified, first_sibling_taken, near_of}
+use Rattle.spec_matches.specs.Embedding.{offset, Rounds, Covers, Placed, Embeds, Unnamed, Widened, Full, Along, GivesCaptures, IsWayFrom, IsQuantified, first_sibling_taken, near_of}
 use Rattle.spec_matches.specs.Taking.{On, Embedded}
 use Rattle.spec_matches.specs.Matches.{capture_cmp}
 use Rattle.ts_search.specs.Adding.{OfSome}
 use Rattle.ts_search.specs.Ways.{TakenOf, slot_of}
 use Rattle.ts_search.specs.Gathering.{Gathers, GathersSome, HitsIn}
+use Rattle.ts_search.specs.Lone.{IsOnce}
 use Rattle.ts_search.specs.Single.{IsSingle, HitAt, HitsAt}
 use Rattle.ts_search.proofs.PlaceLemmas.{there, at_of, same_at}
 use Rattle.ts_search.proofs.ShapeLemmas.{slots_are}
@@ -34,7 +35,6 @@ mod_one n = let h : n % (0 + 1) < 0 + 1 = mod-lt n (omega arith) in omega arith
 
 -- a slot that takes one sibling
 pub record IsOne (s : Slot) : Type 0 where
-  pub loose : s.tied ≡ false
   pub one : s.optional ≡ false
   pub few : s.many ≡ false
   pub alone : s.more ≡ 0
@@ -51,7 +51,7 @@ module _ (s : Slot) (o : IsOne s) where
   place : (first p : ℕ) → offset s first p ≡ 0
   place first p = ap (λ (n : ℕ). (p - first) % (n + 1)) o.alone ∙ mod_one (p - first)
 
-  module _ (takes : ℕ → ℕ → ℕ → List Capture → Type 0) (named : List Bool) where
+  module _ (takes : ℕ → ℕ → ℕ → List Capture → Type 0) (named : List Bool) (closed : Bool) where
     -- what one way of the slot alone is
     pub record At (f : Placing) : Type 0 where
       pub place_of : ℕ
@@ -59,14 +59,17 @@ module _ (s : Slot) (o : IsOne s) where
       pub near : f.near ≡ true
       pub inside : place_of < length named
       pub takes_it : takes 0 0 place_of f.captures
+      pub before_it : s.tied ≡ true → Unnamed named 0 place_of
+      pub after_it : closed ≡ true → Unnamed named (place_of + 1) (length named)
 
-    to_at : (f : Placing) → IsWayFrom takes named false (s ∷ []) 0 0 true f → At f
+    to_at : (f : Placing) → IsWayFrom takes named closed (s ∷ []) 0 0 true f → At f
     to_at f w = by w.runs w.full w.gives w.first w.near
       where
-        by : (runs : List (Option Run)) → Full takes named false (s ∷ []) 0 0 true runs → GivesCaptures takes (s ∷ []) 0 runs f.captures → f.first ≡ first_sibling_taken runs → f.near ≡ near_of runs → At f
+        by : (runs : List (Option Run)) → Full takes named closed (s ∷ []) 0 0 true runs → GivesCaptures takes (s ∷ []) 0 runs f.captures → f.first ≡ first_sibling_taken runs → f.near ≡ near_of runs → At f
         by [] full gives first near = absurd full.embeds
         by (None ∷ rs) full gives first near = absurd (not_both s.optional o.one full.embeds.0)
-        by (Some r ∷ rs) full gives first near =
+        by (Some r ∷ r2 ∷ rs) full gives first near = absurd full.embeds.1
+        by (Some r ∷ []) full gives first near =
             let fits = full.embeds.0.fits in
             let d : r.past - r.first ≡ 1 = width (r.past - r.first) fits.rounds in
             let some = fits.some in
@@ -74,17 +77,23 @@ module _ (s : Slot) (o : IsOne s) where
             let along = subst (λ (n : ℕ). Along takes 0 s r.first n r.first gives.0) d gives.3 in
             let taken = subst (λ (p : ℕ). takes 0 p r.first along.0) (place r.first r.first) along.3 in
             let u : gives.0 ≡ along.0 = along.2 ∙ ap (λ (l : List Capture). along.0 ++ l) along.4 ∙ append-nil along.0 in
-            let v : gives.1 ≡ [] = nothing rs gives.1 gives.4 in
+            let v : gives.1 ≡ [] = gives.4 in
             let c : f.captures ≡ along.0 = gives.2 ∙ ap (λ (l : List Capture). gives.0 ++ l) v ∙ append-nil gives.0 ∙ u in
-            record { place_of = r.first; first = first; near = near; inside = omega arith; takes_it = subst (takes 0 0 r.first) (sym c) taken }
-          where
-            nothing : (rs : List (Option Run)) (v : List Capture) → GivesCaptures takes [] (0 + 1) rs v → v ≡ []
-            nothing rs v h = h
+            let past : r.past ≡ r.first + 1 = omega arith in
+            record {
+              place_of = r.first;
+              first = first;
+              near = near;
+              inside = omega arith;
+              takes_it = subst (takes 0 0 r.first) (sym c) taken;
+              before_it = λ t. full.embeds.0.anchored t refl;
+              after_it = λ e. subst (λ (p : ℕ). Unnamed named p (length named)) past (full.embeds.1 e refl);
+            }
 
-    from_at : (f : Placing) → At f → IsWayFrom takes named false (s ∷ []) 0 0 true f
+    from_at : (f : Placing) → At f → IsWayFrom takes named closed (s ∷ []) 0 0 true f
     from_at f a = record {
       runs = Some run ∷ [];
-      full = record { embeds = (placed, (λ c b. absurd (not_both false refl c))); widest = widest };
+      full = record { embeds = (placed, (λ e b. a.after_it e)); widest = widest };
       gives = (f.captures, [], sym (append-nil f.captures), along, refl);
       first = a.first;
       near = a.near;
@@ -112,10 +121,10 @@ module _ (s : Slot) (o : IsOne s) where
         placed = record {
           fits = record { some = omega arith; inside = (let i = a.inside in omega arith); rounds = rounds; covers = covers };
           after = omega arith;
-          anchored = λ t b. absurd (not_both s.tied o.loose t);
+          anchored = λ t b. a.before_it t;
         }
 
-        widest : (ws : List (Option Run)) → Widened (s ∷ []) (Some run ∷ []) ws → Embeds takes named false (s ∷ []) 0 0 true ws → ⊥
+        widest : (ws : List (Option Run)) → Widened (s ∷ []) (Some run ∷ []) ws → Embeds takes named closed (s ∷ []) 0 0 true ws → ⊥
         widest [] h e = h
         widest (w ∷ ws) (inl h) e = not_quantified h.0
         widest (w ∷ ws) (inr h) e = h.1
@@ -123,30 +132,45 @@ module _ (s : Slot) (o : IsOne s) where
         along : Along takes 0 s a.place_of ((a.place_of + 1) - a.place_of) a.place_of f.captures
         along = subst (λ (n : ℕ). Along takes 0 s a.place_of n a.place_of f.captures) (sym one) (f.captures, [], sym (append-nil f.captures), takes_there, refl)
 
-    pub one_way : (f : Placing) → IsWayFrom takes named false (s ∷ []) 0 0 true f ↔ At f
+    pub one_way : (f : Placing) → IsWayFrom takes named closed (s ∷ []) 0 0 true f ↔ At f
     one_way f = (to_at f, from_at f)
 
-module _ (scene : Scene) (kept : Match → Type 0) (k : ℕ) (i : Item) (single : IsSingle i) where
-  is_one : IsOne (slot_of i)
-  is_one = record { loose = single.loose; one = single.one; few = single.few; alone = single.alone }
+module _ (scene : Scene) (i : Item) (once : IsOnce i) where
+  pub is_one : IsOne (slot_of i)
+  is_one = record { one = once.one; few = once.few; alone = once.alone }
 
-  abbrev Here : List ℕ → ℕ → ℕ → ℕ → List Capture → Type 0
+  abbrev pub Here : List ℕ → ℕ → ℕ → ℕ → List Capture → Type 0
   Here siblings = On (TakenOf scene (i ∷ [])) siblings
 
+  -- a way of an item alone
+  pub lone_way : (closed : Bool) (siblings : List ℕ) (f : Placing) → Embedded scene (i ∷ []) closed siblings f ↔ At (slot_of i) is_one (Here siblings) (nameds scene.nodes siblings) closed f
+  lone_way closed siblings f =
+      subst (λ (l : List Slot). IsWayFrom (Here siblings) (nameds scene.nodes siblings) closed l 0 0 true f ↔ At (slot_of i) is_one (Here siblings) (nameds scene.nodes siblings) closed f) (sym (slots_are (i ∷ [])))
+      (one_way (slot_of i) is_one (Here siblings) (nameds scene.nodes siblings) closed f)
+
+module _ (scene : Scene) (kept : Match → Type 0) (k : ℕ) (i : Item) (single : IsSingle i) where
   pub single_hits : (pattern : Pattern) (siblings : List ℕ) (u v : Bool) (a b : BTreeSet Match) → pattern.items ≡ i ∷ [] → pattern.closed ≡ false → GathersSome (OfSome (HitsAt scene kept k i) siblings) u v a b → GathersSome (HitsIn scene kept k pattern siblings) u v a b
   single_hits pattern siblings u v a b items unclosed adds = some_same (OfSome (HitsAt scene kept k i) siblings) (HitsIn scene kept k pattern siblings) u v a b adds to from
     where
-      is_way : (f : Placing) → Embedded scene pattern.items pattern.closed siblings f ↔ At (slot_of i) is_one (Here siblings) (nameds scene.nodes siblings) f
+      is_way : (f : Placing) → Embedded scene pattern.items pattern.closed siblings f ↔ At (slot_of i) (is_one scene i single.once) (Here scene i single.once siblings) (nameds scene.nodes siblings) false f
       is_way f =
-          subst (λ (is : List Item). Embedded scene is pattern.closed siblings f ↔ At (slot_of i) is_one (Here siblings) (nameds scene.nodes siblings) f) (sym items)
-          (subst (λ (b : Bool). Embedded scene (i ∷ []) b siblings f ↔ At (slot_of i) is_one (Here siblings) (nameds scene.nodes siblings) f) (sym unclosed)
-          (subst (λ (l : List Slot). IsWayFrom (Here siblings) (nameds scene.nodes siblings) false l 0 0 true f ↔ At (slot_of i) is_one (Here siblings) (nameds scene.nodes siblings) f) (sym (slots_are (i ∷ []))) (one_way (slot_of i) is_one (Here siblings) (nameds scene.nodes siblings) f)))
+          subst (λ (is : List Item). Embedded scene is pattern.closed siblings f ↔ At (slot_of i) (is_one scene i single.once) (Here scene i single.once siblings) (nameds scene.nodes siblings) false f) (sym items)
+          (subst (λ (b : Bool). Embedded scene (i ∷ []) b siblings f ↔ At (slot_of i) (is_one scene i single.once) (Here scene i single.once siblings) (nameds scene.nodes siblings) false f) (sym unclosed)
+          (lone_way scene i single.once false siblings f))
 
       to : (m : Match) → OfSome (HitsAt scene kept k i) siblings m → HitsIn scene kept k pattern siblings m
       to m (n, inside, (c, takes, hit)) =
           let f : Placing = record { first = Some inside.0; near = true; captures = c } in (
             f,
-            (is_way f).1 (record { place_of = inside.0; first = refl; near = refl; inside = (let l = length-map siblings (named_at scene.nodes) in let w = inside.1 in omega arith); takes_it = (n, at_of siblings n inside, takes) }),
+            (is_way f).1 (record {
+              place_of = inside.0;
+              first = refl;
+              near = refl;
+              inside = (let l = length-map siblings (named_at scene.nodes) in let w = inside.1 in omega arith);
+              takes_it = (n, at_of siblings n inside, takes);
+              before_it = λ t. absurd (not_both (slot_of i).tied single.loose t);
+              after_it = λ e. absurd (not_both false refl e);
+            }),
             record {
               pattern = hit.pattern;
               comes = record { place = inside.0; first = refl; root = at_of siblings n inside ∙ ap Some (sym hit.root); members = hit.members; order = hit.order };

@@ -1,5 +1,6 @@
 pub mod Adding
 pub mod Gathering
+pub mod Lone
 pub mod Memory
 pub mod Rows
 pub mod Single

@@ -7,14 +7,13 @@ use Rattle.spec_matches.specs.declared.found.Capture.{Capture}
 use Rattle.spec_matches.specs.declared.found.Match.{Match}
 use Rattle.spec_matches.specs.declared.scene.Scene.{Scene}
 use Rattle.spec_matches.specs.Matches.{capture_cmp}
+use Rattle.ts_search.specs.Lone.{IsOnce}
 use Rattle.ts_search.specs.Ways.{ItemTakes, slot_of}
 
 -- an item takes one sibling, with no anchor before it
 pub record IsSingle (i : Item) : Type 0 where
   pub loose : (slot_of i).tied ≡ false
-  pub one : (slot_of i).optional ≡ false
-  pub few : (slot_of i).many ≡ false
-  pub alone : (slot_of i).more ≡ 0
+  pub once : IsOnce i
 
 -- the match at a node with these captures, where it is kept
 pub record HitAt (kept : Match → Type 0) (k n : ℕ) (captures : List Capture) (m : Match)

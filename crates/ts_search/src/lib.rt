@@ -2,6 +2,7 @@
 //! kept come out in order.
 #![tactic(auto)]
 
+mod anchors;
 mod gathering;
 mod keep;
 mod limit;

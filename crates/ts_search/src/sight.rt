@@ -108,7 +108,7 @@ impl<'t> Sight<'t> {
     }
 
     /// Whether the node of a number is named.
-    fn is_named(&self, n: u32) -> bool
+    pub(crate) fn is_named(&self, n: u32) -> bool
         ensures { result ≡ named_at self.now.nodes n }
     {
         match self.row(n) {

@@ -9,7 +9,7 @@ use crate::gathering::{in_order, put_kept};
 use crate::keep::Keep;
 use crate::limit::Limit;
 use crate::sight::Sight;
-use crate::taking::{item_ways, slot};
+use crate::taking::{is_once, item_ways};
 use spec_matches::{Capture, Match, one_order};
 use std::alloc::{AllocError, Global};
 use std::collections::BTreeSet;
@@ -20,11 +20,7 @@ use ts_query_syntax::{Item, Pattern};
 fn is_single(item: &Item) -> bool
     ensures { IsTrue result → IsSingle item.now }
 {
-    if item.tied {
-        return false;
-    }
-    let slot = slot(item);
-    !slot.optional && !slot.many && slot.more == 0
+    !item.tied && is_once(item)
 }
 
 /// The item of a pattern that is one item, where it takes one sibling and no anchor stands by it.

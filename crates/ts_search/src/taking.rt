@@ -1,6 +1,6 @@
 //! What items take: an item and nodes go in, and the captures of each way in which it takes them
 //! come out.
-ghost use Rattle.std.specs.Prelude.{◌≡◌, ◌↔◌, ◌^◌, ℕ, ◌∷◌, [], ◌<◌, IsTrue, IfOk, OnOk, true, map, length, Some, slice_get, List as Values};
+ghost use Rattle.std.specs.Prelude.{◌≡◌, ◌↔◌, ◌^◌, ℕ, ◌∷◌, [], ◌<◌, ◌≤◌, IsTrue, IfOk, IfSome, OnOk, true, false, map, length, Some, slice_get, List as Values};
 ghost use Rattle.std.specs.List.{Contains};
 ghost use Rattle.ts_query_syntax.specs.declared.read_query.Test.TheVariants as tests;
 ghost use Rattle.ts_query_syntax.specs.declared.read_query.Item.TheViews.{out-Item};
@@ -10,11 +10,13 @@ ghost use Rattle.spec_matches.specs.Embedding.{IsWayFrom};
 ghost use Rattle.spec_matches.specs.Taking.{Embedded, NoneHas};
 ghost use Rattle.spec_matches.specs.Taking as of_spec;
 ghost use Rattle.ts_search.specs.Adding.{Adds, Yields};
+ghost use Rattle.ts_search.specs.Lone.{FirstTakes, IsLone, IsOnce, WholeOf};
 ghost use Rattle.ts_search.specs.Memory.{WaysOf};
 ghost use Rattle.ts_search.specs.Rows.{seen_row};
 ghost use Rattle.ts_search.specs.Ways.{AnyTakes, HasOne, HasRow, HasRows, HasTable, InsideOf, ItemTakes, PassesOf, PlainOf, TakenOf, size_of, slot_of};
 
-use crate::limit::Limit;
+use crate::anchors::{closed_start, tied_end};
+use crate::limit::{Limit, stops};
 use crate::once::{captures_of, once_each};
 use crate::products::add_front;
 use crate::row::Row;
@@ -66,6 +68,35 @@ pub(crate) fn slot(item: &Item) -> Slot
         many: is_many(item.quantity),
         more: more_of(item.test, item.parts.len()),
     }
+}
+
+/// Whether an item takes one sibling.
+pub(crate) fn is_once(item: &Item) -> bool
+    ensures { IsTrue result → IsOnce item.now }
+{
+    let slot = slot(item);
+    !slot.optional && !slot.many && slot.more == 0
+}
+
+/// Of one item that takes one sibling whether an anchor stands before it.
+fn lone(items: &[Item]) -> Option<bool>
+    ensures { IfSome result (λ tied. IsLone items.now tied) }
+{
+    if items.len() != 1 {
+        return None;
+    }
+    let item = &items[0];
+    if !is_once(item) {
+        return None;
+    }
+    Some(item.tied)
+}
+
+/// Whether there is no item and no anchor.
+fn are_free(items: &[Item], closed: bool) -> bool
+    ensures { IsTrue result → (items.now ≡ []) × (closed ≡ false) }
+{
+    !closed && items.is_empty()
 }
 
 /// What items ask beside their tests.
@@ -143,6 +174,13 @@ fn only_empty(alloc: Global) -> Result<Vec<List<Capture>>, AllocError>
     let mut out = Vec::new(alloc);
     out.push(List::new(alloc))?;
     Ok(out)
+}
+
+/// Whether an item's node is not captured.
+fn has_no_captures(item: &Item) -> bool
+    ensures { IsTrue result → (out-Item item.now).captures ≡ [] }
+{
+    item.captures.is_empty()
 }
 
 /// Whether there is no way.
@@ -292,6 +330,9 @@ fn plain_ways(
     if is_none(inner.as_slice()) {
         return Ok(inner);
     }
+    if has_no_captures(item) {
+        return Ok(inner);
+    }
     let own = captured(alloc, item.captures.as_slice(), n, row)?;
     let mut ways = Vec::new(alloc);
     add_front(alloc, &mut ways, own.as_slice(), inner.as_slice())?;
@@ -357,7 +398,7 @@ fn inside(
     if !none_has(sight, item.without.as_slice(), children.as_slice()) {
         return Ok(Vec::new(alloc));
     }
-    let found = fully(
+    let ways = whole(
         alloc,
         limit,
         sight,
@@ -365,8 +406,72 @@ fn inside(
         item.closed,
         children.as_slice(),
     )?;
-    let ways = captures_of(alloc, found)?;
     Ok(once_each(ways))
+}
+
+/// The captures of each way in which items fully embed in siblings. No item, and one that takes one
+/// sibling, need no table.
+#[cycle(taking)]
+fn whole(
+    alloc: Global,
+    limit: &mut Limit,
+    sight: &Sight,
+    items: &[Item],
+    closed: bool,
+    siblings: &[u32],
+) -> Result<Vec<List<Capture>>, AllocError>
+    ensures { IfOk result (λ ways. Yields (WholeOf sight.now items.now closed siblings.now)
+        limit.old.cut limit.new.cut ways.items) }
+{
+    if are_free(items, closed) {
+        let none = only_empty(alloc)?;
+        return Ok(none);
+    }
+    if let Some(tied) = lone(items) {
+        let from = closed_start(sight, siblings, closed);
+        let to = tied_end(sight, siblings, tied);
+        let ways = first_ways(alloc, limit, sight, items, siblings, from, to)?;
+        return Ok(ways);
+    }
+    let found = fully(alloc, limit, sight, items, closed, siblings)?;
+    let ways = captures_of(alloc, found)?;
+    Ok(ways)
+}
+
+/// Whether a list of ways grows no more. If so, ways are left out.
+fn ends(limit: &mut Limit, ways: &[List<Capture>]) -> bool
+    ensures ends { IsTrue result → limit.new.cut ≡ true }
+    ensures some { IsTrue result → 0 < length ways.now }
+    ensures goes_on { result ≡ false → limit.new.cut ≡ limit.old.cut }
+{
+    stops(limit, ways.len())
+}
+
+/// The captures of each way in which the first of some items takes a sibling from a place up to
+/// another. Where there are too many, some may be left out.
+#[cycle(taking)]
+fn first_ways(
+    alloc: Global,
+    limit: &mut Limit,
+    sight: &Sight,
+    items: &[Item],
+    siblings: &[u32],
+    from: usize,
+    to: usize,
+) -> Result<Vec<List<Capture>>, AllocError>
+    requires { to ≤ length siblings.now }
+    ensures { IfOk result (λ ways. Yields (FirstTakes sight.now items.now siblings.now from to)
+        limit.old.cut limit.new.cut ways.items) }
+{
+    let mut out = Vec::new(alloc);
+    for place in from..to {
+        if ends(limit, out.as_slice()) {
+            return Ok(out);
+        }
+        let more = part_ways(alloc, limit, sight, items, 0, siblings[place])?;
+        add_all(&mut out, more)?;
+    }
+    Ok(out)
 }
 
 /// The captures of each way in which one of some branches takes a node.

@@ -1,13 +1,14 @@
-use Rattle.std.proofs.Common.{arith, List, [], refl, ap, ◌∙◌, ℕ}
-use Rattle.std.proofs.lemmas.Option.{slice_get_read}
+use Rattle.std.proofs.Common.{arith, List, [], refl, ap, ◌∙◌, ℕ, inl, inr}
+use Rattle.std.proofs.lemmas.Option.{slice_get-get_or, slice_get_read}
 use Rattle.spec_matches.specs.declared.found.Capture.{Capture}
 use Rattle.ts_query_syntax.specs.declared.read_query.Item.{Item}
 use Rattle.spec_matches.specs.Taking.{Embedded, captured}
 use Rattle.ts_search.specs.Rows.{seen_row}
 use Rattle.ts_search.specs.Ways.{InsideOf, ItemTakes}
 use Rattle.ts_search.proofs.AddLemmas.{one_in, in_one}
+use Rattle.ts_search.proofs.LoneLemmas.{first_all, first_cut, first_more, first_none, free_are, lone_are, whole_are}
 use Rattle.ts_search.proofs.PairLemmas.{fully_are, row_all, row_more, row_none, rows_all, rows_more, rows_none, table_all, table_more, table_none}
-use Rattle.ts_search.proofs.PassLemmas.{before_of, choices_are, inside_are, no_field, no_inner, no_node, not_inside, part_are, part_past, passes_any, passes_choice, passes_kind, passes_named, plain_are, ways_past, ways_plain, ways_round}
+use Rattle.ts_search.proofs.PassLemmas.{bare_are, before_of, choices_are, inside_are, no_field, no_inner, no_node, not_inside, part_are, part_past, passes_any, passes_choice, passes_kind, passes_named, plain_are, ways_past, ways_plain, ways_round}
 use Rattle.ts_search.proofs.YieldLemmas.{yield_all, yield_empty, yield_more, yields_each, yields_empty}
 use Rattle.ts_search.proofs.taking.+taking.Goals as goal
 
@@ -35,6 +36,10 @@ plain_ways-returns-then-not-has_field t c = no_field c.args.sight.now c.args.ite
 pub plain_ways-returns-then-is_none : goal.plain_ways-returns-then-is_none
 plain_ways-returns-then-is_none t c = no_inner c.args.sight.now c.args.item.now c.args.n (seen_row c.in-Some.row) _ _ c.in_ok-inner.inner.items c.in-Some.ensures c.in_ok-inner.ensures ((rw c.as_slice.ensures.value at c.is_none.ensures).0 c.if-is_none.true)
 
+pub plain_ways-returns-then-has_no_captures : goal.plain_ways-returns-then-has_no_captures
+plain_ways-returns-then-has_no_captures t c =
+    bare_are c.args.sight.now c.args.item.now c.args.n (seen_row c.in-Some.row) _ _ c.in_ok-inner.inner.items c.in-Some.ensures c.in_ok-inner.ensures (c.has_no_captures.ensures c.if-has_no_captures.true) (c.has_field.ensures.0 c.if-not-has_field.false)
+
 pub plain_ways-returns : goal.plain_ways-returns
 plain_ways-returns t c = plain_are c.args.sight.now c.args.item.now c.args.n (seen_row c.in-Some.row) _ _ c.in_ok-inner.inner.items c.in-Some.ensures c.in_ok-inner.ensures c.add_front.new.out.items (c.has_field.ensures.0 c.if-not-has_field.false)
     (before_of _ _ _ _ _ _ c.as_slice-4.ensures.value (c.as_slice-3.ensures.value ∙ c.in_ok-own.ensures ∙ ap (λ (l : List ℕ). captured l c.args.n (seen_row c.in-Some.row)) c.as_slice-2.ensures) c.new-ways.ensures.items c.in_ok-add_front.ensures)
@@ -60,10 +65,47 @@ inside-returns-then-not-none_has t c =
 pub inside-returns : goal.inside-returns
 inside-returns t c =
     yields_each (InsideOf c.args.sight.now c.args.item.now c.args.n) _ _ c.in_ok-ways.ways.items c.once_each.result.items
-    (inside_are c.args.sight.now c.args.item.now c.args.n c.in_ok-children.children.items c.in_ok-children.ensures _ _ c.in_ok-found.found.items c.in_ok-ways.ways.items
+    (inside_are c.args.sight.now c.args.item.now c.args.n c.in_ok-children.children.items c.in_ok-children.ensures _ _ c.in_ok-ways.ways.items
     ((rw c.as_slice.ensures at (rw c.as_slice-2.ensures.value at c.none_has.ensures)).0 c.if-not-none_has.false)
-    (rw c.as_slice-3.ensures at (rw c.as_slice-4.ensures.value at c.in_ok-found.ensures)) c.in_ok-ways.ensures)
+    (rw c.as_slice-3.ensures at (rw c.as_slice-4.ensures.value at c.in_ok-ways.ensures)))
     c.once_each.ensures
+
+pub whole-returns-then-are_free : goal.whole-returns-then-are_free
+whole-returns-then-are_free t c =
+    let e = c.are_free.ensures c.if-are_free.true in
+    free_are c.args.sight.now c.args.closed c.args.siblings.now _ c.args.items.now c.in_ok-none.none.items e.0 e.1 c.in_ok-none.ensures
+
+pub whole-returns-in-Some : goal.whole-returns-in-Some
+whole-returns-in-Some t c =
+    lone_are c.args.sight.now c.args.closed c.args.siblings.now _ _ c.in_ok-ways.ways.items c.args.items.now c.in-Some.tied c.closed_start-from.result c.tied_end-to.result c.in-Some.ensures c.closed_start-from.ensures c.tied_end-to.ensures.places
+    c.in_ok-ways.ensures
+
+pub whole-returns : goal.whole-returns
+whole-returns t c = whole_are c.args.sight.now c.args.items.now c.args.closed c.args.siblings.now _ _ c.in_ok-found.found.items c.in_ok-ways-2.ways.items c.in_ok-found.ensures c.in_ok-ways-2.ensures
+
+pub first_ways-loop-place-init : goal.first_ways-loop-place-init
+first_ways-loop-place-init t c = record {
+  yields = first_none c.args.sight.now c.args.items.now c.args.siblings.now c.args.from _ c.new-out.result.items c.new-out.ensures.items;
+  low = omega arith;
+  inside = inl refl;
+}
+
+pub first_ways-loop-place-preserved : goal.first_ways-loop-place-preserved
+first_ways-loop-place-preserved t c = record {
+  yields = first_more c.args.sight.now c.args.items.now c.args.siblings.now c.args.from c.loop-place.place _ _ _ _ _ c.loop-place.out.items c.in_ok-more.more.items _ c.loop-place.invariant.low
+      (slice_get-get_or c.args.siblings.now c.loop-place.place 0 (omega (arith, c.loop-place-test.true, c.requires)))
+      (c.ends.ensures.goes_on c.if-ends.false) c.loop-place.invariant.yields c.in_ok-more.ensures c.in_ok-add_all.ensures;
+  low = (let l = c.loop-place.invariant.low in omega arith);
+  inside = inr (omega (arith, c.loop-place-test.true));
+}
+
+pub first_ways-returns-then-ends : goal.first_ways-returns-then-ends
+first_ways-returns-then-ends t c =
+    first_cut c.args.sight.now c.args.items.now c.args.siblings.now c.args.from c.loop-place.place c.args.to _ _ _ c.loop-place.out.items (omega (arith, c.loop-place-test.true)) (c.ends.ensures.ends c.if-ends.true)
+    (rw c.as_slice.ensures.value at (c.ends.ensures.some c.if-ends.true)) c.loop-place.invariant.yields
+
+pub first_ways-returns : goal.first_ways-returns
+first_ways-returns t c = first_all c.args.sight.now c.args.items.now c.args.siblings.now c.args.from c.loop-place.place c.args.to _ _ c.loop-place.out.items (omega (arith, c.loop-place-test.false)) c.loop-place.invariant.inside c.loop-place.invariant.yields
 
 pub choices-loop-branch-init : goal.choices-loop-branch-init
 choices-loop-branch-init t c = yield_empty (λ (i : Item) (cs : List Capture). ItemTakes c.args.sight.now i 0 c.args.n cs) _ c.new-out.result.items c.new-out.ensures.items
