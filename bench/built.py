@@ -83,12 +83,22 @@ def spent():
 
 
 def round_time(program, rounds, *words):
-    """What the program prints for so many rounds, and the processor time of one in microseconds."""
-    start = spent()
-    run(program, "0", *words)
-    once = spent() - start
-    printed = run(program, str(rounds), *words)[0]
-    return printed, (spent() - start - 2 * once) / rounds
+    """What the program prints for so many rounds, and the processor time of one in microseconds.
+
+    It is what the least of three runs takes beyond the least of three without any round.
+    """
+
+    def least(count):
+        found = []
+        for _ in range(3):
+            start = spent()
+            printed = run(program, str(count), *words)[0]
+            found.append(spent() - start)
+        return printed, min(found)
+
+    _, none = least(0)
+    printed, all_rounds = least(rounds)
+    return printed, (all_rounds - none) / rounds
 
 
 def loads(text, rounds):

@@ -8,8 +8,8 @@ given, which `./hemshale build` makes: it compiles the grammars. For each gramma
 takes any run of its tokens, with the same separators and the same word token, so that nothing but lexing is measured:
 each token is lexed among all of them. The texts are those of `bench/parse.py` with 1 MB. A second grammar has one token
 more, which no text here has and whose automaton has too many sets for tables: the same tokens are then found from node
-to node. ROUNDS is 20 if none is given (one from node to node). Times are processor time of the rounds, less that of a
-run without any, which makes the lexer.
+to node. ROUNDS is 20 if none is given. Times are processor time: of three runs with the rounds the least, less the
+least of three without any, which make the lexer alone.
 """
 import json
 import subprocess
@@ -231,7 +231,7 @@ def main():
                 grammar = json.load(file)
             text = make(SIZE).rstrip()
             measured(f"{name}, tables", tokens_alone(grammar), text, rounds)
-            measured(f"{name}, nodes", tokens_alone(grammar, [MANY_SETS]), text, 1)
+            measured(f"{name}, nodes", tokens_alone(grammar, [MANY_SETS]), text, rounds)
         words = " ".join(f"word{k * 7919 % 1000}" for k in range(SIZE // 8))
         for count in (4, 40, 400):
             measured(f"{count} tokens, tables", of_words(count), words, rounds)
