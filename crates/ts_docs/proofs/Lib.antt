@@ -1,2 +1,3 @@
+pub mod ReuseLemmas
 pub mod LatestLemmas
 pub mod RefusedLemmas

@@ -1,3 +1,4 @@
 pub mod Books
 pub mod Steps
 pub mod Versions
+pub mod Reuse

@@ -3,15 +3,17 @@
 ghost use Rattle.std.specs.Prelude.{◌≡◌, ◌↔◌, ℕ, ◌+◌, ◌<◌, ◌≤◌, ◌^◌, length, IfOk, IsErrOf, IsOkUnless};
 ghost use Rattle.ts_text.specs.Edit.{InRange, IsOver, apply_of, Fits};
 ghost use Rattle.ts_text.specs.Text.{most_bytes};
+ghost use Rattle.ts_docs.specs.Reuse.{IsReusableIfAny};
 ghost use Rattle.ts_docs.specs.Versions.{IsTextOf, Drafts};
 
 use crate::draft::DraftOf;
+use crate::parsing::{Parsed, outcome_of};
+use crate::reuse::{Reuse, reuse_for};
 use crate::version::VersionOf;
 use std::alloc::{AllocError, Global};
 use std::snapshot::Snapshot;
 use thiserror::Error;
 use ts_base::Shared;
-use ts_glr::parse;
 use ts_lexer::{Content, Tokens};
 use ts_table::Table;
 use ts_text::{Edit, EditFault};
@@ -49,7 +51,7 @@ where
     ensures made { X.made_for lexer.new table.now }
     ensures opens { IfOk result (IsTextOf table.now 0 (X.Text.bytes text)) }
 {
-    version(alloc, table, lexer, 0, text)
+    version(alloc, table, lexer, 0, text, Reuse::nothing())
 }
 
 /// The version after an edit of another, for this step of the client.
@@ -82,7 +84,7 @@ where
         InRange base.now.text edit.now × Fits base.now.text edit.now }
 {
     let text = edited(alloc, lexer, base.text(), edit)?;
-    match shared(alloc, table, lexer, base.number() + 1, text) {
+    match next(alloc, table, lexer, base, edit, text) {
         Ok(version) => Ok(DraftOf {
             client,
             step,
@@ -116,45 +118,55 @@ fn edited<X: Tokens>(
     }
 }
 
-/// The version of this number with this text.
+/// The version of this number with this text, and with what is kept of the version before it.
 fn version<X: Tokens>(
     alloc: Global,
     table: &Table,
     lexer: &mut X,
     number: u32,
     text: X::Text,
+    kept: Reuse,
 ) -> Result<VersionOf<X::Text>, AllocError>
 where
     X::Text: Drop,
     requires made { X.made_for lexer.old table.now }
     requires within { length (X.Text.bytes text) ≤ most_bytes }
+    requires kept { IsReusableIfAny table.now (X.Text.bytes text) kept.marked }
     ensures made { X.made_for lexer.new table.now }
     ensures version { IfOk result (IsTextOf table.now number (X.Text.bytes text)) }
 {
-    let outcome = parse(alloc, table, lexer, &text)?;
+    let Parsed { outcome, kept } = outcome_of(alloc, table, lexer, &text, kept)?;
     Ok(VersionOf {
         number,
         text: Shared::new(alloc, text)?,
         outcome,
+        kept,
         table: Snapshot::of(table),
     })
 }
 
-/// The same, to be shared.
-fn shared<X: Tokens>(
+/// The version after an edit of another, with the text that the edit leaves.
+fn next<X: Tokens>(
     alloc: Global,
     table: &Table,
     lexer: &mut X,
-    number: u32,
+    base: &VersionOf<X::Text>,
+    edit: &Edit,
     text: X::Text,
 ) -> Result<Shared<VersionOf<X::Text>>, AllocError>
 where
     X::Text: Drop,
     requires made { X.made_for lexer.old table.now }
+    requires table { table.now ≡ base.now.table }
+    requires number { base.now.number + 1 < 2 ^ 32 }
+    requires in_range { InRange base.now.text edit.now }
     requires within { length (X.Text.bytes text) ≤ most_bytes }
+    requires text { X.Text.bytes text ≡ apply_of base.now.text edit.now }
     ensures made { X.made_for lexer.new table.now }
-    ensures version { IfOk result (IsTextOf table.now number (X.Text.bytes text)) }
+    ensures version { IfOk result
+        (IsTextOf table.now (base.now.number + 1) (X.Text.bytes text)) }
 {
-    let version = version(alloc, table, lexer, number, text)?;
+    let kept = reuse_for(alloc, table, base, edit)?;
+    let version = version(alloc, table, lexer, base.number() + 1, text, kept)?;
     Shared::new(alloc, version)
 }

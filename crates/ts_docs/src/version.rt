@@ -1,12 +1,16 @@
 //! One version of a document: a text and what it comes to.
-ghost use Rattle.std.specs.Prelude.{◌≡◌};
+ghost use Rattle.std.specs.Prelude.{◌≡◌, Some, option_copied};
+ghost use Rattle.spec_trees.specs.declared.tree.Tree.{Tree};
+ghost use Rattle.ts_docs.specs.Reuse.{IsReusable};
 ghost use Rattle.ts_docs.specs.Versions.{IsFreshVersion};
 
+use crate::reuse::Reuse;
 use std::marker::Model;
 use std::snapshot::Snapshot;
 use ts_base::Shared;
 use ts_glr::Outcome;
 use ts_lexer::Content;
+use ts_node::Node;
 use ts_table::Table;
 use ts_text::Text;
 
@@ -18,6 +22,7 @@ pub struct VersionOf<W: Content> {
     pub number: u32,
     pub text: Shared<W>,
     pub outcome: Outcome,
+    pub(crate) kept: Reuse,
     /// The table by which it was parsed. It has no bytes.
     pub table: Snapshot<Table>,
 }
@@ -35,11 +40,12 @@ impl<W: Content> Model for VersionOf<W> {
     ghost coded = { Prim.hlevel (codes, contract.the_row.coded) };
 
     ghost use Rattle.ts_docs.specs.Versions.{parsed_text, IsFreshVersion};
+    ghost use Rattle.ts_docs.specs.Reuse.{IsReusableIfAny};
 
     ghost view = { λ v. parsed_text v.number (W.bytes v.text) v.outcome v.table.value };
 
     ghost invariant = { λ v. IsFreshVersion (parsed_text v.number (W.bytes v.text) v.outcome
-        v.table.value) };
+        v.table.value) × IsReusableIfAny v.table.value (W.bytes v.text) v.kept.marked };
 }
 
 impl<W: Content> VersionOf<W> {
@@ -69,5 +75,20 @@ impl<W: Content> VersionOf<W> {
         ensures { result.now ≡ self.now.outcome }
     {
         &self.outcome
+    }
+
+    /// A tree whose nodes may be taken over into that of the next version: that of the outcome,
+    /// where one stack was enough for it, or an older one of the document with all edits since
+    /// marked in it. None where there is none, or where too much was taken out of it since.
+    pub fn marked(&self) -> Option<&Node>
+        ensures { (tree : Tree) → option_copied result ≡ Some tree
+            → IsReusable self.now.table self.now.text tree }
+    {
+        self.kept.marked.as_ref()
+    }
+
+    /// What it keeps for the next version.
+    pub(crate) fn kept(&self) -> &Reuse {
+        &self.kept
     }
 }

@@ -17,7 +17,7 @@ use ts_text::Edit;
 ///
 /// A settled node that no part meets costs one look, whatever is in it. So it takes time by the
 /// nodes that are made anew and their children. Of a repetition that is made anew each child is
-/// looked at.
+/// looked at, and for each child that changes a leaf of the repetition is copied.
 ///
 /// # Errors
 ///

@@ -13,8 +13,9 @@ use ts_node::Node;
 
 /// Offers from a tree that edits have marked, which contracts see as that `Offering`.
 ///
-/// It keeps its way down the tree, so that all calls together pass each node once at most. A call
-/// takes no memory.
+/// It keeps its way down the tree, so that all calls together pass each node before their places
+/// once at most; each call also looks through the nodes that begin at its place, down to the
+/// topmost fit one. A call takes no memory.
 #[derive(Drop)]
 pub struct Old<'t> {
     way: Way<'t>,

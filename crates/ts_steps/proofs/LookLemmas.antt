@@ -10,7 +10,7 @@ use Rattle.ts_core.specs.declared.symbol.Symbol.{Symbol}
 use Rattle.spec_lexing.specs.Matching.{MatchesToken, plainly, as_keyword}
 use Rattle.spec_lexing.specs.Lexing.{Found, token, absent, behind, Lexes, takes, ends, passes, stops}
 use Rattle.spec_lexing.specs.Seen.{Agree, HasFront, IsReach, IsSeen, last, more, one_character, is_inner}
-use Rattle.spec_runs.specs.Configurations.{AreValidTokens}
+use Rattle.spec_runs.specs.Configurations.{Configuration, AreValidTokens, NextIs}
 use Rattle.ts_table.specs.declared.view.ParseTable.{ParseTable}
 use Rattle.ts_table.specs.Tables.{IsTable, IsStateOf}
 use Rattle.ts_gss.specs.declared.layer.Layer.{Layer}
@@ -52,6 +52,9 @@ names_found g valid _ _ _ (stops first rest none lack) = tt
 found_token : (g : FlatGrammar) (valid : List Symbol) (rest : Bytes) (s : Symbol) (pad size : ℕ) → Lexes g valid true rest (token s pad size) → Contains valid s × (0 < s.0 → 0 < size)
 unfolding Names
 found_token g valid rest s pad size l = names_found g valid true rest (token s pad size) l
+
+pub next_some : (g : FlatGrammar) (text : Bytes) (c : Configuration) (s : Symbol) (pad size : ℕ) → NextIs g text c (token s pad size) → 0 < s.0 → 0 < size
+next_some g text c s pad size n = (found_token g n.0 (drop c.place text) s pad size n.2).1
 
 -- ---- how far the text is looked at
 

@@ -12,10 +12,12 @@ use Rattle.ts_core.specs.declared.symbol.Symbol.{Symbol}
 use Rattle.spec_grammar.specs.Symbols.{is_among, is_extra}
 use Rattle.spec_tables.specs.Actions.{Move, shift, reduce, accept, Act, may_shift, may_reduce, may_accept}
 use Rattle.spec_tables.specs.Items.{Item, IsToken, CanBeginWith, itself, by_first, MayStandBehind, Valid, begun, asked, advanced_past, line_steps}
+use Rattle.spec_tables.specs.Fit.{Fit}
+use Rattle.spec_forced.specs.Forced.{IsOnlyMove}
 use Rattle.spec_runs.specs.Configurations.{HasMove, AreValidTokens}
 use Rattle.spec_forced.specs.Sound.{States, IsStateAfter}
 use Rattle.ts_table.specs.declared.view.ParseTable.{ParseTable}
-use Rattle.ts_table.specs.Tables.{IsTable, IsStateOf, at_first, by_goto, goto_of, ActsBy, shifts, reduces, accepts}
+use Rattle.ts_table.specs.Tables.{IsTable, IsStateOf, at_first, by_goto, goto_of, actions_of, ActsBy, shifts, reduces, accepts}
 use Rattle.ts_lexer.specs.States.{AreValid, IsValidToken, acts, extra}
 use Rattle.ts_moves.specs.Laws.{Laws}
 use Rattle.ts_steps.specs.Heads.{AreStatesOf}
@@ -124,6 +126,68 @@ among_back (x ∷ xs) s e = by (nat_eq x.0 s.0) refl (among_back xs s)
     by true h deeper = (0, (omega arith), (let q : x.0 ≡ s.0 = eqb-true x.0 s.0 h in ap {B = Symbol} (λ (n : ℕ). record { 0 = n }) q))
     by false h deeper = let r = deeper (let f : is_among s.0 (x ∷ xs) ≡ is_among s.0 xs = rw h refl in sym f ∙ e) in (suc r.0, (let lt : r.0 < length xs = r.1 in omega arith), r.2)
 
+-- an extra is a token
+pub extra_token : (g : FlatGrammar) (s : Symbol) → Fit g → is_extra g s.0 ≡ true → IsToken g s.0
+extra_token g s fit e =
+    let w = among_back g.extras s e in
+    subst (λ (x : Symbol). (0 < x.0) × (x.0 ≤ length g.tokens)) w.2 (fit.extras.1 w.0 s w.1)
+
+-- ---- the only move
+
+-- the move that an action does
+abbrev pub move_by : Action → Move
+move_by (Shift next) = shift
+move_by (Reduce number) = reduce number
+move_by Accept = accept
+
+stays_by : (t : ParseTable) (read : List ℕ) (token : ℕ) (a : Action) → ActsBy t read token a → Act t.grammar read token (move_by a)
+stays_by t read token _ (shifts next act state) = act
+stays_by t read token _ (reduces number act) = act
+stays_by t read token _ (accepts act) = act
+
+-- the state after a shift
+shift_by : (t : ParseTable) (read : List ℕ) (token next : ℕ) (a : Action) → a ≡ Shift next → ActsBy t read token a → IsStateOf t (token ∷ read) next
+shift_by t read token next _ e (shifts m act state) = let h : Shift m ≡ Shift next = e in subst (λ (n : ℕ). IsStateOf t (token ∷ read) n) (let q : m ≡ next = cc in q) state
+shift_by t read token next _ e (reduces number act) = absurd (let h : Reduce number ≡ Shift next = e in cc)
+shift_by t read token next _ e (accepts act) = absurd (let h : Accept ≡ Shift next = e in cc)
+
+pub shift_of : (t : ParseTable) (read : List ℕ) (token next : ℕ) → ActsBy t read token (Shift next) → IsStateOf t (token ∷ read) next
+shift_of t read token next a = shift_by t read token next (Shift next) refl a
+
+-- each move that stays is that of one of the actions
+action_of : (laws : Laws) (t : ParseTable) (read : List ℕ) (n token : ℕ) (move : Move) → IsTable t → IsStateOf t read n → Act t.grammar read token move → (a : Action) × Contains (actions_of t n token) a × (move_by a ≡ move)
+action_of laws t read n token shift table st act =
+    let s = shift_acts laws t read n token table st act in
+    (Shift s.0, (table.actions read n token (Shift s.0) st).1 s.1, refl)
+action_of laws t read n token (reduce number) table st act = (Reduce number, (table.actions read n token (Reduce number) st).1 (reduces number act), refl)
+action_of laws t read n token accept table st act = (Accept, (table.actions read n token Accept st).1 (accepts act), refl)
+
+in_one : (xs : List Action) (a b : Action) → xs ≡ b ∷ [] → Contains xs a → a ≡ b
+in_one xs a b is w = by xs is w.0 w.1 w.2
+  where
+    by : (xs : List Action) → xs ≡ b ∷ [] → (k : ℕ) → k < length xs → get_or xs k a ≡ a → a ≡ b
+    by [] e k lt at = absurd (omega (arith, lt))
+    by (x ∷ xs) e zero lt at = let q : x ≡ b = cc in sym at ∙ q
+    by (x ∷ xs) e (suc k) lt at = absurd (let q : xs ≡ [] = cc in let n : length xs ≡ 0 = ap (λ (l : List Action). length l) q in omega (arith, lt, n))
+
+pub one_acts : (t : ParseTable) (read : List ℕ) (n token : ℕ) (a : Action) → IsTable t → IsStateOf t read n → actions_of t n token ≡ a ∷ [] → ActsBy t read token a
+one_acts t read n token a table st is =
+    (table.actions read n token a st).0 (subst (λ (l : List Action). Contains l a) (sym is) (0, (omega arith), refl))
+
+pub one_move : (laws : Laws) (t : ParseTable) (read : List ℕ) (n token : ℕ) (a : Action) → IsTable t → IsStateOf t read n → actions_of t n token ≡ a ∷ [] → IsOnlyMove t.grammar read token (move_by a)
+one_move laws t read n token a table st is = record {
+  stays = stays_by t read token a (one_acts t read n token a table st is);
+  only = λ other act.
+      let w = action_of laws t read n token other table st act in
+      sym w.2 ∙ ap move_by (in_one (actions_of t n token) w.0 a is w.1);
+}
+
+pub no_move : (laws : Laws) (t : ParseTable) (read : List ℕ) (n token : ℕ) → IsTable t → IsStateOf t read n → actions_of t n token ≡ [] → HasMove t.grammar read token → ⊥
+no_move laws t read n token table st is m =
+    let w = action_of laws t read n token m.0 table st m.1 in
+    let k : length (actions_of t n token) ≡ 0 = ap (λ (l : List Action). length l) is in
+    absurd (let lt = w.1.1 in omega (arith, lt, k))
+
 -- ---- valid tokens
 
 pub valid_tokens : (laws : Laws) (t : ParseTable) (read : List ℕ) (n : ℕ) (valid : List Symbol) → IsTable t → IsStateOf t read n → AreValid t n valid → AreValidTokens t.grammar read valid
@@ -138,3 +202,11 @@ valid_tokens laws t read n valid table st are s = ((λ w. forth ((are s).0 w)), 
         let a = has_action laws t read n s.0 m.0 table st m.1 in
         acts (act_token t.grammar read s.0 m.0 m.1) (a.0, (table.actions read n s.0 a.0 st).1 a.1)
     back (inr e) = extra (among_back t.grammar.extras s e)
+
+-- where the table has an action some move stays
+pub some_move : (t : ParseTable) (read : List ℕ) (n token : ℕ) → IsTable t → IsStateOf t read n → 0 < length (actions_of t n token) → HasMove t.grammar read token
+some_move t read n token table st some = by (actions_of t n token) refl some
+  where
+    by : (xs : List Action) → actions_of t n token ≡ xs → 0 < length xs → HasMove t.grammar read token
+    by [] e lt = absurd (omega (arith, lt))
+    by (a ∷ xs) e lt = move_of t read token a ((table.actions read n token a st).0 (subst (λ (l : List Action). Contains l a) (sym e) (0, (omega arith), refl)))

@@ -4,3 +4,6 @@ pub mod Settings
 pub mod Looking
 pub mod Reducing
 pub mod Accepting
+pub mod Reparsing
+pub mod Choosing
+pub mod Weights

@@ -2,6 +2,7 @@
 ghost use Rattle.std.specs.Prelude.{◌≡◌, ℕ, List};
 ghost use Rattle.ts_core.specs.declared.symbol.Symbol.{Symbol as AnySymbol};
 ghost use Rattle.spec_runs.specs.Configurations.{AreValidTokens};
+ghost use Rattle.spec_forced.specs.Laws.{ForcedLaws};
 ghost use Rattle.spec_forced.specs.Sound.{States, IsStateAfter};
 ghost use Rattle.ts_table.specs.declared.view.ParseTable.{ParseTable};
 ghost use Rattle.ts_table.specs.Tables.{IsTable, IsStateOf};
@@ -11,7 +12,8 @@ ghost use Rattle.ts_steps.specs.Laws.{SoundLaws};
 ghost use Rattle.ts_steps.specs.Heads.{AreStatesOf};
 
 use spec_forced::{leaves_stand, lexings_are_decided, nodes_stand, stacks_stay_sound, states_tell};
-use spec_lexing::{beginnings, token_within};
+use spec_lexing::{beginnings, fewer_tokens, one_answer, token_within};
+use spec_reuse::{no_new_tokens, some_move_stays};
 use spec_runs::{
     bare_trees, empty_rules_are_unused, moves_have_their_place, one_reduction, one_sight,
     repetitions_repeat, start_is_no_repetition,
@@ -31,6 +33,21 @@ pub(crate) fn laws_hold()
     start_is_no_repetition();
     beginnings();
     token_within();
+}
+
+/// The laws of runs without a choice hold.
+pub(crate) fn forced_laws_hold()
+    ensures { ForcedLaws }
+{
+    bare_trees();
+    moves_have_their_place();
+    repetitions_repeat();
+    one_sight();
+    one_reduction();
+    one_answer();
+    fewer_tokens();
+    some_move_stays();
+    no_new_tokens();
 }
 
 /// The laws of nodes that stand hold.

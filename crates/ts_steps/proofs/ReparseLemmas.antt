@@ -1,0 +1,175 @@
+-- A parse over one stack: what holds at its start, after each move, and at its end.
+use Rattle.std.proofs.Common.{◌≡◌, sym, ap, refl, subst, ℕ, ◌+◌, ◌<◌, ◌≤◌, ◌↔◌, List, [], ◌∷◌, length, drop, Option, Some, None, IfSome, MatchOption, arith}
+use Rattle.ts_base.specs.Bytes.{Bytes}
+use Rattle.ts_core.specs.declared.flat.FlatGrammar.{FlatGrammar}
+use Rattle.ts_core.specs.declared.symbol.Symbol.{Symbol}
+use Rattle.spec_grammar.specs.Symbols.{symbol_count}
+use Rattle.spec_tables.specs.Fit.{Fit}
+use Rattle.spec_trees.specs.declared.tree.Tree.{Tree}
+use Rattle.spec_trees.specs.Trees.{node_extent, span_of, bare}
+use Rattle.spec_trees.specs.Made.{filling}
+use Rattle.spec_runs.specs.Configurations.{Configuration, starting, stack_symbols, pushed, AreValidTokens}
+use Rattle.spec_runs.specs.Runs.{StepsOn, shift_token, pass_extra, reduce_trees}
+use Rattle.spec_runs.specs.Outcomes.{FreshOutcome, Fresh, deep_outcome, tree_outcome, stuck_outcome}
+use Rattle.spec_forced.specs.Forced.{Stands}
+use Rattle.spec_forced.specs.OnlyRuns.{IsOnlyStep, only_here, only_on, EndAlike, FreshFrom}
+use Rattle.spec_forced.specs.Sound.{States, IsHonest}
+use Rattle.ts_steps.proofs.OnlyLemmas.{alike_self, alike_back, alike_chain, only_alike}
+use Rattle.ts_table.specs.declared.view.ParseTable.{ParseTable}
+use Rattle.ts_table.specs.Tables.{IsTable, IsStateOf}
+use Rattle.ts_table.specs.Ranks.{unit_rank, AreUnitRanks}
+use Rattle.ts_lexer.specs.declared.lexed.Lexed.{Lexed}
+use Rattle.ts_gss.specs.declared.layer.Layer.{Layer}
+use Rattle.ts_gss.specs.Stacks.{stack_at, trees_on, state_on}
+use Rattle.ts_moves.specs.declared.head.StackHead.{StackHead}
+use Rattle.ts_moves.specs.declared.found.FoundToken.{FoundToken}
+use Rattle.ts_moves.specs.Laws.{Laws}
+use Rattle.ts_moves.specs.Heads.{config_of}
+use Rattle.ts_steps.proofs.StackLemmas.{filling_bare, state_top, span_bare}
+use Rattle.ts_steps.specs.declared.reparsed.Reparsed.{Reparsed}
+use Rattle.ts_steps.specs.declared.reparsed.Reparsed.TheVariants.{Accepted, Stuck, Deep, Forks}
+use Rattle.ts_steps.specs.declared.reparsed.Going.{Going}
+use Rattle.ts_steps.specs.declared.reparsed.Going.TheVariants.{On, Reduced, Ended}
+use Rattle.ts_steps.specs.Laws.{SoundLaws}
+use Rattle.ts_steps.specs.Looking.{SeesAhead}
+use Rattle.ts_steps.specs.Heads.{AreStatesOf, IsOwnHead, StandOnHead, IsTaken}
+use Rattle.ts_steps.specs.Reparsing.{StandsFor, IsOwnResult, IsResult, IsTakenFrom, EndsFrom, GoesTo}
+use Rattle.ts_steps.specs.Weights.{config_weight}
+use Rattle.ts_steps.proofs.TableLemmas.{state_after, valid_tokens}
+use Rattle.ts_steps.proofs.WeightLemmas.{light_step, light_node}
+
+-- ---- the start
+
+pub own_start : (t : ParseTable) (size : ℕ) (stacks : List (List Layer)) → stacks ≡ [] ∷ [] → IsOwnHead t size stacks (record { top = 0; place = 0 })
+own_start t size stacks is = subst (λ (s : List (List Layer)). IsOwnHead t size s (record { top = 0; place = 0 })) (sym is) (record {
+  live = record {
+    there = omega arith;
+    stack = record { states = tt; good = tt; spans = refl; reach = tt; within = omega arith };
+  };
+  own = tt;
+})
+
+pub stands_start : (t : ParseTable) (states : States) (text : Bytes) (stacks : List (List Layer)) → stacks ≡ [] ∷ [] → StandsFor t states text stacks (record { top = 0; place = 0 })
+stands_start t states text stacks is = subst (λ (s : List (List Layer)). StandsFor t states text s (record { top = 0; place = 0 })) (sym is) (record {
+  alike = alike_self t.grammar text starting;
+  stand = tt;
+})
+
+-- ---- the moves
+
+pub stands_on : (t : ParseTable) (states : States) (text : Bytes) (old new : List (List Layer)) (h k : StackHead) → StandsFor t states text old h → IsOnlyStep t.grammar text (config_of old h) (config_of new k)
+    → (StandOnHead t states text old h → StandOnHead t states text new k) → StandsFor t states text new k
+stands_on t states text old new h k s step stand = record {
+  alike = alike_chain t.grammar text starting (config_of old h) (config_of new k) s.alike
+      (only_alike t.grammar text (config_of old h) (config_of new k) (only_on (config_of old h) (config_of new k) (config_of new k) step (only_here (config_of new k))));
+  stand = stand s.stand;
+}
+
+abbrev pub Pushes : Type 0
+Pushes = (g : FlatGrammar) → Fit g → (text : Bytes) (c : Configuration) (t : Tree) (e : ℕ) (valid : List Symbol)
+    → Stands g (stack_symbols c.stack) (drop c.place text) t e
+    → AreValidTokens g (stack_symbols (bare t ∷ c.stack)) valid
+    → EndAlike g text c (pushed c (bare t))
+
+module _ (laws : Laws) (sound : SoundLaws) (push : Pushes) (t : ParseTable) (states : States) (text : Bytes) (old new : List (List Layer)) (h k : StackHead) (node : Tree) (table : IsTable t) (are : AreStatesOf t states) where
+  pub stands_taken : IsOwnHead t (length text) old h → StandsFor t states text old h → IsTakenFrom t (length text) old new h node k → IsHonest t.grammar states text h.place (state_on (stack_at old h.top)) node → StandsFor t states text new k
+  stands_taken own s w honest =
+      let trees = trees_on (stack_at old h.top) in
+      let read : stack_symbols (config_of old h).stack ≡ filling trees = filling_bare laws trees in
+      let st : IsStateOf t (filling trees) (state_on (stack_at old h.top)) = state_top t (stack_at old h.top) own.live.stack.states in
+      let stands : Stands t.grammar (filling trees) (drop h.place text) node (node_extent node) =
+      sound.after t.grammar states text h.place (state_on (stack_at old h.top)) node (filling trees) (state_after t states (filling trees) (state_on (stack_at old h.top)) table are st) honest.stands in
+      let v = sound.tokens t w.taken.state in
+      let valid : AreValidTokens t.grammar (stack_symbols (bare node ∷ (config_of old h).stack)) v.0 =
+      subst (λ (r : List ℕ). AreValidTokens t.grammar r v.0) (sym (filling_bare laws (node ∷ trees))) (valid_tokens laws t (filling (node ∷ trees)) w.taken.state v.0 table w.taken.can.leads v.1) in
+      let alike : EndAlike t.grammar text (config_of old h) (pushed (config_of old h) (bare node)) =
+      push t.grammar table.fit text (config_of old h) node (node_extent node) v.0 (subst (λ (r : List ℕ). Stands t.grammar r (drop h.place text) node (node_extent node)) (sym read) stands) valid in
+      record {
+        alike = alike_chain t.grammar text starting (config_of old h) (config_of new k) s.alike (subst (λ (x : Configuration). EndAlike t.grammar text (config_of old h) x) (sym w.taken.config) alike);
+        stand = w.stand states text refl are honest s.stand;
+      }
+
+-- ---- the end
+
+module _ (fresh : (g : FlatGrammar) (text : Bytes) (c d : Configuration) → EndAlike g text c d → (o : FreshOutcome) → FreshFrom g text c o → FreshFrom g text d o) (start : (g : FlatGrammar) (text : Bytes) (o : FreshOutcome) → FreshFrom g text starting o ↔ Fresh g text o)
+    (t : ParseTable) (states : States) (text : Bytes) (old : List (List Layer)) (h : StackHead) (are : AreStatesOf t states) (s : StandsFor t states text old h) where
+  from_start : (o : FreshOutcome) → FreshFrom t.grammar text (config_of old h) o → Fresh t.grammar text o
+  from_start o f = (start t.grammar text o).0 (fresh t.grammar text (config_of old h) starting (alike_back t.grammar text starting (config_of old h) s.alike) o f)
+
+  pub ends_result : (r : Reparsed) → EndsFrom t text old h r → IsResult t states text r
+  ends_result (Accepted u) e = (from_start (tree_outcome u) e.0, e.4 states are s.stand)
+  ends_result (Stuck place) e = from_start (stuck_outcome place) e
+  ends_result Deep e = from_start deep_outcome e
+  ends_result (Forks place) e = tt
+
+pub ends_own : (t : ParseTable) (text : Bytes) (old : List (List Layer)) (h : StackHead) (r : Reparsed) → EndsFrom t text old h r → IsOwnResult t r
+ends_own t text old h (Accepted u) e = (e.1, e.2, e.3)
+ends_own t text old h (Stuck place) e = tt
+ends_own t text old h Deep e = tt
+ends_own t text old h (Forks place) e = e
+
+-- ---- each move falls
+
+module _ (laws : Laws) (t : ParseTable) (fit : Fit t.grammar) (ranks : AreUnitRanks t.grammar (unit_rank t.grammar) (symbol_count t.grammar)) (text : Bytes) (old new : List (List Layer)) (h k : StackHead) (own : IsOwnHead t (length text) old h) where
+  pub step_falls : IsOnlyStep t.grammar text (config_of old h) (config_of new k) → config_weight t.grammar (length text) (config_of new k) < config_weight t.grammar (length text) (config_of old h)
+  step_falls s = light_step laws t.grammar fit ranks text (config_of old h) (config_of new k) own.live.stack.within s.step
+
+  pub taken_falls : (node : Tree) → IsTakenFrom t (length text) old new h node k → config_weight t.grammar (length text) (config_of new k) < config_weight t.grammar (length text) (config_of old h)
+  taken_falls node w =
+      let same = span_bare laws node in
+      let some = w.some in
+      let placed : k.place ≡ h.place + span_of (bare node) = ap (λ (x : Configuration). x.place) w.taken.config in
+      let within = w.taken.live.live.stack.within in
+      subst (λ (x : Configuration). config_weight t.grammar (length text) x < config_weight t.grammar (length text) (config_of old h)) (sym w.taken.config)
+      (light_node laws t.grammar fit ranks (length text) (config_of old h) (bare node) (omega arith) (omega arith))
+
+-- ---- what is taken
+
+pub take_gives : (t : ParseTable) (size : ℕ) (old new : List (List Layer)) (h : StackHead) (node : Tree) (Gives : Tree → Type 0) (No : Type 0) (o : Option StackHead) → Gives node → 0 < span_of node
+    → MatchOption o No (IsTaken t size old new h node)
+    → IfSome o (λ k. (states : States) (text : Bytes) → length text ≡ size → AreStatesOf t states → IsHonest t.grammar states text h.place (state_on (stack_at old h.top)) node → StandOnHead t states text old h → StandOnHead t states text new k)
+    → IfSome o (λ k. (x : Tree) × Gives x × IsTakenFrom t size old new h x k)
+take_gives t size old new h node Gives No None given some taken stand = tt
+take_gives t size old new h node Gives No (Some k) given some taken stand = (node, given, record { taken = taken; some = some; stand = stand })
+
+pub taken_some : (t : ParseTable) (size long : ℕ) → size ≡ long → (old new : List (List Layer)) (h : StackHead) (Gives : Tree → Type 0) (o : Option StackHead) (k : StackHead) → o ≡ Some k
+    → IfSome o (λ q. (x : Tree) × Gives x × IsTakenFrom t size old new h x q)
+    → (x : Tree) × Gives x × IsTakenFrom t long old new h x k
+taken_some t size long is old new h Gives o k some w =
+    subst (λ (n : ℕ). (x : Tree) × Gives x × IsTakenFrom t n old new h x k) is
+    (subst (λ (p : Option StackHead). IfSome p (λ q. (x : Tree) × Gives x × IsTakenFrom t size old new h x q)) some w)
+
+pub taken_place : (t : ParseTable) (size : ℕ) (old new : List (List Layer)) (h : StackHead) (node : Tree) (k : StackHead) → IsTakenFrom t size old new h node k → h.place ≤ k.place
+taken_place t size old new h node k w =
+    let placed : k.place ≡ h.place + span_of (bare node) = ap (λ (x : Configuration). x.place) w.taken.config in
+    omega (arith, placed)
+
+-- ---- what a move comes to
+
+steps_place : (g : FlatGrammar) (text : Bytes) (c d : Configuration) → StepsOn g text c d → c.place ≤ d.place
+steps_place g text c _ (shift_token symbol pad size next act) = omega arith
+steps_place g text c _ (pass_extra symbol pad size next extra idle) = omega arith
+steps_place g text c _ (reduce_trees number node after move r low) = omega arith
+
+pub step_place : (t : ParseTable) (text : Bytes) (old new : List (List Layer)) (h k : StackHead) → IsOnlyStep t.grammar text (config_of old h) (config_of new k) → h.place ≤ k.place
+step_place t text old new h k s = steps_place t.grammar text (config_of old h) (config_of new k) s.step
+
+pub goes_on : (t : ParseTable) (text : Bytes) (old mid new : List (List Layer)) (h k : StackHead) (going : Going) → mid ≡ old → going ≡ On k → GoesTo t text mid new h going → GoesTo t text old new h (On k)
+goes_on t text old mid new h k going kept is goes =
+    subst (λ (s : List (List Layer)). GoesTo t text s new h (On k)) kept (subst (λ (x : Going). GoesTo t text mid new h x) is goes)
+
+pub goes_reduced_on : (t : ParseTable) (text : Bytes) (old mid new : List (List Layer)) (h k : StackHead) (f : FoundToken) (going : Going) → mid ≡ old → going ≡ Reduced k f → GoesTo t text mid new h going → GoesTo t text old new h (Reduced k f)
+goes_reduced_on t text old mid new h k f going kept is goes =
+    subst (λ (s : List (List Layer)). GoesTo t text s new h (Reduced k f)) kept (subst (λ (x : Going). GoesTo t text mid new h x) is goes)
+
+pub ends_at : (t : ParseTable) (text : Bytes) (old mid new : List (List Layer)) (h : StackHead) (r : Reparsed) (going : Going) → mid ≡ old → going ≡ Ended r → GoesTo t text mid new h going → EndsFrom t text old h r
+ends_at t text old mid new h r going kept is goes =
+    subst (λ (s : List (List Layer)). EndsFrom t text s h r) kept (subst (λ (x : Going). GoesTo t text mid new h x) is goes)
+
+-- where no token is known nothing is said of one
+pub none_known : (P : FoundToken → Type 0) (f : FoundToken) → ◌≡◌ {A = Option FoundToken} None (Some f) → P f
+none_known P f e = absurd (let q : ◌≡◌ {A = Option FoundToken} None (Some f) = e in cc)
+
+-- what is seen stays so where the stacks stay
+pub sees_kept : (t : ParseTable) (text : Bytes) (old mid : List (List Layer)) (h : StackHead) (l : Lexed) → mid ≡ old → SeesAhead t text old h l → SeesAhead t text mid h l
+sees_kept t text old mid h l kept sees = subst (λ (s : List (List Layer)). SeesAhead t text s h l) (sym kept) sees

@@ -1,0 +1,104 @@
+-- What a parse over one stack comes to.
+use Rattle.std.specs.Prelude.{◌≡◌, ℕ, ◌<◌, true, List, length, None}
+use Rattle.ts_base.specs.Bytes.{Bytes}
+use Rattle.ts_core.specs.declared.flat.FlatGrammar.{FlatGrammar}
+use Rattle.spec_trees.specs.declared.tree.Tree.{Tree}
+use Rattle.spec_trees.specs.Trees.{children_of, is_settled, state_of, span_of}
+use Rattle.spec_trees.specs.Choice.{IsInForm}
+use Rattle.spec_runs.specs.Configurations.{starting, HasMove}
+use Rattle.spec_runs.specs.Outcomes.{Fresh, deep_outcome, tree_outcome, stuck_outcome}
+use Rattle.spec_forced.specs.OnlyRuns.{IsOnlyStep, EndAlike, FreshFrom}
+use Rattle.spec_forced.specs.Sound.{States, IsSound, IsHonest}
+use Rattle.ts_table.specs.declared.view.ParseTable.{ParseTable}
+use Rattle.ts_table.specs.Tables.{actions_of}
+use Rattle.ts_gss.specs.declared.layer.Layer.{Layer}
+use Rattle.ts_gss.specs.Stacks.{stack_at, state_on}
+use Rattle.ts_moves.specs.declared.head.StackHead.{StackHead}
+use Rattle.ts_moves.specs.Good.{EachTree}
+use Rattle.ts_moves.specs.Heads.{config_of, read_on}
+use Rattle.ts_steps.specs.declared.reparsed.Reparsed.{Reparsed}
+use Rattle.ts_steps.specs.declared.reparsed.Reparsed.TheVariants.{Accepted, Stuck, Deep, Forks}
+use Rattle.ts_steps.specs.declared.reparsed.Going.{Going}
+use Rattle.ts_steps.specs.declared.reparsed.Going.TheVariants.{On, Reduced, Ended}
+use Rattle.ts_steps.specs.Heads.{AreStatesOf, IsOwnWithin, IsOwnHead, StandOnHead, IsTaken}
+use Rattle.ts_steps.specs.Looking.{IsTokenAhead}
+
+-- a node that may be offered: a settled one with bytes, which a parser of the grammar made
+pub record IsOffered (g : FlatGrammar) (t : Tree) : Type 0 where
+  pub settled : is_settled t ≡ true
+  pub own : IsOwnWithin g t
+  pub some : 0 < span_of t
+
+-- all that may be offered is honest
+abbrev pub AreHonest : FlatGrammar → States → Bytes → (ℕ → ℕ → Tree → Type 0) → Type 0
+AreHonest g states text Gives =
+    (place state : ℕ) (t : Tree) → Gives place state t → IsHonest g states text place state t
+
+-- For proofs alone: all runs of the text end from the stack of the head as from the start, and its
+-- trees stand.
+pub record StandsFor (t : ParseTable) (states : States) (text : Bytes) (stacks : List (List Layer))
+    (h : StackHead) : Type 0 where
+  pub alike : EndAlike t.grammar text starting (config_of stacks h)
+  pub stand : StandOnHead t states text stacks h
+
+-- on some token of some state the table has several actions
+abbrev pub HasChoice : ParseTable → Type 0
+HasChoice t = (state : ℕ) × (token : ℕ) × (1 < length (actions_of t state token))
+
+-- What is so of the result, whatever was offered: a tree is one that a parser of the grammar made,
+-- and its root has no state; and the table has a choice where one is told.
+abbrev pub IsOwnResult : ParseTable → Reparsed → Type 0
+IsOwnResult t (Accepted u) =
+    IsInForm t.grammar u × EachTree (IsOwnWithin t.grammar) (children_of u) × (state_of u ≡ None)
+IsOwnResult t (Stuck place) = Unit {0}
+IsOwnResult t Deep = Unit {0}
+IsOwnResult t (Forks place) = HasChoice t
+
+-- What the text comes to: the fresh outcome, with a tree that is sound. Where several moves stay,
+-- nothing is said.
+abbrev pub IsResult : ParseTable → States → Bytes → Reparsed → Type 0
+IsResult t states text (Accepted u) =
+    Fresh t.grammar text (tree_outcome u) × IsSound t.grammar states text u
+IsResult t states text (Stuck place) = Fresh t.grammar text (stuck_outcome place)
+IsResult t states text Deep = Fresh t.grammar text deep_outcome
+IsResult t states text (Forks place) = Unit {0}
+
+-- ---- under way. It serves private clauses and proofs alone.
+
+-- the node was taken over from the offers, and it stands if it is honest
+pub record IsTakenFrom (t : ParseTable) (size : ℕ) (old new : List (List Layer)) (h : StackHead)
+    (node : Tree) (k : StackHead) : Type 0 where
+  pub taken : IsTaken t size old new h node k
+  pub some : 0 < span_of node
+  pub stand : (states : States) (text : Bytes) → length text ≡ size → AreStatesOf t states
+      → IsHonest t.grammar states text h.place (state_on (stack_at old h.top)) node
+      → StandOnHead t states text old h → StandOnHead t states text new k
+
+-- what the end of a parse at a stack comes to
+abbrev pub EndsFrom : ParseTable → Bytes → List (List Layer) → StackHead → Reparsed → Type 0
+EndsFrom t text old h (Accepted u) =
+    FreshFrom t.grammar text (config_of old h) (tree_outcome u) × IsInForm t.grammar u
+    × EachTree (IsOwnWithin t.grammar) (children_of u) × (state_of u ≡ None)
+    × ((states : States) → AreStatesOf t states → StandOnHead t states text old h
+    → IsSound t.grammar states text u)
+EndsFrom t text old h (Stuck place) =
+    FreshFrom t.grammar text (config_of old h) (stuck_outcome place)
+EndsFrom t text old h Deep = FreshFrom t.grammar text (config_of old h) deep_outcome
+EndsFrom t text old h (Forks place) = HasChoice t
+
+-- a move of the only stack that is the only step leads from one head to another
+pub record LeadsOn (t : ParseTable) (text : Bytes) (old new : List (List Layer)) (h k : StackHead)
+    : Type 0 where
+  pub own : IsOwnHead t (length text) new k
+  pub step : IsOnlyStep t.grammar text (config_of old h) (config_of new k)
+  pub stand : (states : States) → AreStatesOf t states → StandOnHead t states text old h
+      → StandOnHead t states text new k
+
+-- What a move of the only stack comes to. Behind a reduction the same token is seen again, if some
+-- move stays on it there.
+abbrev pub GoesTo : ParseTable → Bytes → List (List Layer) → List (List Layer) → StackHead → Going
+    → Type 0
+GoesTo t text old new h (On k) = LeadsOn t text old new h k
+GoesTo t text old new h (Reduced k f) = LeadsOn t text old new h k
+    × (HasMove t.grammar (read_on new k) f.token.0 → IsTokenAhead t text new k f)
+GoesTo t text old new h (Ended r) = EndsFrom t text old h r

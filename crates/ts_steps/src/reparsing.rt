@@ -1,0 +1,201 @@
+//! Parsing a text over one stack, with nodes of an old tree that are offered: the table, the lexer,
+//! the text and the offers go in; what the text comes to comes out, or that several moves stay.
+ghost use Rattle.std.specs.Prelude.{◌≡◌, ℕ, ◌<◌, ◌≤◌, true, Some, None, IfOk, IfSome, length};
+ghost use Rattle.spec_trees.specs.declared.tree.Tree.{Tree};
+ghost use Rattle.spec_trees.specs.Made.{most_span};
+ghost use Rattle.spec_forced.specs.Sound.{States};
+ghost use Rattle.spec_runs.specs.Configurations.{HasMove};
+ghost use Rattle.ts_gss.specs.Stacks.{stack_at, state_on};
+ghost use Rattle.ts_moves.specs.declared.found.FoundToken.{FoundToken as AnyFound};
+ghost use Rattle.ts_moves.specs.Heads.{read_on};
+ghost use Rattle.ts_table.specs.Tables.{actions_of};
+ghost use Rattle.ts_steps.specs.Heads.{AreStatesOf, IsOwnHead};
+ghost use Rattle.ts_steps.specs.Looking.{IsTokenAhead, SeesAhead};
+ghost use Rattle.ts_steps.specs.Reparsing.{AreHonest, IsOffered, IsOwnResult, IsResult, IsTakenFrom};
+
+use crate::laws::{forced_laws_hold, laws_hold, sound_laws_hold};
+use crate::looking::look;
+use crate::moving::go_on;
+use crate::reparsed::{Going, Reparsed};
+use crate::setting::parse_setting;
+use crate::taking::take_over;
+use spec_forced::{only_runs_are_one_way, pushed_whole};
+use std::alloc::{AllocError, Global};
+use ts_core::{Action, Symbol};
+use ts_gss::Graph;
+use ts_lexer::{Content, Lexed, Tokens};
+use ts_moves::{FoundToken, StackHead};
+use ts_offer::Offers;
+use ts_table::{Table, unit_ranks};
+
+/// Whether the token that the stack sees is shifted next, or passed as an extra: what stands there
+/// begins at this place, and the stack is as it is below it.
+fn steps_over(table: &Table, graph: &Graph, head: StackHead, lexed: &Lexed) -> bool
+    requires { head.top < length graph.now }
+{
+    match lexed {
+        Lexed::Absent { .. } => false,
+        Lexed::Token { token, .. } => !table
+            .actions(graph.state(head.top), *token)
+            .iter()
+            .any(|action| is_reduction(*action)),
+    }
+}
+
+/// Whether an action is a reduction.
+fn is_reduction(action: Action) -> bool {
+    match action {
+        Action::Reduce(_) => true,
+        Action::Shift(_) | Action::Accept => false,
+    }
+}
+
+/// Takes the node over that is offered where the stack stands, if there is one that can be taken.
+/// It is asked for only where a token would be stepped over: so no place is asked for twice, and no
+/// node is looked for whose state comes after the reductions that are still to be done.
+fn take<'t, O: Offers<'t>>(
+    table: &Table,
+    offers: &mut O,
+    graph: &mut Graph,
+    head: StackHead,
+    lexed: &Lexed,
+    size: u32,
+) -> Result<Option<StackHead>, AllocError>
+    requires short { size ≤ most_span }
+    requires asked { O.least offers.old ≤ head.place }
+    requires live { IsOwnHead table.now size graph.old head }
+    requires own { (place state : ℕ) (t : Tree) → O.gives offers.old place state t
+        → IsOffered table.now.grammar t }
+    ensures least { O.least offers.new ≤ head.place }
+    ensures gives { (place state : ℕ) (t : Tree) → O.gives offers.new place state t
+        → O.gives offers.old place state t }
+    ensures kept { IfOk result (λ o. o ≡ None → graph.new ≡ graph.old) }
+    ensures taken { IfOk result (λ o. IfSome o (λ k. (node : Tree)
+        × O.gives offers.old head.place (state_on (stack_at graph.old head.top)) node
+        × IsTakenFrom table.now size graph.old graph.new head node k)) }
+{
+    if !steps_over(table, graph, head, lexed) {
+        return Ok(None);
+    }
+    match offers.at(head.place, graph.state(head.top)) {
+        None => Ok(None),
+        Some(node) => {
+            let next = take_over(table, graph, head, node, size)?;
+            Ok(next)
+        }
+    }
+}
+
+/// What the stack sees: the token that it is known to see, or what is lexed there.
+fn look_once<L: Tokens>(
+    table: &Table,
+    lexer: &mut L,
+    text: &L::Text,
+    graph: &Graph,
+    head: StackHead,
+    ahead: Option<FoundToken>,
+) -> Lexed
+    requires made { L.made_for lexer.old table.now }
+    requires live { IsOwnHead table.now (length (L.Text.bytes text.now)) graph.now head }
+    requires known { (f : AnyFound) → ahead ≡ Some f
+        → IsTokenAhead table.now (L.Text.bytes text.now) graph.now head f }
+    ensures made { L.made_for lexer.new table.now }
+    ensures sees { SeesAhead table.now (L.Text.bytes text.now) graph.now head result }
+{
+    match ahead {
+        Some(found) => Lexed::Token {
+            token: found.token,
+            pad: found.pad,
+            size: found.size,
+            extent: found.extent,
+        },
+        None => look(table, lexer, text, graph, head),
+    }
+}
+
+/// Whether some action stays on a token.
+fn stays_valid(table: &Table, graph: &Graph, head: StackHead, token: Symbol) -> bool
+    requires { head.top < length graph.now }
+    ensures { result ≡ true
+        → 0 < length (actions_of table.now (state_on (stack_at graph.now head.top)) token.0) }
+{
+    !table.actions(graph.state(head.top), token).is_empty()
+}
+
+/// The token behind a reduction, where some move stays on it.
+fn seen_again(
+    table: &Table,
+    graph: &Graph,
+    head: StackHead,
+    found: FoundToken,
+) -> Option<FoundToken>
+    requires live { (size : ℕ) × IsOwnHead table.now size graph.now head }
+    ensures { (f : AnyFound) → result ≡ Some f → (f ≡ found)
+        × HasMove table.now.grammar (read_on graph.now head) found.token.0 }
+{
+    table.stands();
+    if stays_valid(table, graph, head, found.token) {
+        Some(found)
+    } else {
+        None
+    }
+}
+
+/// What a text comes to for a parser that keeps one stack alone, and takes over the nodes that it
+/// is offered. If what is offered is honest, this is the fresh outcome, and its tree is sound.
+/// Where several moves stay on a token it stops. Each place is asked for once at most, and of a
+/// node that is taken over the first token alone is lexed.
+///
+/// # Errors
+///
+/// `AllocError` where memory runs out.
+pub fn reparse<'t, L: Tokens, O: Offers<'t>>(
+    alloc: Global,
+    table: &Table,
+    lexer: &mut L,
+    text: &L::Text,
+    offers: &mut O,
+) -> Result<Reparsed, AllocError>
+    requires made { L.made_for lexer.old table.now }
+    requires short { length (L.Text.bytes text.now) ≤ most_span }
+    requires asked { O.least offers.old ≡ 0 }
+    requires own { (place state : ℕ) (t : Tree) → O.gives offers.old place state t
+        → IsOffered table.now.grammar t }
+    ensures made { L.made_for lexer.new table.now }
+    ensures own { IfOk result (IsOwnResult table.now) }
+    ensures fresh { IfOk result (λ r. (states : States) → AreStatesOf table.now states
+        → AreHonest table.now.grammar states (L.Text.bytes text.now) (O.gives offers.old)
+        → IsResult table.now states (L.Text.bytes text.now) r) }
+{
+    laws_hold();
+    sound_laws_hold();
+    forced_laws_hold();
+    only_runs_are_one_way();
+    pushed_whole();
+    table.stands();
+    unit_ranks();
+    let setting = parse_setting(alloc, table, text.len())?;
+    let mut graph = Graph::new(alloc);
+    let mut head = StackHead { top: 0, place: 0 };
+    let mut ahead: Option<FoundToken> = None;
+    loop {
+        let lexed = look_once(table, lexer, text, &graph, head, ahead);
+        match take(table, offers, &mut graph, head, &lexed, setting.size)? {
+            Some(next) => {
+                head = next;
+                ahead = None;
+            }
+            None => match go_on(alloc, table, &setting, &mut graph, head, lexed)? {
+                Going::On(next) => {
+                    head = next;
+                    ahead = None;
+                }
+                Going::Reduced(next, found) => {
+                    ahead = seen_again(table, &graph, next, found);
+                    head = next;
+                }
+                Going::Ended(result) => return Ok(result),
+            },
+        }
+    }
+}
