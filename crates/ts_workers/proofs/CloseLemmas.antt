@@ -1,12 +1,11 @@
 -- Shelves that are closed one after the other.
-use Rattle.std.proofs.Common.{◌≡◌, subst, ℕ, ◌+◌, ⊎_elim, List, [], ◌∷◌, ◌++◌, length, slice_get, get_or, Some, arith}
+use Rattle.std.proofs.Common.{◌≡◌, subst, ◌+◌, ⊎_elim, List, [], ◌∷◌, ◌++◌, length, arith}
 use Rattle.std.proofs.lemmas.List.{length-append}
-use Rattle.ts_base.proofs.PlaceLemmas.{at_end, in_prefix, push_cases}
+use Rattle.ts_base.proofs.PlaceLemmas.{push_cases}
 use Rattle.ts_shelf.specs.Calls.{Closes}
 use Rattle.ts_docs.specs.declared.parsed.Pages.{Pages}
 use Rattle.ts_workers.specs.declared.front.Front.{Front}
 use Rattle.ts_workers.specs.Joins.{AreClosed}
-use Rattle.ts_workers.proofs.ListLemmas.{same_at}
 
 -- the book is that of the document's shelf
 abbrev pub IsClosed : Front → Pages → Type 0

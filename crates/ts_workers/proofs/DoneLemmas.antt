@@ -1,6 +1,5 @@
 -- Clients after all their steps.
-use Rattle.std.proofs.Common.{◌≡◌, ◌∙◌, sym, ap, refl, subst, ℕ, ◌+◌, ◌<◌, ◌≤◌, List, length, map, slice_get, get_or, Some, arith}
-use Rattle.std.proofs.lemmas.Option.{slice_get_within, slice_get-get_or}
+use Rattle.std.proofs.Common.{◌≡◌, ◌∙◌, sym, ℕ, List, length, slice_get, Some}
 use Rattle.atomic_table.specs.Seated.{TableId}
 use Rattle.ts_base.specs.Bytes.{Bytes}
 use Rattle.ts_core.specs.declared.flat.FlatGrammar.{FlatGrammar}
@@ -9,14 +8,11 @@ use Rattle.ts_docs.specs.declared.parsed.ParsedText.{ParsedText}
 use Rattle.ts_script.specs.declared.plan.Plan.{Plan}
 use Rattle.ts_script.specs.declared.plan.ScriptStep.{ScriptStep}
 use Rattle.ts_replies.specs.declared.reply.ShownResult.{ShownResult}
-use Rattle.ts_client.specs.declared.desk.Desk.{Desk}
 use Rattle.ts_client.specs.Working.{HasWorked}
-use Rattle.ts_workers.specs.declared.front.Front.{Front}
 use Rattle.ts_workers.specs.declared.worker.Worker.{Worker}
-use Rattle.ts_workers.specs.Fronts.{versions_of}
 use Rattle.ts_workers.specs.Joins.{AreAtShelves}
 use Rattle.ts_workers.specs.Workers.{IsHired, AreHired, HaveWorked, IsDone, AreAllDone}
-use Rattle.ts_workers.proofs.ListLemmas.{beside, there_is}
+use Rattle.ts_workers.proofs.ListLemmas.{beside}
 
 module _ (Finds : Bytes → List ℕ → List ShownResult → Type 0) (plan : Plan) (g : FlatGrammar) (table : ParseTable) (shelves : List TableId) (versions : List ParsedText)
     (count : length versions ≡ length shelves) where

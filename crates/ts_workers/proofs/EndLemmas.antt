@@ -1,5 +1,5 @@
 -- What is left of a run is what the law of joined work asks for.
-use Rattle.std.proofs.Common.{◌≡◌, ◌∙◌, sym, ap, refl, subst, ℕ, zero, suc, ◌+◌, ◌<◌, ◌≤◌, List, [], ◌∷◌, ◌++◌, length, map, take, drop, flat_map, slice_get, Some, None, option_map, arith}
+use Rattle.std.proofs.Common.{◌≡◌, ◌∙◌, sym, ap, refl, subst, ℕ, zero, suc, ◌<◌, List, [], ◌∷◌, ◌++◌, length, flat_map, slice_get, Some, option_map, arith}
 use Rattle.std.proofs.lemmas.List.{length-map}
 use Rattle.std.proofs.lemmas.Option.{slice_get_within, slice_get-map}
 use Rattle.atomic_table.specs.Seated.{TableId}
@@ -19,7 +19,7 @@ use Rattle.ts_replies.specs.declared.reply.Reply.{Reply}
 use Rattle.spec_history.specs.Histories.{History, version_text}
 use Rattle.spec_history.specs.Books.{journal_of}
 use Rattle.ts_shelf.specs.Passes.{IsPass}
-use Rattle.spec_clients.specs.Joined.{EndsOrStops, AreOf, HasGathered, IsLeft, AreJoined, AreVersionsOf}
+use Rattle.spec_clients.specs.Joined.{EndsOrStops, AreOf, IsLeft, AreJoined, AreVersionsOf}
 use Rattle.spec_clients.specs.Served.{IsServed}
 use Rattle.spec_clients.specs.Seen.{version_seen}
 use Rattle.ts_replay.specs.Replays.{MayReplay, AreBooks, history_of}
@@ -30,7 +30,7 @@ use Rattle.ts_workers.specs.declared.worker.Worker.{Worker}
 use Rattle.ts_workers.specs.Fronts.{AreFronts, versions_of}
 use Rattle.ts_workers.specs.Joins.{passes_on, TakesIn, HaveJoined, AreClosed}
 use Rattle.ts_workers.specs.Workers.{AreAllDone, IsLeftDesk, all_passes, all_replies}
-use Rattle.ts_workers.proofs.ListLemmas.{same_thing, same_at, nowhere, there_is, beside, one_there, take_zero}
+use Rattle.ts_workers.proofs.ListLemmas.{same_thing, nowhere, there_is, beside, one_there, take_zero}
 
 abbrev Knows : Type 0
 Knows = Knowledge ParsedText Drafted

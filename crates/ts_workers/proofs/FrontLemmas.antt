@@ -1,7 +1,6 @@
 -- Documents on their shelves: one document more, and one client more.
-use Rattle.std.proofs.Common.{◌≡◌, ◌∙◌, sym, ap, subst, ℕ, zero, suc, ◌+◌, ◌<◌, ◌≤◌, ⊎_elim, List, [], ◌∷◌, ◌++◌, length, map, drop, slice_get, Some, arith}
+use Rattle.std.proofs.Common.{◌≡◌, ◌∙◌, sym, ap, subst, ℕ, suc, ◌+◌, ◌<◌, ⊎_elim, List, [], ◌∷◌, ◌++◌, length, drop, slice_get, Some, arith}
 use Rattle.std.proofs.lemmas.List.{length-append}
-use Rattle.std.proofs.lemmas.Option.{slice_get_within}
 use Rattle.atomic_table.specs.Seated.{TableId}
 use Rattle.ts_base.specs.Bytes.{Bytes}
 use Rattle.ts_base.proofs.PlaceLemmas.{in_prefix, at_end, push_cases}
@@ -19,7 +18,7 @@ use Rattle.ts_workers.specs.declared.front.Front.{Front}
 use Rattle.ts_workers.specs.Fronts.{IsFront, IsLent, AreFronts, versions_of, AllMayLend, Lends, HaveLent}
 use Rattle.ts_workers.specs.Joins.{AreOnShelves}
 use Rattle.ts_workers.proofs.CountLemmas.{left_from}
-use Rattle.ts_workers.proofs.ListLemmas.{same_thing, same_at, there_is, beside, same_map}
+use Rattle.ts_workers.proofs.ListLemmas.{same_at, beside, same_map}
 
 -- ---- one document more
 

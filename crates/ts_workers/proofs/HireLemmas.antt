@@ -1,7 +1,7 @@
 -- Clients before all steps.
-use Rattle.std.proofs.Common.{◌≡◌, ◌∙◌, sym, ap, subst, ℕ, zero, suc, ◌+◌, ◌<◌, ◌≤◌, ⊎_elim, List, [], ◌∷◌, ◌++◌, length, map, slice_get, Some, vec_capacity, option_map, arith}
-use Rattle.std.proofs.lemmas.List.{length-append, length-map}
-use Rattle.std.proofs.lemmas.Option.{slice_get_within, slice_get-map}
+use Rattle.std.proofs.Common.{◌≡◌, ◌∙◌, sym, ap, subst, ℕ, ◌+◌, ◌<◌, ◌≤◌, ⊎_elim, List, [], ◌∷◌, ◌++◌, length, slice_get, Some, vec_capacity, option_map, arith}
+use Rattle.std.proofs.lemmas.List.{length-append}
+use Rattle.std.proofs.lemmas.Option.{slice_get-map}
 use Rattle.atomic_table.specs.Seated.{TableId}
 use Rattle.ts_base.specs.Bytes.{Bytes}
 use Rattle.ts_base.proofs.PlaceLemmas.{in_prefix, at_end, push_cases}
@@ -12,12 +12,11 @@ use Rattle.ts_script.specs.declared.plan.Plan.{Plan}
 use Rattle.ts_script.specs.declared.plan.ScriptStep.{ScriptStep}
 use Rattle.ts_replay.specs.Runs.{weight_of, edits_on}
 use Rattle.ts_client.specs.declared.desk.Desk.{Desk}
-use Rattle.ts_client.specs.Serving.{MayServe}
 use Rattle.ts_client.specs.Working.{IsFirstDesk}
 use Rattle.ts_workers.specs.declared.front.Front.{Front}
 use Rattle.ts_workers.specs.declared.worker.Worker.{Worker}
 use Rattle.ts_workers.specs.Fronts.{IsFront, AreFronts, versions_of, Lends, HaveLent}
-use Rattle.ts_workers.specs.Workers.{IsLentDesk, AreLentDesks, IsHired, AreHired}
+use Rattle.ts_workers.specs.Workers.{IsHired, AreHired}
 use Rattle.ts_workers.proofs.FrontLemmas.{front_at}
 use Rattle.ts_workers.proofs.ListLemmas.{same_thing, same_at, beside}
 

@@ -1,7 +1,7 @@
 -- The passes of one client more are taken in.
-use Rattle.std.proofs.Common.{◌≡◌, ◌∙◌, sym, ap, refl, subst, ℕ, zero, suc, ◌+◌, ◌<◌, ◌≤◌, List, [], ◌∷◌, ◌++◌, length, map, take, drop, flat_map, slice_get, Some, option_map, arith}
-use Rattle.std.proofs.lemmas.List.{length-append, length-map, append-nil, flat_map_more}
-use Rattle.std.proofs.lemmas.Option.{slice_get_within, slice_get-map}
+use Rattle.std.proofs.Common.{◌≡◌, ◌∙◌, sym, ap, refl, subst, ℕ, List, [], ◌∷◌, ◌++◌, length, take, drop, flat_map, slice_get, Some, option_map, arith}
+use Rattle.std.proofs.lemmas.List.{flat_map_more}
+use Rattle.std.proofs.lemmas.Option.{slice_get-map}
 use Rattle.atomic_table.specs.Seated.{TableId}
 use Rattle.ts_shelf.specs.declared.view.Knowledge.{Knowledge}
 use Rattle.ts_docs.specs.declared.parsed.ParsedText.{ParsedText}
@@ -9,7 +9,7 @@ use Rattle.ts_docs.specs.declared.parsed.Drafted.{Drafted}
 use Rattle.ts_client.specs.declared.desk.Desk.{Desk}
 use Rattle.ts_client.specs.Working.{passes_of}
 use Rattle.ts_workers.specs.declared.front.Front.{Front}
-use Rattle.ts_workers.specs.Joins.{passes_on, HasJoined, JoinsDesk, HasFirst, AreOnShelves, HaveJoinedDesks, HaveJoined}
+use Rattle.ts_workers.specs.Joins.{passes_on, HasJoined, HasFirst, AreOnShelves, HaveJoinedDesks, HaveJoined}
 use Rattle.ts_workers.proofs.ListLemmas.{same_at, beside, one_there}
 use Rattle.ts_workers.proofs.TakeLemmas.{joined_none, joined_one}
 

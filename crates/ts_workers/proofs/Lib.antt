@@ -6,6 +6,7 @@ pub mod FrontLemmas
 pub mod HireLemmas
 pub mod JoinLemmas
 pub mod ListLemmas
+pub mod OpenLemmas
 pub mod RunLemmas
 pub mod SendLemmas
 pub mod TakeLemmas

@@ -1,10 +1,9 @@
 -- A run from its documents to its books.
-use Rattle.std.proofs.Common.{◌≡◌, ◌∙◌, sym, ap, refl, subst, ℕ, ◌+◌, List, ◌++◌, length, take, drop, slice_get, Some, arith}
+use Rattle.std.proofs.Common.{◌≡◌, ◌∙◌, sym, ap, subst, ℕ, List, ◌++◌, length, take, drop, slice_get, Some}
 use Rattle.std.proofs.lemmas.List.{length-map}
 use Rattle.atomic_table.specs.Seated.{TableId}
 use Rattle.ts_base.specs.Bytes.{Bytes}
 use Rattle.ts_table.specs.declared.view.ParseTable.{ParseTable}
-use Rattle.ts_docs.specs.declared.parsed.ParsedText.{ParsedText}
 use Rattle.ts_docs.specs.declared.parsed.Pages.{Pages}
 use Rattle.ts_script.specs.declared.plan.Plan.{Plan}
 use Rattle.ts_replies.specs.declared.reply.ShownResult.{ShownResult}

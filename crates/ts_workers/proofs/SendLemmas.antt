@@ -1,8 +1,9 @@
--- Clients may be handed to other threads, and what they read may be shared with them.
+-- Clients, texts and first versions may be handed to other threads, and what those read may be
+-- shared with them.
 -- What crosses of a type is named where it is told with the type. A type that holds itself has it
 -- with its knot, as `Re` and `Node`. The types above those have a lemma each: a struct with such a
 -- type as a field by `declared_send`, and a type with a model by `view_send`.
-use denote.Param.Send.{IsSend, IsSync, sendable, view_send, view_sync}
+use denote.Param.Send.{IsSend, IsSync, sendable, view_sync}
 use denote.Param.SendFields.{declared_send, declared_sync, as_row_sync}
 use Rattle.std.proofs.Crossing.{crosses}
 use Rattle.ts_base.proofs.boxed.Boxed.TheSendSync as boxed
@@ -32,6 +33,7 @@ use Rattle.ts_docs.specs.contracts.book.Accepted as accepted
 use Rattle.ts_docs.specs.contracts.book.Book as book
 use Rattle.ts_client.specs.contracts.desk.Desk as desk
 use Rattle.ts_client.specs.contracts.working.Client as client
+use Rattle.ts_workers.specs.contracts.parsed.Parsed as parsed
 use Rattle.ts_workers.specs.contracts.worker.Worker as worker
 
 re_sync : IsSync re.the_row
@@ -79,3 +81,6 @@ client_send = search (desk_send, reply.the_send, sendable, crosses) depth 12
 
 pub worker_send : IsSend worker.the_row
 worker_send = search (declared_send, lexer.the_send, client_send) depth 12
+
+pub parsed_send : IsSend parsed.the_row
+parsed_send = search (declared_send, lexer.the_send, version_send) depth 12

@@ -1,5 +1,5 @@
 -- A first pass that takes in one pass after the other.
-use Rattle.std.proofs.Common.{◌≡◌, ◌∙◌, sym, ap, refl, subst, ℕ, ◌+◌, ◌<◌, ◌≤◌, max, ⊎_elim, List, [], ◌∷◌, ◌++◌, length, flat_map, slice_get, Some, append_assoc, arith}
+use Rattle.std.proofs.Common.{◌≡◌, ◌∙◌, sym, ap, refl, subst, ℕ, ◌+◌, ◌≤◌, max, ⊎_elim, List, [], ◌∷◌, ◌++◌, length, append_assoc, arith}
 use Rattle.std.proofs.lemmas.List.{append-nil, length-append, flat_map_more}
 use Rattle.ts_base.proofs.PlaceLemmas.{push_cases}
 use Rattle.ts_shelf.specs.declared.journal.Entry.{Entry}

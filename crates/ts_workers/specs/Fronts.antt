@@ -4,7 +4,7 @@ use Rattle.atomic_table.specs.Seated.{TableId}
 use Rattle.ts_base.specs.Bytes.{Bytes}
 use Rattle.ts_table.specs.declared.view.ParseTable.{ParseTable}
 use Rattle.ts_shelf.specs.declared.view.Knowledge.{Knowledge}
-use Rattle.ts_shelf.specs.Passes.{IsPass, IsFirst, IsOther}
+use Rattle.ts_shelf.specs.Passes.{IsPass, IsFirst}
 use Rattle.ts_shelf.specs.Calls.{IsSplit}
 use Rattle.ts_docs.specs.declared.parsed.ParsedText.{ParsedText}
 use Rattle.ts_docs.specs.declared.parsed.Drafted.{Drafted}

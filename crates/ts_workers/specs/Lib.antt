@@ -1,4 +1,5 @@
 pub mod Changes
 pub mod Fronts
 pub mod Joins
+pub mod Openings
 pub mod Workers

@@ -9,6 +9,8 @@ mod front;
 mod hiring;
 mod joining;
 mod opening;
+mod parsed;
+mod parsing;
 mod running;
 mod worker;
 mod working;

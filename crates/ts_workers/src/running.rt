@@ -35,6 +35,9 @@ pub struct Ran {
 /// documents, which are opened with these texts. The finder answers the queries of the script,
 /// which have the finder's numbers. Each client passes the gate before each of its steps.
 ///
+/// The texts are parsed at once, each on a thread of its own where one can be started, and else by
+/// the thread that would have started it.
+///
 /// All memory that journals, lexers and lists of replies need is taken before the first step. A
 /// step that finds no memory for itself is answered so, and the others are run. A client for which
 /// no thread can be started is run by the thread that would have started it. The call waits until
@@ -67,8 +70,9 @@ pub fn run<R: Threads + Wait + Sync, G: Gate + Sync, F: Finder + Sync>(
     let Documents {
         shelves,
         mut fronts,
-    } = opened(alloc, table, plan, openings)?;
-    let mut workers = hired(alloc, table, plan, shelves.as_slice(), &mut fronts)?;
+        lexers,
+    } = opened(rt, alloc, table, plan, openings)?;
+    let mut workers = hired(alloc, table, lexers, plan, shelves.as_slice(), &mut fronts)?;
     let replies = Vec::with_capacity(alloc, workers.len())?;
     let books = Vec::with_capacity(alloc, shelves.len())?;
     work_all(

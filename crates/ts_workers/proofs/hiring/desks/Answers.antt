@@ -1,9 +1,8 @@
-use Rattle.std.proofs.Common.{◌≡◌, ◌∙◌, sym, ap, subst, ℕ, ◌+◌, ◌<◌, List, [], ◌∷◌, ◌++◌, length, set, get_or, slice_get, Some, arith}
+use Rattle.std.proofs.Common.{◌≡◌, sym, ap, subst, ℕ, ◌+◌, ◌<◌, List, [], ◌∷◌, ◌++◌, length, set, get_or, slice_get, Some, arith}
 use Rattle.std.proofs.lemmas.List.{length-append}
 use Rattle.std.proofs.lemmas.Option.{slice_get-get_or}
 use Rattle.ts_replay.specs.Runs.{weight_of, edits_on}
 use Rattle.ts_client.specs.declared.desk.Desk.{Desk}
-use Rattle.ts_workers.specs.declared.front.Front.{Front}
 use Rattle.ts_workers.specs.Fronts.{Lends, HaveLent}
 use Rattle.ts_workers.proofs.ListLemmas.{changed_one}
 use Rattle.ts_workers.proofs.hiring.desks.Goals as goal

@@ -1,6 +1,5 @@
-use Rattle.std.proofs.Common.{◌≡◌, ◌∙◌, sym, ap, refl, subst, ℕ, suc, ◌+◌, ◌≤◌, List, [], ◌∷◌, ◌++◌, length, take, slice_get, Some, vec_capacity, arith, rules}
+use Rattle.std.proofs.Common.{◌≡◌, sym, refl, subst, ℕ, suc, ◌+◌, ◌≤◌, List, [], ◌∷◌, ◌++◌, length, take, slice_get, Some, vec_capacity, arith, rules}
 use Rattle.std.proofs.lemmas.Option.{slice_get_read}
-use Rattle.ts_base.specs.Bytes.{Bytes}
 use Rattle.ts_script.specs.declared.plan.ScriptStep.{ScriptStep}
 use Rattle.ts_workers.specs.declared.worker.Worker.{Worker}
 use Rattle.ts_workers.specs.Fronts.{AreFronts, versions_of, AllMayLend, HaveLent}
@@ -51,6 +50,7 @@ loop-steps-preserved c =
       fronts = λ openings first.
           subst (λ (n : ℕ). AreFronts c.args.plan.now c.args.table.now openings c.args.shelves.now n c.worker.new.fronts) one
           (one_client c.args.plan.now c.args.table.now openings c.args.shelves.now index c.loop-steps.fronts (c.loop-steps.invariant.fronts openings first) steps at new desks count lent);
+      lexers = c.worker.ensures.lexers;
     }
 
 pub returns-clause-fronts : goal.returns-clause-fronts

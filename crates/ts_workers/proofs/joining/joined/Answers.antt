@@ -1,4 +1,4 @@
-use Rattle.std.proofs.Common.{◌≡◌, ◌∙◌, sym, ap, refl, subst, ℕ, ◌+◌, ◌<◌, ◌≤◌, Bool, true, false, Result, Ok, Err, is_ok, is_err, if◌then◌else◌, List, [], ◌∷◌, ◌++◌, length, slice_get, Some, arith, rules}
+use Rattle.std.proofs.Common.{◌≡◌, ◌∙◌, sym, ap, refl, subst, Bool, true, false, Result, Ok, Err, is_ok, is_err, if◌then◌else◌, List, [], ◌∷◌, ◌++◌, length, arith, rules}
 use Rattle.std.proofs.lemmas.Iterator.Adapters.{YieldsList-from_vec}
 use Rattle.std.proofs.lemmas.Iterator.Consumers.{YieldsList-turn}
 use Rattle.std.proofs.lemmas.List.{map-append}
@@ -10,7 +10,7 @@ use Rattle.ts_replies.specs.declared.reply.Reply.{Reply}
 use Rattle.ts_client.specs.Working.{passes_of}
 use Rattle.ts_workers.specs.declared.worker.Worker.{Worker}
 use Rattle.ts_workers.specs.Joins.{HaveJoined}
-use Rattle.ts_workers.specs.Workers.{all_passes, all_replies}
+use Rattle.ts_workers.specs.Workers.{all_passes}
 use Rattle.ts_workers.proofs.JoinLemmas.{none_joined, one_joined, still_on_shelves}
 use Rattle.ts_workers.proofs.ListLemmas.{read_at}
 use Rattle.ts_workers.proofs.joining.joined.Goals as goal

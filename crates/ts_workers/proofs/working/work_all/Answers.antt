@@ -1,4 +1,4 @@
-use Rattle.std.proofs.Common.{◌≡◌, ◌∙◌, sym, ap, subst, ℕ, ◌<◌, List, length, get_or, slice_get, Some, arith, rules}
+use Rattle.std.proofs.Common.{◌∙◌, subst, ◌<◌, length, arith}
 use denote.Param.Send.{sendable}
 use Rattle.std.proofs.Crossing.{crosses}
 use Rattle.std.proofs.lemmas.Option.{slice_get_within, get_or_from_slice_get}
