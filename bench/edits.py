@@ -11,6 +11,7 @@ short: what is timed is the copy of the text, the marks, and the parse up to tha
 first version's tree may be taken over. Printed are the microseconds of a whole parse of the text, of an edit, and how
 many times as fast an edit is: processor time, the least of three runs, less that of a script without the edits, or of an
 empty text for the whole parse. The line of a whole parse is printed too, so its time is an upper bound of parsing.
+There are few edits of a short text, since a tree is dropped once edits took much out of its text.
 """
 import json
 import os
@@ -46,9 +47,9 @@ def all_over(text, count):
 
 
 CASES = [
-    ("nested JSON, 10 KB, in the middle", "json", parse.nested, 10_000, middle, 2_000),
+    ("nested JSON, 10 KB, in the middle", "json", parse.nested, 10_000, middle, 100),
     ("nested JSON, 1 MB, in the middle", "json", parse.nested, 1_000_000, middle, 100),
-    ("flat list, 10 KB, in the middle", "json", parse.flat, 10_000, middle, 2_000),
+    ("flat list, 10 KB, in the middle", "json", parse.flat, 10_000, middle, 100),
     ("flat list, 1 MB, in the middle", "json", parse.flat, 1_000_000, middle, 20),
     ("C-like text, 200 KB, all over", "clike", parse.clike, 200_000, all_over, 1_000),
     ("Lisp, 200 KB, all over", "lisp", parse.lisp, 200_000, all_over, 1_000),

@@ -5,10 +5,10 @@
 
 PROGRAM is `crates/ts_cli/out/ts_cli` if none is given, which `./hemshale build` makes. By the grammars of JSON, of the
 C-like language and of the Lisp in `examples/`, and by one with a declared conflict, short texts are edited at random: a
-piece goes, another comes, or both, in one place or in two at once. The program replays the edits, one version after
-another; then each version's text is parsed alone, by `parse`, which knows of no edits. Both must tell the same outcome.
-VERSIONS is 10,000 in all if none is given. Printed are how many versions were a tree, stuck or deep, and each that
-differs; it ends with 1 if one does.
+piece goes, another comes, or both, in one place or in two at once; most edits are taken back by the next. The program
+replays the edits, one version after another; then each version's text is parsed alone, by `parse`, which knows of no
+edits. Both must tell the same outcome. VERSIONS is 10,000 in all if none is given. Printed are how many versions were a
+tree, stuck or deep, and each that differs; it ends with 1 if one does.
 """
 import json
 import os
@@ -91,6 +91,15 @@ def edited(now, parts):
     return "".join(done) + now[at:]
 
 
+def undone(now, parts):
+    """The parts that take an edit of a text back."""
+    found, shift = [], 0
+    for start, end, new in parts:
+        found.append((start + shift, start + shift + len(new), now[start:end]))
+        shift += len(new) - (end - start)
+    return found
+
+
 def line(**members):
     return json.dumps(members, separators=(",", ":")) + "\n"
 
@@ -120,8 +129,10 @@ def main():
             name = source.choice(sorted(CASES))
             first, pieces = CASES[name]
             texts, steps = [first], []
+            undo = None
             for _ in range(EDITS):
-                parts = parts_of(source, texts[-1], pieces)
+                parts = undo if undo and source.random() < 0.7 else parts_of(source, texts[-1], pieces)
+                undo = undone(texts[-1], parts) if parts is not undo else None
                 texts.append(edited(texts[-1], parts))
                 steps.append(edit_line(parts))
             with open(f"{folder}/script", "w") as out:
