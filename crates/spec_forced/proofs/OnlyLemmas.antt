@@ -199,7 +199,7 @@ module _ (g : FlatGrammar) (text : Bytes) where
     stop = λ p. ((λ h. (b.stop p).0 ((a.stop p).0 h)), (λ h. (a.stop p).1 ((b.stop p).1 h)));
   }
 
-  step_alike : (c x : Configuration) → IsOnlyStep g text c x → EndAlike g text c x
+  pub step_alike : (c x : Configuration) → IsOnlyStep g text c x → EndAlike g text c x
   step_alike c x s = record {
     deep = (step_deep c x s, (λ h. (h.0, run_on c x h.0 s.step h.1, h.2)));
     tree = λ t. (step_tree c x t s, (λ h. (h.0, run_on c x h.0 s.step h.1, h.2)));

@@ -9,18 +9,18 @@ ghost use Rattle.ts_core.specs.declared.symbol.Symbol.{Symbol};
 ghost use Rattle.spec_grammar.specs.Symbols.{is_extra, production_at};
 ghost use Rattle.spec_lexing.specs.Lexing.{Found, token, Lex};
 ghost use Rattle.spec_lexing.specs.Seen.{Seen, Agree};
-ghost use Rattle.spec_tables.specs.Actions.{Move, Act, shift};
+ghost use Rattle.spec_tables.specs.Actions.{Move, Act, shift, reduce};
 ghost use Rattle.spec_tables.specs.Fit.{Fit};
 ghost use Rattle.spec_trees.specs.declared.tree.Tree.{Tree};
 ghost use Rattle.spec_trees.specs.Trees.{is_extra_node, is_settled, state_of, node_extent, children_of, span_of, all_spans, tree_depth, bare};
 ghost use Rattle.spec_trees.specs.Made.{leaf_of, as_extra, reduced, accepted, step_symbols, most_depth};
 ghost use Rattle.spec_reuse.specs.Offered.{IsTopmost};
-ghost use Rattle.spec_runs.specs.Configurations.{Configuration, starting, stack_symbols, pushed, HasMove, AreValidTokens, AreExtras};
+ghost use Rattle.spec_runs.specs.Configurations.{Configuration, starting, stack_symbols, pushed, token_tree, HasMove, NextIs, IsReduction, AreValidTokens, AreExtras};
 ghost use Rattle.spec_runs.specs.Outcomes.{FreshOutcome, Fresh};
 ghost use Rattle.spec_runs.specs.Runs.{Run};
 ghost use Rattle.spec_forced.specs.Forced.{HaveSameItems, IsOnlyMove, IsDecided, IsForced, Stands, StandInTurn, MakesNode};
 ghost use Rattle.spec_forced.specs.Laws.{ForcedLaws};
-ghost use Rattle.spec_forced.specs.OnlyRuns.{OnlyRun, EndAlike, FreshFrom};
+ghost use Rattle.spec_forced.specs.OnlyRuns.{IsOnlyStep, OnlyRun, EndAlike, FreshFrom};
 ghost use Rattle.spec_forced.specs.Sound.{States, IsStateAfter, StandsForState, AllSound, IsSound, IsHonest, EachHasState, IsWholeSoFar, StandOnStack};
 ghost use Rattle.spec_forced.specs.Taking.{Taking, FreshTaking, TakesRightly};
 
@@ -140,6 +140,38 @@ pub fn only_runs_are_one_way()
     ensures start { (g : FlatGrammar) (text : Bytes) (o : FreshOutcome)
         → FreshFrom g text starting o ↔ Fresh g text o }
 {}
+
+/// Configurations from which all runs end alike.
+pub fn ends_stay_alike()
+    ensures back { (g : FlatGrammar) (text : Bytes) (c d : Configuration) → EndAlike g text c d
+        → EndAlike g text d c }
+    ensures joined { (g : FlatGrammar) (text : Bytes) (c d e : Configuration)
+        → EndAlike g text c d → EndAlike g text d e → EndAlike g text c e }
+    ensures step { (g : FlatGrammar) (text : Bytes) (c d : Configuration)
+        → IsOnlyStep g text c d → EndAlike g text c d }
+{}
+
+/// Where one move alone stays on the token that is seen, or none on an extra, there is one step
+/// alone, and it goes where the move leads.
+pub fn one_move_is_one_step()
+    ensures shifted { (g : FlatGrammar) (text : Bytes) (c : Configuration) (s : Symbol)
+        (pad size : ℕ)
+        → NextIs g text c (token s pad size) → IsOnlyMove g (stack_symbols c.stack) s.0 shift
+        → IsOnlyStep g text c (pushed c (token_tree s pad size)) }
+    ensures passed { (g : FlatGrammar) (text : Bytes) (c : Configuration) (s : Symbol)
+        (pad size : ℕ)
+        → NextIs g text c (token s pad size) → is_extra g s.0 ≡ true
+        → (HasMove g (stack_symbols c.stack) s.0 → ⊥)
+        → IsOnlyStep g text c (pushed c (as_extra (token_tree s pad size))) }
+    ensures reduced { (g : FlatGrammar) (text : Bytes) (c : Configuration) (s : Symbol)
+        (pad size number : ℕ) (node : Tree) (after : List Tree)
+        → NextIs g text c (token s pad size)
+        → IsOnlyMove g (stack_symbols c.stack) s.0 (reduce number)
+        → IsReduction g number c.stack node after → tree_depth node ≤ most_depth
+        → IsOnlyStep g text c (record { stack = after; place = c.place }) }
+{
+    laws_hold();
+}
 
 /// What a forced run makes above a stack is what the only run from there puts on it.
 pub fn forced_runs_are_only()

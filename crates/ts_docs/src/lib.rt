@@ -18,6 +18,5 @@ pub use book::{Accepted, Book};
 pub use draft::{Draft, DraftOf};
 pub use parsed::{Drafted, Pages, ParsedText};
 pub use preparing::{Refused, opening, prepare};
-pub use reuse::Reuse;
 pub use stepping::{Event, Told, step};
 pub use version::{Version, VersionOf};

@@ -23,7 +23,7 @@ const BYTES_A_LOST_ONE: u32 = 128;
 
 /// What a version keeps for the next one.
 #[derive(Drop)]
-pub struct Reuse {
+pub(crate) struct Reuse {
     /// The last tree of the document, with all edits since marked in it.
     pub(crate) marked: Option<Node>,
     /// How many bytes these edits took out.

@@ -17,7 +17,6 @@ use Rattle.spec_trees.specs.Made.{as_extra, most_span}
 use Rattle.spec_trees.specs.Choice.{IsInForm}
 use Rattle.spec_runs.specs.Configurations.{Configuration, stack_symbols, token_tree, pushed, HasMove, NextIs, AreValidTokens, IsReduction}
 use Rattle.spec_forced.specs.Forced.{IsOnlyMove, IsDecided}
-use Rattle.spec_forced.specs.Laws.{ForcedLaws}
 use Rattle.spec_forced.specs.Sound.{States, IsSound}
 use Rattle.ts_table.specs.declared.view.ParseTable.{ParseTable}
 use Rattle.ts_table.specs.Tables.{IsTable, IsStateOf, ActsBy, actions_of}
@@ -33,7 +32,7 @@ use Rattle.ts_steps.specs.declared.reparsed.Reparsed.TheVariants.{Accepted, Deep
 use Rattle.ts_steps.specs.declared.reparsed.Going.TheVariants.{On, Reduced, Ended}
 use Rattle.ts_steps.specs.Heads.{AreStatesOf, IsOwnWithin, IsOwnHead, StandOnHead, IsMoveAhead, IsExtraAhead}
 use Rattle.ts_steps.specs.Looking.{IsTokenAhead}
-use Rattle.ts_steps.specs.Laws.{SoundLaws}
+use Rattle.ts_steps.specs.Laws.{SoundLaws, OnlyLaws}
 use Rattle.ts_steps.specs.Reparsing.{GoesTo, LeadsOn}
 use Rattle.ts_steps.proofs.TableLemmas.{move_by, one_acts, one_move, no_move, shift_of, extra_token, valid_tokens}
 use Rattle.ts_steps.proofs.MoveLemmas.{shift_only, pass_only, reduce_only, reduce_deep, accept_only}
@@ -101,7 +100,7 @@ module _ (laws : Laws) (t : ParseTable) (size : ℕ) (old : List (List Layer)) (
   pub accept_stays : Acts (Accept ∷ []) → (on : ℕ) × Act t.grammar (read_on old h) on accept
   accept_stays is = (f.token.0, (only_by Accept is).stays)
 
-  module _ (forced : ForcedLaws) (new : List (List Layer)) (k : StackHead) (text : Bytes) (long : length text ≡ size) (a : IsTokenAhead t text old h f) where
+  module _ (alone : OnlyLaws) (new : List (List Layer)) (k : StackHead) (text : Bytes) (long : length text ≡ size) (a : IsTokenAhead t text old h f) where
     mine : IsOwnHead t (length text) old h
     mine = subst (λ (n : ℕ). IsOwnHead t n old h) (sym long) own
 
@@ -114,7 +113,7 @@ module _ (laws : Laws) (t : ParseTable) (size : ℕ) (old : List (List Layer)) (
         → GoesTo t text old new h (On k)
     goes_shift next is config live stand = record {
       own = live t (length text) mine (lies_ahead t (length text) text old h f refl (shift_token next is).0 a) (shift_token next is) (shift_of t (read_on old h) f.token.0 next (acts_by (Shift next) is));
-      step = shift_only laws forced t text old new h k f a (only_by (Shift next) is) config;
+      step = shift_only laws alone t text old new h k f a (only_by (Shift next) is) config;
       stand = λ states are s. stand t states text table are mine (move_ahead (Shift next) is) s;
     }
 
@@ -126,7 +125,7 @@ module _ (laws : Laws) (t : ParseTable) (size : ℕ) (old : List (List Layer)) (
         let e = pass_token none text a in
         let idle : HasMove t.grammar (read_on old h) f.token.0 → ⊥ = no_move laws t (read_on old h) (state_on (stack_at old h.top)) f.token.0 table state none in record {
           own = live t (length text) mine (lies_ahead t (length text) text old h f refl e.1.0 a) e.1;
-          step = pass_only laws forced t text old new h k f a e.0 idle config;
+          step = pass_only laws alone t text old new h k f a e.0 idle config;
           stand = λ states are s. stand t states text table are mine (record { decided = a.decided; extra = e.0; idle = idle }) s;
         }
 
@@ -135,7 +134,7 @@ module _ (laws : Laws) (t : ParseTable) (size : ℕ) (old : List (List Layer)) (
         → LeadsOn t text old new h k
     goes_reduce number is done live stand = record {
       own = subst (λ (n : ℕ). IsOwnHead t n new k) (sym long) live;
-      step = reduce_only laws forced t text old new h k f a size number (only_by (Reduce number) is) done;
+      step = reduce_only laws alone t text old new h k f a size number (only_by (Reduce number) is) done;
       stand = λ states are s. stand states text long are (move_ahead (Reduce number) is) s;
     }
 
@@ -172,7 +171,7 @@ module _ (laws : Laws) (t : ParseTable) (size : ℕ) (old : List (List Layer)) (
         )
 
     pub goes_deep : (number : ℕ) → Acts (Reduce number ∷ []) → IsReducedTo t size number old new h None → GoesTo t text old new h (Ended Deep)
-    goes_deep number is done = reduce_deep laws forced t text old new h k f a size number (only_by (Reduce number) is) done
+    goes_deep number is done = reduce_deep laws alone t text old new h k f a size number (only_by (Reduce number) is) done
 
     pub goes_too_deep : (o : Option StackHead) (number : ℕ) → o ≡ None → Acts (Reduce number ∷ []) → IsReducedTo t size number old new h o → GoesTo t text old new h (Ended Deep)
     goes_too_deep o number none is done = goes_deep number is (subst (λ (x : Option StackHead). IsReducedTo t size number old new h x) none done)
@@ -180,4 +179,4 @@ module _ (laws : Laws) (t : ParseTable) (size : ℕ) (old : List (List Layer)) (
     pub goes_accept : (u : Tree) → Acts (Accept ∷ []) → IsRootOf (config_of old h).stack (bare u) → IsInForm t.grammar u → EachTree (IsOwnWithin t.grammar) (children_of u) → state_of u ≡ None
         → ((states : States) (w : Bytes) → length w ≡ size → AreStatesOf t states → StandOnHead t states w old h → IsSound t.grammar states w u)
         → GoesTo t text old new h (Ended (Accepted u))
-    goes_accept u is root form each none sound = (accept_only laws forced t text old new h k f a u (only_by Accept is) root, form, each, none, (λ states are s. sound states text long are s))
+    goes_accept u is root form each none sound = (accept_only laws alone t text old new h k f a u (only_by Accept is) root, form, each, none, (λ states are s. sound states text long are s))

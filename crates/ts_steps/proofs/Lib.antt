@@ -12,7 +12,6 @@ pub mod ReduceLemmas
 pub mod MadeLemmas
 pub mod RootLemmas
 pub mod LookLemmas
-pub mod OnlyLemmas
 pub mod WeightLemmas
 pub mod MoveLemmas
 pub mod ReparseLemmas

@@ -16,15 +16,14 @@ use Rattle.spec_runs.specs.Configurations.{Configuration, stack_symbols, token_t
 use Rattle.spec_runs.specs.Runs.{CanMove, StepsOn, shift_token, pass_extra, reduce_trees, Run, run_here, run_on, ComesTooDeep, AcceptsTree, StopsAt}
 use Rattle.spec_runs.specs.Outcomes.{deep_outcome, tree_outcome, stuck_outcome}
 use Rattle.spec_forced.specs.Forced.{IsDecided, IsOnlyMove}
-use Rattle.spec_forced.specs.Laws.{ForcedLaws}
 use Rattle.spec_forced.specs.OnlyRuns.{IsOnlyStep, GoesTooDeep, GoesToTree, FreshFrom}
-use Rattle.ts_steps.proofs.OnlyLemmas.{shift_alone, pass_alone, reduce_alone}
 use Rattle.ts_table.specs.declared.view.ParseTable.{ParseTable}
 use Rattle.ts_gss.specs.declared.layer.Layer.{Layer}
 use Rattle.ts_gss.specs.Stacks.{stack_at, trees_on}
 use Rattle.ts_moves.specs.declared.head.StackHead.{StackHead}
 use Rattle.ts_moves.specs.declared.found.FoundToken.{FoundToken}
 use Rattle.ts_moves.specs.Laws.{Laws}
+use Rattle.ts_steps.specs.Laws.{OnlyLaws}
 use Rattle.ts_moves.specs.Heads.{config_of, read_on, IsReducedTo, IsRootOf}
 use Rattle.ts_steps.proofs.StackLemmas.{filling_bare, extras_turned}
 use Rattle.ts_steps.specs.Looking.{IsTokenAhead}
@@ -213,7 +212,7 @@ module _ (laws : Laws) (g : FlatGrammar) (text : Bytes) (c : Configuration) (s :
 
 -- ---- the steps of a head
 
-module _ (laws : Laws) (forced : ForcedLaws) (t : ParseTable) (text : Bytes) (old new : List (List Layer)) (h k : StackHead) (f : FoundToken) (ahead : IsTokenAhead t text old h f) where
+module _ (laws : Laws) (alone : OnlyLaws) (t : ParseTable) (text : Bytes) (old new : List (List Layer)) (h k : StackHead) (f : FoundToken) (ahead : IsTokenAhead t text old h f) where
   abbrev c : Configuration
   c = config_of old h
 
@@ -222,18 +221,18 @@ module _ (laws : Laws) (forced : ForcedLaws) (t : ParseTable) (text : Bytes) (ol
 
   pub shift_only : IsOnlyMove t.grammar (read_on old h) f.token.0 shift → config_of new k ≡ pushed (config_of old h) (token_tree f.token f.pad f.size) → IsOnlyStep t.grammar text (config_of old h) (config_of new k)
   shift_only only is =
-      subst (λ (x : Configuration). IsOnlyStep t.grammar text (config_of old h) x) (sym is) (shift_alone forced t.grammar text (config_of old h) f.token f.pad f.size next (only_bare laws t old h f.token.0 shift only))
+      subst (λ (x : Configuration). IsOnlyStep t.grammar text (config_of old h) x) (sym is) (alone.shifted t.grammar text (config_of old h) f.token f.pad f.size next (only_bare laws t old h f.token.0 shift only))
 
   pub pass_only : is_extra t.grammar f.token.0 ≡ true → (HasMove t.grammar (read_on old h) f.token.0 → ⊥) → config_of new k ≡ pushed (config_of old h) (as_extra (token_tree f.token f.pad f.size))
       → IsOnlyStep t.grammar text (config_of old h) (config_of new k)
   pass_only extra idle is =
       let none : HasMove t.grammar (stack_symbols (config_of old h).stack) f.token.0 → ⊥ = λ m. idle (subst (λ (read : List ℕ). HasMove t.grammar read f.token.0) (filling_bare laws (trees_on (stack_at old h.top))) m) in
-      subst (λ (x : Configuration). IsOnlyStep t.grammar text (config_of old h) x) (sym is) (pass_alone forced t.grammar text (config_of old h) f.token f.pad f.size next extra none)
+      subst (λ (x : Configuration). IsOnlyStep t.grammar text (config_of old h) x) (sym is) (alone.passed t.grammar text (config_of old h) f.token f.pad f.size next extra none)
 
   pub reduce_only : (size number : ℕ) → IsOnlyMove t.grammar (read_on old h) f.token.0 (reduce number) → IsReducedTo t size number old new h (Some k) → IsOnlyStep t.grammar text (config_of old h) (config_of new k)
   reduce_only size number only r =
       subst (λ (x : Configuration). IsOnlyStep t.grammar text (config_of old h) x) (sym r.done.2)
-      (reduce_alone forced t.grammar text (config_of old h) f.token f.pad f.size next number r.node r.after (only_bare laws t old h f.token.0 (reduce number) only) r.reduction r.done.0)
+      (alone.reduced t.grammar text (config_of old h) f.token f.pad f.size number r.node r.after next (only_bare laws t old h f.token.0 (reduce number) only) r.reduction r.done.0)
 
   pub reduce_deep : (size number : ℕ) → IsOnlyMove t.grammar (read_on old h) f.token.0 (reduce number) → IsReducedTo t size number old new h None → FreshFrom t.grammar text (config_of old h) deep_outcome
   reduce_deep size number only r =

@@ -1,4 +1,4 @@
--- A parse over one stack: what holds at its start, after each move, and at its end.
+-- A parse over one stack: what holds after each move, and at its end.
 use Rattle.std.proofs.Common.{◌≡◌, sym, ap, refl, subst, ℕ, ◌+◌, ◌<◌, ◌≤◌, ◌↔◌, List, [], ◌∷◌, length, drop, Option, Some, None, IfSome, MatchOption, arith}
 use Rattle.ts_base.specs.Bytes.{Bytes}
 use Rattle.ts_core.specs.declared.flat.FlatGrammar.{FlatGrammar}
@@ -12,9 +12,8 @@ use Rattle.spec_runs.specs.Configurations.{Configuration, starting, stack_symbol
 use Rattle.spec_runs.specs.Runs.{StepsOn, shift_token, pass_extra, reduce_trees}
 use Rattle.spec_runs.specs.Outcomes.{FreshOutcome, Fresh, deep_outcome, tree_outcome, stuck_outcome}
 use Rattle.spec_forced.specs.Forced.{Stands}
-use Rattle.spec_forced.specs.OnlyRuns.{IsOnlyStep, only_here, only_on, EndAlike, FreshFrom}
+use Rattle.spec_forced.specs.OnlyRuns.{IsOnlyStep, EndAlike, FreshFrom}
 use Rattle.spec_forced.specs.Sound.{States, IsHonest}
-use Rattle.ts_steps.proofs.OnlyLemmas.{alike_self, alike_back, alike_chain, only_alike}
 use Rattle.ts_table.specs.declared.view.ParseTable.{ParseTable}
 use Rattle.ts_table.specs.Tables.{IsTable, IsStateOf}
 use Rattle.ts_table.specs.Ranks.{unit_rank, AreUnitRanks}
@@ -30,38 +29,20 @@ use Rattle.ts_steps.specs.declared.reparsed.Reparsed.{Reparsed}
 use Rattle.ts_steps.specs.declared.reparsed.Reparsed.TheVariants.{Accepted, Stuck, Deep, Forks}
 use Rattle.ts_steps.specs.declared.reparsed.Going.{Going}
 use Rattle.ts_steps.specs.declared.reparsed.Going.TheVariants.{On, Reduced, Ended}
-use Rattle.ts_steps.specs.Laws.{SoundLaws}
+use Rattle.ts_steps.specs.Laws.{SoundLaws, OnlyLaws}
 use Rattle.ts_steps.specs.Looking.{SeesAhead}
 use Rattle.ts_steps.specs.Heads.{AreStatesOf, IsOwnHead, StandOnHead, IsTaken}
-use Rattle.ts_steps.specs.Reparsing.{StandsFor, IsOwnResult, IsResult, IsTakenFrom, EndsFrom, GoesTo}
+use Rattle.ts_steps.specs.Reparsing.{StandsFor, IsResult, IsTakenFrom, EndsFrom, GoesTo}
 use Rattle.ts_steps.specs.Weights.{config_weight}
 use Rattle.ts_steps.proofs.TableLemmas.{state_after, valid_tokens}
 use Rattle.ts_steps.proofs.WeightLemmas.{light_step, light_node}
 
--- ---- the start
-
-pub own_start : (t : ParseTable) (size : ℕ) (stacks : List (List Layer)) → stacks ≡ [] ∷ [] → IsOwnHead t size stacks (record { top = 0; place = 0 })
-own_start t size stacks is = subst (λ (s : List (List Layer)). IsOwnHead t size s (record { top = 0; place = 0 })) (sym is) (record {
-  live = record {
-    there = omega arith;
-    stack = record { states = tt; good = tt; spans = refl; reach = tt; within = omega arith };
-  };
-  own = tt;
-})
-
-pub stands_start : (t : ParseTable) (states : States) (text : Bytes) (stacks : List (List Layer)) → stacks ≡ [] ∷ [] → StandsFor t states text stacks (record { top = 0; place = 0 })
-stands_start t states text stacks is = subst (λ (s : List (List Layer)). StandsFor t states text s (record { top = 0; place = 0 })) (sym is) (record {
-  alike = alike_self t.grammar text starting;
-  stand = tt;
-})
-
 -- ---- the moves
 
-pub stands_on : (t : ParseTable) (states : States) (text : Bytes) (old new : List (List Layer)) (h k : StackHead) → StandsFor t states text old h → IsOnlyStep t.grammar text (config_of old h) (config_of new k)
+pub stands_on : (alone : OnlyLaws) (t : ParseTable) (states : States) (text : Bytes) (old new : List (List Layer)) (h k : StackHead) → StandsFor t states text old h → IsOnlyStep t.grammar text (config_of old h) (config_of new k)
     → (StandOnHead t states text old h → StandOnHead t states text new k) → StandsFor t states text new k
-stands_on t states text old new h k s step stand = record {
-  alike = alike_chain t.grammar text starting (config_of old h) (config_of new k) s.alike
-      (only_alike t.grammar text (config_of old h) (config_of new k) (only_on (config_of old h) (config_of new k) (config_of new k) step (only_here (config_of new k))));
+stands_on alone t states text old new h k s step stand = record {
+  alike = alone.joined t.grammar text starting (config_of old h) (config_of new k) s.alike (alone.step t.grammar text (config_of old h) (config_of new k) step);
   stand = stand s.stand;
 }
 
@@ -71,7 +52,7 @@ Pushes = (g : FlatGrammar) → Fit g → (text : Bytes) (c : Configuration) (t :
     → AreValidTokens g (stack_symbols (bare t ∷ c.stack)) valid
     → EndAlike g text c (pushed c (bare t))
 
-module _ (laws : Laws) (sound : SoundLaws) (push : Pushes) (t : ParseTable) (states : States) (text : Bytes) (old new : List (List Layer)) (h k : StackHead) (node : Tree) (table : IsTable t) (are : AreStatesOf t states) where
+module _ (laws : Laws) (sound : SoundLaws) (alone : OnlyLaws) (push : Pushes) (t : ParseTable) (states : States) (text : Bytes) (old new : List (List Layer)) (h k : StackHead) (node : Tree) (table : IsTable t) (are : AreStatesOf t states) where
   pub stands_taken : IsOwnHead t (length text) old h → StandsFor t states text old h → IsTakenFrom t (length text) old new h node k → IsHonest t.grammar states text h.place (state_on (stack_at old h.top)) node → StandsFor t states text new k
   stands_taken own s w honest =
       let trees = trees_on (stack_at old h.top) in
@@ -85,28 +66,22 @@ module _ (laws : Laws) (sound : SoundLaws) (push : Pushes) (t : ParseTable) (sta
       let alike : EndAlike t.grammar text (config_of old h) (pushed (config_of old h) (bare node)) =
       push t.grammar table.fit text (config_of old h) node (node_extent node) v.0 (subst (λ (r : List ℕ). Stands t.grammar r (drop h.place text) node (node_extent node)) (sym read) stands) valid in
       record {
-        alike = alike_chain t.grammar text starting (config_of old h) (config_of new k) s.alike (subst (λ (x : Configuration). EndAlike t.grammar text (config_of old h) x) (sym w.taken.config) alike);
+        alike = alone.joined t.grammar text starting (config_of old h) (config_of new k) s.alike (subst (λ (x : Configuration). EndAlike t.grammar text (config_of old h) x) (sym w.taken.config) alike);
         stand = w.stand states text refl are honest s.stand;
       }
 
 -- ---- the end
 
-module _ (fresh : (g : FlatGrammar) (text : Bytes) (c d : Configuration) → EndAlike g text c d → (o : FreshOutcome) → FreshFrom g text c o → FreshFrom g text d o) (start : (g : FlatGrammar) (text : Bytes) (o : FreshOutcome) → FreshFrom g text starting o ↔ Fresh g text o)
+module _ (alone : OnlyLaws) (fresh : (g : FlatGrammar) (text : Bytes) (c d : Configuration) → EndAlike g text c d → (o : FreshOutcome) → FreshFrom g text c o → FreshFrom g text d o) (start : (g : FlatGrammar) (text : Bytes) (o : FreshOutcome) → FreshFrom g text starting o ↔ Fresh g text o)
     (t : ParseTable) (states : States) (text : Bytes) (old : List (List Layer)) (h : StackHead) (are : AreStatesOf t states) (s : StandsFor t states text old h) where
   from_start : (o : FreshOutcome) → FreshFrom t.grammar text (config_of old h) o → Fresh t.grammar text o
-  from_start o f = (start t.grammar text o).0 (fresh t.grammar text (config_of old h) starting (alike_back t.grammar text starting (config_of old h) s.alike) o f)
+  from_start o f = (start t.grammar text o).0 (fresh t.grammar text (config_of old h) starting (alone.back t.grammar text starting (config_of old h) s.alike) o f)
 
   pub ends_result : (r : Reparsed) → EndsFrom t text old h r → IsResult t states text r
   ends_result (Accepted u) e = (from_start (tree_outcome u) e.0, e.4 states are s.stand)
   ends_result (Stuck place) e = from_start (stuck_outcome place) e
   ends_result Deep e = from_start deep_outcome e
   ends_result (Forks place) e = tt
-
-pub ends_own : (t : ParseTable) (text : Bytes) (old : List (List Layer)) (h : StackHead) (r : Reparsed) → EndsFrom t text old h r → IsOwnResult t r
-ends_own t text old h (Accepted u) e = (e.1, e.2, e.3)
-ends_own t text old h (Stuck place) e = tt
-ends_own t text old h Deep e = tt
-ends_own t text old h (Forks place) e = e
 
 -- ---- each move falls
 

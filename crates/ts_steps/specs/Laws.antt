@@ -1,5 +1,5 @@
--- The laws of nodes that stand on which the proofs here rest. It serves private clauses and proofs
--- alone.
+-- The laws of nodes that stand, and of runs without a choice, on which the proofs here rest. They
+-- serve private clauses and proofs alone.
 use Rattle.std.specs.Prelude.{◌≡◌, ℕ, ◌≤◌, ◌⊎◌, true, List, [], ◌∷◌, ◌++◌, length, reverse, drop, Option, Some}
 use Rattle.ts_base.specs.Bytes.{Bytes}
 use Rattle.ts_core.specs.declared.flat.FlatGrammar.{FlatGrammar}
@@ -8,13 +8,14 @@ use Rattle.ts_core.specs.declared.symbol.Symbol.{Symbol}
 use Rattle.spec_grammar.specs.Symbols.{is_extra, production_at}
 use Rattle.spec_lexing.specs.Lexing.{token, Lex}
 use Rattle.spec_lexing.specs.Seen.{Agree}
-use Rattle.spec_tables.specs.Actions.{shift}
+use Rattle.spec_tables.specs.Actions.{shift, reduce}
 use Rattle.spec_tables.specs.Fit.{Fit}
 use Rattle.spec_trees.specs.declared.tree.Tree.{Tree}
 use Rattle.spec_trees.specs.Trees.{is_settled, state_of, node_extent, children_of, span_of, all_spans, tree_depth}
 use Rattle.spec_trees.specs.Made.{leaf_of, as_extra, reduced, accepted, step_symbols, most_depth}
-use Rattle.spec_runs.specs.Configurations.{stack_symbols, HasMove, AreValidTokens, AreExtras}
+use Rattle.spec_runs.specs.Configurations.{Configuration, stack_symbols, pushed, token_tree, HasMove, NextIs, IsReduction, AreValidTokens, AreExtras}
 use Rattle.spec_forced.specs.Forced.{IsOnlyMove, IsDecided, Stands, StandInTurn, MakesNode}
+use Rattle.spec_forced.specs.OnlyRuns.{IsOnlyStep, EndAlike}
 use Rattle.spec_forced.specs.Sound.{States, IsStateAfter, StandsForState, AllSound, IsSound, EachHasState, IsWholeSoFar, StandOnStack}
 use Rattle.ts_table.specs.declared.view.ParseTable.{ParseTable}
 use Rattle.ts_lexer.specs.States.{AreValid}
@@ -75,3 +76,26 @@ pub record SoundLaws : Type 0 where
       → IsStateAfter g states state read → StandsForState g states text place state t
       → Stands g read (drop place text) t (node_extent t)
   pub tokens : (t : ParseTable) (state : ℕ) → (valid : List Symbol) × AreValid t state valid
+
+-- For proofs alone: laws of steps that are the only ones, and of configurations from which all runs
+-- end alike.
+pub record OnlyLaws : Type 0 where
+  pub shifted : (g : FlatGrammar) (text : Bytes) (c : Configuration) (s : Symbol) (pad size : ℕ)
+      → NextIs g text c (token s pad size) → IsOnlyMove g (stack_symbols c.stack) s.0 shift
+      → IsOnlyStep g text c (pushed c (token_tree s pad size))
+  pub passed : (g : FlatGrammar) (text : Bytes) (c : Configuration) (s : Symbol) (pad size : ℕ)
+      → NextIs g text c (token s pad size) → is_extra g s.0 ≡ true
+      → (HasMove g (stack_symbols c.stack) s.0 → ⊥)
+      → IsOnlyStep g text c (pushed c (as_extra (token_tree s pad size)))
+  pub reduced : (g : FlatGrammar) (text : Bytes) (c : Configuration) (s : Symbol)
+      (pad size number : ℕ) (node : Tree) (after : List Tree)
+      → NextIs g text c (token s pad size)
+      → IsOnlyMove g (stack_symbols c.stack) s.0 (reduce number)
+      → IsReduction g number c.stack node after → tree_depth node ≤ most_depth
+      → IsOnlyStep g text c (record { stack = after; place = c.place })
+  pub back : (g : FlatGrammar) (text : Bytes) (c d : Configuration) → EndAlike g text c d
+      → EndAlike g text d c
+  pub joined : (g : FlatGrammar) (text : Bytes) (c d e : Configuration)
+      → EndAlike g text c d → EndAlike g text d e → EndAlike g text c e
+  pub step : (g : FlatGrammar) (text : Bytes) (c d : Configuration)
+      → IsOnlyStep g text c d → EndAlike g text c d

@@ -2,16 +2,18 @@
 ghost use Rattle.std.specs.Prelude.{◌≡◌, ℕ, List};
 ghost use Rattle.ts_core.specs.declared.symbol.Symbol.{Symbol as AnySymbol};
 ghost use Rattle.spec_runs.specs.Configurations.{AreValidTokens};
-ghost use Rattle.spec_forced.specs.Laws.{ForcedLaws};
 ghost use Rattle.spec_forced.specs.Sound.{States, IsStateAfter};
 ghost use Rattle.ts_table.specs.declared.view.ParseTable.{ParseTable};
 ghost use Rattle.ts_table.specs.Tables.{IsTable, IsStateOf};
 ghost use Rattle.ts_lexer.specs.States.{AreValid};
 ghost use Rattle.ts_moves.specs.Laws.{Laws};
-ghost use Rattle.ts_steps.specs.Laws.{SoundLaws};
+ghost use Rattle.ts_steps.specs.Laws.{OnlyLaws, SoundLaws};
 ghost use Rattle.ts_steps.specs.Heads.{AreStatesOf};
 
-use spec_forced::{leaves_stand, lexings_are_decided, nodes_stand, stacks_stay_sound, states_tell};
+use spec_forced::{
+    ends_stay_alike, leaves_stand, lexings_are_decided, nodes_stand, one_move_is_one_step,
+    stacks_stay_sound, states_tell,
+};
 use spec_lexing::{beginnings, fewer_tokens, one_answer, token_within};
 use spec_reuse::{no_new_tokens, some_move_stays};
 use spec_runs::{
@@ -36,18 +38,11 @@ pub(crate) fn laws_hold()
 }
 
 /// The laws of runs without a choice hold.
-pub(crate) fn forced_laws_hold()
-    ensures { ForcedLaws }
+pub(crate) fn only_laws_hold()
+    ensures { OnlyLaws }
 {
-    bare_trees();
-    moves_have_their_place();
-    repetitions_repeat();
-    one_sight();
-    one_reduction();
-    one_answer();
-    fewer_tokens();
-    some_move_stays();
-    no_new_tokens();
+    one_move_is_one_step();
+    ends_stay_alike();
 }
 
 /// The laws of nodes that stand hold.

@@ -13,7 +13,7 @@ ghost use Rattle.ts_steps.specs.Reparsing.{GoesTo};
 
 use crate::accepting::accept;
 use crate::ahead::TokenAhead;
-use crate::laws::{forced_laws_hold, laws_hold, sound_laws_hold};
+use crate::laws::{laws_hold, only_laws_hold, sound_laws_hold};
 use crate::reducing::reduce;
 use crate::reparsed::{Going, Reparsed};
 use crate::setting::ParseSetting;
@@ -68,7 +68,7 @@ fn act(
 {
     laws_hold();
     sound_laws_hold();
-    forced_laws_hold();
+    only_laws_hold();
     same_token_again();
     table.stands();
     let ahead = TokenAhead { found, only: true };
@@ -108,7 +108,7 @@ fn follow(
         → GoesTo table.now text graph.old graph.new head going) }
 {
     laws_hold();
-    forced_laws_hold();
+    only_laws_hold();
     table.stands();
     match choice_of(table.actions(graph.state(head.top), found.token)) {
         Choice::Nothing => {
@@ -141,7 +141,7 @@ pub(crate) fn go_on(
         → GoesTo table.now text graph.old graph.new head going) }
 {
     laws_hold();
-    forced_laws_hold();
+    only_laws_hold();
     match lexed {
         Lexed::Absent { place, extent: _ } => Ok(Going::Ended(Reparsed::Stuck(place))),
         Lexed::Token {

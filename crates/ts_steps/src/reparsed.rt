@@ -19,7 +19,7 @@ pub enum Reparsed {
 
 /// What a move comes to: the next stack, or the end of the parse.
 #[derive(Drop)]
-pub enum Going {
+pub(crate) enum Going {
     On(StackHead),
     /// The next stack stands at the same place, behind a reduction on this token.
     Reduced(StackHead, FoundToken),

@@ -13,7 +13,7 @@ ghost use Rattle.ts_steps.specs.Heads.{AreStatesOf, IsOwnHead};
 ghost use Rattle.ts_steps.specs.Looking.{IsTokenAhead, SeesAhead};
 ghost use Rattle.ts_steps.specs.Reparsing.{AreHonest, IsOffered, IsOwnResult, IsResult, IsTakenFrom};
 
-use crate::laws::{forced_laws_hold, laws_hold, sound_laws_hold};
+use crate::laws::{laws_hold, only_laws_hold, sound_laws_hold};
 use crate::looking::look;
 use crate::moving::go_on;
 use crate::reparsed::{Going, Reparsed};
@@ -169,7 +169,7 @@ pub fn reparse<'t, L: Tokens, O: Offers<'t>>(
 {
     laws_hold();
     sound_laws_hold();
-    forced_laws_hold();
+    only_laws_hold();
     only_runs_are_one_way();
     pushed_whole();
     table.stands();

@@ -18,11 +18,7 @@ use Rattle.ts_workers.specs.Openings.{IsParsed, AreParsed, AreLexersOf, AreOpene
 use Rattle.ts_workers.proofs.FrontLemmas.{one_front}
 use Rattle.ts_workers.proofs.ListLemmas.{nowhere, same_thing}
 
--- what follows from a result, where there is one
-pub if_ok : {X E : Type 0} (P Q : X → Type 0) (r : Result X E) → IfOk r P → ((x : X) → P x → Q x) → IfOk r Q
-if_ok P Q (Ok x) p f = f x p
-if_ok P Q (Err e) p f = tt
-
+-- what follows from two facts of a result, where there is one
 pub if_both : {X E : Type 0} (P Q R : X → Type 0) (r : Result X E) → IfOk r P → IfOk r Q → ((x : X) → P x → Q x → R x) → IfOk r R
 if_both P Q R (Ok x) p q f = f x p q
 if_both P Q R (Err e) p q f = tt

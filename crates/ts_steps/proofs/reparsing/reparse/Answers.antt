@@ -28,7 +28,7 @@ loop-graph-preserved-in-Some g c =
       gives = λ place at t given. c.loop-graph.invariant.gives place at t (c.in_ok-next.ensures.gives place at t given);
       live = w.2.taken.live;
       stands = λ states are honest.
-          stands_taken c.laws_hold.ensures c.sound_laws_hold.ensures c.pushed_whole.ensures.ends c.args.table.now states text c.loop-graph.graph c.take.new.graph h c.in-Some.next w.0 c.stands.ensures are
+          stands_taken c.laws_hold.ensures c.sound_laws_hold.ensures c.only_laws_hold.ensures c.pushed_whole.ensures.ends c.args.table.now states text c.loop-graph.graph c.take.new.graph h c.in-Some.next w.0 c.stands.ensures are
           c.loop-graph.invariant.live (c.loop-graph.invariant.stands states are honest) w.2
           (honest h.place state w.0 (c.loop-graph.invariant.gives h.place state w.0 w.1));
       known = none_known (IsTokenAhead c.args.table.now text c.take.new.graph c.in-Some.next);
@@ -55,7 +55,7 @@ loop-graph-preserved-in-On g c =
       least = (let least = c.in_ok-next.ensures.least in omega (arith, least, far));
       gives = λ place at t given. c.loop-graph.invariant.gives place at t (c.in_ok-next.ensures.gives place at t given);
       live = go.own;
-      stands = λ states are honest. stands_on c.args.table.now states text c.loop-graph.graph c.go_on.new.graph h c.in-On.next (c.loop-graph.invariant.stands states are honest) go.step (go.stand states are);
+      stands = λ states are honest. stands_on c.only_laws_hold.ensures c.args.table.now states text c.loop-graph.graph c.go_on.new.graph h c.in-On.next (c.loop-graph.invariant.stands states are honest) go.step (go.stand states are);
       known = none_known (IsTokenAhead c.args.table.now text c.go_on.new.graph c.in-On.next);
     }
 
@@ -80,7 +80,7 @@ loop-graph-preserved g c =
       least = (let least = c.in_ok-next.ensures.least in omega (arith, least, far));
       gives = λ place at t given. c.loop-graph.invariant.gives place at t (c.in_ok-next.ensures.gives place at t given);
       live = go.0.own;
-      stands = λ states are honest. stands_on c.args.table.now states text c.loop-graph.graph c.go_on.new.graph h c.in-Reduced.next (c.loop-graph.invariant.stands states are honest) go.0.step (go.0.stand states are);
+      stands = λ states are honest. stands_on c.only_laws_hold.ensures c.args.table.now states text c.loop-graph.graph c.go_on.new.graph h c.in-Reduced.next (c.loop-graph.invariant.stands states are honest) go.0.step (go.0.stand states are);
       known = λ f e.
           let r = c.seen_again-ahead.ensures f e in
           subst (λ (x : FoundToken). IsTokenAhead c.args.table.now text c.go_on.new.graph c.in-Reduced.next x) (sym r.0) (go.1 r.1);
@@ -90,6 +90,6 @@ pub returns-in-Ended-clause-fresh : goal.returns-in-Ended-clause-fresh
 returns-in-Ended-clause-fresh g c states are honest =
     let text = g.L.Text.Content.bytes c.args.text.now in
     let long = sym (c.in_ok-setting.ensures.size_is ∙ c.len.ensures) in
-    ends_result c.only_runs_are_one_way.ensures.fresh c.only_runs_are_one_way.ensures.start c.args.table.now states text c.loop-graph.graph c.loop-graph.head are (c.loop-graph.invariant.stands states are honest) c.in-Ended.result
+    ends_result c.only_laws_hold.ensures c.only_runs_are_one_way.ensures.fresh c.only_runs_are_one_way.ensures.start c.args.table.now states text c.loop-graph.graph c.loop-graph.head are (c.loop-graph.invariant.stands states are honest) c.in-Ended.result
     (ends_at c.args.table.now text c.loop-graph.graph c.take.new.graph c.go_on.new.graph c.loop-graph.head c.in-Ended.result c.in_ok-next-in-None.field-0 (c.in_ok-next.ensures.kept c.in-None.is) c.in-Ended.is
     (c.in_ok-next-in-None.ensures text long (sees_kept c.args.table.now text c.loop-graph.graph c.take.new.graph c.loop-graph.head c.look_once-lexed.result (c.in_ok-next.ensures.kept c.in-None.is) c.look_once-lexed.ensures.sees)))
