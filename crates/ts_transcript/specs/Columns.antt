@@ -39,6 +39,11 @@ IsPieceAt columns place piece = (pieces : Vec (Vec ℕ))
     × (slice_get columns (dealt_to (place % column_count)) ≡ Some pieces)
     × (slice_get pieces.items (place / column_count) ≡ Some piece)
 
+-- there is a piece for each of so many lines
+abbrev pub HasPieces : List (Vec (Vec ℕ)) → ℕ → Type 0
+HasPieces columns count =
+    (place : ℕ) → place < count → (piece : Vec ℕ) × IsPieceAt columns place piece
+
 -- the pieces are the bytes of the first lines of a column, up to the line at this place
 pub record HasRows (g : FlatGrammar) (lines : List RunLine) (column place : ℕ)
     (pieces : List (Vec ℕ)) : Type 0 where

@@ -41,8 +41,9 @@ pub fn transcript(
 /// The same lines, made by as many threads as there are processors, where the versions' texts have
 /// 65,536 bytes or more, and by one thread where they have fewer.
 ///
-/// Where several threads make them, they are made in batches of 8 MiB of texts, and the lines of
-/// one batch are kept beside the bytes of all before them.
+/// Where several threads make them, they are made in batches of a multiple of eight lines, with
+/// 4 MiB of texts or more, and the lines of two batches are kept beside the bytes of all before
+/// them.
 ///
 /// # Errors
 ///

@@ -1,23 +1,22 @@
 //! Lines in; their bytes out, made by several threads where that pays.
 ghost use Rattle.std.specs.Prelude.{◌≡◌, ◌≤◌, ◌<◌, ℕ, length, IfOk};
 ghost use Rattle.std.specs.Global.{Vec as AnyVec};
-ghost use Rattle.ts_core.specs.declared.flat.FlatGrammar.{FlatGrammar as AnyGrammar};
 ghost use Rattle.ts_transcript.specs.Told.{AreLines};
-ghost use Rattle.ts_transcript.specs.Columns.{IsColumn, AreColumns, IsPieceAt, dealt_to};
-ghost use Rattle.ts_transcript.specs.Batches.{AddsBytes};
+ghost use Rattle.ts_transcript.specs.Columns.{IsColumn, AreColumns, IsPieceAt, HasPieces, dealt_to};
+ghost use Rattle.ts_transcript.specs.Batches.{AddsBytes, AddsPieces};
 
 use crate::line::RunLine;
 use crate::making::bytes_of;
 use rayon::prelude::*;
 use std::alloc::{AllocError, Global};
-use std::thread::Threads;
+use std::thread::{self, Threads};
 use ts_core::FlatGrammar;
 
 /// Below so many bytes of texts a thread costs more than it saves.
 const LEAST_BYTES: u64 = 65_536;
 
-/// How many bytes of texts the lines of a batch have, but for its last line and for the last batch.
-const BATCH_BYTES: u64 = 8_388_608;
+/// How many bytes of texts the lines of a batch have at least, but for the last batch.
+const BATCH_BYTES: u64 = 4_194_304;
 
 /// How many columns there are. A thread has one or more of them, side by side.
 const COLUMNS: usize = 64;
@@ -56,8 +55,8 @@ fn text_len(line: &RunLine<'_>) -> u64 {
 
 /// The bytes of these lines, made by several threads, in the order of the lines.
 ///
-/// They are made in batches, and those of a batch are added to the whole and let go before those of
-/// the next one are made. So what is kept beside the whole is one batch.
+/// They are made in batches. While those of a batch are made, another thread adds those of the
+/// batch before it to the whole, and lets them go. So what is kept beside the whole is two batches.
 pub(crate) fn on_threads<R: Threads + Sync>(
     rt: &R,
     alloc: Global,
@@ -77,11 +76,11 @@ pub(crate) fn on_threads<R: Threads + Sync>(
         batch = next;
         rest = later;
     }
-    added(made.bytes, made.columns, batch)
+    added(made.bytes, made.columns, batch.len())
 }
 
 /// How many of these lines are made at once: those until the texts of their versions have so many
-/// bytes.
+/// bytes, and up to a multiple of `STEP`, so that the threads that share the columns have as many.
 fn batch_len(lines: &[RunLine<'_>]) -> usize
     ensures within { result ≤ length lines.now }
     ensures some { 0 < length lines.now → 0 < result }
@@ -89,14 +88,14 @@ fn batch_len(lines: &[RunLine<'_>]) -> usize
     let mut bytes: u64 = 0;
     for place in 0..lines.len() {
         bytes = bytes.saturating_add(text_len(&lines[place]));
-        if BATCH_BYTES <= bytes {
+        if BATCH_BYTES <= bytes && (place + 1) % STEP == 0 {
             return place + 1;
         }
     }
     lines.len()
 }
 
-/// Adds the lines of a batch to the bytes, and makes those of the next batch.
+/// Adds the lines of a batch to the bytes, while those of the next batch are made.
 fn next_batch<R: Threads + Sync>(
     rt: &R,
     alloc: Global,
@@ -111,25 +110,50 @@ fn next_batch<R: Threads + Sync>(
     ensures next { IfOk result (λ m. AreColumns grammar.now next.now m.columns.items) }
 {
     let Made { bytes, columns } = made;
-    let bytes = added(bytes, columns, batch)?;
-    let columns = all_columns(rt, alloc, grammar, next)?;
-    Ok(Made { bytes, columns })
+    let make = || -> Result<Vec<Vec<Vec<u8>>>, AllocError>
+        ensures { IfOk result (λ columns. AreColumns grammar.entry.now next.entry.now
+            columns.items) }
+    { all_columns(rt, alloc, grammar, next) };
+    let (bytes, columns) = added_beside(rt, bytes, columns, batch.len(), &make);
+    Ok(Made {
+        bytes: bytes?,
+        columns: columns?,
+    })
 }
 
-/// The bytes, and after them those of the lines of the batch, which were made in these columns.
-fn added(
+/// The bytes, and after them those of so many lines, which were made in these columns. They are
+/// added on a thread of its own where one can be started, while this one does the other work.
+fn added_beside<R: Threads, T, W: Fn() -> T>(
+    rt: &R,
     bytes: Vec<u8>,
     made: Vec<Vec<Vec<u8>>>,
-    batch: &[RunLine<'_>],
-) -> Result<Vec<u8>, AllocError>
-    requires { (g : AnyGrammar) × AreColumns g batch.now made.items }
-    ensures { IfOk result (λ all. (g : AnyGrammar) → AreColumns g batch.now made.items
-        → AddsBytes g batch.now bytes.items all.items) }
+    count: usize,
+    work: &W,
+) -> (Result<Vec<u8>, AllocError>, T)
+    requires pieces { HasPieces made.items count }
+    requires work { W.pre work.now }
+    ensures added { IfOk result.0 (λ all. AddsPieces made.items count bytes.items all.items) }
+    ensures done { W.post work.now result.1 }
+{
+    thread::join(
+        rt,
+        move || -> Result<Vec<u8>, AllocError>
+            requires { HasPieces made.items count }
+            ensures { IfOk result (λ all. AddsPieces made.items count bytes.items all.items) }
+        { added(bytes, made, count) },
+        || work(),
+    )
+}
+
+/// The bytes, and after them those of so many lines, which were made in these columns.
+fn added(bytes: Vec<u8>, made: Vec<Vec<Vec<u8>>>, count: usize) -> Result<Vec<u8>, AllocError>
+    requires { HasPieces made.items count }
+    ensures { IfOk result (λ all. AddsPieces made.items count bytes.items all.items) }
 {
     let mut out = bytes;
     let columns = made.as_slice();
     out.reserve_exact(len_of(columns))?;
-    for place in 0..batch.len() {
+    for place in 0..count {
         out.extend_from_slice(piece_at(columns, place))?;
     }
     Ok(out)

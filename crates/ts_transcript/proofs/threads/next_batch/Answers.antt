@@ -1,10 +1,5 @@
+use Rattle.ts_transcript.proofs.ColumnLemmas.{has_piece}
 use Rattle.ts_transcript.proofs.threads.next_batch.Goals as goal
 
-pub added-requires : goal.added-requires
-added-requires g c = (c.args.grammar.now, c.requires)
-
-pub returns-clause-added : goal.returns-clause-added
-returns-clause-added g c = c.in_ok-bytes.ensures c.args.grammar.now c.requires
-
-pub returns-clause-next : goal.returns-clause-next
-returns-clause-next g c = c.in_ok-columns.ensures
+pub added_beside-bytes-requires-clause-pieces : goal.added_beside-bytes-requires-clause-pieces
+added_beside-bytes-requires-clause-pieces g c = has_piece c.args.grammar.now c.args.batch.now c.args.made.columns.items c.requires

@@ -1,9 +1,12 @@
-use Rattle.std.proofs.Common.{arith, ◌++◌, List, length, sym, subst}
+use Rattle.std.proofs.Common.{arith, ◌++◌, ℕ, List, length, refl, sym, subst}
+use Rattle.std.specs.Global.{Vec}
 use Rattle.rayon.proofs.ListFacts.{IfOk-then}
 use Rattle.ts_base.specs.Bytes.{Bytes}
-use Rattle.ts_transcript.specs.Batches.{Begins}
+use Rattle.ts_transcript.specs.Batches.{AddsPieces, Begins}
+use Rattle.ts_transcript.specs.Told.{AreLines}
 use Rattle.ts_transcript.specs.declared.line.RunLine.{RunLine}
 use Rattle.ts_transcript.proofs.BatchLemmas.{none_left, some_left, begins_empty, begins_more, begins_all}
+use Rattle.ts_transcript.proofs.ColumnLemmas.{has_piece}
 use Rattle.ts_transcript.proofs.threads.on_threads.Goals as goal
 
 pub loop-rest-init : goal.loop-rest-init
@@ -35,7 +38,7 @@ loop-rest-preserved g c =
     (subst (λ (left : List RunLine). Begins grammar lines bytes left) c.split_at-in-loop-rest.ensures.by_index.0 more, made.next)
 
 pub added-requires : goal.added-requires
-added-requires g c = (c.args.grammar.now, c.loop-rest.invariant.1)
+added-requires g c = has_piece c.args.grammar.now c.loop-rest.batch.now c.loop-rest.made.columns.items c.loop-rest.invariant.1
 
 pub returns : goal.returns
 returns g c =
@@ -43,6 +46,9 @@ returns g c =
     let lines = c.args.lines.now in
     let rest = c.loop-rest.rest.now in
     let none = none_left rest c.is_empty.result c.loop-rest-test.false c.is_empty.ensures in
-    IfOk-then c.added.result _ _ c.added.ensures (λ all adds.
+    let batch = c.loop-rest.batch.now in
+    let before = c.loop-rest.made.bytes.items in
+    IfOk-then c.added.result (λ (all : Vec ℕ). AddsPieces c.loop-rest.made.columns.items (length batch) before all.items) (λ all. AreLines grammar lines all.items) c.added.ensures
+    (λ all adds.
     begins_all grammar lines rest all.items none
-    (begins_more grammar lines c.loop-rest.batch.now rest c.loop-rest.made.bytes.items all.items c.loop-rest.invariant.0 (adds grammar c.loop-rest.invariant.1)))
+    (begins_more grammar lines batch rest before all.items c.loop-rest.invariant.0 (adds grammar batch refl c.loop-rest.invariant.1)))
