@@ -1,8 +1,11 @@
 -- Characters over which a set of nodes leads to itself: what is known of them is told at their end.
-use Rattle.std.proofs.Common.{◌≡◌, sym, subst, ℕ, ◌+◌, ◌<◌, ◌≤◌, ◌⊎◌, inl, inr, ⊎_elim, refl, Bool, true, false, List, [], ◌∷◌, ◌++◌, Some, None, slice_get, arith}
+use Rattle.std.proofs.Common.{◌≡◌, ◌∙◌, sym, subst, refl, ℕ, ◌+◌, ◌<◌, ◌≤◌, ◌⊎◌, inl, inr, ⊎_elim, Bool, true, List, ◌∷◌, [], ◌++◌, Some, ap, length, length-append, length-drop, drop, get_or, slice_get, arith}
 use Rattle.std.specs.Char.{len_utf8}
-use Rattle.std.specs.Str.{IsUtf8}
 use Rattle.std.proofs.Math.Utf8.{encode}
+use Rattle.std.specs.Str.{IsUtf8}
+use Rattle.std.proofs.lemmas.Str.{encode_ascii, length-encode, len_utf8_bounds}
+use Rattle.std.proofs.lemmas.List.{drop-drop, drop_more}
+use Rattle.std.proofs.Math.Seq.{drop-append_seam}
 use Rattle.ts_base.specs.Bytes.{Bytes}
 use Rattle.ts_core.specs.declared.flat.FlatGrammar.{FlatGrammar}
 use Rattle.ts_core.specs.declared.symbol.Symbol.{Symbol}
@@ -13,103 +16,115 @@ use Rattle.ts_lexer.specs.declared.scanned.Progress.{Progress}
 use Rattle.ts_lexer.specs.declared.verdict.Verdict.{Verdict}
 use Rattle.ts_lexer.specs.Ahead.{AreVerdicts}
 use Rattle.ts_lexer.specs.Judged.{Knows, PartWord}
-use Rattle.ts_lexer.specs.Scanned.{PartMatches, IsStep, Sofar}
+use Rattle.ts_lexer.specs.Scanned.{PartMatches, IsStep, Sofar, Stays, unread, past}
 use Rattle.ts_lexer.proofs.KnowLemmas.{row_knows, same_words}
-use Rattle.ts_lexer.proofs.RunLemmas.{Laws, Reading, Running, read_begins}
-use Rattle.ts_lexer.proofs.ScannedLemmas.{step_on, read_on}
-use Rattle.ts_lexer.proofs.SofarLemmas.{sofar_none}
+use Rattle.ts_lexer.proofs.RunLemmas.{Laws, Reading, Running}
+use Rattle.ts_lexer.proofs.ScannedLemmas.{scalar_of, step_on, read_on}
 
--- what was found before the set was reached, and what the set says
-pub record Since (g : FlatGrammar) (valid : List Symbol) (first : Bool) (row : List Verdict) (state : ℕ) (rest : Bytes) (size : ℕ) (w : List ℕ) (v : Verdict) (p : Progress) : Type 0 where
-  pub at : slice_get row state ≡ Some v
-  pub bound : ℕ
-  pub step : IsStep g rest bound size w
-  pub knows : Knows g valid first w v
-  pub alive : v.lives ≡ true
-  pub sofar : Sofar g valid first (PartMatches g rest) bound p
-
--- nothing has been read and found, or a set has been reached
-pub data Pending (g : FlatGrammar) (valid : List Symbol) (first : Bool) (row : List Verdict) (state : ℕ) (rest : Bytes) (size : ℕ) (w : List ℕ) (v : Verdict) (p : Progress) : Type 0 where
-  unread : size ≡ 0 → v.plain ≡ None → v.word ≡ false → v.separator ≡ false → Sofar g valid first (PartMatches g rest) 0 p → Pending g valid first row state rest size w v p
-  since : Since g valid first row state rest size w v p → Pending g valid first row state rest size w v p
-
--- characters have been read that lead to a set
-pub record Going (g : FlatGrammar) (valid : List Symbol) (first : Bool) (m : SetTables) (row : List Verdict) (state : ℕ) (rest tail : Bytes) (size : ℕ) (v : Verdict) (p : Progress) : Type 0 where
+-- characters have been read that lead to a set; what it says is not told of those behind the bound
+pub record Going (g : FlatGrammar) (valid : List Symbol) (first : Bool) (m : SetTables) (state bound : ℕ) (rest tail : Bytes) (size : ℕ) : Type 0 where
   pub characters : List ℕ
   pub read : HasRead m characters state
   pub reading : Reading g valid rest tail size characters
-  pub pending : Pending g valid first row state rest size characters v p
+  pub step : IsStep g rest bound size characters
 
--- what `advance` says
-pub record Advanced (g : FlatGrammar) (valid : List Symbol) (first : Bool) (rest : Bytes) (size : ℕ) (v : Verdict) (p after : Progress) : Type 0 where
-  pub silent : v.plain ≡ None → v.word ≡ false → v.separator ≡ false → after ≡ p
-  pub found : (bound : ℕ) (w : List ℕ) → IsStep g rest bound size w → Knows g valid first w v → Sofar g valid first (PartMatches g rest) bound p → Sofar g valid first (PartMatches g rest) size after
+-- an ASCII byte is a character
+pub ascii_next : (bytes : Bytes) (place : ℕ) → place < length bytes → get_or bytes place 0 < 128 → drop place bytes ≡ encode (get_or bytes place 0) ++ drop (place + 1) bytes
+ascii_next bytes place lt small = drop_more bytes place 0 lt ∙ ap (λ (l : Bytes). l ++ drop (place + 1) bytes) (sym (encode_ascii (get_or bytes place 0) small))
 
-pub going_begins : Laws → (g : FlatGrammar) (valid : List Symbol) (first : Bool) (m : SetTables) (row : List Verdict) (state : ℕ) (rest : Bytes) (v : Verdict) → HasRead m [] state → IsUtf8 rest
-    → v.plain ≡ None → v.word ≡ false → v.separator ≡ false → Going g valid first m row state rest rest 0 v (record { plain = None; word = 0; keyword = None; separator = 0 })
-going_begins laws g valid first m row state rest v read utf8 plain word separator = record {
-  characters = [];
-  read = read;
-  reading = read_begins laws g valid rest utf8;
-  pending = unread refl plain word separator (sofar_none g valid first (PartMatches g rest) (λ k n x. x.matches.some));
-}
+pub ascii_len : (c : ℕ) → c < 128 → 1 ≡ len_utf8 c
+ascii_len c small = ap (λ (l : Bytes). length l) (sym (encode_ascii c small)) ∙ length-encode c
+
+-- what is left is a text
+pub stays_utf8 : (m : SetTables) (set : ℕ) (text later : Bytes) → Stays m set text later → IsUtf8 text → IsUtf8 later
+stays_utf8 m set text later (unread t) utf8 = utf8
+stays_utf8 m set text later (past t tail after c stays spells on) utf8 = (scalar_of tail later c (stays_utf8 m set text tail stays utf8) spells).1
+
+-- a character that is read at a place of a text ends in it, and what follows it is a text
+pub record Passes (rest : Bytes) (size len : ℕ) (later : Bytes) : Type 0 where
+  pub some : 0 < len
+  pub within : size + len ≤ length rest
+  pub is : later ≡ drop (size + len) rest
+  pub utf8 : IsUtf8 later
+
+pub passes : (rest : Bytes) (size c len : ℕ) (later : Bytes) → size ≤ length rest → IsUtf8 (drop size rest) → drop size rest ≡ encode c ++ later → len ≡ len_utf8 c → Passes rest size len later
+passes rest size c len later le utf8 spells is =
+    let e = ap (λ (l : Bytes). length l) spells in
+    let f = length-append (encode c) later in
+    let h = length-encode c in
+    let b = len_utf8_bounds c in
+    let d = length-drop size rest in
+    let same : length (encode c) ≡ len = h ∙ sym is in
+    record {
+      some = omega arith;
+      within = omega arith;
+      is = sym (ap (λ (k : ℕ). drop (size + k) rest) (sym same) ∙ sym (drop-drop (length (encode c)) size rest) ∙ ap (λ (l : Bytes). drop (length (encode c)) l) spells ∙ drop-append_seam (encode c) later);
+      utf8 = (scalar_of (drop size rest) later c utf8 spells).1;
+    }
 
 module _ (laws : Laws) (g : FlatGrammar) (valid : List Symbol) (first : Bool) (m : SetTables) (is : IsAutomaton g m.automaton) (row : List Verdict) (rows : AreVerdicts g valid first m row)
-    (state : ℕ) (rest tail : Bytes) (size : ℕ) (v : Verdict) (p : Progress) (going : Going g valid first m row state rest tail size v p) where
-  -- what the set says is told
-  pub settled : (after : Progress) → Advanced g valid first rest size v p after → Running (λ w. HasRead m w state) g valid first rest tail size after
-  settled after told = record { characters = going.characters; read = going.read; reading = going.reading; sofar = by going.pending }
-    where
-      by : Pending g valid first row state rest size going.characters v p → Sofar g valid first (PartMatches g rest) size after
-      by (unread zero a b d s) =
-          subst (λ (n : ℕ). Sofar g valid first (PartMatches g rest) n after) (sym zero)
-          (subst (λ (q : Progress). Sofar g valid first (PartMatches g rest) 0 q) (sym (told.silent a b d)) s)
-      by (since x) = told.found x.bound going.characters x.step x.knows x.sofar
+    (state : ℕ) (v : Verdict) (at : slice_get row state ≡ Some v) (alive : v.lives ≡ true) (rest : Bytes) where
+  knows_of : (w : List ℕ) → HasRead m w state → Knows g valid first w v
+  knows_of w read = row_knows g valid first m is row rows w state v read at
 
-  module _ (c : ℕ) (later : Bytes) (spells : tail ≡ encode c ++ later) (len : ℕ) (len_is : len ≡ len_utf8 c) where
+  module _ (bound : ℕ) (tail : Bytes) (size : ℕ) (going : Going g valid first m state bound rest tail size) (c : ℕ) (later : Bytes) (spells : tail ≡ encode c ++ later) where
     abbrev w : List ℕ
     w = going.characters ++ c ∷ []
 
-    step : IsStep g rest size (size + len) w
-    step = step_on laws g valid first rest tail size going.characters going.reading c later spells len len_is
-
-    -- another set is reached
-    pub turned : (to : ℕ) (fresh : Verdict) (after : Progress) → HasRead m w to → slice_get row to ≡ Some fresh → fresh.lives ≡ true → Advanced g valid first rest size v p after
-        → Going g valid first m row to rest later (size + len) fresh after
-    turned to fresh after read at alive told =
-        let knows = row_knows g valid first m is row rows w to fresh read at in
-        let run = settled after told in
-        record {
-          characters = w;
-          read = read;
-          reading = read_on laws g valid first rest tail size going.characters going.reading c later spells len len_is fresh knows alive;
-          pending = since (record { at = at; bound = size; step = step; knows = knows; alive = alive; sofar = run.sofar });
-        }
-
-    -- the set stays
-    pub stayed : 0 < size → HasRead m w state → Going g valid first m row state rest later (size + len) v p
-    stayed some read = by going.pending
+    -- the set stays over one character more
+    stayed : HasRead m w state → Going g valid first m state bound rest later (size + len_utf8 c)
+    stayed read = record {
+      characters = w;
+      read = read;
+      reading = read_on laws g valid first rest tail size going.characters going.reading c later spells (len_utf8 c) refl v (knows_of w read) alive;
+      step = record { rises = (let r = going.step.rises in let t = next.rises in omega arith); from = from; now = next.now };
+    }
       where
-        by : Pending g valid first row state rest size going.characters v p → Going g valid first m row state rest later (size + len) v p
-        by (unread zero a b d s) = absurd (omega arith)
-        by (since x) = record {
-          characters = w;
-          read = read;
-          reading = read_on laws g valid first rest tail size going.characters going.reading c later spells len len_is v knows x.alive;
-          pending = since (record {
-            at = x.at;
-            bound = x.bound;
-            step = record { rises = (let r = x.step.rises in let t = step.rises in omega arith); from = from; now = step.now };
-            knows = knows;
-            alive = x.alive;
-            sofar = x.sofar;
-          });
-        }
-          where
-            knows : Knows g valid first w v
-            knows = row_knows g valid first m is row rows w state v read x.at
+        next : IsStep g rest size (size + len_utf8 c) w
+        next = step_on laws g valid first rest tail size going.characters going.reading c later spells (len_utf8 c) refl
 
-            from : (k n : ℕ) → n ≤ size + len → PartMatches g rest k n → (n ≤ x.bound) ⊎ PartWord g w k
-            from k n le y = ⊎_elim
-                (λ low. ⊎_elim (λ before. inl before) (λ word. inr (same_words g m is going.characters w state going.read read k word)) (x.step.from k n low y))
-                (λ word. inr word) (step.from k n le y)
+        from : (k n : ℕ) → n ≤ size + len_utf8 c → PartMatches g rest k n → (n ≤ bound) ⊎ PartWord g w k
+        from k n le y = ⊎_elim
+            (λ low. ⊎_elim (λ before. inl before) (λ word. inr (same_words g m is going.characters w state going.read read k word)) (going.step.from k n low y))
+            (λ word. inr word) (next.from k n le y)
+
+  -- the set stays
+  stayed_on : (bound : ℕ) (tail later : Bytes) (size : ℕ) → Stays m state tail later → Going g valid first m state bound rest tail size
+      → (n : ℕ) × (n + length later ≡ size + length tail) × Going g valid first m state bound rest later n
+  stayed_on bound tail later size (unread text) going = (size, refl, going)
+  stayed_on bound tail later size (past text before after c stays spells on) going =
+      let x = stayed_on bound tail before size stays going in
+      let sum = x.1 in
+      let e = ap (λ (l : Bytes). length l) spells in
+      let f = length-append (encode c) later in
+      let h = length-encode c in
+      (x.0 + len_utf8 c, omega arith, stayed bound before x.0 x.2 c later spells (on x.2.characters x.2.read))
+
+  module _ (tail : Bytes) (size : ℕ) (R : List ℕ → Type 0) (p : Progress) (run : Running R g valid first rest tail size p) (c : ℕ) (later : Bytes) (spells : tail ≡ encode c ++ later) where
+    -- the set is reached
+    reached : HasRead m (run.characters ++ c ∷ []) state → Going g valid first m state size rest later (size + len_utf8 c)
+    reached read = record {
+      characters = run.characters ++ c ∷ [];
+      read = read;
+      reading = read_on laws g valid first rest tail size run.characters run.reading c later spells (len_utf8 c) refl v (knows_of (run.characters ++ c ∷ []) read) alive;
+      step = step_on laws g valid first rest tail size run.characters run.reading c later spells (len_utf8 c) refl;
+    }
+
+    -- the set is reached and stays, and what it says is told
+    pub turned : HasRead m (run.characters ++ c ∷ []) state → (end : Bytes) → Stays m state later end → (n : ℕ) → n + length end ≡ size + length tail → (after : Progress)
+        → ((w : List ℕ) → IsStep g rest size n w → Knows g valid first w v → Sofar g valid first (PartMatches g rest) size p → Sofar g valid first (PartMatches g rest) n after)
+        → Running (λ w. HasRead m w state) g valid first rest end n after
+    turned read end stays n sum after told =
+        let x = stayed_on size later end (size + len_utf8 c) stays (reached read) in
+        let total = x.1 in
+        let e = ap (λ (l : Bytes). length l) spells in
+        let f = length-append (encode c) later in
+        let h = length-encode c in
+        let same : x.0 ≡ n = omega arith in
+        let going = subst (λ (k : ℕ). Going g valid first m state size rest end k) same x.2 in
+        record {
+          characters = going.characters;
+          read = going.read;
+          reading = going.reading;
+          sofar = told going.characters going.step (knows_of going.characters going.read) run.sofar;
+        }

@@ -1,5 +1,6 @@
 -- What was found at one place, while its characters are read, and once they have been.
-use Rattle.std.specs.Prelude.{◌≡◌, ℕ, ◌≤◌, ◌<◌, ◌<ℤ◌, ◌⊎◌, Bool, true, false, List, slice_get, Some, MatchOption}
+use Rattle.std.specs.Prelude.{◌≡◌, ℕ, ◌≤◌, ◌<◌, ◌<ℤ◌, ◌⊎◌, Bool, true, false, List, [], ◌∷◌, ◌++◌, slice_get, Some, MatchOption}
+use Rattle.std.specs.Char.{encode_utf8, len_utf8}
 use Rattle.ts_base.specs.Bytes.{Bytes}
 use Rattle.ts_core.specs.declared.flat.FlatGrammar.{FlatGrammar}
 use Rattle.ts_core.specs.declared.flat.TokenDef.{TokenDef}
@@ -8,10 +9,13 @@ use Rattle.spec_lexing.specs.Words.{Regular}
 use Rattle.spec_lexing.specs.Matching.{MatchesRe, MatchesSeparator}
 use Rattle.spec_lexing.specs.Lexing.{Candidate, Beats, IsBest}
 use Rattle.spec_lexing.specs.Seen.{IsReach}
+use Rattle.ts_automata.specs.declared.tables.SetTables.{SetTables}
 use Rattle.ts_automata.specs.Automata.{parts_of}
+use Rattle.ts_automata.specs.Machine.{HasRead, state_count}
 use Rattle.ts_lexer.specs.declared.scanned.Match.{Match}
 use Rattle.ts_lexer.specs.declared.scanned.Progress.{Progress}
 use Rattle.ts_lexer.specs.declared.scanned.Scanned.{Scanned}
+use Rattle.ts_lexer.specs.declared.scanned.Turn.{Turn}
 use Rattle.ts_lexer.specs.declared.rules.Kind.{Kind}
 use Rattle.ts_lexer.specs.Judged.{Offered, IsWordPart, IsSeparatorPart, IsPick, PartWord}
 
@@ -84,3 +88,18 @@ BeatsBy a s m b t n =
 pub record IsBetterMatch (a : Kind) (m : Match) (b : Kind) (n taken : Match) : Type 0 where
   pub kept : BeatsBy a m.symbol m.size b n.symbol n.size → taken ≡ m
   pub changed : (BeatsBy a m.symbol m.size b n.symbol n.size → ⊥) → taken ≡ n
+
+-- a text, and what is left of it behind characters over which the set leads to itself
+pub data Stays (m : SetTables) (set : ℕ) : Bytes → Bytes → Type 0 where
+  unread : (text : Bytes) → Stays m set text text
+  past : (text tail later : Bytes) (c : ℕ) → Stays m set text tail → tail ≡ encode_utf8 c ++ later
+      → ((w : List ℕ) → HasRead m w set → HasRead m (w ++ c ∷ []) set) → Stays m set text later
+
+-- the text begins with a character of so many bytes, which leads from the set to another
+pub record Turns (m : SetTables) (set : ℕ) (text : Bytes) (t : Turn) : Type 0 where
+  pub character : ℕ
+  pub later : Bytes
+  pub spells : text ≡ encode_utf8 character ++ later
+  pub len : t.len ≡ len_utf8 character
+  pub within : t.to < state_count m
+  pub leads : (w : List ℕ) → HasRead m w set → HasRead m (w ++ character ∷ []) t.to

@@ -1,6 +1,6 @@
 //! What was found at a place: the verdict on one character more goes in, and what it adds comes
 //! out.
-ghost use Rattle.std.specs.Prelude.{◌≡◌, ℕ, List, Bool, true, false, Some, None};
+ghost use Rattle.std.specs.Prelude.{◌≡◌, ℕ, List, Bool, true, false, Some, None, IsTrue};
 ghost use Rattle.ts_base.specs.Bytes.{Bytes};
 ghost use Rattle.ts_core.specs.declared.flat.FlatGrammar.{FlatGrammar as AnyGrammar};
 ghost use Rattle.ts_core.specs.declared.flat.TokenDef.{TokenDef as AnyToken};
@@ -54,6 +54,17 @@ fn keyword_of(there: bool, new: Option<Symbol>, old: Option<Symbol>) -> Option<S
     if there { new } else { old }
 }
 
+/// Whether the characters are no word and no separator.
+fn is_plain(verdict: &Verdict) -> bool
+    ensures word { IsTrue result → verdict.now.word ≡ false }
+    ensures separator { IsTrue result → verdict.now.separator ≡ false }
+{
+    if verdict.word {
+        return false;
+    }
+    !verdict.separator
+}
+
 /// What was found with one character more, or with more of them over which the verdict stayed,
 /// after which so many bytes have been read.
 pub(crate) fn advance(rules: &Rules, old: &Progress, verdict: &Verdict, size: usize) -> Progress
@@ -66,6 +77,14 @@ pub(crate) fn advance(rules: &Rules, old: &Progress, verdict: &Verdict, size: us
         → Sofar g valid first (PartMatches g rest) size result }
 {
     let plain = longer(rules, old.plain, verdict.plain, size);
+    if is_plain(verdict) {
+        return Progress {
+            plain,
+            word: old.word,
+            keyword: old.keyword,
+            separator: old.separator,
+        };
+    }
     let word = size_of(verdict.word, size, old.word);
     let keyword = keyword_of(verdict.word, verdict.keyword, old.keyword);
     let separator = size_of(verdict.separator, size, old.separator);

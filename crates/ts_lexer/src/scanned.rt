@@ -31,3 +31,12 @@ pub(crate) struct Scanned {
     /// How many bytes were looked at, where the end of the text counts as one.
     pub reach: usize,
 }
+
+/// Where a character leads.
+#[derive(Clone, Copy, Debug)]
+pub(crate) struct Turn {
+    /// The set that is reached.
+    pub to: usize,
+    /// How many bytes the character has.
+    pub len: usize,
+}

@@ -1,8 +1,6 @@
 //! What is decided of characters that have been read: which token has them, for a set of valid
 //! tokens.
 
-ghost use Rattle.std.specs.Prelude.{◌≡◌, false, true, None};
-
 use ts_core::Symbol;
 
 /// What is known once some characters have been read, for a set of valid tokens.
@@ -18,23 +16,4 @@ pub(crate) struct Verdict {
     pub separator: bool,
     /// Whether what is looked for can begin with them.
     pub lives: bool,
-}
-
-/// What is known before anything has been read.
-pub(crate) fn unread() -> Verdict
-    ensures { result ≡ record {
-      plain = None;
-      keyword = None;
-      word = false;
-      separator = false;
-      lives = true;
-    } }
-{
-    Verdict {
-        plain: None,
-        keyword: None,
-        word: false,
-        separator: false,
-        lives: true,
-    }
 }
