@@ -3,7 +3,6 @@
 #![tactic(auto)]
 
 mod matching;
-mod rows;
 
 pub use matching::matches;
 pub use ts_search::{All, Keep, MatchFault};

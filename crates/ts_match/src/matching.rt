@@ -3,12 +3,11 @@ ghost use Rattle.std.specs.Prelude.{◌≡◌, ◌<◌, ◌≤◌, ◌^◌, IfOk
 ghost use Rattle.spec_trees.specs.VisibleNodes.{visible_nodes};
 ghost use Rattle.spec_matches.specs.Matches.{AreMatches, AreTooMany, most_matches};
 
-use crate::rows::rows;
 use spec_matches::Match;
 use std::alloc::Global;
 use ts_base::List;
 use ts_core::FlatGrammar;
-use ts_cursor::Cursor;
+use ts_cursor::{Cursor, nodes_have_parents};
 use ts_node::Node;
 use ts_query_syntax::ReadQuery;
 use ts_search::{Keep, MatchFault, Sight};
@@ -33,9 +32,9 @@ pub fn matches<K: Keep>(
     ensures many { IfErr result (λ e. e ≡ MatchFault.Many
         → AreTooMany query.now (visible_nodes grammar.now root.now) (K.kept keep.now)) }
 {
+    nodes_have_parents();
     let tree = Cursor::new(alloc, grammar, root)?;
-    let rows = rows(alloc, &tree)?;
-    let sight = Sight::new(query.kinds.as_slice(), rows);
+    let sight = Sight::new(query.kinds.as_slice(), &tree);
     let found = ts_search::matches(alloc, &sight, query.patterns.as_slice(), keep)?;
     Ok(found)
 }

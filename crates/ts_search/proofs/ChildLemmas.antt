@@ -1,14 +1,16 @@
 -- The children of a node, one after another.
-use Rattle.std.proofs.Common.{◌≡◌, sym, ap, refl, subst, ℕ, zero, suc, ◌+◌, ◌<◌, ◌≤◌, ◌⊎◌, inl, inr, ⊎_elim, List, [], ◌∷◌, ◌++◌, length, Option, Some, None, slice_get, option_map, unwrap_or, arith, ◌↔◌}
+use Rattle.std.proofs.Common.{◌≡◌, sym, ap, refl, subst, ℕ, zero, suc, ◌+◌, ◌-◌, ◌<◌, ◌≤◌, ◌⊎◌, inl, inr, ⊎_elim, List, [], ◌∷◌, ◌++◌, length, Option, Some, None, slice_get, option_map, unwrap_or, arith, ◌↔◌}
 use Rattle.std.specs.List.{Contains}
 use Rattle.std.proofs.lemmas.Bool.{cases_lt}
 use Rattle.std.proofs.lemmas.Option.{slice_get_within}
 use Rattle.std.proofs.lemmas.List.Elements.{Contains-push, Contains-push_cases, Contains-append_left}
 use Rattle.spec_trees.specs.declared.visible.VisibleNode.{VisibleNode}
 use Rattle.spec_trees.specs.Family.{IsParent, depth_at}
-use Rattle.spec_matches.specs.Siblings.{IsRising, AreChildren}
-use Rattle.ts_search.specs.Rows.{EndsAt}
+use Rattle.spec_matches.specs.Siblings.{IsRising, AreChildren, AreSiblings}
+use Rattle.ts_cursor.specs.Linked.{IsPast}
+use Rattle.ts_search.specs.Rows.{HaveParents}
 use Rattle.ts_search.proofs.PlaceLemmas.{cases_lt_or_eq, none_in_nil}
+use Rattle.ts_search.proofs.AddLemmas.{in_one, one_in}
 
 -- ---- rising lists
 
@@ -78,7 +80,7 @@ module _ (nodes : List VisibleNode) where
     pub all : (c : ℕ) → Contains children c ↔ ((c < m) × IsParent nodes c k)
     pub order : IsRising children
 
-  pub listed_none : (k past : ℕ) → EndsAt nodes k past → Listed k (k + 1) past []
+  pub listed_none : (k past : ℕ) → IsPast nodes k past → Listed k (k + 1) past []
   listed_none k past e = record {
     low = omega arith;
     high = let l = e.later in omega arith;
@@ -87,7 +89,7 @@ module _ (nodes : List VisibleNode) where
     order = tt;
   }
 
-  pub listed_more : (k m past next : ℕ) (children more : List ℕ) → more ≡ children ++ m ∷ [] → m < past → EndsAt nodes k past → EndsAt nodes m next → Listed k m past children → Listed k next past more
+  pub listed_more : (k m past next : ℕ) (children more : List ℕ) → more ≡ children ++ m ∷ [] → m < past → IsPast nodes k past → IsPast nodes m next → Listed k m past children → Listed k next past more
   listed_more k m past next children more is lt ends after before = record {
     low = let l = before.low in let a = after.later in omega arith;
     high = high;
@@ -124,7 +126,7 @@ module _ (nodes : List VisibleNode) where
           (λ first. ⊎_elim (λ h. Contains-append_left children (m ∷ []) c ((before.all c).1 (h, p))) (λ h. subst (Contains (children ++ m ∷ [])) (sym h) (Contains-push children m)) (cases_lt_or_eq c m first))
           (λ later. let d = after.between c (omega arith) below in let b = p.between m before.low (omega arith) in absurd (omega arith)) (cases_lt c (m + 1))
 
-  pub listed_all : (k m past : ℕ) (children : List ℕ) → past ≤ m → EndsAt nodes k past → Listed k m past children → AreChildren nodes k children
+  pub listed_all : (k m past : ℕ) (children : List ℕ) → past ≤ m → IsPast nodes k past → Listed k m past children → AreChildren nodes k children
   listed_all k m past children le ends l = record {
     all = λ c. ((λ h. ((l.all c).0 h).1), (λ p. (l.all c).1 (⊎_elim (λ lt. lt) (λ ge. absurd (late c ge p (cases_lt past (length nodes)))) (cases_lt c m), p)));
     order = l.order;
@@ -139,3 +141,45 @@ module _ (nodes : List VisibleNode) where
           (λ h. let same : c ≡ past = (let high = l.high in omega arith) in let b = subst (λ (j : ℕ). depth_at nodes k < depth_at nodes j) same a in omega arith)
           (cases_lt past c)
       late c ge p (inr outside) = let z = depth_past c (let high = l.high in omega arith) in let a = p.above in omega (arith, z)
+
+  -- ---- lists of siblings
+
+  -- after each node comes one that is not deeper, or the end
+  past_from : (k : ℕ) → k < length nodes → (fuel m : ℕ) → m + fuel ≡ length nodes → k < m → ((i : ℕ) → k < i → i < m → depth_at nodes k < depth_at nodes i) → (p : ℕ) × IsPast nodes k p
+  past_from k within zero m e later between = (m, record { later = later; within = omega (arith, e); between = between; ends = λ lt. absurd (omega (arith, e)) })
+  past_from k within (suc fuel) m e later between = ⊎_elim
+      (λ d. past_from k within fuel (suc m) (omega (arith, e)) (omega arith) (λ i a b. ⊎_elim (λ lt. between i a lt) (λ is. subst (λ (j : ℕ). depth_at nodes k < depth_at nodes j) (sym is) d) (cases_lt_or_eq i m (omega (arith, b)))))
+      (λ d. (m, record { later = later; within = omega (arith, e); between = between; ends = λ lt. d }))
+      (cases_lt (depth_at nodes k) (depth_at nodes m))
+
+  past_of : (k : ℕ) → k < length nodes → (p : ℕ) × IsPast nodes k p
+  past_of k within = let rest = length nodes - (k + 1) in past_from k within rest (k + 1) (omega arith) (omega arith) (λ i a b. absurd (omega arith))
+
+  -- each node has a list of children
+  children_from : (k past : ℕ) → IsPast nodes k past → (fuel m : ℕ) (children : List ℕ) → past ≤ m + fuel → Listed k m past children → (all : List ℕ) × AreChildren nodes k all
+  children_from k past ends zero m children le l = (children, listed_all k m past children (omega (arith, le)) ends l)
+  children_from k past ends (suc fuel) m children le l = ⊎_elim
+      (λ lt.
+      let next = past_of m (let w = ends.within in omega (arith, lt)) in
+      children_from k past ends fuel next.0 (children ++ m ∷ []) (let a = next.1.later in omega (arith, le)) (listed_more k m past next.0 children (children ++ m ∷ []) refl lt ends next.1 l))
+      (λ ge. (children, listed_all k m past children ge ends l))
+      (cases_lt m past)
+
+  children_of : (k : ℕ) → k < length nodes → (all : List ℕ) × AreChildren nodes k all
+  children_of k within = let p = past_of k within in children_from k p.0 p.1 p.0 (k + 1) [] (omega arith) (listed_none k p.0 p.1)
+
+  -- each node has siblings
+  pub siblings_of : HaveParents nodes → (n : ℕ) → n < length nodes → (siblings : List ℕ) × AreSiblings nodes siblings × Contains siblings n
+  siblings_of parents zero within = (0 ∷ [], inl refl, in_one 0 0 refl)
+  siblings_of parents (suc n) within =
+      let p = parents (suc n) (omega arith) within in
+      let inside : p.0 < length nodes = (let e = p.1.earlier in omega arith) in
+      let all = children_of p.0 inside in
+      (all.0, inr (p.0, inside, all.1), (all.1.all (suc n)).1 p.1)
+
+  -- siblings are nodes
+  pub siblings_within : 0 < length nodes → (siblings : List ℕ) → AreSiblings nodes siblings → (n : ℕ) → Contains siblings n → n < length nodes
+  siblings_within some siblings (inl e) n h = let z = one_in 0 n (subst (λ (l : List ℕ). Contains l n) e h) in omega (arith, z)
+  siblings_within some siblings (inr (k, lt, kids)) n h =
+      let p = (kids.all n).0 h in
+      ⊎_elim (λ inside. inside) (λ past. let z = depth_past n past in let a = p.above in absurd (omega (arith, z))) (cases_lt n (length nodes))

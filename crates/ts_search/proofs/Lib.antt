@@ -10,12 +10,14 @@ pub mod HitLemmas
 pub mod LimitLemmas
 pub mod LoneLemmas
 pub mod MemoLemmas
+pub mod NodeLemmas
 pub mod OnceLemmas
 pub mod OrderLemmas
 pub mod PairLemmas
 pub mod PassLemmas
 pub mod PlaceLemmas
 pub mod ReachLemmas
+pub mod RowLemmas
 pub mod RunLemmas
 pub mod ShapeLemmas
 pub mod SingleLemmas

@@ -13,6 +13,7 @@ use Rattle.spec_matches.specs.Siblings.{AreChildren}
 use Rattle.spec_matches.specs.Taking.{IsField, IsOfKind, NoneHas, captured}
 use Rattle.ts_search.specs.Adding.{Adds, OfSome, Yields}
 use Rattle.ts_search.specs.Lone.{WholeOf}
+use Rattle.ts_search.specs.Looks.{Looks}
 use Rattle.ts_search.specs.Steps.{Before}
 use Rattle.ts_search.specs.Ways.{AnyTakes, HasOne, InsideOf, ItemTakes, PassesOf, PlainOf, TakenOf, parts_of}
 use Rattle.ts_search.proofs.AddLemmas.{adds_all}
@@ -118,6 +119,31 @@ module _ (scene : Scene) (i : Item) (n : ℕ) where
     pub ways_plain : (u v : Bool) (cs : List (List Capture)) → ((out-Item i).test ≡ Round → ⊥) → o ≤ 0 → Yields (PlainOf scene i n) u v cs → Yields (ItemTakes scene i o n) u v cs
     ways_plain u v cs other none are =
         yields_same (PlainOf scene i n) (ItemTakes scene i o n) u v cs are (λ c h. (plain_takes scene i o n c other).1 (omega arith, h)) (λ c h. ((plain_takes scene i o n c other).0 h).1)
+
+-- what an item takes looks as the item asks
+module _ (scene : Scene) (i : Item) (n : ℕ) (other : (out-Item i).test ≡ Round → ⊥) (c : List Capture) (h : ItemTakes scene i 0 n c) where
+  plain : PlainOf scene i n c
+  plain = ((plain_takes scene i 0 n c other).0 h).1
+
+  pub takes_some : slice_get scene.nodes n ≡ None → ⊥
+  takes_some e = let f : None ≡ Some plain.node = sym e ∙ plain.is_node in cc
+
+  by_test : (test : Test) (m : VisibleNode) → PassesOf scene i test n m plain.inner → Looks scene.kinds test m
+  by_test Any m p = tt
+  by_test Named m p = p.0
+  by_test (Kind kind) m p = p.0
+  by_test Choice m p = tt
+  by_test Round m p = tt
+
+  module _ (node : VisibleNode) (at : slice_get scene.nodes n ≡ Some node) where
+    same : plain.node ≡ node
+    same = same_at scene.nodes n plain.node node plain.is_node at
+
+    pub takes_look : Looks scene.kinds (out-Item i).test node
+    takes_look = by_test (out-Item i).test node (subst (λ (m : VisibleNode). PassesOf scene i (out-Item i).test n m plain.inner) same plain.passes)
+
+    pub takes_field : IsField (out-Item i).field node
+    takes_field = subst (IsField (out-Item i).field) same plain.field
 
 -- ---- one of several items
 

@@ -21,7 +21,7 @@ use Rattle.ts_search.specs.Adding.{OfSome}
 use Rattle.ts_search.specs.Ways.{TakenOf, slot_of}
 use Rattle.ts_search.specs.Gathering.{Gathers, GathersSome, HitsIn}
 use Rattle.ts_search.specs.Lone.{IsOnce}
-use Rattle.ts_search.specs.Single.{IsSingle, HitAt, HitsAt}
+use Rattle.ts_search.specs.Single.{IsAlone, HitAt, HitsAt}
 use Rattle.ts_search.proofs.PlaceLemmas.{there, at_of, same_at}
 use Rattle.ts_search.proofs.ShapeLemmas.{slots_are}
 use Rattle.ts_search.proofs.GatherLemmas.{gathers_same}
@@ -148,45 +148,47 @@ module _ (scene : Scene) (i : Item) (once : IsOnce i) where
       subst (λ (l : List Slot). IsWayFrom (Here siblings) (nameds scene.nodes siblings) closed l 0 0 true f ↔ At (slot_of i) is_one (Here siblings) (nameds scene.nodes siblings) closed f) (sym (slots_are (i ∷ [])))
       (one_way (slot_of i) is_one (Here siblings) (nameds scene.nodes siblings) closed f)
 
-module _ (scene : Scene) (kept : Match → Type 0) (k : ℕ) (i : Item) (single : IsSingle i) where
-  pub single_hits : (pattern : Pattern) (siblings : List ℕ) (u v : Bool) (a b : BTreeSet Match) → pattern.items ≡ i ∷ [] → pattern.closed ≡ false → GathersSome (OfSome (HitsAt scene kept k i) siblings) u v a b → GathersSome (HitsIn scene kept k pattern siblings) u v a b
-  single_hits pattern siblings u v a b items unclosed adds = some_same (OfSome (HitsAt scene kept k i) siblings) (HitsIn scene kept k pattern siblings) u v a b adds to from
-    where
-      is_way : (f : Placing) → Embedded scene pattern.items pattern.closed siblings f ↔ At (slot_of i) (is_one scene i single.once) (Here scene i single.once siblings) (nameds scene.nodes siblings) false f
-      is_way f =
-          subst (λ (is : List Item). Embedded scene is pattern.closed siblings f ↔ At (slot_of i) (is_one scene i single.once) (Here scene i single.once siblings) (nameds scene.nodes siblings) false f) (sym items)
-          (subst (λ (b : Bool). Embedded scene (i ∷ []) b siblings f ↔ At (slot_of i) (is_one scene i single.once) (Here scene i single.once siblings) (nameds scene.nodes siblings) false f) (sym unclosed)
-          (lone_way scene i single.once false siblings f))
+-- a pattern of one plain item matches in siblings where the item takes one of them
+module _ (scene : Scene) (kept : Match → Type 0) (k : ℕ) (i : Item) (pattern : Pattern) (alone : IsAlone i pattern) (siblings : List ℕ) where
+  is_way : (f : Placing)
+      → Embedded scene pattern.items pattern.closed siblings f ↔ At (slot_of i) (is_one scene i alone.single.once) (Here scene i alone.single.once siblings) (nameds scene.nodes siblings) false f
+  is_way f =
+      subst (λ (is : List Item). Embedded scene is pattern.closed siblings f ↔ At (slot_of i) (is_one scene i alone.single.once) (Here scene i alone.single.once siblings) (nameds scene.nodes siblings) false f) (sym alone.is_it)
+      (subst (λ (b : Bool). Embedded scene (i ∷ []) b siblings f ↔ At (slot_of i) (is_one scene i alone.single.once) (Here scene i alone.single.once siblings) (nameds scene.nodes siblings) false f) (sym alone.unclosed)
+      (lone_way scene i alone.single.once false siblings f))
 
-      to : (m : Match) → OfSome (HitsAt scene kept k i) siblings m → HitsIn scene kept k pattern siblings m
-      to m (n, inside, (c, takes, hit)) =
-          let f : Placing = record { first = Some inside.0; near = true; captures = c } in (
-            f,
-            (is_way f).1 (record {
-              place_of = inside.0;
-              first = refl;
-              near = refl;
-              inside = (let l = length-map siblings (named_at scene.nodes) in let w = inside.1 in omega arith);
-              takes_it = (n, at_of siblings n inside, takes);
-              before_it = λ t. absurd (not_both (slot_of i).tied single.loose t);
-              after_it = λ e. absurd (not_both false refl e);
-            }),
-            record {
-              pattern = hit.pattern;
-              comes = record { place = inside.0; first = refl; root = at_of siblings n inside ∙ ap Some (sym hit.root); members = hit.members; order = hit.order };
-              keeps = hit.keeps;
-            },
-          )
+  pub to_hits : (m : Match) → OfSome (HitsAt scene kept k i) siblings m → HitsIn scene kept k pattern siblings m
+  to_hits m (n, inside, (c, takes, hit)) =
+      let f : Placing = record { first = Some inside.0; near = true; captures = c } in (
+        f,
+        (is_way f).1 (record {
+          place_of = inside.0;
+          first = refl;
+          near = refl;
+          inside = (let l = length-map siblings (named_at scene.nodes) in let w = inside.1 in omega arith);
+          takes_it = (n, at_of siblings n inside, takes);
+          before_it = λ t. absurd (not_both (slot_of i).tied alone.single.loose t);
+          after_it = λ e. absurd (not_both false refl e);
+        }),
+        record {
+          pattern = hit.pattern;
+          comes = record { place = inside.0; first = refl; root = at_of siblings n inside ∙ ap Some (sym hit.root); members = hit.members; order = hit.order };
+          keeps = hit.keeps;
+        },
+      )
 
-      from : (m : Match) → HitsIn scene kept k pattern siblings m → OfSome (HitsAt scene kept k i) siblings m
-      from m (f, embeds, hit) =
-          let w = (is_way f).0 embeds in
-          let e : Some w.place_of ≡ Some hit.comes.place = sym w.first ∙ hit.comes.first in
-          let same : w.place_of ≡ hit.comes.place = cc in
-          let n = w.takes_it.0 in
-          let at : slice_get siblings hit.comes.place ≡ Some n = subst (λ (j : ℕ). slice_get siblings j ≡ Some n) same w.takes_it.1 in
-          let r : m.root ≡ n = same_at siblings hit.comes.place m.root n hit.comes.root at in
-          (n, there siblings hit.comes.place n at, (f.captures, w.takes_it.2, record { pattern = hit.pattern; root = r; members = hit.comes.members; order = hit.comes.order; keeps = hit.keeps }))
+  pub of_hits : (m : Match) → HitsIn scene kept k pattern siblings m → OfSome (HitsAt scene kept k i) siblings m
+  of_hits m (f, embeds, hit) =
+      let w = (is_way f).0 embeds in
+      let e : Some w.place_of ≡ Some hit.comes.place = sym w.first ∙ hit.comes.first in
+      let same : w.place_of ≡ hit.comes.place = cc in
+      let n = w.takes_it.0 in
+      let at : slice_get siblings hit.comes.place ≡ Some n = subst (λ (j : ℕ). slice_get siblings j ≡ Some n) same w.takes_it.1 in
+      let r : m.root ≡ n = same_at siblings hit.comes.place m.root n hit.comes.root at in
+      (n, there siblings hit.comes.place n at, (f.captures, w.takes_it.2, record { pattern = hit.pattern; root = r; members = hit.comes.members; order = hit.comes.order; keeps = hit.keeps }))
+
+  pub single_hits : (u v : Bool) (a b : BTreeSet Match) → GathersSome (OfSome (HitsAt scene kept k i) siblings) u v a b → GathersSome (HitsIn scene kept k pattern siblings) u v a b
+  single_hits u v a b adds = some_same (OfSome (HitsAt scene kept k i) siblings) (HitsIn scene kept k pattern siblings) u v a b adds to_hits of_hits
 
 pub way_hit : (kept : Match → Type 0) (k n : ℕ) (captures cs : List Capture)
     → ((xs ys : List Capture) → IsStrictlySortedBy capture_cmp xs → IsStrictlySortedBy capture_cmp ys → ((c : Capture) → Contains xs c ↔ Contains ys c) → xs ≡ ys)

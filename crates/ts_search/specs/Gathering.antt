@@ -59,6 +59,11 @@ HitsUpTo scene kept k pattern n m =
     HitsIn scene kept k pattern (0 ∷ []) m
     ⊎ ((j : ℕ) × (j < n) × HitsUnder scene kept k pattern j m)
 
+-- .. in one of the first nodes alone
+abbrev pub HitsFirst : Scene → (Match → Type 0) → ℕ → Pattern → ℕ → Match → Type 0
+HitsFirst scene kept k pattern n m =
+    (j : ℕ) × (j < n) × HitsIn scene kept k pattern (j ∷ []) m
+
 -- .. in any siblings
 abbrev pub HitsOf : Scene → (Match → Type 0) → ℕ → Pattern → Match → Type 0
 HitsOf scene kept k pattern m =

@@ -1,6 +1,7 @@
 pub mod Adding
 pub mod Gathering
 pub mod Lone
+pub mod Looks
 pub mod Memory
 pub mod Rows
 pub mod Single

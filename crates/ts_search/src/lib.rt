@@ -1,5 +1,5 @@
-//! The matches of patterns: patterns and the rows of a visible tree go in, and the matches that are
-//! kept come out in order.
+//! The matches of patterns: patterns and a visible tree go in, and the matches that are kept come out
+//! in order.
 #![tactic(auto)]
 
 mod anchors;
@@ -20,5 +20,4 @@ mod taking;
 
 pub use keep::{All, Keep};
 pub use listing::{MatchFault, matches};
-pub use row::Row;
 pub use sight::Sight;

@@ -1,20 +1,21 @@
 //! The matches of patterns: patterns and a visible tree go in, and the matches come out in order.
-ghost use Rattle.std.specs.Prelude.{◌≡◌, ◌<◌, ◌≤◌, ◌^◌, length, IfOk, OnOk, IfErr, IsTrue, true};
+ghost use Rattle.std.specs.Prelude.{◌≡◌, ◌∷◌, [], ◌<◌, ◌≤◌, ◌^◌, length, IfOk, OnOk, IfErr, IsTrue, true};
 ghost use Rattle.spec_matches.specs.Matches.{AreAll, AreMoreThan, OfPatterns, most_matches};
 ghost use Rattle.ts_search.specs.Adding.{OfSome};
 ghost use Rattle.ts_search.specs.Gathering.{Gathers, GathersSome, Hits, HitsIn, HitsOf, HitsUnder, IsGathered};
+ghost use Rattle.ts_search.specs.Single.{IsAlone};
 
 use crate::gathering::{MOST, in_order, is_full, listed, put_kept};
 use crate::keep::Keep;
 use crate::limit::Limit;
 use crate::sight::Sight;
 use crate::single::{add_single, single};
-use crate::taking::fully;
+use crate::taking::{fully, may_take};
 use spec_matches::{Match, Placing, one_order};
 use std::alloc::{AllocError, Global};
 use std::collections::BTreeSet;
 use ts_base::List;
-use ts_query_syntax::Pattern;
+use ts_query_syntax::{Item, Pattern};
 
 /// How long a list of ways may grow where a shorter one did not tell enough.
 const FAR: usize = 6_400_000;
@@ -235,8 +236,8 @@ fn add_children<K: Keep>(
     Ok(())
 }
 
-/// Adds the matches of a pattern.
-fn add_pattern<K: Keep>(
+/// Adds the matches of a pattern, one list of siblings after another.
+fn add_lists<K: Keep>(
     alloc: Global,
     out: &mut BTreeSet<Match>,
     keep: &K,
@@ -251,6 +252,69 @@ fn add_pattern<K: Keep>(
     for n in 0..sight.count() {
         add_children(alloc, out, keep, sight, number, pattern, n)?;
     }
+    Ok(())
+}
+
+/// Adds the matches at a node of a pattern of one plain item. A node that fails at its first test
+/// takes no memory.
+fn add_node<K: Keep>(
+    alloc: Global,
+    out: &mut BTreeSet<Match>,
+    keep: &K,
+    sight: &Sight,
+    number: u32,
+    pattern: &Pattern,
+    item: &Item,
+    n: u32,
+) -> Result<(), AllocError>
+    requires alone { IsAlone item.now pattern.now }
+    ensures { OnOk result (Gathers
+        (HitsIn sight.now (K.kept keep.now) number pattern.now (n ∷ [])) out.old out.new) }
+{
+    if !may_take(sight, item, n) {
+        return Ok(());
+    }
+    add_siblings(alloc, out, keep, sight, number, pattern, &[n])?;
+    Ok(())
+}
+
+/// Adds the matches of a pattern of one plain item, one node after another.
+fn add_nodes<K: Keep>(
+    alloc: Global,
+    out: &mut BTreeSet<Match>,
+    keep: &K,
+    sight: &Sight,
+    number: u32,
+    pattern: &Pattern,
+    item: &Item,
+) -> Result<(), AllocError>
+    requires alone { IsAlone item.now pattern.now }
+    ensures { OnOk result (Gathers (HitsOf sight.now (K.kept keep.now) number pattern.now)
+        out.old out.new) }
+{
+    for n in 0..sight.count() {
+        add_node(alloc, out, keep, sight, number, pattern, item, n)?;
+    }
+    Ok(())
+}
+
+/// Adds the matches of a pattern.
+fn add_pattern<K: Keep>(
+    alloc: Global,
+    out: &mut BTreeSet<Match>,
+    keep: &K,
+    sight: &Sight,
+    number: u32,
+    pattern: &Pattern,
+) -> Result<(), AllocError>
+    ensures { OnOk result (Gathers (HitsOf sight.now (K.kept keep.now) number pattern.now)
+        out.old out.new) }
+{
+    if let Some(item) = single(pattern) {
+        add_nodes(alloc, out, keep, sight, number, pattern, item)?;
+        return Ok(());
+    }
+    add_lists(alloc, out, keep, sight, number, pattern)?;
     Ok(())
 }
 

@@ -1,23 +1,25 @@
 //! The visible tree as a search sees it: its nodes by their numbers, and the kinds of a query.
-ghost use Rattle.std.specs.Prelude.{◌≡◌, ◌↔◌, ◌<◌, ◌≤◌, ℕ, IsTrue, IfOk, None, Some, MatchOption, length, slice_get};
+ghost use Rattle.std.specs.Prelude.{◌≡◌, ◌↔◌, ◌<◌, ℕ, IsTrue, IfOk, None, Some, MatchOption, length, slice_get};
 ghost use Rattle.spec_matches.specs.Siblings.{AreChildren, named_at, nameds};
 ghost use Rattle.spec_matches.specs.Taking.{IsField, IsOfKind};
-ghost use Rattle.ts_search.specs.Rows.{AreRows, EndsAt, scene_of, seen_row};
+ghost use Rattle.ts_cursor.specs.Linked.{IsPast};
+ghost use Rattle.ts_search.specs.Rows.{HaveParents, scene_of, seen_row};
 
 use crate::row::Row;
 use std::alloc::{AllocError, Global};
 use std::marker::Model;
 use ts_base::List;
+use ts_cursor::Cursor;
 use ts_query_syntax::QueryKind;
 
 /// The kinds that a query names, and a visible tree.
 #[derive(Drop)]
-pub struct Sight<'t> {
-    kinds: &'t [QueryKind],
-    rows: Vec<Row<'t>>,
+pub struct Sight<'q, 't, 'g> {
+    kinds: &'q [QueryKind],
+    tree: &'t Cursor<'g>,
 }
 
-impl<'t> Model for Sight<'t> {
+impl<'q, 't, 'g> Model for Sight<'q, 't, 'g> {
     ghost use Rattle.spec_matches.specs.declared.scene.Scene.{Scene};
     ghost use Rattle.spec_matches.specs.contracts.scene.Scene as scene;
     ghost use Rattle.std.specs.Coded.{codes};
@@ -26,27 +28,29 @@ impl<'t> Model for Sight<'t> {
 
     ghost coded = { Prim.hlevel (codes, scene.the_row.coded) };
 
-    ghost use Rattle.ts_search.specs.Rows.{AreRows, scene_of};
+    ghost use Rattle.ts_search.specs.Rows.{HaveParents, scene_of};
 
-    ghost view = { λ a. scene_of a.kinds.now a.rows.items };
+    ghost view = { λ a. scene_of a.kinds.now a.tree.now.nodes };
 
-    ghost invariant = { λ a. AreRows a.rows.items };
+    ghost invariant = { λ a. HaveParents a.tree.now.nodes };
 }
 
-impl<'t> Sight<'t> {
-    /// Rows in preorder, the root first.
-    pub fn new(kinds: &'t [QueryKind], rows: Vec<Row<'t>>) -> Sight<'t>
-        requires { AreRows rows.items }
-        ensures { result ≡ scene_of kinds.now rows.entry.items }
+impl<'q, 't, 'g> Sight<'q, 't, 'g> {
+    /// A visible tree, whatever node its cursor is on.
+    pub fn new(kinds: &'q [QueryKind], tree: &'t Cursor<'g>) -> Sight<'q, 't, 'g>
+        requires { HaveParents tree.now.nodes }
+        ensures { result ≡ scene_of kinds.now tree.now.nodes }
     {
-        Sight { kinds, rows }
+        Sight { kinds, tree }
     }
 
     /// How many nodes the tree has.
     pub(crate) fn count(&self) -> u32
-        ensures { result ≡ length self.now.nodes }
+        ensures count { result ≡ length self.now.nodes }
+        ensures some { 0 < length self.now.nodes }
+        ensures parents { HaveParents self.now.nodes }
     {
-        self.rows.len() as u32
+        self.tree.count()
     }
 
     /// The node of a number.
@@ -54,9 +58,8 @@ impl<'t> Sight<'t> {
         ensures { MatchOption result (slice_get self.now.nodes n ≡ None)
             (λ row. slice_get self.now.nodes n ≡ Some (seen_row row)) }
     {
-        let n = n as usize;
-        if n < self.rows.len() {
-            Some(self.rows[n])
+        if n < self.tree.count() {
+            Some(row(self.tree, n))
         } else {
             None
         }
@@ -76,9 +79,9 @@ impl<'t> Sight<'t> {
     /// The number after a node's descendants.
     fn past(&self, n: u32) -> u32
         requires { n < length self.now.nodes }
-        ensures { EndsAt self.now.nodes n result }
+        ensures { IsPast self.now.nodes n result }
     {
-        self.rows[n as usize].past
+        self.tree.past_at(n)
     }
 
     /// The numbers of a node's children.
@@ -115,6 +118,21 @@ impl<'t> Sight<'t> {
             Some(row) => row.named,
             None => false,
         }
+    }
+}
+
+/// The node of a number of a visible tree.
+fn row<'t, 'g>(tree: &'t Cursor<'g>, n: u32) -> Row<'t>
+    requires { n < length tree.now.nodes }
+    ensures { slice_get tree.now.nodes n ≡ Some (seen_row result) }
+{
+    Row {
+        depth: tree.depth_at(n),
+        name: tree.name_at(n),
+        named: tree.named_at(n),
+        fields: tree.fields_at(n),
+        start: tree.start_at(n),
+        end: tree.end_at(n),
     }
 }
 

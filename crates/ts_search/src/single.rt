@@ -1,9 +1,8 @@
-//! A pattern of one plain item and a node in; the matches at that node added to a set out. A node
-//! that fails at its first test takes no memory.
-ghost use Rattle.std.specs.Prelude.{◌≡◌, ◌∷◌, [], IfSome, IsTrue, OnOk, false};
+//! A pattern of one plain item and nodes in; the matches at those nodes added to a set out.
+ghost use Rattle.std.specs.Prelude.{IfSome, IsTrue, OnOk};
 ghost use Rattle.ts_search.specs.Adding.{OfSome};
 ghost use Rattle.ts_search.specs.Gathering.{Gathers, GathersSome};
-ghost use Rattle.ts_search.specs.Single.{HitAt, HitsAt, IsSingle};
+ghost use Rattle.ts_search.specs.Single.{HitAt, HitsAt, IsAlone, IsSingle};
 
 use crate::gathering::{in_order, put_kept};
 use crate::keep::Keep;
@@ -25,8 +24,7 @@ fn is_single(item: &Item) -> bool
 
 /// The item of a pattern that is one item, where it takes one sibling and no anchor stands by it.
 pub(crate) fn single(pattern: &Pattern) -> Option<&Item>
-    ensures { IfSome result (λ item. (pattern.now.items ≡ item.now ∷ [])
-        × (pattern.now.closed ≡ false) × IsSingle item.now) }
+    ensures { IfSome result (λ item. IsAlone item.now pattern.now) }
 {
     if pattern.closed || pattern.items.len() != 1 {
         return None;

@@ -13,6 +13,7 @@ ghost use Rattle.ts_search.specs.Adding.{Adds, Yields};
 ghost use Rattle.ts_search.specs.Lone.{FirstTakes, IsLone, IsOnce, WholeOf};
 ghost use Rattle.ts_search.specs.Memory.{WaysOf};
 ghost use Rattle.ts_search.specs.Rows.{seen_row};
+ghost use Rattle.ts_search.specs.Looks.{Looks};
 ghost use Rattle.ts_search.specs.Ways.{AnyTakes, HasOne, HasRow, HasRows, HasTable, InsideOf, ItemTakes, PassesOf, PlainOf, TakenOf, size_of, slot_of};
 
 use crate::anchors::{closed_start, tied_end};
@@ -207,6 +208,33 @@ fn is_round(test: Test) -> bool
         Test::Round => true,
         Test::Any | Test::Named | Test::Kind(_) | Test::Choice => false,
     }
+}
+
+/// Whether a node looks as a test asks, whatever is inside it.
+fn looks(sight: &Sight, test: Test, row: Row) -> bool
+    ensures { IsTrue result ↔ Looks sight.now.kinds test (seen_row row.entry) }
+{
+    match test {
+        Test::Any | Test::Choice | Test::Round => true,
+        Test::Named => row.named,
+        Test::Kind(kind) => sight.is_of_kind(kind, row),
+    }
+}
+
+/// Whether an item may take a node, by the node's own look alone. It takes no memory.
+pub(crate) fn may_take(sight: &Sight, item: &Item, n: u32) -> bool
+    ensures { (c : Values Mark) → ItemTakes sight.now item.now 0 n c → IsTrue result }
+{
+    if is_round(item.test) {
+        return true;
+    }
+    let Some(row) = sight.row(n) else {
+        return false;
+    };
+    if !looks(sight, item.test, row) {
+        return false;
+    }
+    has_field(item.field, row)
 }
 
 /// Whether there is no embedding.

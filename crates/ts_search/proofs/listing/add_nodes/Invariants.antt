@@ -1,0 +1,5 @@
+use Rattle.ts_search.specs.Gathering.{Gathers, HitsFirst}
+use Rattle.ts_search.proofs.listing.add_nodes.Given as goal
+
+abbrev pub invariant-loop-n : goal.invariant-loop-n
+invariant-loop-n g l = Gathers (HitsFirst l.sight (g.K.Keep.kept l.keep) l.fn.number l.pattern l.n) l.fn.out l.out
