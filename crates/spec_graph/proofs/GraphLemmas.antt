@@ -16,7 +16,7 @@ use Rattle.spec_packing.proofs.MadeLemmas.{CanMake}
 use Rattle.spec_graph.specs.declared.graph.Head.{Head}
 use Rattle.spec_graph.specs.declared.graph.Link.{Link}
 use Rattle.spec_graph.specs.States.{LeadsTo, at_first, ShareState, AreStates, AreRanks}
-use Rattle.spec_graph.specs.Laying.{Parsing, from_start, SeesAt, GoesOn, PassesAt, ReducesAt, extra_tree, node_made, Taken, some, nothing, Lays, flat, stood, shifted, passed, made, ComesOver}
+use Rattle.spec_graph.specs.Laying.{Parsing, from_start, SeesAt, GoesOn, PassesAt, ReducesAt, extra_tree, PassesTree, node_made, Taken, some, nothing, Lays, flat, stood, shifted, passed, made, ComesOver}
 use Rattle.spec_graph.specs.Replacing.{AreAlike}
 use Rattle.spec_graph.specs.Keys.{Key, LaysBefore, flat_before, stood_before, shifted_before, passed_before, made_before}
 use Rattle.spec_graph.specs.Links.{IsAt, IsWay, way_trees, StandsForTree, AllStandFor, HasWay, HasLink, IsLinked, IsGraph, IsWholeTo}
@@ -285,6 +285,20 @@ module _ (P : Parsing) (facts : Facts P) (base : IsBase P) (fresh : P.stack ≡ 
   alone_spans : (γ : List ℕ) (q : ℕ) (t : Tree) (p : ℕ) (δ : List ℕ) → Lays P γ q (t ∷ []) p δ → q + span_of t ≡ p
   alone_spans γ q t p δ l = let h = lays_spans P facts base γ q (t ∷ []) p δ l in omega (arith, h)
 
+  pub passes_tree : (γ : List ℕ) (q : ℕ) (t : Tree) (p : ℕ) (δ : List ℕ) → Lays P γ q (t ∷ []) p δ → is_extra_node t ≡ true → PassesTree P γ q t p
+  passes_tree γ q t p δ l e =
+      let r = extra_read γ q (t ∷ []) t p δ l refl e in
+      let x = extra_says facts.laws.runs r.0 r.1 r.2 in
+      let span : span_of t ≡ r.1 + r.2 = ap span_of r.3 ∙ (let y = x.pad in let z = x.size in omega (arith, y, z)) in
+      record {
+        symbol = r.0;
+        pad = r.1;
+        size = r.2;
+        passes = r.4;
+        tree_is = r.3;
+        ends = let a = alone_spans γ q t p δ l in omega (arith, a, span);
+      }
+
   same_read : (γ : List ℕ) (q : ℕ) (t u : Tree) (p : ℕ) (δ ε : List ℕ) → Lays P γ q (t ∷ []) p δ → Lays P γ q (u ∷ []) p ε → is_extra_node t ≡ false → is_extra_node u ≡ false → pad_of t ≡ pad_of u
   same_read γ q t u p δ ε l m e f = by (order_cases 0 (span_of t))
     where
@@ -342,3 +356,26 @@ module _ (P : Parsing) (facts : Facts P) (base : IsBase P) (fresh : P.stack ≡ 
           let both : ShareState P.goto (symbol_of t ∷ γ) (symbol_of u ∷ under) = subst (λ (r : List ℕ). ShareState P.goto r (symbol_of u ∷ under)) d (subst (λ (r : List ℕ). ShareState P.goto δ r) o top) in
           let pads = same_read γ q t u p δ m.now l m.lays e f in
           record { symbol = facts.states.enters γ under (symbol_of t) (symbol_of u) both; extra = e ∙ sym f; pad = pads; size = sizes pads }
+
+  same_filling : (t u : Tree) → symbol_of t ≡ symbol_of u → is_extra_node t ≡ is_extra_node u → filling (t ∷ []) ≡ filling (u ∷ [])
+  same_filling t u s e = by (is_extra_node u) refl
+    where
+      by : (b : Bool) → is_extra_node u ≡ b → filling (t ∷ []) ≡ filling (u ∷ [])
+      by true f = filling_extra t [] (e ∙ f) ∙ sym (filling_extra u [] f)
+      by false f = filling_tree t [] (e ∙ f) ∙ ap (λ (n : ℕ). n ∷ []) s ∙ sym (filling_tree u [] f)
+
+  -- each of two trees that are laid between two heads is laid there after the symbols of the other
+  pub either : (heads : List Head) (a b : ℕ) (γ δ under over : List ℕ) (q p : ℕ) (t u : Tree) → IsAt P heads a γ q → IsAt P heads b δ p → IsAt P heads a under q → IsAt P heads b over p
+      → Lays P γ q (t ∷ []) p δ → Lays P under q (u ∷ []) p over → Lays P under q (t ∷ []) p over
+  either heads a b γ δ under over q p t u low high low2 high2 l m = subst (λ (r : List ℕ). Lays P under q (t ∷ []) p r) read_is moved.lays
+    where
+      moved : Shared P facts base under q (t ∷ []) p δ
+      moved = transfer P facts base γ under q (t ∷ []) p δ l (share_head P facts heads a γ under q q low low2)
+
+      alike : AreAlike t u
+      alike = like heads a b γ δ under over q p t u low high low2 high2 l m
+
+      read_is : moved.now ≡ over
+      read_is = lays_read P facts under q (t ∷ []) p moved.now moved.lays
+          ∙ ap (λ (r : List ℕ). r ++ under) (same_filling t u alike.symbol alike.extra)
+          ∙ sym (lays_read P facts under q (u ∷ []) p over m)

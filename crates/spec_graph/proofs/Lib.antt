@@ -1,6 +1,7 @@
 pub mod SightLemmas
 pub mod EntryLemmas
 pub mod ReplaceLemmas
+pub mod BothLemmas
 pub mod NodeLemmas
 pub mod RootLemmas
 pub mod LayLemmas

@@ -75,6 +75,16 @@ pub record ReducesAt (P : Parsing) (read : List ℕ) (place number left : ℕ) (
 abbrev pub extra_tree : Symbol → ℕ → ℕ → Tree
 extra_tree symbol pad size = as_extra (token_tree symbol pad size)
 
+-- The tree is an extra that is passed after these symbols, from one place up to another.
+pub record PassesTree (P : Parsing) (read : List ℕ) (from : ℕ) (t : Tree) (place : ℕ)
+    : Type 0 where
+  pub symbol : Symbol
+  pub pad : ℕ
+  pub size : ℕ
+  pub passes : PassesAt P read from symbol pad size
+  pub tree_is : t ≡ extra_tree symbol pad size
+  pub ends : place ≡ from + (pad + size)
+
 -- the node of a reduction over its children
 abbrev pub node_made : Parsing → ℕ → List Tree → Tree
 node_made P number children = bare (reduced P.grammar number 0 None children)

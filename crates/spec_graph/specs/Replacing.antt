@@ -1,7 +1,7 @@
 -- When one tree may take the place of another, whatever their depths.
-use Rattle.std.specs.Prelude.{◌≡◌, ℕ, suc, ◌+◌, max, List, [], ◌∷◌}
+use Rattle.std.specs.Prelude.{◌≡◌, ℕ, suc, ◌+◌, ◌⊎◌, max, List, [], ◌∷◌}
 use Rattle.spec_trees.specs.declared.tree.Tree.{Tree}
-use Rattle.spec_trees.specs.Trees.{symbol_of, pad_of, size_of, is_extra_node, maximum}
+use Rattle.spec_trees.specs.Trees.{symbol_of, pad_of, size_of, is_extra_node, maximum, bare}
 use Rattle.spec_trees.specs.Made.{Form, of_rule, of_first, of_next}
 use Rattle.spec_trees.specs.Choice.{Better}
 
@@ -19,6 +19,12 @@ pub record Replaces (t u : Tree) : Type 0 where
   pub pad : pad_of t ≡ pad_of u
   pub size : size_of t ≡ size_of u
   pub no_better : Better u t → ⊥
+
+-- The new tree is one of both, and may take the place of each.
+pub record ReplacesBoth (old tree new : Tree) : Type 0 where
+  pub which : (new ≡ tree) ⊎ (new ≡ old)
+  pub first : Replaces (bare new) (bare old)
+  pub second : Replaces (bare new) (bare tree)
 
 -- as many trees, and each of the first may take the place of the one in its place
 abbrev pub AllReplace : List Tree → List Tree → Type 0

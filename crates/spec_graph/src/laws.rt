@@ -1,11 +1,11 @@
 //! Laws of the definitions, each a function without a body: what other crates may use of them.
 
-ghost use Rattle.std.specs.Prelude.{◌≡◌, ℕ, ◌+◌, ◌<◌, ◌≤◌, suc, List, [], ◌∷◌, ◌++◌, length, map, reverse};
+ghost use Rattle.std.specs.Prelude.{◌≡◌, ℕ, ◌+◌, ◌<◌, ◌≤◌, suc, true, List, [], ◌∷◌, ◌++◌, length, map, reverse};
 ghost use Rattle.spec_tables.specs.Fit.{Fit};
 ghost use Rattle.ts_core.specs.declared.flat.Production.{Production};
 ghost use Rattle.ts_core.specs.declared.symbol.Symbol.{Symbol as AnySymbol};
 ghost use Rattle.spec_trees.specs.declared.tree.Tree.{Tree};
-ghost use Rattle.spec_trees.specs.Trees.{span_of, all_spans, tree_depth};
+ghost use Rattle.spec_trees.specs.Trees.{is_extra_node, span_of, all_spans, tree_depth, bare};
 ghost use Rattle.spec_trees.specs.Made.{form_of, filling, BeginsFilled, most_depth};
 ghost use Rattle.spec_trees.specs.Choice.{Better};
 ghost use Rattle.spec_runs.specs.Configurations.{Configuration, stack_symbols};
@@ -14,8 +14,8 @@ ghost use Rattle.spec_runs.specs.Outcomes.{SomeIsTooDeep, SomeAccepts, SomeStops
 ghost use Rattle.spec_graph.specs.declared.graph.Head.{Head as AnyHead};
 ghost use Rattle.spec_graph.specs.declared.graph.Link.{Link as AnyLink};
 ghost use Rattle.spec_graph.specs.States.{LeadsTo, AreStates, AreRanks};
-ghost use Rattle.spec_graph.specs.Laying.{Parsing, from_start, PassesAt, ReducesAt, extra_tree, node_made, Lays, CanMakeNode, IsBegun, ComesOver};
-ghost use Rattle.spec_graph.specs.Replacing.{AreAlike, Replaces, AllReplace, depth_over};
+ghost use Rattle.spec_graph.specs.Laying.{Parsing, from_start, PassesAt, ReducesAt, extra_tree, PassesTree, node_made, Lays, CanMakeNode, IsBegun, ComesOver};
+ghost use Rattle.spec_graph.specs.Replacing.{AreAlike, Replaces, ReplacesBoth, AllReplace, depth_over};
 ghost use Rattle.spec_graph.specs.Keys.{Key, Earlier, IsNextKey, LaysBefore};
 ghost use Rattle.spec_graph.specs.Links.{IsAt, way_trees, HasWay, IsGraph, IsWholeTo, IsDue, way_depth, AreDone, HasNoneDue, HasGrown, AreAdded, IsOpened, HasStood};
 ghost use Rattle.spec_graph.specs.Outcomes.{GraphAccepts, GraphStopsAt, GraphIsDeep, IsBestOfGraph, IsLastOfGraph};
@@ -64,11 +64,16 @@ pub fn runs_lay()
     laws_hold();
 }
 
-/// A tree may take its own place, and that of what a tree may whose place it may take. In every
-/// node trees may be replaced so; and the depth of a node is told by those of its children.
+/// A tree may take its own place, and that of what a tree may whose place it may take. Of two trees
+/// of one kind the better may take the place of both, and the old one where the other is no
+/// better. In every node trees may be replaced so; and the depth of a node is told by those of its
+/// children.
 pub fn trees_replace()
     ensures same { (t : Tree) → Replaces t t }
     ensures through { (t u v : Tree) → Replaces t u → Replaces u v → Replaces t v }
+    ensures both { (old tree new : Tree) → AreAlike (bare old) (bare tree)
+        → (Better tree old → new ≡ tree) → ((Better tree old → ⊥) → new ≡ old)
+        → ReplacesBoth old tree new }
     ensures nodes { (P : Parsing) → Fit P.grammar → AreStates P.grammar P.goto
         → (now over other : List ℕ) (place end look number left : ℕ) (p : Production)
         (ks us : List Tree)
@@ -111,14 +116,35 @@ pub fn parts_come_first()
 }
 
 /// What is laid twice between two heads is of one kind, with one symbol and the same bytes, so that
-/// the better of both can be kept.
+/// the better of both can be kept: either can be laid there after the symbols of the other.
 pub fn links_pack()
-    ensures { (P : Parsing) → Fit P.grammar → AreStates P.grammar P.goto
+    ensures alike { (P : Parsing) → Fit P.grammar → AreStates P.grammar P.goto
         → (heads : List AnyHead) (a b : ℕ) (read other now then : List ℕ) (from to : ℕ)
         (t u : Tree) → IsAt P heads a read from → IsAt P heads b now to
         → IsAt P heads a other from → IsAt P heads b then to
         → Lays (from_start P) read from (t ∷ []) to now
         → Lays (from_start P) other from (u ∷ []) to then → AreAlike t u }
+    ensures either { (P : Parsing) → Fit P.grammar → AreStates P.grammar P.goto
+        → (heads : List AnyHead) (a b : ℕ) (read other now then : List ℕ) (from to : ℕ)
+        (t u : Tree) → IsAt P heads a read from → IsAt P heads b now to
+        → IsAt P heads a other from → IsAt P heads b then to
+        → Lays (from_start P) read from (t ∷ []) to now
+        → Lays (from_start P) other from (u ∷ []) to then
+        → Lays (from_start P) other from (t ∷ []) to then }
+{
+    laws_hold();
+}
+
+/// An extra that is laid alone is passed there, and no symbol comes with it.
+pub fn extras_are_passed()
+    ensures tree { (P : Parsing) → Fit P.grammar → AreStates P.grammar P.goto
+        → (read now : List ℕ) (from place : ℕ) (t : Tree)
+        → Lays (from_start P) read from (t ∷ []) place now → is_extra_node t ≡ true
+        → PassesTree (from_start P) read from t place }
+    ensures same { (P : Parsing) → Fit P.grammar → AreStates P.grammar P.goto
+        → (read now : List ℕ) (from place : ℕ) (t : Tree)
+        → Lays (from_start P) read from (t ∷ []) place now → is_extra_node t ≡ true
+        → now ≡ read }
 {
     laws_hold();
 }

@@ -1,4 +1,5 @@
 use Rattle.spec_graph.proofs.ReplaceLemmas.{replaces_itself, replaces_chain}
+use Rattle.spec_graph.proofs.BothLemmas.{better_both}
 use Rattle.spec_graph.proofs.OutcomeLemmas.{laid_nodes, laid_depth}
 use Rattle.spec_graph.proofs.laws.trees_replace.Goals as goal
 
@@ -7,6 +8,9 @@ returns-clause-same c = replaces_itself
 
 pub returns-clause-through : goal.returns-clause-through
 returns-clause-through c = replaces_chain
+
+pub returns-clause-both : goal.returns-clause-both
+returns-clause-both c old tree new alike better no_better = better_both c.laws_hold.ensures.runs.keeps old tree new alike better no_better
 
 pub returns-clause-nodes : goal.returns-clause-nodes
 returns-clause-nodes c P fit states now over other place end look number left p ks us l m begins folds count a = laid_nodes P (record { laws = c.laws_hold.ensures; fit = fit; states = states }) now over other place end look number left p ks us l m begins folds count a

@@ -1,0 +1,4 @@
+pub mod MemberLemmas
+pub mod GrowLemmas
+pub mod LayLemmas
+pub mod ClimbLemmas

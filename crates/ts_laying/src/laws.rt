@@ -1,0 +1,15 @@
+//! The laws of other crates that the proofs here rest on. No value goes in or out.
+ghost use Rattle.ts_laying.specs.Laws.{LayingLaws};
+
+use spec_graph::{extras_are_passed, links_pack, trees_replace};
+use spec_runs::bare_trees;
+
+/// The laws of other crates hold.
+pub(crate) fn laws_hold()
+    ensures { LayingLaws }
+{
+    bare_trees();
+    trees_replace();
+    links_pack();
+    extras_are_passed();
+}

@@ -1,0 +1,21 @@
+//! What a reduction makes.
+
+use ts_core::List;
+use ts_node::Node;
+
+/// A tree with the greatest depth of the trees that it stands for, and the state behind it.
+#[derive(Drop)]
+pub struct Piece {
+    pub node: Node,
+    pub depth: u32,
+    pub state: u16,
+}
+
+/// The node of a reduction, for the head below it, and the extras above it, the first of them the
+/// lowest.
+#[derive(Drop)]
+pub struct Made {
+    pub below: usize,
+    pub piece: Piece,
+    pub extras: List<Node>,
+}
