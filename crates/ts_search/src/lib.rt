@@ -1,5 +1,5 @@
-//! The matches of patterns: patterns and a visible tree go in, and the matches that are kept come out
-//! in order.
+//! The matches of patterns: patterns and a visible tree go in, and the matches that are kept come
+//! out in order.
 #![tactic(auto)]
 
 mod anchors;
