@@ -45,6 +45,14 @@ impl Lexer {
             examined: 0,
         })
     }
+
+    /// How many bytes it has examined, in all that it has lexed. It stands still at the last value
+    /// of `u64`.
+    pub fn examined(&self) -> u64
+        ensures { result ≡ examined_of self.now }
+    {
+        self.examined
+    }
 }
 
 impl Tokens for Lexer {
