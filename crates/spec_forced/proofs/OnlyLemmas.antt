@@ -1,5 +1,5 @@
 -- Where one move alone stays there is one step, and runs of such steps leave no other way.
-use Rattle.std.proofs.Common.{◌≡◌, sym, ap, refl, subst, ℕ, ◌≤◌, ◌⊎◌, inl, inr, ⊎_elim, true, List, arith}
+use Rattle.std.proofs.Common.{◌≡◌, ◌∙◌, sym, ap, refl, subst, ℕ, ◌≤◌, ◌⊎◌, inl, inr, ⊎_elim, true, List, arith}
 use Rattle.ts_base.specs.Bytes.{Bytes}
 use Rattle.ts_core.specs.declared.flat.FlatGrammar.{FlatGrammar}
 use Rattle.ts_core.specs.declared.symbol.Symbol.{Symbol}
@@ -13,7 +13,7 @@ use Rattle.spec_runs.specs.Configurations.{Configuration, stack_symbols, token_t
 use Rattle.spec_runs.specs.Runs.{CanMove, StepsOn, shift_token, pass_extra, reduce_trees, Run, run_here, run_on, ComesTooDeep, AcceptsTree, StopsAt}
 use Rattle.spec_forced.specs.Forced.{IsOnlyMove}
 use Rattle.spec_forced.specs.Laws.{ForcedLaws}
-use Rattle.spec_forced.specs.OnlyRuns.{IsOnlyStep, OnlyRun, only_here, only_on, GoesTooDeep, GoesToTree, GoesToStop, EndAlike}
+use Rattle.spec_forced.specs.OnlyRuns.{IsOnlyStep, OnlyRun, only_here, only_on, Meet, IsFork, GoesTooDeep, GoesToTree, GoesToStop, EndAlike}
 
 -- ---- what tells moves and findings apart
 
@@ -93,6 +93,7 @@ module _ (laws : ForcedLaws) (g : FlatGrammar) (text : Bytes) (c : Configuration
   shift_alone o = record {
     step = shift_token s pad size next o.stays;
     only = only;
+    one = λ a b p q. o.only a (moves a p) ∙ sym (o.only b (moves b q));
     shallow = λ d. not_reduce d.number (o.only (reduce d.number) (moves (reduce d.number) d.move));
     unaccepted = λ t a. not_accept (o.only accept (moves accept a.move));
     unstuck = never_stuck;
@@ -108,6 +109,7 @@ module _ (laws : ForcedLaws) (g : FlatGrammar) (text : Bytes) (c : Configuration
   pass_alone extra idle = record {
     step = pass_extra s pad size next extra idle;
     only = only;
+    one = λ a b p q. absurd (idle (a, moves a p));
     shallow = λ d. idle (reduce d.number, moves (reduce d.number) d.move);
     unaccepted = λ t a. idle (accept, moves accept a.move);
     unstuck = never_stuck;
@@ -122,6 +124,7 @@ module _ (laws : ForcedLaws) (g : FlatGrammar) (text : Bytes) (c : Configuration
   reduce_alone number node after o r shallow = record {
     step = reduce_trees number node after (record { symbol = s; pad = pad; size = size; next = next; stays = o.stays }) r shallow;
     only = only;
+    one = λ a b p q. o.only a (moves a p) ∙ sym (o.only b (moves b q));
     shallow = λ d.
         let n : d.number ≡ number = number_is d.number d.move in
         let one = laws.one_reduction g number c.stack d.node node d.after after (subst (λ (m : ℕ). IsReduction g m c.stack d.node d.after) n d.reduction) r in
@@ -199,7 +202,7 @@ module _ (g : FlatGrammar) (text : Bytes) where
     stop = λ p. ((λ h. (b.stop p).0 ((a.stop p).0 h)), (λ h. (a.stop p).1 ((b.stop p).1 h)));
   }
 
-  pub step_alike : (c x : Configuration) → IsOnlyStep g text c x → EndAlike g text c x
+  step_alike : (c x : Configuration) → IsOnlyStep g text c x → EndAlike g text c x
   step_alike c x s = record {
     deep = (step_deep c x s, (λ h. (h.0, run_on c x h.0 s.step h.1, h.2)));
     tree = λ t. (step_tree c x t s, (λ h. (h.0, run_on c x h.0 s.step h.1, h.2)));
@@ -209,3 +212,28 @@ module _ (g : FlatGrammar) (text : Bytes) where
   pub only_alike : (c d : Configuration) → OnlyRun g text c d → EndAlike g text c d
   only_alike _ _ (only_here c) = alike_self c
   only_alike _ _ (only_on c x d s r) = alike_chain c x d (step_alike c x s) (only_alike x d r)
+
+  -- ---- runs that meet
+
+  pub meet_self : (c : Configuration) → Meet g text c c
+  meet_self c = (c, only_here c, only_here c)
+
+  pub meet_step : (c d : Configuration) → IsOnlyStep g text c d → Meet g text c d
+  meet_step c d s = (d, only_on c d d s (only_here d), only_here d)
+
+  pub meet_chain : (c d e : Configuration) → Meet g text c d → Meet g text d e → Meet g text c e
+  meet_chain c d e (a, to_a, d_a) (b, d_b, to_b) = ⊎_elim
+      (λ on. (b, only_chain c a b to_a on, to_b))
+      (λ on. (a, to_a, only_chain e b a to_b on))
+      (one_way d a b d_a d_b)
+
+  pub meet_alike : (c d : Configuration) → Meet g text c d → EndAlike g text c d
+  meet_alike c d (e, a, b) = alike_chain c e d (only_alike c e a) (alike_back d e (only_alike d e b))
+
+  -- from where two moves can be done no such run leads on
+  stays_there : (c e : Configuration) → IsFork g text c → OnlyRun g text c e → e ≡ c
+  stays_there _ _ f (only_here c) = refl
+  stays_there _ e f (only_on c x _ s r) = absurd (f.differ (s.one f.first f.second f.here f.there))
+
+  pub meet_fork : (c d : Configuration) → Meet g text c d → IsFork g text d → OnlyRun g text c d
+  meet_fork c d (e, a, b) f = subst (λ (x : Configuration). OnlyRun g text c x) (stays_there d e f b) a

@@ -2,18 +2,21 @@
 use Rattle.std.specs.Prelude.{◌≡◌, ℕ, ◌≤◌, ◌↔◌}
 use Rattle.ts_base.specs.Bytes.{Bytes}
 use Rattle.ts_core.specs.declared.flat.FlatGrammar.{FlatGrammar}
+use Rattle.spec_tables.specs.Actions.{Move}
 use Rattle.spec_trees.specs.declared.tree.Tree.{Tree}
 use Rattle.spec_trees.specs.Trees.{bare}
 use Rattle.spec_trees.specs.Choice.{Better}
 use Rattle.spec_runs.specs.Configurations.{Configuration}
-use Rattle.spec_runs.specs.Runs.{StepsOn, Run, ComesTooDeep, AcceptsTree, StopsAt}
+use Rattle.spec_runs.specs.Runs.{CanMove, StepsOn, Run, ComesTooDeep, AcceptsTree, StopsAt}
 use Rattle.spec_runs.specs.Outcomes.{FreshOutcome, deep_outcome, tree_outcome, stuck_outcome}
 
--- a step leads from the first configuration to the second and to no other, and no run ends at the
--- first
+-- a step leads from the first configuration to the second and to no other, one move alone can be
+-- done there, and no run ends there
 pub record IsOnlyStep (g : FlatGrammar) (text : Bytes) (c d : Configuration) : Type 0 where
   pub step : StepsOn g text c d
   pub only : (e : Configuration) → StepsOn g text c e → e ≡ d
+  pub one : (first second : Move) → CanMove g text c first → CanMove g text c second
+      → first ≡ second
   pub shallow : ComesTooDeep g text c → ⊥
   pub unaccepted : (t : Tree) → AcceptsTree g text c t → ⊥
   pub unstuck : (place : ℕ) → StopsAt g text c place → ⊥
@@ -23,6 +26,18 @@ pub data OnlyRun (g : FlatGrammar) (text : Bytes) : Configuration → Configurat
   only_here : (c : Configuration) → OnlyRun g text c c
   only_on : (c d e : Configuration) → IsOnlyStep g text c d → OnlyRun g text d e
       → OnlyRun g text c e
+
+-- runs of such steps from both configurations meet
+abbrev pub Meet : FlatGrammar → Bytes → Configuration → Configuration → Type 0
+Meet g text c d = (e : Configuration) × OnlyRun g text c e × OnlyRun g text d e
+
+-- two moves can be done there
+pub record IsFork (g : FlatGrammar) (text : Bytes) (c : Configuration) : Type 0 where
+  pub first : Move
+  pub second : Move
+  pub here : CanMove g text c first
+  pub there : CanMove g text c second
+  pub differ : first ≡ second → ⊥
 
 -- ---- all runs from a configuration
 

@@ -20,7 +20,7 @@ ghost use Rattle.spec_runs.specs.Outcomes.{FreshOutcome, Fresh};
 ghost use Rattle.spec_runs.specs.Runs.{Run};
 ghost use Rattle.spec_forced.specs.Forced.{HaveSameItems, IsOnlyMove, IsDecided, IsForced, Stands, StandInTurn, MakesNode};
 ghost use Rattle.spec_forced.specs.Laws.{ForcedLaws};
-ghost use Rattle.spec_forced.specs.OnlyRuns.{IsOnlyStep, OnlyRun, EndAlike, FreshFrom};
+ghost use Rattle.spec_forced.specs.OnlyRuns.{IsOnlyStep, OnlyRun, Meet, IsFork, EndAlike, FreshFrom};
 ghost use Rattle.spec_forced.specs.Sound.{States, IsStateAfter, StandsForState, AllSound, IsSound, IsHonest, EachHasState, IsWholeSoFar, StandOnStack};
 ghost use Rattle.spec_forced.specs.Taking.{Taking, FreshTaking, TakesRightly};
 
@@ -141,16 +141,6 @@ pub fn only_runs_are_one_way()
         → FreshFrom g text starting o ↔ Fresh g text o }
 {}
 
-/// Configurations from which all runs end alike.
-pub fn ends_stay_alike()
-    ensures back { (g : FlatGrammar) (text : Bytes) (c d : Configuration) → EndAlike g text c d
-        → EndAlike g text d c }
-    ensures joined { (g : FlatGrammar) (text : Bytes) (c d e : Configuration)
-        → EndAlike g text c d → EndAlike g text d e → EndAlike g text c e }
-    ensures step { (g : FlatGrammar) (text : Bytes) (c d : Configuration)
-        → IsOnlyStep g text c d → EndAlike g text c d }
-{}
-
 /// Where one move alone stays on the token that is seen, or none on an extra, there is one step
 /// alone, and it goes where the move leads.
 pub fn one_move_is_one_step()
@@ -172,6 +162,20 @@ pub fn one_move_is_one_step()
 {
     laws_hold();
 }
+
+/// Where such runs from two configurations meet, all runs end from both alike. And where two moves
+/// can be done at the second, the run from the first leads there.
+pub fn only_runs_meet()
+    ensures same { (g : FlatGrammar) (text : Bytes) (c : Configuration) → Meet g text c c }
+    ensures step { (g : FlatGrammar) (text : Bytes) (c d : Configuration) → IsOnlyStep g text c d
+        → Meet g text c d }
+    ensures joined { (g : FlatGrammar) (text : Bytes) (c d e : Configuration) → Meet g text c d
+        → Meet g text d e → Meet g text c e }
+    ensures ends { (g : FlatGrammar) (text : Bytes) (c d : Configuration) → Meet g text c d
+        → EndAlike g text c d }
+    ensures fork { (g : FlatGrammar) (text : Bytes) (c d : Configuration) → Meet g text c d
+        → IsFork g text d → OnlyRun g text c d }
+{}
 
 /// What a forced run makes above a stack is what the only run from there puts on it.
 pub fn forced_runs_are_only()

@@ -6,8 +6,8 @@
 mod laws;
 
 pub use laws::{
-    ends_stay_alike, extras_stay, forced_nodes_stand, forced_runs_are_only, items_decide,
-    leaves_stand, lexings_are_decided, nodes_stand, offers_change_nothing, one_move_is_one_step,
-    only_runs_are_one_way, pushed_whole, sound_trees_offer_honestly, stacks_stay_sound,
-    states_tell,
+    extras_stay, forced_nodes_stand, forced_runs_are_only, items_decide, leaves_stand,
+    lexings_are_decided, nodes_stand, offers_change_nothing, one_move_is_one_step,
+    only_runs_are_one_way, only_runs_meet, pushed_whole, sound_trees_offer_honestly,
+    stacks_stay_sound, states_tell,
 };

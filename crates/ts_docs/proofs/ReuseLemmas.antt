@@ -16,11 +16,13 @@ use Rattle.spec_reuse.specs.Offered.{IsTopmost}
 use Rattle.spec_forced.specs.Sound.{States, HasState, IsSound}
 use Rattle.ts_marks.specs.Kept.{WasClear}
 use Rattle.ts_table.specs.declared.view.ParseTable.{ParseTable}
-use Rattle.ts_moves.specs.Good.{EachTree}
-use Rattle.ts_steps.specs.declared.reparsed.Reparsed.{Reparsed}
-use Rattle.ts_steps.specs.declared.reparsed.Reparsed.TheVariants.{Accepted, Stuck, Deep, Forks}
+use Rattle.ts_steps.specs.Good.{EachTree}
+use Rattle.spec_runs.specs.Outcomes.{Fresh}
 use Rattle.ts_steps.specs.Heads.{AreStatesOf, IsOwnWithin}
-use Rattle.ts_steps.specs.Reparsing.{IsOffered, IsOwnResult, IsResult}
+use Rattle.ts_steps.specs.Reparsing.{IsOffered}
+use Rattle.ts_glr.specs.declared.outcome.Outcome.{Outcome}
+use Rattle.ts_glr.specs.declared.outcome.Outcome.TheVariants.{Accepted, Stuck, Deep}
+use Rattle.ts_glr.specs.Outcomes.{value_of_outcome, IsTreeOf, IsOwnOutcome, IsSoundOutcome}
 use Rattle.ts_docs.specs.Reuse.{IsReusable, IsReparsed}
 
 -- ---- nodes in nodes
@@ -57,12 +59,11 @@ kept_root t text root each none sound = record { sound = sound; own = own }
     own u at (inl same) settled has = absurd (stateless root u none same.0 has)
     own u at (inr there) settled has = own_in t.grammar (children_of root) (lead_of root) u at there each
 
-pub reparsed_is : (t : ParseTable) (text : Bytes) (r : Reparsed) (states : States) → AreStatesOf t states → IsOwnResult t r
-    → ((s : States) → AreStatesOf t s → IsResult t s text r) → IsReparsed t text r
-reparsed_is t text (Accepted u) states are own f = ((f states are).0, own.0, kept_root t text u own.1 own.2 (λ s a. (f s a).1))
-reparsed_is t text (Stuck place) states are own f = f states are
-reparsed_is t text Deep states are own f = f states are
-reparsed_is t text (Forks place) states are own f = tt
+pub reparsed_is : (t : ParseTable) (text : Bytes) (r : Outcome) (states : States) → AreStatesOf t states → IsTreeOf t.grammar r → IsOwnOutcome t r
+    → ((s : States) → AreStatesOf t s → Fresh t.grammar text (value_of_outcome r) × IsSoundOutcome t s text r) → IsReparsed t text r
+reparsed_is t text (Accepted u) states are form own f = ((f states are).0, form, kept_root t text u own.0 own.1 (λ s a. (f s a).1))
+reparsed_is t text (Stuck place) states are form own f = (f states are).0
+reparsed_is t text Deep states are form own f = (f states are).0
 
 -- ---- what is offered
 

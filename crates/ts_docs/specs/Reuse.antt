@@ -8,9 +8,9 @@ use Rattle.spec_runs.specs.Outcomes.{Fresh, deep_outcome, tree_outcome, stuck_ou
 use Rattle.spec_reuse.specs.Places.{IsInTree}
 use Rattle.spec_forced.specs.Sound.{States, HasState, IsSound}
 use Rattle.ts_table.specs.declared.view.ParseTable.{ParseTable}
-use Rattle.ts_steps.specs.declared.reparsed.Reparsed.{Reparsed}
-use Rattle.ts_steps.specs.declared.reparsed.Reparsed.TheVariants.{Accepted, Stuck, Deep, Forks}
 use Rattle.ts_steps.specs.Heads.{AreStatesOf, IsOwnWithin}
+use Rattle.ts_glr.specs.declared.outcome.Outcome.{Outcome}
+use Rattle.ts_glr.specs.declared.outcome.Outcome.TheVariants.{Accepted, Stuck, Deep}
 use Rattle.ts_glr.specs.Outcomes.{value_of_outcome, IsTreeOf}
 use Rattle.ts_docs.specs.declared.parsing.Parsed.{Parsed}
 
@@ -29,13 +29,12 @@ IsReusableIfAny t text (Some tree) = IsReusable t text tree
 
 -- ---- under way. It serves private clauses and proofs alone.
 
--- what a parse over one stack comes to is the fresh outcome, and its tree may be kept
-abbrev pub IsReparsed : ParseTable → Bytes → Reparsed → Type 0
+-- what a parse with offers comes to is the fresh outcome, and its tree may be kept
+abbrev pub IsReparsed : ParseTable → Bytes → Outcome → Type 0
 IsReparsed t text (Accepted u) =
     Fresh t.grammar text (tree_outcome u) × IsInForm t.grammar u × IsReusable t text u
 IsReparsed t text (Stuck place) = Fresh t.grammar text (stuck_outcome place)
 IsReparsed t text Deep = Fresh t.grammar text deep_outcome
-IsReparsed t text (Forks place) = Unit {0}
 
 -- the text comes to this outcome, and this tree may be kept for it
 pub record IsParsed (t : ParseTable) (text : Bytes) (p : Parsed) : Type 0 where

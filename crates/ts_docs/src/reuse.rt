@@ -28,8 +28,6 @@ pub(crate) struct Reuse {
     pub(crate) marked: Option<Node>,
     /// How many bytes these edits took out.
     pub(crate) lost: u32,
-    /// The place at which several moves stayed on a token of the text.
-    pub(crate) forked: Option<u32>,
 }
 
 impl Reuse {
@@ -40,7 +38,6 @@ impl Reuse {
         Reuse {
             marked: None,
             lost: 0,
-            forked: None,
         }
     }
 }
@@ -52,25 +49,6 @@ fn taken_out(edit: &Edit) -> u32 {
         sum = sum.saturating_add(part.end.saturating_sub(part.start));
     }
     sum
-}
-
-/// Whether all parts of an edit begin behind a place.
-fn begins_behind(edit: &Edit, place: u32) -> bool {
-    edit.parts.as_slice().iter().all(|part| place < part.start)
-}
-
-/// The place at which several moves stay after an edit too, since it changes what is behind alone.
-fn forked_still(forked: Option<u32>, edit: &Edit) -> Option<u32> {
-    match forked {
-        Some(place) => {
-            if begins_behind(edit, place) {
-                Some(place)
-            } else {
-                None
-            }
-        }
-        None => None,
-    }
 }
 
 /// Whether a tree is kept after so many bytes were taken out of a text of this size.
@@ -120,18 +98,9 @@ pub(crate) fn reuse_for<W: Content>(
         (λ kept. IsReusableIfAny table.now (apply_of base.now.text edit.now) kept.marked) }
 {
     let lost = base.kept().lost.saturating_add(taken_out(edit));
-    let forked = forked_still(base.kept().forked, edit);
     if !is_worth_marking(lost, base.text().len()) {
-        return Ok(Reuse {
-            marked: None,
-            lost: 0,
-            forked,
-        });
+        return Ok(Reuse::nothing());
     }
     let marked = marked_for(alloc, table, base, edit)?;
-    Ok(Reuse {
-        marked,
-        lost,
-        forked,
-    })
+    Ok(Reuse { marked, lost })
 }

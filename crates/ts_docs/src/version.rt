@@ -78,8 +78,8 @@ impl<W: Content> VersionOf<W> {
     }
 
     /// A tree whose nodes may be taken over into that of the next version: that of the outcome,
-    /// where one stack was enough for it, or an older one of the document with all edits since
-    /// marked in it. None where there is none, or where too much was taken out of it since.
+    /// or, where that is none, an older one of the document with all edits since marked in it. None
+    /// where there is none, or where too much was taken out of it since.
     pub fn marked(&self) -> Option<&Node>
         ensures { (tree : Tree) → option_copied result ≡ Some tree
             → IsReusable self.now.table self.now.text tree }

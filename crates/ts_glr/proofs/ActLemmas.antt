@@ -1,39 +1,110 @@
 -- What actions on a live stack come to.
-use Rattle.std.proofs.Common.{◌≡◌, ◌∙◌, sym, ap, subst, ℕ, ◌<◌, List, [], ◌∷◌, ◌++◌, length, Option, Some, ◌⊎◌, inl, inr, ⊎_elim, true, false, arith, append_assoc, append-nil, length-append}
+use Rattle.std.proofs.Common.{◌≡◌, ◌∙◌, sym, ap, refl, subst, ℕ, suc, ◌+◌, ◌<◌, ◌≤◌, List, [], ◌∷◌, ◌++◌, length, Option, Some, None, IfSome, ◌⊎◌, inl, inr, ⊎_elim, true, false, arith, append_assoc, append-nil, length-append}
+use Rattle.ts_base.specs.Bytes.{Bytes}
 use Rattle.ts_core.specs.declared.action.Action.{Action}
 use Rattle.ts_core.specs.declared.action.Action.TheVariants.{Shift, Reduce, Accept}
 use Rattle.ts_core.specs.declared.flat.FlatGrammar.{FlatGrammar}
+use Rattle.spec_tables.specs.Actions.{Move, Act, shift, reduce, accept}
+use Rattle.spec_tables.specs.Items.{IsToken}
 use Rattle.spec_trees.specs.declared.tree.Tree.{Tree}
-use Rattle.spec_trees.specs.Trees.{tree_depth, bare}
+use Rattle.spec_trees.specs.Made.{most_span}
+use Rattle.spec_trees.specs.Trees.{children_of, state_of, tree_depth, bare}
 use Rattle.spec_runs.specs.Configurations.{Configuration, pushed, token_tree, IsReduction}
+use Rattle.spec_forced.specs.Sound.{States, IsSound}
 use Rattle.ts_table.specs.declared.view.ParseTable.{ParseTable}
-use Rattle.ts_table.specs.Tables.{ActsBy}
+use Rattle.ts_table.specs.Tables.{IsTable, IsStateOf, ActsBy}
 use Rattle.ts_gss.specs.declared.layer.Layer.{Layer}
-use Rattle.ts_moves.specs.declared.found.FoundToken.{FoundToken}
-use Rattle.ts_moves.specs.declared.head.StackHead.{StackHead}
-use Rattle.ts_moves.specs.Laws.{Laws}
-use Rattle.ts_moves.specs.Heads.{config_of, read_on, IsLiveHead, IsRootOf, GainsStacks, LiesAhead}
+use Rattle.ts_gss.specs.Stacks.{stack_at, trees_on}
+use Rattle.ts_steps.specs.declared.found.FoundToken.{FoundToken}
+use Rattle.ts_steps.specs.declared.head.StackHead.{StackHead}
+use Rattle.ts_steps.specs.MoveLaws.{Laws}
+use Rattle.ts_steps.specs.Good.{EachTree}
+use Rattle.ts_steps.specs.LiveHeads.{config_of, read_on, IsReducedTo, IsRootOf, GainsStacks, LiesAhead}
+use Rattle.ts_steps.specs.Heads.{AreStatesOf, IsOwnWithin, IsOwnHead, StandOnHead, IsMoveAhead}
+use Rattle.ts_steps.specs.Looking.{IsTokenAhead}
 use Rattle.ts_glr.specs.declared.acting.Moved.{Moved}
 use Rattle.ts_glr.specs.declared.acting.Moved.TheVariants.{To, Ended, TooDeep}
 use Rattle.ts_glr.specs.Lists.{OfEach, Any}
-use Rattle.ts_glr.specs.Steps.{IsSeenAhead, Withstands, KeepsBest, ActionLeads, IsTooDeep, IsActed}
+use Rattle.ts_glr.specs.Steps.{Withstands, KeepsBest, ActionLeads, IsTooDeep, StandAfter, IsSoundRoot, IsActed}
 use Rattle.ts_glr.specs.Search.{heads_of, is_deep, Acting}
 use Rattle.ts_glr.proofs.ListLemmas.{each_append, each_map, any_left, any_right}
 use Rattle.ts_glr.proofs.RootLemmas.{one_root}
-use Rattle.ts_glr.proofs.StackLemmas.{live_stays, config_stays}
-use Rattle.ts_glr.proofs.TableLemmas.{by_shift}
+use Rattle.ts_glr.proofs.StackLemmas.{own_stays, stand_stays, config_stays}
+use Rattle.ts_glr.proofs.TableLemmas.{by_shift, by_reduce, by_accept}
 
--- ---- a shift
+-- ---- the moves
 
-pub shift_room : (laws : Laws) (t : ParseTable) (size next : ℕ) (old : List (List Layer)) (h : StackHead) (f : FoundToken) (a : Action) → a ≡ Shift next → IsSeenAhead size h.place f → ActsBy t (read_on old h) f.token.0 a → LiesAhead size h.place f
-shift_room laws t size next old h f a is ahead acts = record {
-  past = ahead.past;
-  reach = ahead.reach;
-  some = ahead.some (laws.shifts t.grammar (read_on old h) f.token.0 (by_shift t (read_on old h) f.token.0 next a is acts).0).0.0;
+-- the token lies ahead in the text
+pub lies_ahead : (t : ParseTable) (size : ℕ) (text : Bytes) (old : List (List Layer)) (h : StackHead) (f : FoundToken) → length text ≡ size → 0 < f.token.0 → IsTokenAhead t text old h f → LiesAhead size h.place f
+lies_ahead t size text old h f long some a = record {
+  past = a.past;
+  reach = subst (λ (n : ℕ). h.place + f.extent ≤ suc n) long a.reach;
+  some = a.some some;
 }
 
-pub shift_leads : (g : FlatGrammar) (c e : Configuration) (f : FoundToken) (a : Action) (next : ℕ) → a ≡ Shift next → e ≡ pushed c (token_tree f.token f.pad f.size) → ActionLeads g c f a e
-shift_leads g c e f a next is same = subst (λ (b : Action). ActionLeads g c f b e) (sym is) same
+module _ (laws : Laws) (t : ParseTable) (size : ℕ) (old : List (List Layer)) (h : StackHead) (f : FoundToken) (a : Action) (acts : ActsBy t (read_on old h) f.token.0 a) (text : Bytes) (long : length text ≡ size) (sees : IsTokenAhead t text old h f) where
+  shifts_token : (next : ℕ) → a ≡ Shift next → Act t.grammar (read_on old h) f.token.0 shift × IsStateOf t (f.token.0 ∷ read_on old h) next
+  shifts_token next is = by_shift t (read_on old h) f.token.0 next a is acts
+
+  is_token : (next : ℕ) → a ≡ Shift next → IsToken t.grammar f.token.0
+  is_token next is = (laws.shifts t.grammar (read_on old h) f.token.0 (shifts_token next is).0).0
+
+  pub shift_room : (next : ℕ) → a ≡ Shift next → size ≤ most_span → (n : ℕ) × (n ≤ most_span) × LiesAhead n h.place f
+  shift_room next is short = (size, short, lies_ahead t size text old h f long (is_token next is).0 sees)
+
+  pub reduce_stays : (number : ℕ) → a ≡ Reduce number → (on : ℕ) × Act t.grammar (read_on old h) on (reduce number)
+  reduce_stays number is = (f.token.0, by_reduce t (read_on old h) f.token.0 number a is acts)
+
+  pub accept_stays : a ≡ Accept → (on : ℕ) × Act t.grammar (read_on old h) on accept
+  accept_stays is = (f.token.0, by_accept t (read_on old h) f.token.0 a is acts)
+
+  pub some_seen : 0 < f.extent
+  some_seen = let p = sees.past in omega (arith, p)
+
+  pub seen_within : h.place + f.extent ≤ suc size
+  seen_within = subst (λ (n : ℕ). h.place + f.extent ≤ suc n) long sees.reach
+
+  module _ (table : IsTable t) (own : IsOwnHead t size old h) (new : List (List Layer)) (best : Option Tree) where
+    mine : IsOwnHead t (length text) old h
+    mine = subst (λ (n : ℕ). IsOwnHead t n old h) (sym long) own
+
+    move_ahead : (move : Move) → IsMoveAhead t text old h (record { found = f; only = false }) move
+    move_ahead move = record { decided = sees.decided; only = λ no_only. absurd (let e : false ≡ true = no_only in cc) }
+
+    pub acted_shift : (next : ℕ) (k : StackHead) → a ≡ Shift next → config_of new k ≡ pushed (config_of old h) (token_tree f.token f.pad f.size)
+        → ((u : ParseTable) (n : ℕ) → IsOwnHead u n old h → LiesAhead n h.place f → IsToken u.grammar f.token.0 → IsStateOf u (f.token.0 ∷ read_on old h) next → IsOwnHead u n new k)
+        → ((u : ParseTable) (states : States) (w : Bytes) → IsTable u → AreStatesOf u states → IsOwnHead u (length w) old h → IsMoveAhead u w old h (record { found = f; only = false }) shift → StandOnHead u states w old h → StandOnHead u states w new k)
+        → IsActed t text old new h f best best a (To k)
+    acted_shift next k is config live stand = (
+      live t (length text) mine (lies_ahead t (length text) text old h f refl (is_token next is).0 sees) (is_token next is) (shifts_token next is).1,
+      subst (λ (b : Action). ActionLeads t.grammar (config_of old h) f b (config_of new k)) (sym is) config,
+      (λ states are s. stand t states text table are mine (move_ahead shift) s),
+      refl,
+    )
+
+    pub acted_reduce : (number : ℕ) (o : Option StackHead) (k : StackHead) → o ≡ Some k → a ≡ Reduce number → IsReducedTo t size number old new h o → IfSome o (IsOwnHead t size new)
+        → IfSome o (λ q. (states : States) (w : Bytes) → length w ≡ size → AreStatesOf t states → IsMoveAhead t w old h (record { found = f; only = false }) (reduce number) → StandOnHead t states w old h → StandOnHead t states w new q)
+        → IsActed t text old new h f best best a (To k)
+    acted_reduce number o k some is done live stand =
+        let r : IsReducedTo t size number old new h (Some k) = subst (λ (x : Option StackHead). IsReducedTo t size number old new h x) some done in (
+          subst (λ (n : ℕ). IsOwnHead t n new k) (sym long) (subst (λ (x : Option StackHead). IfSome x (IsOwnHead t size new)) some live),
+          subst (λ (b : Action). ActionLeads t.grammar (config_of old h) f b (config_of new k)) (sym is) (r.node, r.after, r.reduction, r.done.0, r.done.2),
+          (λ states are s.
+              subst (λ (x : Option StackHead). IfSome x (λ q. (states : States) (w : Bytes) → length w ≡ size → AreStatesOf t states → IsMoveAhead t w old h (record { found = f; only = false }) (reduce number) → StandOnHead t states w old h → StandOnHead t states w new q)) some stand
+              states text long are (move_ahead (reduce number)) s),
+          refl,
+        )
+
+    pub acted_too_deep : (number : ℕ) (o : Option StackHead) → o ≡ None → a ≡ Reduce number → IsReducedTo t size number old new h o → IsActed t text old new h f best best a TooDeep
+    acted_too_deep number o none is done =
+        let r : IsReducedTo t size number old new h None = subst (λ (x : Option StackHead). IsReducedTo t size number old new h x) none done in
+        (number, r.node, r.after, is, r.reduction, r.done)
+
+    pub acted_accept : (u : Tree) (after : Option Tree) → a ≡ Accept → IsRootOf (config_of old h).stack (bare u) → KeepsBest best after u → EachTree (IsOwnWithin t.grammar) (children_of u) → state_of u ≡ None
+        → ((states : States) (w : Bytes) → length w ≡ size → AreStatesOf t states → StandOnHead t states w old h → IsSound t.grammar states w u)
+        → IsActed t text old new h f best after a Ended
+    acted_accept u after is root kept each none sound =
+        (is, (u, root, kept, record { own = each; none = none; sound = λ states are s. sound states text long are s }))
 
 -- ---- where an action leads
 
@@ -60,9 +131,9 @@ module _ (laws : Laws) (g : FlatGrammar) (c : Configuration) (f : FoundToken) wh
 
 -- ---- one more action
 
-module _ (laws : Laws) (t : ParseTable) (size : ℕ) (c : Configuration) (f : FoundToken) where
+module _ (laws : Laws) (t : ParseTable) (text : Bytes) (trees : List Tree) (c : Configuration) (f : FoundToken) where
   abbrev Sound : List (List Layer) → List Action → StackHead → Type 0
-  Sound stacks done h = IsLiveHead t size stacks h × Any (λ (a : Action). ActionLeads t.grammar c f a (config_of stacks h)) done
+  Sound stacks done h = IsOwnHead t (length text) stacks h × StandAfter t text trees stacks h × Any (λ (a : Action). ActionLeads t.grammar c f a (config_of stacks h)) done
 
   abbrev Complete : List (List Layer) → List StackHead → Action → Type 0
   Complete stacks more a = (e : Configuration) → ActionLeads t.grammar c f a e → Any (λ (h : StackHead). config_of stacks h ≡ e) more
@@ -79,7 +150,7 @@ module _ (laws : Laws) (t : ParseTable) (size : ℕ) (c : Configuration) (f : Fo
   abbrev Ends : Action → Type 0
   Ends a = a ≡ Accept
 
-  pub acting_begins : (stacks : List (List Layer)) (live : List StackHead) (best : Option Tree) → Acting t size stacks c f [] live live best best
+  pub acting_begins : (stacks : List (List Layer)) (live : List StackHead) (best : Option Tree) → Acting t text trees stacks c f [] live live best best
   acting_begins stacks live best = record {
     more = [];
     live_is = sym (append-nil live);
@@ -91,6 +162,7 @@ module _ (laws : Laws) (t : ParseTable) (size : ℕ) (c : Configuration) (f : Fo
     fruitful = tt;
     others = λ u w. w;
     from = λ b e. inl e;
+    root = λ b e. inl e;
   }
 
   -- stacks that stay are known as before, among more actions
@@ -98,28 +170,29 @@ module _ (laws : Laws) (t : ParseTable) (size : ℕ) (c : Configuration) (f : Fo
   sound_grown old new done a more grows all =
       each_map (Sound old done) (Sound new (done ++ a ∷ [])) more
       (λ h s. (
-        live_stays t size old new h grows s.0,
+        own_stays t (length text) old new h grows s.0,
+        (λ states are w. stand_stays t states text old new h grows s.0.live.there (s.1 states are w)),
         any_left (λ (b : Action). ActionLeads t.grammar c f b (config_of new h)) done (a ∷ [])
-            (subst (λ (e : Configuration). Any (λ (b : Action). ActionLeads t.grammar c f b e) done) (sym (config_stays t size old new h grows s.0)) s.1),
+            (subst (λ (e : Configuration). Any (λ (b : Action). ActionLeads t.grammar c f b e) done) (sym (config_stays t (length text) old new h grows s.0.live)) s.2),
       )) all
 
   found_grown : (old new : List (List Layer)) (done : List Action) (e : Configuration) (more : List StackHead) → GainsStacks old new → OfEach (Sound old done) more → Any (λ (h : StackHead). config_of old h ≡ e) more → Any (λ (h : StackHead). config_of new h ≡ e) more
   found_grown old new done e [] grows all any = absurd any
-  found_grown old new done e (h ∷ hs) grows all (inl is) = inl (config_stays t size old new h grows all.0.0 ∙ is)
+  found_grown old new done e (h ∷ hs) grows all (inl is) = inl (config_stays t (length text) old new h grows all.0.0.live ∙ is)
   found_grown old new done e (h ∷ hs) grows all (inr any) = inr (found_grown old new done e hs grows all.1 any)
 
   some_more : (hs : List StackHead) (h : StackHead) → 0 < length (hs ++ h ∷ [])
   some_more hs h = omega (arith, length-append hs (h ∷ []))
 
   -- the action led to a head
-  pub acting_to : (old new : List (List Layer)) (done : List Action) (a : Action) (k : StackHead) (first live live' : List StackHead) (start best : Option Tree) → GainsStacks old new → Acting t size old c f done first live start best
-      → IsLiveHead t size new k → ActionLeads t.grammar c f a (config_of new k) → live' ≡ live ++ k ∷ [] → Acting t size new c f (done ++ a ∷ []) first live' start best
-  acting_to old new done a k first live live' start best grows b head leads live_is = record {
+  pub acting_to : (old new : List (List Layer)) (done : List Action) (a : Action) (k : StackHead) (first live live' : List StackHead) (start best : Option Tree) → GainsStacks old new → Acting t text trees old c f done first live start best
+      → IsOwnHead t (length text) new k → StandAfter t text trees new k → ActionLeads t.grammar c f a (config_of new k) → live' ≡ live ++ k ∷ [] → Acting t text trees new c f (done ++ a ∷ []) first live' start best
+  acting_to old new done a k first live live' start best grows b head stand leads live_is = record {
     more = b.more ++ k ∷ [];
     live_is = live_is ∙ ap (λ (l : List StackHead). l ++ k ∷ []) b.live_is ∙ append_assoc first b.more (k ∷ []);
     few = omega (arith, length-append b.more (k ∷ []), length-append done (a ∷ []), b.few);
     sound = each_append (Sound new (done ++ a ∷ [])) b.more (k ∷ []) (sound_grown old new done a b.more grows b.sound)
-        ((head, any_right (λ (x : Action). ActionLeads t.grammar c f x (config_of new k)) done (a ∷ []) (inl leads)), tt);
+        ((head, stand, any_right (λ (x : Action). ActionLeads t.grammar c f x (config_of new k)) done (a ∷ []) (inl leads)), tt);
     complete = each_append (Complete new (b.more ++ k ∷ [])) done (a ∷ [])
         (each_map (Complete old b.more) (Complete new (b.more ++ k ∷ [])) done
         (λ x all e l. any_left (λ (h : StackHead). config_of new h ≡ e) b.more (k ∷ []) (found_grown old new done e b.more grows b.sound (all e l))) b.complete)
@@ -130,12 +203,13 @@ module _ (laws : Laws) (t : ParseTable) (size : ℕ) (c : Configuration) (f : Fo
         (each_map (Fruitful b.more best) (Fruitful (b.more ++ k ∷ []) best) done (λ x w. inl (some_more b.more k)) b.fruitful) (inl (some_more b.more k), tt);
     others = b.others;
     from = λ u e. ⊎_elim (λ w. inl w) (λ w. inr (any_left Ends done (a ∷ []) w.0, w.1)) (b.from u e);
+    root = b.root;
   }
 
   -- the action accepted a tree
-  pub acting_ended : (old new : List (List Layer)) (done : List Action) (a : Action) (u : Tree) (first live live' : List StackHead) (start best after : Option Tree) → GainsStacks old new → Acting t size old c f done first live start best
-      → a ≡ Accept → IsRootOf c.stack (bare u) → KeepsBest best after u → live' ≡ live ++ [] → Acting t size new c f (done ++ a ∷ []) first live' start after
-  acting_ended old new done a u first live live' start best after grows b is root kept live_is = record {
+  pub acting_ended : (old new : List (List Layer)) (done : List Action) (a : Action) (u : Tree) (first live live' : List StackHead) (start best after : Option Tree) → GainsStacks old new → Acting t text trees old c f done first live start best
+      → a ≡ Accept → IsRootOf c.stack (bare u) → KeepsBest best after u → IsSoundRoot t text trees u → live' ≡ live ++ [] → Acting t text trees new c f (done ++ a ∷ []) first live' start after
+  acting_ended old new done a u first live live' start best after grows b is root kept sound live_is = record {
     more = b.more;
     live_is = live_is ∙ append-nil live ∙ b.live_is;
     few = omega (arith, length-append done (a ∷ []), b.few);
@@ -152,21 +226,22 @@ module _ (laws : Laws) (t : ParseTable) (size : ℕ) (c : Configuration) (f : Fo
     others = λ v w. kept.others v (b.others v w);
     from = λ v e. ⊎_elim (λ w. inr (any_right Ends done (a ∷ []) (inl is), subst (λ (x : Tree). IsRootOf c.stack (bare x)) (one v (sym w ∙ e)) root))
         (λ w. ⊎_elim (λ x. inl x) (λ x. inr (any_left Ends done (a ∷ []) x.0, x.1)) (b.from v (sym w ∙ e))) kept.from;
+    root = λ v e. ⊎_elim (λ w. inr (subst (λ (x : Tree). IsSoundRoot t text trees x) (one v (sym w ∙ e)) sound)) (λ w. b.root v (sym w ∙ e)) kept.from;
   }
     where
       one : (v : Tree) → Some u ≡ Some v → u ≡ v
       one v e = cc
 
-  pub acting_more : (old new : List (List Layer)) (h : StackHead) (done : List Action) (a : Action) (m : Moved) (first live live' : List StackHead) (start best after : Option Tree) → config_of old h ≡ c → GainsStacks old new → Acting t size old c f done first live start best
-      → IsActed t size old new h f best after a m → is_deep m ≡ false → live' ≡ live ++ heads_of m → Acting t size new c f (done ++ a ∷ []) first live' start after
-  acting_more old new h done a (To k) first live live' start best after same grows b acted shallow live_is =
-      subst (λ (o : Option Tree). Acting t size new c f (done ++ a ∷ []) first live' start o) (sym acted.2)
-      (acting_to old new done a k first live live' start best grows b acted.0 (subst (λ (d : Configuration). ActionLeads t.grammar d f a (config_of new k)) same acted.1) live_is)
-  acting_more old new h done a Ended first live live' start best after same grows b acted shallow live_is =
-      acting_ended old new done a acted.1.0 first live live' start best after grows b acted.0 (subst (λ (d : Configuration). IsRootOf d.stack (bare acted.1.0)) same acted.1.1) acted.1.2 live_is
-  acting_more old new h done a TooDeep first live live' start best after same grows b acted shallow live_is = absurd (let e : true ≡ false = shallow in cc)
+  pub acting_more : (old new : List (List Layer)) (h : StackHead) (done : List Action) (a : Action) (m : Moved) (first live live' : List StackHead) (start best after : Option Tree) → config_of old h ≡ c → trees_on (stack_at old h.top) ≡ trees → GainsStacks old new
+      → Acting t text trees old c f done first live start best → IsActed t text old new h f best after a m → is_deep m ≡ false → live' ≡ live ++ heads_of m → Acting t text trees new c f (done ++ a ∷ []) first live' start after
+  acting_more old new h done a (To k) first live live' start best after same on grows b acted shallow live_is =
+      subst (λ (o : Option Tree). Acting t text trees new c f (done ++ a ∷ []) first live' start o) (sym acted.3)
+      (acting_to old new done a k first live live' start best grows b acted.0 (subst (λ (ts : List Tree). StandAfter t text ts new k) on acted.2) (subst (λ (d : Configuration). ActionLeads t.grammar d f a (config_of new k)) same acted.1) live_is)
+  acting_more old new h done a Ended first live live' start best after same on grows b acted shallow live_is =
+      acting_ended old new done a acted.1.0 first live live' start best after grows b acted.0 (subst (λ (d : Configuration). IsRootOf d.stack (bare acted.1.0)) same acted.1.1) acted.1.2 (subst (λ (ts : List Tree). IsSoundRoot t text ts acted.1.0) on acted.1.3) live_is
+  acting_more old new h done a TooDeep first live live' start best after same on grows b acted shallow live_is = absurd (let e : true ≡ false = shallow in cc)
 
-  pub acted_deep : (old new : List (List Layer)) (h : StackHead) (a : Action) (m : Moved) (best after : Option Tree) → config_of old h ≡ c → IsActed t size old new h f best after a m → is_deep m ≡ true → IsTooDeep t.grammar c a
+  pub acted_deep : (old new : List (List Layer)) (h : StackHead) (a : Action) (m : Moved) (best after : Option Tree) → config_of old h ≡ c → IsActed t text old new h f best after a m → is_deep m ≡ true → IsTooDeep t.grammar c a
   acted_deep old new h a (To k) best after same acted deep = absurd (let e : false ≡ true = deep in cc)
   acted_deep old new h a Ended best after same acted deep = absurd (let e : false ≡ true = deep in cc)
   acted_deep old new h a TooDeep best after same acted deep = subst (λ (d : Configuration). IsTooDeep t.grammar d a) same acted

@@ -9,9 +9,9 @@ use Rattle.spec_packing.specs.Serving.{ServesFor, AllServe}
 use Rattle.ts_table.specs.declared.view.ParseTable.{ParseTable}
 use Rattle.ts_gss.specs.declared.layer.Layer.{Layer}
 use Rattle.ts_gss.specs.Stacks.{stack_at, trees_on, tree_on, under_top}
-use Rattle.ts_moves.specs.declared.head.StackHead.{StackHead}
-use Rattle.ts_moves.specs.Laws.{Laws}
-use Rattle.ts_moves.specs.Good.{IsGoodTree, AreGoodTrees}
+use Rattle.ts_steps.specs.declared.head.StackHead.{StackHead}
+use Rattle.ts_steps.specs.MoveLaws.{Laws}
+use Rattle.ts_steps.specs.Good.{IsGoodTree, AreGoodTrees}
 use Rattle.ts_glr.specs.Lists.{OfEach}
 use Rattle.ts_glr.specs.Laws.{PackingLaws}
 use Rattle.ts_glr.specs.Joining.{GoesBefore, IsTakenOut, HeadServes, IsKeptOf, JoinsOne}

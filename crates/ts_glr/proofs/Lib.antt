@@ -11,5 +11,6 @@ pub mod SpentLemmas
 pub mod JoinLemmas
 pub mod SearchLemmas
 pub mod FollowLemmas
-pub mod AgainLemmas
-pub mod AloneLemmas
+pub mod RestLemmas
+pub mod ParseLemmas
+pub mod ForkLemmas

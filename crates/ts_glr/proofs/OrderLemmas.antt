@@ -6,7 +6,7 @@ use Rattle.std.specs.Int.Signed.{<ℤ_irrefl}
 use Rattle.spec_trees.specs.declared.tree.Tree.{Tree}
 use Rattle.spec_trees.specs.Trees.{total_of, bare}
 use Rattle.spec_trees.specs.Choice.{code_of, ComesBefore, Better}
-use Rattle.ts_moves.specs.Laws.{Laws}
+use Rattle.ts_steps.specs.MoveLaws.{Laws}
 use Rattle.ts_glr.specs.Steps.{KeepsBest}
 
 before_chains : (xs ys zs : List ℕ) → ComesBefore xs ys → ComesBefore ys zs → ComesBefore xs zs

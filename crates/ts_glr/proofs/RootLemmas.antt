@@ -9,7 +9,7 @@ use Rattle.spec_trees.specs.Trees.{is_extra_node, bare}
 use Rattle.spec_trees.specs.Made.{accepted}
 use Rattle.spec_runs.specs.Configurations.{Configuration, AreExtras}
 use Rattle.spec_runs.specs.Runs.{CanMove, AcceptsTree}
-use Rattle.ts_moves.specs.Heads.{IsRootOf}
+use Rattle.ts_steps.specs.LiveHeads.{IsRootOf}
 
 extras_append : (xs ys : List Tree) → AreExtras xs → AreExtras ys → AreExtras (xs ++ ys)
 extras_append [] ys a b = b

@@ -1,5 +1,5 @@
--- All runs are accounted for, from the start to the outcome.
-use Rattle.std.proofs.Common.{◌≡◌, ◌∙◌, sym, ap, refl, subst, ℕ, ◌<◌, List, [], ◌∷◌, ◌++◌, length, Option, Some, None, ◌⊎◌, inl, inr, ⊎_elim, arith, length-append}
+-- All runs are accounted for, from where one head is left to the outcome.
+use Rattle.std.proofs.Common.{◌≡◌, sym, ap, refl, subst, ℕ, ◌<◌, List, [], ◌∷◌, ◌++◌, length, Option, Some, None, ◌⊎◌, inl, inr, ⊎_elim, arith, length-append}
 use Rattle.ts_base.specs.Bytes.{Bytes}
 use Rattle.ts_core.specs.declared.flat.FlatGrammar.{FlatGrammar}
 use Rattle.spec_trees.specs.declared.tree.Tree.{Tree}
@@ -12,14 +12,15 @@ use Rattle.spec_runs.specs.Outcomes.{SomeIsTooDeep, Fresh}
 use Rattle.spec_packing.specs.Serving.{ServesConfiguration, ComesToServe}
 use Rattle.ts_table.specs.declared.view.ParseTable.{ParseTable}
 use Rattle.ts_gss.specs.declared.layer.Layer.{Layer}
-use Rattle.ts_moves.specs.declared.head.StackHead.{StackHead}
-use Rattle.ts_moves.specs.Heads.{config_of, IsLiveHead}
+use Rattle.ts_steps.specs.declared.head.StackHead.{StackHead}
+use Rattle.ts_steps.specs.LiveHeads.{config_of, IsLiveHead}
 use Rattle.ts_glr.specs.declared.outcome.Outcome.{Outcome}
 use Rattle.ts_glr.specs.Lists.{OfEach, Any}
-use Rattle.ts_glr.specs.Steps.{HasForm}
+use Rattle.ts_steps.specs.Heads.{IsOwnHead}
+use Rattle.ts_glr.specs.Steps.{HasForm, StandAfter}
 use Rattle.ts_glr.specs.Laws.{PackingLaws}
 use Rattle.ts_glr.specs.Joining.{IsTakenOut, HeadServes, JoinsOne}
-use Rattle.ts_glr.specs.Search.{StackStays, StacksStay, AccountsFor, Keeps, Spent, Searching}
+use Rattle.ts_glr.specs.Search.{StackStays, StacksStay, AccountsFor, Keeps, Spent, Searching, Rests}
 use Rattle.ts_glr.specs.Outcomes.{value_of_outcome, EndsAs, IsTreeOf}
 use Rattle.ts_glr.proofs.ListLemmas.{each_append, each_map, each_both, each_left, each_right, any_left, any_right, any_cases, any_map, any_both, each_last, any_last}
 use Rattle.ts_glr.proofs.StackLemmas.{live_kept, config_kept}
@@ -35,30 +36,29 @@ module _ (packing : PackingLaws) (t : ParseTable) (fit : Fit t.grammar) (text : 
   abbrev LeadsBy : List (List Layer) → Configuration → StackHead → Type 0
   LeadsBy stacks c h = ComesToServe t.grammar text (config_of stacks h) c
 
-  abbrev Steps : Configuration → List (List Layer) → StackHead → Type 0
-  Steps c stacks h = IsLiveHead t (length text) stacks h × StepsOn t.grammar text c (config_of stacks h)
+  abbrev Steps : List Tree → Configuration → List (List Layer) → StackHead → Type 0
+  Steps trees c stacks h = IsOwnHead t (length text) stacks h × StandAfter t text trees stacks h × StepsOn t.grammar text c (config_of stacks h)
 
-  first_live : IsLiveHead t (length text) ([] ∷ []) (record { top = 0; place = 0 })
-  first_live = record {
-    there = omega arith;
-    stack = record { states = tt; good = tt; spans = refl; reach = tt; within = omega arith };
-  }
-
-  begins_there : Searching t text ([] ∷ []) ((record { top = 0; place = 0 }) ∷ []) None None
-  begins_there = record {
-    heads = ((first_live, run_here starting), tt);
-    done = λ c r. inr (inl (record { at = c; run = r; serves = inr (packing.same c) }));
-    tree_from = λ b e. absurd (cc);
-    stuck_from = λ q e. absurd (cc);
+  -- where one head is left
+  pub search_rests : (stacks : List (List Layer)) (h : StackHead) (stuck : Option ℕ) → IsLiveHead t (length text) stacks h → Rests t.grammar text stuck (config_of stacks h) → Searching t text stacks (h ∷ []) None stuck
+  search_rests stacks h stuck live r = record {
+    heads = ((live, r.reached), tt);
+    done = λ c reached. ⊎_elim (λ cov. inl cov) (λ w. inr (inl w)) (r.done c reached);
+    tree_from = λ b e. absurd (let none : ◌≡◌ {A = Option Tree} None (Some b) = e in cc);
+    stuck_from = r.stuck_from;
     some = inl (omega arith);
   }
 
-  pub search_begins : (stacks : List (List Layer)) (live : List StackHead) (best : Option Tree) (stuck : Option ℕ) → stacks ≡ [] ∷ [] → live ≡ (record { top = 0; place = 0 }) ∷ [] → best ≡ None → stuck ≡ None → Searching t text stacks live best stuck
-  search_begins stacks live best stuck stacks_are live_is no_tree no_place =
-      subst (λ (l : List StackHead). Searching t text stacks l best stuck) (sym live_is)
-      (subst (λ (s : List (List Layer)). Searching t text s ((record { top = 0; place = 0 }) ∷ []) best stuck) (sym stacks_are)
-      (subst (λ (o : Option Tree). Searching t text ([] ∷ []) ((record { top = 0; place = 0 }) ∷ []) o stuck) (sym no_tree)
-      (subst (λ (o : Option ℕ). Searching t text ([] ∷ []) ((record { top = 0; place = 0 }) ∷ []) None o) (sym no_place) begins_there)))
+  pub rests_search : (stacks : List (List Layer)) (h : StackHead) (stuck : Option ℕ) → Searching t text stacks (h ∷ []) None stuck → Rests t.grammar text stuck (config_of stacks h)
+  rests_search stacks h stuck s = record {
+    reached = s.heads.0.1;
+    done = λ c reached. ⊎_elim (λ cov. inl cov) (λ w. inr (only_one c w)) (s.done c reached);
+    stuck_from = s.stuck_from;
+  }
+    where
+      only_one : (c : Configuration) → Any (LeadsBy stacks c) (h ∷ []) → ComesToServe t.grammar text (config_of stacks h) c
+      only_one c (inl w) = w
+      only_one c (inr w) = absurd w
 
   covers_more : (c d : Configuration) (best best' : Option Tree) (stuck stuck' : Option ℕ) → Keeps t.grammar text d best best' stuck stuck' → AccountsFor t.grammar text best stuck c → AccountsFor t.grammar text best' stuck' c
   covers_more c d best best' stuck stuck' k cov = record {
@@ -95,13 +95,13 @@ module _ (packing : PackingLaws) (t : ParseTable) (fit : Fit t.grammar) (text : 
   )
 
   -- the head that stands last was followed
-  pub search_more : (old new : List (List Layer)) (most : ℕ) (rest live' : List StackHead) (h : StackHead) (best best' : Option Tree) (stuck stuck' : Option ℕ) → StacksStay old new rest
-      → Searching t text old (rest ++ h ∷ []) best stuck → Spent t text new most (config_of old h) rest live' best best' stuck stuck' → Searching t text new live' best' stuck'
-  search_more old new most rest live' h best best' stuck stuck' stay s sp = record {
+  pub search_more : (trees : List Tree) (old new : List (List Layer)) (most : ℕ) (rest live' : List StackHead) (h : StackHead) (best best' : Option Tree) (stuck stuck' : Option ℕ) → StacksStay old new rest
+      → Searching t text old (rest ++ h ∷ []) best stuck → Spent t text trees new most (config_of old h) rest live' best best' stuck stuck' → Searching t text new live' best' stuck'
+  search_more trees old new most rest live' h best best' stuck stuck' stay s sp = record {
     heads = subst (OfEach (Live new)) (sym sp.live_is)
         (each_append (Live new) rest sp.more
         (each_both (StackStays old new) (Live old) (Live new) rest (λ k a w. live_still old new k a w) stay others)
-        (each_map (Steps (config_of old h) new) (Live new) sp.more (λ k w. (w.0, run_more t.grammar text starting (config_of old h) (config_of new k) reached w.1)) sp.sound));
+        (each_map (Steps trees (config_of old h) new) (Live new) sp.more (λ k w. (w.0.live, run_more t.grammar text starting (config_of old h) (config_of new k) reached w.2)) sp.sound));
     done = λ c r. ⊎_elim (λ cov. inl (covers_more c (config_of old h) best best' stuck stuck' sp.keeps cov))
         (λ w. ⊎_elim (λ (u : Any (LeadsBy old c) rest). inr (in_rest c u)) (λ (v : Any (LeadsBy old c) (h ∷ [])). in_head c r v)
         (any_cases (LeadsBy old c) rest (h ∷ []) w)) (s.done c r);
@@ -210,11 +210,6 @@ module _ (packing : PackingLaws) (t : ParseTable) (fit : Fit t.grammar) (text : 
 
   all_covered : (stacks : List (List Layer)) (live : List StackHead) (best : Option Tree) (stuck : Option ℕ) → live ≡ [] → Searching t text stacks live best stuck → (c : Configuration) → IsReached t.grammar text c → AccountsFor t.grammar text best stuck c
   all_covered stacks live best stuck empty s c r = ⊎_elim (λ cov. cov) (λ w. absurd (subst (Any (LeadsBy stacks c)) empty w)) (s.done c r)
-
-  pub some_end : (stacks : List (List Layer)) (live : List StackHead) (best : Option Tree) (stuck : Option ℕ) → live ≡ [] → Searching t text stacks live best stuck → best ≡ None → stuck ≡ None → ⊥
-  some_end stacks live best stuck empty s no_tree no_place =
-      ⊎_elim (λ (n : 0 < length live). let e : length live ≡ 0 = ap (λ (l : List StackHead). length l) empty in absurd (omega arith))
-      (λ w. ⊎_elim (λ (u : (b : Tree) × (best ≡ Some b)). let e : None ≡ Some u.0 = sym no_tree ∙ u.1 in absurd (cc)) (λ (q : (q : ℕ) × (stuck ≡ Some q)). let e : None ≡ Some q.0 = sym no_place ∙ q.1 in absurd (cc)) w) s.some
 
   pub fresh_ends : (stacks : List (List Layer)) (live : List StackHead) (best : Option Tree) (stuck : Option ℕ) (out : Outcome) → live ≡ [] → Searching t text stacks live best stuck → EndsAs best stuck out → Fresh t.grammar text (value_of_outcome out)
   fresh_ends stacks live (Some b) stuck out empty s ends = subst (λ (o : Outcome). Fresh t.grammar text (value_of_outcome o)) (sym ends) (record {

@@ -19,12 +19,13 @@ use Rattle.spec_runs.specs.Runs.{StepsOn, shift_token, pass_extra, reduce_trees,
 use Rattle.ts_table.specs.declared.view.ParseTable.{ParseTable}
 use Rattle.ts_table.specs.Tables.{IsTable, IsStateOf, ActsBy, reduces, accepts}
 use Rattle.ts_gss.specs.declared.layer.Layer.{Layer}
-use Rattle.ts_moves.specs.declared.found.FoundToken.{FoundToken}
-use Rattle.ts_moves.specs.declared.head.StackHead.{StackHead}
-use Rattle.ts_moves.specs.Laws.{Laws}
-use Rattle.ts_moves.specs.Heads.{config_of, IsLiveHead, IsRootOf}
+use Rattle.ts_steps.specs.declared.found.FoundToken.{FoundToken}
+use Rattle.ts_steps.specs.declared.head.StackHead.{StackHead}
+use Rattle.ts_steps.specs.MoveLaws.{Laws}
+use Rattle.ts_steps.specs.LiveHeads.{config_of, IsRootOf}
+use Rattle.ts_steps.specs.Heads.{IsOwnHead}
 use Rattle.ts_glr.specs.Lists.{Any}
-use Rattle.ts_glr.specs.Steps.{SeesToken, Withstands, ActionLeads, IsTooDeep}
+use Rattle.ts_glr.specs.Steps.{SeesToken, Withstands, ActionLeads, IsTooDeep, StandAfter}
 use Rattle.ts_glr.specs.Search.{Acting, IsPastStuck, Spent}
 use Rattle.ts_glr.proofs.ListLemmas.{each_map, each_at, any_to}
 use Rattle.ts_glr.proofs.LexLemmas.{next_valid}
@@ -101,13 +102,13 @@ module _ (laws : Laws) (t : ParseTable) (text : Bytes) (c : Configuration) (f : 
       only_pass _ (pass_extra s pad size next is none_acts) = ap (λ (x : Tree). pushed c (as_extra x)) (sym (same_tree laws t.grammar text c f sees s pad size next))
       only_pass _ (reduce_trees number node after move r shallow) = absurd (no_move (reduce number) move)
 
-      pub spent_pass : (stacks : List (List Layer)) (most : ℕ) (k : StackHead) (old live : List StackHead) (best : Option Tree) (stuck : Option ℕ) → live ≡ old ++ k ∷ []
-          → IsLiveHead t (length text) stacks k → config_of stacks k ≡ pushed c (as_extra (token_tree f.token f.pad f.size)) → Spent t text stacks most c old live best best stuck stuck
-      spent_pass stacks most k old live best stuck live_is head is = record {
+      pub spent_pass : (trees : List Tree) (stacks : List (List Layer)) (most : ℕ) (k : StackHead) (old live : List StackHead) (best : Option Tree) (stuck : Option ℕ) → live ≡ old ++ k ∷ []
+          → IsOwnHead t (length text) stacks k → StandAfter t text trees stacks k → config_of stacks k ≡ pushed c (as_extra (token_tree f.token f.pad f.size)) → Spent t text trees stacks most c old live best best stuck stuck
+      spent_pass trees stacks most k old live best stuck live_is head stand is = record {
         more = k ∷ [];
         live_is = live_is;
         few = omega arith;
-        sound = ((head, subst (λ (e : Configuration). StepsOn t.grammar text c e) (sym is) pass_step), tt);
+        sound = ((head, stand, subst (λ (e : Configuration). StepsOn t.grammar text c e) (sym is) pass_step), tt);
         complete = λ e step. inl (is ∙ only_pass e step);
         covers = record {
           accepted = λ u acc. absurd (no_move accept acc.move);
@@ -115,12 +116,13 @@ module _ (laws : Laws) (t : ParseTable) (text : Bytes) (c : Configuration) (f : 
           shallow = λ deep. no_move (reduce deep.number) deep.move;
         };
         keeps = record { others = λ u w. w; from = λ b e. inl e; past = λ q p. p; stuck_from = λ q e. inl e };
+        root = λ b e. inl e;
         fruitful = inl (omega arith);
       }
 
     -- ---- actions
 
-    module _ (some : 0 < length actions) (stacks : List (List Layer)) (old live : List StackHead) (first best : Option Tree) (b : Acting t (length text) stacks c f actions old live first best) where
+    module _ (some : 0 < length actions) (trees : List Tree) (stacks : List (List Layer)) (old live : List StackHead) (first best : Option Tree) (b : Acting t text trees stacks c f actions old live first best) where
       there : (a : Action) → ActsBy t (stack_symbols c.stack) f.token.0 a → Contains actions a
       there a acts = (exact a).1 acts
 
@@ -150,14 +152,14 @@ module _ (laws : Laws) (t : ParseTable) (text : Bytes) (c : Configuration) (f : 
       any_step _ (reduce_trees number node after move r shallow) =
           found_head (Reduce number) (record { stack = after; place = c.place }) (reduces number (move_acts laws t.grammar text c f sees (reduce number) move)) (node, after, r, shallow, refl)
 
-      pub spent_acts : (most : ℕ) (stuck : Option ℕ) → length actions ≤ most → Spent t text stacks most c old live first best stuck stuck
+      pub spent_acts : (most : ℕ) (stuck : Option ℕ) → length actions ≤ most → Spent t text trees stacks most c old live first best stuck stuck
       spent_acts most stuck few = record {
         more = b.more;
         live_is = b.live_is;
         few = omega (arith, b.few, few);
-        sound = each_map (λ (h : StackHead). IsLiveHead t (length text) stacks h × Any (λ (a : Action). ActionLeads t.grammar c f a (config_of stacks h)) actions)
-            (λ (h : StackHead). IsLiveHead t (length text) stacks h × StepsOn t.grammar text c (config_of stacks h)) b.more
-            (λ h s. (s.0, any_leads (config_of stacks h) s.1)) b.sound;
+        sound = each_map (λ (h : StackHead). IsOwnHead t (length text) stacks h × StandAfter t text trees stacks h × Any (λ (a : Action). ActionLeads t.grammar c f a (config_of stacks h)) actions)
+            (λ (h : StackHead). IsOwnHead t (length text) stacks h × StandAfter t text trees stacks h × StepsOn t.grammar text c (config_of stacks h)) b.more
+            (λ h s. (s.0, s.1, any_leads (config_of stacks h) s.2)) b.sound;
         complete = any_step;
         covers = record {
           accepted = λ u acc. each_at (λ (x : Action). x ≡ Accept → (v : Tree) → IsRootOf c.stack v → Withstands best v) actions Accept b.accepted
@@ -174,6 +176,7 @@ module _ (laws : Laws) (t : ParseTable) (text : Bytes) (c : Configuration) (f : 
           past = λ q p. p;
           stuck_from = λ q e. inl e;
         };
+        root = b.root;
         fruitful = ⊎_elim (λ w. inl w) (λ w. inr (inl w)) (each_at (λ (x : Action). (0 < length b.more) ⊎ ((u : Tree) × (best ≡ Some u))) actions (get_or actions 0 Accept) b.fruitful (Contains-get_or actions 0 Accept some));
       }
 
@@ -200,9 +203,9 @@ module _ (laws : Laws) (t : ParseTable) (text : Bytes) (c : Configuration) (plac
       let k : stops.0 ≡ other.0 = cc in
       stops.2 ∙ ap (λ (m : ℕ). c.place + m) k ∙ sym other.2
 
-  pub spent_absent : (stacks : List (List Layer)) (most : ℕ) (live : List StackHead) (best : Option Tree) (before stuck : Option ℕ) → IsPastStuck stuck place → ((q : ℕ) → IsPastStuck before q → IsPastStuck stuck q)
-      → ((q : ℕ) → stuck ≡ Some q → (before ≡ Some q) ⊎ (q ≡ place)) → Spent t text stacks most c live live best best before stuck
-  spent_absent stacks most live best before stuck mine others from = record {
+  pub spent_absent : (trees : List Tree) (stacks : List (List Layer)) (most : ℕ) (live : List StackHead) (best : Option Tree) (before stuck : Option ℕ) → IsPastStuck stuck place → ((q : ℕ) → IsPastStuck before q → IsPastStuck stuck q)
+      → ((q : ℕ) → stuck ≡ Some q → (before ≡ Some q) ⊎ (q ≡ place)) → Spent t text trees stacks most c live live best best before stuck
+  spent_absent trees stacks most live best before stuck mine others from = record {
     more = [];
     live_is = sym (append-nil live);
     few = omega arith;
@@ -219,5 +222,6 @@ module _ (laws : Laws) (t : ParseTable) (text : Bytes) (c : Configuration) (plac
       past = others;
       stuck_from = λ q e. ⊎_elim (λ w. inl w) (λ w. inr (subst (λ (p : ℕ). StopsAt t.grammar text c p) (sym w) stops)) (from q e);
     };
+    root = λ b e. inl e;
     fruitful = inr (inr (mine.0, mine.1));
   }

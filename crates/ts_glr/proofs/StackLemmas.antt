@@ -1,18 +1,26 @@
 -- Stacks, their heads and their bare trees.
-use Rattle.std.proofs.Common.{◌≡◌, ◌∙◌, sym, ap, refl, subst, ℕ, ◌<◌, Bool, true, false, List, [], ◌∷◌, ◌++◌, append_assoc, append-nil, length, length-append, map, reverse, Option, unwrap_or, arith}
-use Rattle.std.proofs.lemmas.List.{reverse-append}
+use Rattle.std.proofs.Common.{◌≡◌, ◌∙◌, sym, ap, refl, subst, ℕ, ◌<◌, ◌⊎◌, Bool, true, false, List, [], ◌∷◌, ◌++◌, append_assoc, append-nil, length, length-append, map, drop, Option, unwrap_or, arith}
 use Rattle.ts_base.proofs.PlaceLemmas.{in_prefix}
+use Rattle.ts_base.specs.Bytes.{Bytes}
+use Rattle.spec_grammar.specs.Symbols.{is_extra}
+use Rattle.spec_lexing.specs.Lexing.{token}
 use Rattle.spec_trees.specs.declared.tree.Tree.{Tree}
-use Rattle.spec_trees.specs.Trees.{symbol_of, is_extra_node, bare}
+use Rattle.spec_trees.specs.Trees.{is_extra_node, bare}
 use Rattle.spec_trees.specs.Made.{filling}
-use Rattle.spec_runs.specs.Configurations.{AreExtras, Configuration}
+use Rattle.spec_runs.specs.Configurations.{Configuration, HasMove}
+use Rattle.spec_forced.specs.Forced.{IsDecided}
+use Rattle.spec_forced.specs.Sound.{States, StandOnStack}
 use Rattle.ts_table.specs.declared.view.ParseTable.{ParseTable}
 use Rattle.ts_table.specs.Tables.{IsStateOf, at_first}
 use Rattle.ts_gss.specs.declared.layer.Layer.{Layer}
 use Rattle.ts_gss.specs.Stacks.{stack_at, trees_on, state_on}
-use Rattle.ts_moves.specs.declared.head.StackHead.{StackHead}
-use Rattle.ts_moves.specs.Laws.{Laws}
-use Rattle.ts_moves.specs.Heads.{config_of, HaveStates, IsGoodStack, IsLiveHead, read_on, GainsStacks}
+use Rattle.ts_steps.specs.declared.head.StackHead.{StackHead}
+use Rattle.ts_steps.specs.declared.found.FoundToken.{FoundToken}
+use Rattle.ts_steps.specs.Good.{EachTree}
+use Rattle.ts_steps.specs.MoveLaws.{Laws}
+use Rattle.ts_steps.specs.LiveHeads.{config_of, HaveStates, IsGoodStack, IsLiveHead, read_on, GainsStacks}
+use Rattle.ts_steps.specs.Heads.{IsOwnWithin, IsOwnHead, StandOnHead}
+use Rattle.ts_steps.specs.Looking.{IsTokenAhead}
 use Rattle.ts_glr.specs.Search.{StackStays, StacksStay}
 
 -- ---- stacks that stay
@@ -43,14 +51,35 @@ config_stays t size old new h g l = ap {B = Configuration} (λ (s : List Layer).
 pub read_stays : (t : ParseTable) (size : ℕ) (old new : List (List Layer)) (h : StackHead) → GainsStacks old new → IsLiveHead t size old h → read_on new h ≡ read_on old h
 read_stays t size old new h g l = ap (λ (s : List Layer). filling (trees_on s)) (stack_stays old new h.top g l.there)
 
+pub trees_stay : (old new : List (List Layer)) (h : StackHead) → GainsStacks old new → h.top < length old → trees_on (stack_at new h.top) ≡ trees_on (stack_at old h.top)
+trees_stay old new h g low = ap (λ (s : List Layer). trees_on s) (stack_stays old new h.top g low)
+
+pub own_stays : (t : ParseTable) (size : ℕ) (old new : List (List Layer)) (h : StackHead) → GainsStacks old new → IsOwnHead t size old h → IsOwnHead t size new h
+own_stays t size old new h g o = record {
+  live = live_stays t size old new h g o.live;
+  own = subst (λ (ts : List Tree). EachTree (IsOwnWithin t.grammar) ts) (sym (trees_stay old new h g o.live.there)) o.own;
+}
+
+pub stand_stays : (t : ParseTable) (states : States) (text : Bytes) (old new : List (List Layer)) (h : StackHead) → GainsStacks old new → h.top < length old → StandOnHead t states text old h → StandOnHead t states text new h
+stand_stays t states text old new h g low s = subst (λ (ts : List Tree). StandOnStack t.grammar states text ts) (sym (trees_stay old new h g low)) s
+
+-- what is seen from a stack that stays is still seen
+pub ahead_stays : (t : ParseTable) (size : ℕ) (text : Bytes) (old new : List (List Layer)) (h : StackHead) (f : FoundToken) → GainsStacks old new → IsLiveHead t size old h → IsTokenAhead t text old h f → IsTokenAhead t text new h f
+ahead_stays t size text old new h f g l a =
+    let same = sym (read_stays t size old new h g l) in
+    record {
+      decided = subst (λ (read : List ℕ). IsDecided t.grammar read (drop h.place text) (token f.token f.pad f.size) f.extent) same a.decided;
+      known = subst (λ (read : List ℕ). HasMove t.grammar read f.token.0 ⊎ (is_extra t.grammar f.token.0 ≡ true)) same a.known;
+      past = a.past;
+      reach = a.reach;
+      some = a.some;
+    }
+
 -- ---- the stacks of some heads
 
 pub stay_grown : (old new : List (List Layer)) (heads : List StackHead) → GainsStacks old new → StacksStay old new heads
 stay_grown old new [] g = tt
 stay_grown old new (h ∷ hs) g = ((λ low. (still_there old new h.top g low, stack_stays old new h.top g low)), stay_grown old new hs g)
-
-pub stay_none : (old new : List (List Layer)) (heads : List StackHead) → heads ≡ [] → StacksStay old new heads
-stay_none old new heads e = subst (StacksStay old new) (sym e) tt
 
 pub live_kept : (t : ParseTable) (size : ℕ) (old new : List (List Layer)) (h : StackHead) → StackStays old new h → IsLiveHead t size old h → IsLiveHead t size new h
 live_kept t size old new h stays l = record {
@@ -65,39 +94,6 @@ config_kept t size old new h stays l = ap {B = Configuration} (λ (s : List Laye
 pub state_there : (t : ParseTable) (layers : List Layer) → HaveStates t layers → IsStateOf t (filling (trees_on layers)) (state_on layers)
 state_there t [] s = at_first
 state_there t (l ∷ layers) s = s.0
-
--- ---- symbols
-
-turned : (x : Tree) (xs : List Tree) → reverse (x ∷ xs) ≡ reverse xs ++ x ∷ []
-turned x xs = reverse-append (x ∷ []) xs
-
--- a tree that is no extra fills a step
-pub fills_step : (x : Tree) (xs : List Tree) → is_extra_node x ≡ false → filling (x ∷ xs) ≡ symbol_of x ∷ filling xs
-fills_step x xs e = rw e refl
-
-pub fills_none : (x : Tree) (xs : List Tree) → is_extra_node x ≡ true → filling (x ∷ xs) ≡ filling xs
-fills_none x xs e = rw e refl
-
--- extras fill no step
-pub filling_extras : (xs ts : List Tree) → AreExtras xs → filling (xs ++ ts) ≡ filling ts
-filling_extras [] ts a = refl
-filling_extras (x ∷ xs) ts a = rw a.0 (filling_extras xs ts a.1)
-
-pub filling_append : (xs ys : List Tree) → filling (xs ++ ys) ≡ filling xs ++ filling ys
-filling_append [] ys = refl
-filling_append (x ∷ xs) ys = by (is_extra_node x) refl (filling_append xs ys)
-  where
-    by : (b : Bool) → is_extra_node x ≡ b → filling (xs ++ ys) ≡ filling xs ++ filling ys → filling (x ∷ xs ++ ys) ≡ filling (x ∷ xs) ++ filling ys
-    by true e h = rw e h
-    by false e h = rw e (ap (λ (l : List ℕ). symbol_of x ∷ l) h)
-
-pub filling_turned : (xs : List Tree) → filling (reverse xs) ≡ reverse (filling xs)
-filling_turned [] = refl
-filling_turned (x ∷ xs) = by (is_extra_node x) refl (filling_turned xs)
-  where
-    by : (b : Bool) → is_extra_node x ≡ b → filling (reverse xs) ≡ reverse (filling xs) → filling (reverse (x ∷ xs)) ≡ reverse (filling (x ∷ xs))
-    by true e h = ap filling (turned x xs) ∙ filling_append (reverse xs) (x ∷ []) ∙ ap (λ (l : List ℕ). l ++ filling (x ∷ [])) h ∙ rw e (append-nil (reverse (filling xs)))
-    by false e h = ap filling (turned x xs) ∙ filling_append (reverse xs) (x ∷ []) ∙ ap (λ (l : List ℕ). l ++ filling (x ∷ [])) h ∙ rw e (sym (reverse-append (symbol_of x ∷ []) (filling xs)))
 
 -- ---- bare trees
 

@@ -1,48 +1,20 @@
--- The actions of a table are the moves that stay, and its valid tokens those of the symbols.
-use Rattle.std.proofs.Common.{◌≡◌, ◌∙◌, sym, ap, refl, subst, ℕ, zero, suc, ◌<◌, ◌≤◌, ◌⊎◌, inl, inr, Bool, true, false, nat_eq, List, [], ◌∷◌, length, get_or, slice_get, Option, Some, None, arith}
+-- The actions of a table are the moves that stay, and its extras are tokens.
+use Rattle.std.proofs.Common.{◌≡◌, ◌∙◌, sym, ap, refl, subst, ℕ, suc, ◌<◌, ◌≤◌, Bool, true, false, nat_eq, List, [], ◌∷◌, length, arith}
 use Rattle.std.specs.List.{Contains}
-use Rattle.std.proofs.lemmas.Bool.{eq-eqb, eqb-true}
+use Rattle.std.proofs.lemmas.Bool.{eqb-true}
 use Rattle.ts_core.specs.declared.action.Action.{Action}
 use Rattle.ts_core.specs.declared.action.Action.TheVariants.{Shift, Reduce, Accept}
 use Rattle.ts_core.specs.declared.flat.FlatGrammar.{FlatGrammar}
-use Rattle.ts_core.specs.declared.flat.Step.{Step}
 use Rattle.ts_core.specs.declared.symbol.Symbol.{Symbol}
 use Rattle.spec_grammar.specs.Symbols.{is_among, is_extra}
-use Rattle.spec_tables.specs.Actions.{Move, shift, reduce, accept, Act, may_shift, may_reduce, may_accept}
+use Rattle.spec_tables.specs.Actions.{Move, shift, reduce, accept, Act}
 use Rattle.spec_tables.specs.Fit.{Fit}
-use Rattle.spec_tables.specs.Items.{Item, IsToken, CanBeginWith, itself, by_first, MayStandBehind, Valid, begun, asked, advanced_past, line_steps}
-use Rattle.spec_runs.specs.Configurations.{HasMove, AreValidTokens}
+use Rattle.spec_tables.specs.Items.{IsToken}
 use Rattle.ts_table.specs.declared.view.ParseTable.{ParseTable}
 use Rattle.ts_table.specs.Tables.{IsTable, IsStateOf, by_goto, ActsBy, shifts, reduces, accepts}
-use Rattle.ts_lexer.specs.States.{AreValid, IsValidToken, acts, extra}
-use Rattle.ts_moves.specs.Laws.{Laws}
-
--- ---- tokens of moves
-
-begins_token : (g : FlatGrammar) (s t : ℕ) → CanBeginWith g s t → IsToken g t
-begins_token g _ _ (itself token is) = is
-begins_token g _ _ (by_first symbol number token st is first rest) = begins_token g st.symbol.0 token rest
-
-valid_token : (g : FlatGrammar) (read : List ℕ) (i : Item) → Valid g read i → i.token ≤ length g.tokens
-valid_token g _ _ begun = omega arith
-valid_token g read _ (asked _ i j v e) = by (valid_token g read i v) (slice_get (line_steps g i.line) (suc i.dot)) e.follows
-  where
-    by : i.token ≤ length g.tokens → (o : Option Step) → MayStandBehind g o i.token j.token → j.token ≤ length g.tokens
-    by le None f = omega (arith, le, f)
-    by le (Some s) f = (begins_token g s.symbol.0 j.token f).1
-valid_token g _ _ (advanced_past read i s v b) = valid_token g read i v
-
-act_token : (g : FlatGrammar) (read : List ℕ) (token : ℕ) (move : Move) → Act g read token move → token ≤ length g.tokens
-act_token g read token _ (may_shift s free) = s.is_token.1
-act_token g read token _ (may_reduce i number r e free) = omega (arith, r.reduces.on, valid_token g read i r.reduces.valid)
-act_token g read token _ (may_accept e v) = omega (arith, e)
+use Rattle.ts_steps.specs.MoveLaws.{Laws}
 
 -- ---- actions
-
-pub move_of : (t : ParseTable) (read : List ℕ) (token : ℕ) (a : Action) → ActsBy t read token a → HasMove t.grammar read token
-move_of t read token _ (shifts next act state) = (shift, act)
-move_of t read token _ (reduces number act) = (reduce number, act)
-move_of t read token _ (accepts act) = (accept, act)
 
 pub by_shift : (t : ParseTable) (read : List ℕ) (token next : ℕ) (a : Action) → a ≡ Shift next → ActsBy t read token a → Act t.grammar read token shift × IsStateOf t (token ∷ read) next
 by_shift t read token next _ e (shifts m act state) = let h : Shift m ≡ Shift next = e in (act, subst (λ (n : ℕ). IsStateOf t (token ∷ read) n) (let q : m ≡ next = cc in q) state)
@@ -73,19 +45,7 @@ has_action laws t read n token accept table st act = (Accept, accepts act)
 
 -- ---- extras
 
-pub among_there : (ss : List Symbol) (s : Symbol) → Contains ss s → is_among s.0 ss ≡ true
-among_there ss s w = go ss w.0 w.1 w.2
-  where
-    by : (x : Symbol) (xs : List Symbol) (b : Bool) → nat_eq x.0 s.0 ≡ b → (b ≡ false → is_among s.0 xs ≡ true) → is_among s.0 (x ∷ xs) ≡ true
-    by x xs true e h = rw e refl
-    by x xs false e h = rw e (h refl)
-
-    go : (xs : List Symbol) (k : ℕ) → k < length xs → get_or xs k s ≡ s → is_among s.0 xs ≡ true
-    go [] k lt is = absurd (omega arith)
-    go (x ∷ xs) zero lt is = by x xs (nat_eq x.0 s.0) refl (λ no. absurd (let e : nat_eq x.0 s.0 ≡ true = eq-eqb x.0 s.0 (ap (λ (y : Symbol). y.0) is) in let f : nat_eq x.0 s.0 ≡ false = no in cc))
-    go (x ∷ xs) (suc k) lt is = by x xs (nat_eq x.0 s.0) refl (λ no. go xs k (omega arith) is)
-
-pub among_back : (ss : List Symbol) (s : Symbol) → is_among s.0 ss ≡ true → Contains ss s
+among_back : (ss : List Symbol) (s : Symbol) → is_among s.0 ss ≡ true → Contains ss s
 among_back [] s e = absurd (let h : false ≡ true = e in cc)
 among_back (x ∷ xs) s e = by (nat_eq x.0 s.0) refl (among_back xs s)
   where
@@ -98,18 +58,3 @@ pub extra_token : (g : FlatGrammar) (s : Symbol) → Fit g → is_extra g s.0 �
 extra_token g s fit e =
     let w = among_back g.extras s e in
     subst (λ (x : Symbol). (0 < x.0) × (x.0 ≤ length g.tokens)) w.2 (fit.extras.1 w.0 s w.1)
-
--- ---- valid tokens
-
-pub valid_tokens : (laws : Laws) (t : ParseTable) (read : List ℕ) (n : ℕ) (valid : List Symbol) → IsTable t → IsStateOf t read n → AreValid t n valid → AreValidTokens t.grammar read valid
-valid_tokens laws t read n valid table st are s = ((λ w. forth ((are s).0 w)), (λ h. (are s).1 (back h)))
-  where
-    forth : IsValidToken t n s → HasMove t.grammar read s.0 ⊎ (is_extra t.grammar s.0 ≡ true)
-    forth (acts low has) = inl (move_of t read s.0 has.0 ((table.actions read n s.0 has.0 st).0 has.1))
-    forth (extra w) = inr (among_there t.grammar.extras s w)
-
-    back : HasMove t.grammar read s.0 ⊎ (is_extra t.grammar s.0 ≡ true) → IsValidToken t n s
-    back (inl m) =
-        let a = has_action laws t read n s.0 m.0 table st m.1 in
-        acts (act_token t.grammar read s.0 m.0 m.1) (a.0, (table.actions read n s.0 a.0 st).1 a.1)
-    back (inr e) = extra (among_back t.grammar.extras s e)

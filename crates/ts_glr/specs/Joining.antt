@@ -6,8 +6,8 @@ use Rattle.spec_trees.specs.Trees.{span_of}
 use Rattle.spec_packing.specs.Serving.{ServesConfiguration}
 use Rattle.ts_gss.specs.declared.layer.Layer.{Layer}
 use Rattle.ts_gss.specs.Stacks.{stack_at}
-use Rattle.ts_moves.specs.declared.head.StackHead.{StackHead}
-use Rattle.ts_moves.specs.Heads.{config_of}
+use Rattle.ts_steps.specs.declared.head.StackHead.{StackHead}
+use Rattle.ts_steps.specs.LiveHeads.{config_of}
 
 -- ---- the order
 

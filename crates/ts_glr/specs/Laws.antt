@@ -1,16 +1,12 @@
 -- The laws of readings that stand for others that the proofs here rest on. It serves private
 -- clauses and proofs alone.
-use Rattle.std.specs.Prelude.{ℕ, List}
-use Rattle.std.specs.List.{Contains}
+use Rattle.std.specs.Prelude.{ℕ}
 use Rattle.ts_base.specs.Bytes.{Bytes}
 use Rattle.ts_core.specs.declared.flat.FlatGrammar.{FlatGrammar}
-use Rattle.ts_core.specs.declared.symbol.Symbol.{Symbol}
-use Rattle.spec_lexing.specs.Lexing.{token}
-use Rattle.spec_tables.specs.Actions.{Act, reduce}
 use Rattle.spec_tables.specs.Fit.{Fit}
 use Rattle.spec_trees.specs.declared.tree.Tree.{Tree}
 use Rattle.spec_trees.specs.Choice.{Better}
-use Rattle.spec_runs.specs.Configurations.{Configuration, stack_symbols, AreValidTokens, IsReduction, NextIs}
+use Rattle.spec_runs.specs.Configurations.{Configuration}
 use Rattle.spec_runs.specs.Runs.{IsReached, ComesTooDeep, AcceptsTree, StopsAt}
 use Rattle.spec_packing.specs.Serving.{ServesFor, ServesConfiguration, ComesToServe}
 
@@ -32,14 +28,3 @@ pub record PackingLaws : Type 0 where
   pub runs : (g : FlatGrammar) → Fit g → (text : Bytes) (c d e : Configuration)
       → IsReached g text c → IsReached g text d → ServesConfiguration d c
       → ComesToServe g text c e → ComesToServe g text d e
-
--- after a reduction on a token the same token is seen again, if it is still valid there
-abbrev pub SameTokenAgain : Type 0
-SameTokenAgain =
-    (g : FlatGrammar) → Fit g → (text : Bytes) (c : Configuration) (s : Symbol)
-    (pad size number : ℕ) (node : Tree) (after : List Tree) (valid : List Symbol)
-    → NextIs g text c (token s pad size)
-    → Act g (stack_symbols c.stack) s.0 (reduce number)
-    → IsReduction g number c.stack node after
-    → AreValidTokens g (stack_symbols after) valid → Contains valid s
-    → NextIs g text (record { stack = after; place = c.place }) (token s pad size)

@@ -5,3 +5,4 @@ pub mod Laws
 pub mod Joining
 pub mod Search
 pub mod Outcomes
+pub mod Forks

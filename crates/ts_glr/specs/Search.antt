@@ -1,35 +1,34 @@
 -- What is known while all live stacks are followed. It serves private clauses and proofs alone.
-use Rattle.std.specs.Prelude.{◌≡◌, ℕ, ◌<◌, ◌≤◌, suc, List, [], ◌∷◌, ◌++◌, length, Option, Some, ◌⊎◌, Bool, true, false}
+use Rattle.std.specs.Prelude.{◌≡◌, ℕ, ◌<◌, ◌≤◌, suc, List, [], ◌∷◌, ◌++◌, length, Option, Some, None, ◌⊎◌, Bool, true, false}
 use Rattle.ts_base.specs.Bytes.{Bytes}
 use Rattle.ts_core.specs.declared.action.Action.{Action}
 use Rattle.ts_core.specs.declared.action.Action.TheVariants.{Accept}
 use Rattle.ts_core.specs.declared.flat.FlatGrammar.{FlatGrammar}
 use Rattle.spec_trees.specs.declared.tree.Tree.{Tree}
-use Rattle.spec_trees.specs.Trees.{bare}
+use Rattle.spec_trees.specs.Trees.{children_of, state_of, bare}
 use Rattle.spec_runs.specs.Configurations.{Configuration}
 use Rattle.spec_runs.specs.Runs.{StepsOn, IsReached, ComesTooDeep, AcceptsTree, StopsAt}
 use Rattle.spec_runs.specs.Outcomes.{SomeAccepts, SomeStopsAt}
+use Rattle.spec_forced.specs.Sound.{States, IsSound}
 use Rattle.spec_packing.specs.Serving.{ComesToServe}
 use Rattle.ts_table.specs.declared.view.ParseTable.{ParseTable}
 use Rattle.ts_gss.specs.declared.layer.Layer.{Layer}
 use Rattle.ts_gss.specs.Stacks.{stack_at}
-use Rattle.ts_moves.specs.declared.found.FoundToken.{FoundToken}
-use Rattle.ts_moves.specs.declared.head.StackHead.{StackHead}
-use Rattle.ts_moves.specs.Heads.{config_of, IsLiveHead, IsRootOf}
+use Rattle.ts_steps.specs.declared.found.FoundToken.{FoundToken}
+use Rattle.ts_steps.specs.declared.head.StackHead.{StackHead}
+use Rattle.ts_steps.specs.Good.{EachTree}
+use Rattle.ts_steps.specs.LiveHeads.{config_of, IsLiveHead, IsRootOf}
+use Rattle.ts_steps.specs.Heads.{IsOwnWithin, IsOwnHead, StandOnHead}
 use Rattle.ts_glr.specs.declared.acting.Moved.{Moved}
 use Rattle.ts_glr.specs.declared.acting.Moved.TheVariants.{To, Ended, TooDeep}
 use Rattle.ts_glr.specs.Lists.{OfEach, Any}
-use Rattle.ts_glr.specs.Steps.{IsKnown, Withstands, ActionLeads, IsTooDeep}
+use Rattle.ts_glr.specs.Steps.{Withstands, ActionLeads, IsTooDeep, StandAfter, IsSoundRoot}
 
 -- the heads that an action came to
 abbrev pub heads_of : Moved → List StackHead
 heads_of (To h) = h ∷ []
 heads_of Ended = []
 heads_of TooDeep = []
-
--- an action came to this head
-abbrev pub IsTo : Moved → StackHead → Type 0
-IsTo m h = m ≡ To h
 
 -- whether an action came to a node that is too deep
 abbrev pub is_deep : Moved → Bool
@@ -46,19 +45,15 @@ StackStays old new h =
 abbrev pub StacksStay : List (List Layer) → List (List Layer) → List StackHead → Type 0
 StacksStay old new heads = OfEach (StackStays old new) heads
 
--- each of these heads sees the token, where one is known
-abbrev pub AllKnow : FlatGrammar → Bytes → List (List Layer) → List StackHead → Option FoundToken
-    → Type 0
-AllKnow g text stacks heads ahead = OfEach (λ h. IsKnown g text (config_of stacks h) ahead) heads
-
 -- The heads were added to which some actions lead; the trees that they accept are accounted for.
-pub record Acting (t : ParseTable) (size : ℕ) (stacks : List (List Layer)) (c : Configuration)
-    (f : FoundToken) (done : List Action) (old live : List StackHead)
+-- The nodes of both stand, if these trees do.
+pub record Acting (t : ParseTable) (text : Bytes) (trees : List Tree) (stacks : List (List Layer))
+    (c : Configuration) (f : FoundToken) (done : List Action) (old live : List StackHead)
     (first best : Option Tree) : Type 0 where
   pub more : List StackHead
   pub live_is : live ≡ old ++ more
   pub few : length more ≤ length done
-  pub sound : OfEach (λ h. IsLiveHead t size stacks h
+  pub sound : OfEach (λ h. IsOwnHead t (length text) stacks h × StandAfter t text trees stacks h
       × Any (λ a. ActionLeads t.grammar c f a (config_of stacks h)) done) more
   pub complete : OfEach (λ a. (e : Configuration) → ActionLeads t.grammar c f a e
       → Any (λ h. config_of stacks h ≡ e) more) done
@@ -68,6 +63,7 @@ pub record Acting (t : ParseTable) (size : ℕ) (stacks : List (List Layer)) (c 
   pub others : (u : Tree) → Withstands first u → Withstands best u
   pub from : (b : Tree) → best ≡ Some b
       → (first ≡ Some b) ⊎ (Any (λ a. a ≡ Accept) done × IsRootOf c.stack (bare b))
+  pub root : (b : Tree) → best ≡ Some b → (first ≡ Some b) ⊎ IsSoundRoot t text trees b
 
 -- there is a greatest stuck place so far, which is no less
 abbrev pub IsPastStuck : Option ℕ → ℕ → Type 0
@@ -94,19 +90,21 @@ abbrev pub HasSome : List StackHead → Option Tree → Option ℕ → Type 0
 HasSome live best stuck =
     (0 < length live) ⊎ (((b : Tree) × (best ≡ Some b)) ⊎ ((q : ℕ) × (stuck ≡ Some q)))
 
--- a head was followed by one step in all ways
-pub record Spent (t : ParseTable) (text : Bytes) (stacks : List (List Layer)) (most : ℕ)
-    (c : Configuration) (old live : List StackHead) (first best : Option Tree)
+-- A head was followed by one step in all ways. The nodes of the new heads and trees stand, if these
+-- trees do.
+pub record Spent (t : ParseTable) (text : Bytes) (trees : List Tree) (stacks : List (List Layer))
+    (most : ℕ) (c : Configuration) (old live : List StackHead) (first best : Option Tree)
     (before stuck : Option ℕ) : Type 0 where
   pub more : List StackHead
   pub live_is : live ≡ old ++ more
   pub few : length more ≤ suc most
-  pub sound : OfEach (λ h. IsLiveHead t (length text) stacks h
+  pub sound : OfEach (λ h. IsOwnHead t (length text) stacks h × StandAfter t text trees stacks h
       × StepsOn t.grammar text c (config_of stacks h)) more
   pub complete : (e : Configuration) → StepsOn t.grammar text c e
       → Any (λ h. config_of stacks h ≡ e) more
   pub covers : AccountsFor t.grammar text best stuck c
   pub keeps : Keeps t.grammar text c first best before stuck
+  pub root : (b : Tree) → best ≡ Some b → (first ≡ Some b) ⊎ IsSoundRoot t text trees b
   pub fruitful : HasSome more best stuck
 
 -- All runs are accounted for: the ends at a configuration that is reached are known, or some live
@@ -121,3 +119,29 @@ pub record Searching (t : ParseTable) (text : Bytes) (stacks : List (List Layer)
   pub tree_from : (b : Tree) → best ≡ Some b → SomeAccepts t.grammar text (bare b)
   pub stuck_from : (q : ℕ) → stuck ≡ Some q → SomeStopsAt t.grammar text q
   pub some : HasSome live best stuck
+
+-- Where one live head is left, and no tree is accepted: the configuration is reached, and the ends
+-- at each other one that is reached are known, or it leads to one that may stand for that.
+pub record Rests (g : FlatGrammar) (text : Bytes) (stuck : Option ℕ) (c : Configuration)
+    : Type 0 where
+  pub reached : IsReached g text c
+  pub done : (d : Configuration) → IsReached g text d
+      → AccountsFor g text None stuck d ⊎ ComesToServe g text c d
+  pub stuck_from : (q : ℕ) → stuck ≡ Some q → SomeStopsAt g text q
+
+-- ---- what is kept of the stacks
+
+-- A parser of the grammar made the trees on the live stacks, which end behind a place, and the best
+-- tree; and there is a head, a tree or a place.
+pub record Owns (t : ParseTable) (size from : ℕ) (stacks : List (List Layer))
+    (live : List StackHead) (best : Option Tree) (stuck : Option ℕ) : Type 0 where
+  pub heads : OfEach (λ h. IsOwnHead t size stacks h × (from ≤ h.place)) live
+  pub tree : (b : Tree) → best ≡ Some b
+      → EachTree (IsOwnWithin t.grammar) (children_of b) × (state_of b ≡ None)
+  pub some : HasSome live best stuck
+
+-- the trees on the live stacks stand, and the best tree is sound
+pub record AllStand (t : ParseTable) (states : States) (text : Bytes) (stacks : List (List Layer))
+    (live : List StackHead) (best : Option Tree) : Type 0 where
+  pub heads : OfEach (λ h. StandOnHead t states text stacks h) live
+  pub tree : (b : Tree) → best ≡ Some b → IsSound t.grammar states text b

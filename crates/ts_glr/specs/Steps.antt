@@ -1,51 +1,34 @@
 -- What is seen from a live stack, and what one action on it comes to. It serves private clauses and
 -- proofs alone.
-use Rattle.std.specs.Prelude.{◌≡◌, ℕ, ◌+◌, suc, ◌<◌, ◌≤◌, ◌⊎◌, List, length, Option, Some}
+use Rattle.std.specs.Prelude.{◌≡◌, ℕ, ◌<◌, ◌≤◌, ◌⊎◌, List, length, Option, Some, None}
 use Rattle.ts_base.specs.Bytes.{Bytes}
 use Rattle.ts_core.specs.declared.action.Action.{Action}
 use Rattle.ts_core.specs.declared.action.Action.TheVariants.{Shift, Reduce, Accept}
 use Rattle.ts_core.specs.declared.flat.FlatGrammar.{FlatGrammar}
 use Rattle.spec_lexing.specs.Lexing.{token}
 use Rattle.spec_trees.specs.declared.tree.Tree.{Tree}
-use Rattle.spec_trees.specs.Trees.{tree_depth, bare}
+use Rattle.spec_trees.specs.Trees.{children_of, state_of, tree_depth, bare}
 use Rattle.spec_trees.specs.Made.{most_depth}
 use Rattle.spec_trees.specs.Choice.{Better, IsInForm}
 use Rattle.spec_runs.specs.Configurations.{Configuration, NextIs, IsReduction, token_tree, pushed}
-use Rattle.spec_runs.specs.Runs.{StopsAt}
+use Rattle.spec_forced.specs.Sound.{States, StandOnStack, IsSound}
 use Rattle.ts_table.specs.declared.view.ParseTable.{ParseTable}
 use Rattle.ts_gss.specs.declared.layer.Layer.{Layer}
-use Rattle.ts_lexer.specs.declared.lexed.Lexed.{Lexed}
-use Rattle.ts_lexer.specs.declared.lexed.Lexed.TheVariants.{Token, Absent}
-use Rattle.ts_moves.specs.declared.found.FoundToken.{FoundToken}
-use Rattle.ts_moves.specs.declared.head.StackHead.{StackHead}
-use Rattle.ts_moves.specs.Heads.{config_of, IsLiveHead, IsRootOf}
+use Rattle.ts_gss.specs.Stacks.{stack_at, trees_on}
+use Rattle.ts_steps.specs.declared.found.FoundToken.{FoundToken}
+use Rattle.ts_steps.specs.declared.head.StackHead.{StackHead}
+use Rattle.ts_steps.specs.Good.{EachTree}
+use Rattle.ts_steps.specs.LiveHeads.{config_of, IsRootOf}
+use Rattle.ts_steps.specs.Heads.{AreStatesOf, IsOwnWithin, IsOwnHead, StandOnHead}
 use Rattle.ts_glr.specs.declared.acting.Moved.{Moved}
 use Rattle.ts_glr.specs.declared.acting.Moved.TheVariants.{To, Ended, TooDeep}
 
 -- ---- what is seen
 
--- more than the token and its pad was examined, up to the end of the text and one byte at most,
--- and a token that is not the end has bytes
-pub record IsSeenAhead (size place : ℕ) (f : FoundToken) : Type 0 where
-  pub past : f.pad + f.size < f.extent
-  pub reach : place + f.extent ≤ suc size
-  pub some : 0 < f.token.0 → 0 < f.size
-
 -- the configuration sees the token
 pub record SeesToken (g : FlatGrammar) (text : Bytes) (c : Configuration) (f : FoundToken)
     : Type 0 where
   pub next : NextIs g text c (token f.token f.pad f.size)
-  pub ahead : IsSeenAhead (length text) c.place f
-
--- the token, where one is known, is what the configuration sees
-abbrev pub IsKnown : FlatGrammar → Bytes → Configuration → Option FoundToken → Type 0
-IsKnown g text c ahead = (f : FoundToken) → ahead ≡ Some f → SeesToken g text c f
-
--- what was lexed is what the configuration sees
-abbrev pub Sees : FlatGrammar → Bytes → Configuration → Lexed → Type 0
-Sees g text c (Token symbol pad size extent) =
-    SeesToken g text c (record { token = symbol; pad = pad; size = size; extent = extent })
-Sees g text c (Absent place extent) = StopsAt g text c place
 
 -- ---- the best tree so far
 
@@ -79,13 +62,32 @@ IsTooDeep g c a =
     (number : ℕ) × (node : Tree) × (after : List Tree) × (a ≡ Reduce number)
     × IsReduction g number c.stack node after × (most_depth < tree_depth node)
 
+-- ---- stacks and roots whose nodes stand
+
+-- the trees on the stack of the head stand, if these do
+abbrev pub StandAfter : ParseTable → Bytes → List Tree → List (List Layer) → StackHead → Type 0
+StandAfter t text trees stacks h =
+    (states : States) → AreStatesOf t states → StandOnStack t.grammar states text trees
+    → StandOnHead t states text stacks h
+
+-- The accepted root has no state, and children that a parser of the grammar made. It is sound, if
+-- these trees stand.
+pub record IsSoundRoot (t : ParseTable) (text : Bytes) (trees : List Tree) (u : Tree)
+    : Type 0 where
+  pub own : EachTree (IsOwnWithin t.grammar) (children_of u)
+  pub none : state_of u ≡ None
+  pub sound : (states : States) → AreStatesOf t states → StandOnStack t.grammar states text trees
+      → IsSound t.grammar states text u
+
 -- what an action on a token that a head sees came to
-abbrev pub IsActed : ParseTable → ℕ → List (List Layer) → List (List Layer) → StackHead
+abbrev pub IsActed : ParseTable → Bytes → List (List Layer) → List (List Layer) → StackHead
     → FoundToken → Option Tree → Option Tree → Action → Moved → Type 0
-IsActed t size old new h f best after a (To k) =
-    IsLiveHead t size new k × ActionLeads t.grammar (config_of old h) f a (config_of new k)
-    × (after ≡ best)
-IsActed t size old new h f best after a Ended =
+IsActed t text old new h f best after a (To k) =
+    IsOwnHead t (length text) new k
+    × ActionLeads t.grammar (config_of old h) f a (config_of new k)
+    × StandAfter t text (trees_on (stack_at old h.top)) new k × (after ≡ best)
+IsActed t text old new h f best after a Ended =
     (a ≡ Accept)
-    × ((u : Tree) × IsRootOf (config_of old h).stack (bare u) × KeepsBest best after u)
-IsActed t size old new h f best after a TooDeep = IsTooDeep t.grammar (config_of old h) a
+    × ((u : Tree) × IsRootOf (config_of old h).stack (bare u) × KeepsBest best after u
+    × IsSoundRoot t text (trees_on (stack_at old h.top)) u)
+IsActed t text old new h f best after a TooDeep = IsTooDeep t.grammar (config_of old h) a

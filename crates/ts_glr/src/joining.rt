@@ -5,15 +5,15 @@ ghost use Rattle.std.specs.List.{Contains};
 ghost use Rattle.spec_trees.specs.Choice.{AreOfOneGrammar};
 ghost use Rattle.spec_packing.specs.Serving.{ServesFor};
 ghost use Rattle.ts_table.specs.declared.view.ParseTable.{ParseTable};
-ghost use Rattle.ts_moves.specs.Heads.{IsLiveHead};
+ghost use Rattle.ts_steps.specs.LiveHeads.{IsLiveHead};
 ghost use Rattle.ts_glr.specs.Lists.{OfEach};
 ghost use Rattle.ts_glr.specs.Joining.{start_of, GoesBefore, IsTakenOut, HeadServes, IsKeptOf, JoinsOne};
 
 use crate::laws::{laws_hold, packing_laws_hold};
 use ts_gss::Graph;
-use ts_moves::StackHead;
 use ts_node::Node;
 use ts_order::better;
+use ts_steps::StackHead;
 
 /// Where the topmost tree of a head's stack begins, with its pad.
 fn top_start(graph: &Graph, head: StackHead) -> u32

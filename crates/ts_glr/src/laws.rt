@@ -1,5 +1,5 @@
 //! The laws of other crates that the proofs here rest on. No value goes in or out.
-ghost use Rattle.ts_moves.specs.Laws.{Laws};
+ghost use Rattle.ts_steps.specs.MoveLaws.{Laws};
 ghost use Rattle.ts_glr.specs.Laws.{PackingLaws};
 
 use spec_lexing::{beginnings, token_within};

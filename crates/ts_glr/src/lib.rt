@@ -1,11 +1,11 @@
-//! The parser that keeps all readings: a parse table, a lexer and a text go in; the outcome of the
-//! text comes out, over all ways to read it.
+//! The parser that keeps all readings: a parse table, a lexer, a text and nodes of an old tree go
+//! in; the outcome of the text comes out, over all ways to read it.
 #![tactic(auto)]
 
 mod acting;
-mod alone;
 mod choosing;
 mod following;
+mod forking;
 mod joining;
 mod laws;
 mod outcome;
@@ -13,4 +13,4 @@ mod parsing;
 mod readings;
 
 pub use outcome::Outcome;
-pub use parsing::parse;
+pub use parsing::{parse, parse_with};

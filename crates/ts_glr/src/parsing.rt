@@ -1,32 +1,88 @@
-//! Parsing a text from its start: the table, the lexer and the text go in; what the text comes to,
-//! over all ways to read it, comes out.
-ghost use Rattle.std.specs.Prelude.{◌≡◌, ◌≤◌, length, IfOk, None};
+//! Parsing a text from its start, with nodes of an old tree that are offered, or without: the
+//! table, the lexer, the text and the offers go in; what the text comes to, over all ways to read
+//! it, comes out.
+ghost use Rattle.std.specs.Prelude.{◌≡◌, ℕ, ◌≤◌, ◌⊎◌, Some, length, IfOk};
+ghost use Rattle.spec_trees.specs.declared.tree.Tree.{Tree};
 ghost use Rattle.spec_trees.specs.Made.{most_span};
 ghost use Rattle.spec_runs.specs.Outcomes.{Fresh};
-ghost use Rattle.ts_glr.specs.Outcomes.{value_of_outcome, EndsAs, IsTreeOf};
+ghost use Rattle.spec_forced.specs.Sound.{States};
+ghost use Rattle.ts_steps.specs.Heads.{AreStatesOf};
+ghost use Rattle.ts_steps.specs.Reparsing.{AreHonest, IsOffered};
+ghost use Rattle.ts_glr.specs.Outcomes.{value_of_outcome, IsTreeOf, IsOwnOutcome, IsSoundOutcome};
+ghost use Rattle.ts_glr.specs.Search.{IsPastStuck};
 
-use crate::following::advance;
-use crate::joining::{join, next_head};
+use crate::forking::{Forked, follow_all};
 use crate::laws::{laws_hold, packing_laws_hold};
 use crate::outcome::Outcome;
-use crate::readings::{Readings, readings_of};
+use crate::readings::readings_of;
+use spec_forced::only_runs_are_one_way;
 use std::alloc::{AllocError, Global};
 use ts_lexer::{Content, Tokens};
-use ts_moves::{FoundToken, setting_of};
-use ts_node::Node;
-use ts_table::{Table, unit_ranks};
+use ts_offer::{Nothing, Offers};
+use ts_steps::{Reparsed, StackHead, parse_setting, reparse, states_are_named};
+use ts_table::Table;
 
-/// The outcome that the best tree and the greatest stuck place come to.
-fn outcome(best: Option<Node>, stuck: Option<u32>) -> Outcome
-    requires { best ≡ None → stuck ≡ None → ⊥ }
-    ensures { EndsAs best stuck result }
+/// The greater of a place and the greatest stuck place so far.
+fn furthest(stuck: Option<u32>, place: u32) -> u32
+    ensures mine { place ≤ result }
+    ensures others { (q : ℕ) → IsPastStuck stuck q → q ≤ result }
+    ensures from { (result ≡ place) ⊎ (stuck ≡ Some result) }
 {
-    match best {
-        Some(node) => Outcome::Accepted(node),
-        None => match stuck {
-            Some(place) => Outcome::Stuck(place),
-            None => unreachable!(),
-        },
+    match stuck {
+        None => place,
+        Some(old) => old.max(place),
+    }
+}
+
+/// What a text comes to, over all ways to read it. Nodes that are offered are taken over where one
+/// stack is live. If what is offered is honest, this is the fresh outcome, and its tree is sound.
+/// Where several moves stay on a token all ways are followed, until one stack is left.
+///
+/// # Errors
+///
+/// `AllocError` where memory runs out.
+pub fn parse_with<'t, L: Tokens, O: Offers<'t>>(
+    alloc: Global,
+    table: &Table,
+    lexer: &mut L,
+    text: &L::Text,
+    offers: &mut O,
+) -> Result<Outcome, AllocError>
+    requires made { L.made_for lexer.old table.now }
+    requires short { length (L.Text.bytes text.now) ≤ most_span }
+    requires asked { O.least offers.old ≡ 0 }
+    requires own { (place state : ℕ) (t : Tree) → O.gives offers.old place state t
+        → IsOffered table.now.grammar t }
+    ensures made { L.made_for lexer.new table.now }
+    ensures form { IfOk result (IsTreeOf table.now.grammar) }
+    ensures own { IfOk result (IsOwnOutcome table.now) }
+    ensures fresh { IfOk result (λ out. (states : States) → AreStatesOf table.now states
+        → AreHonest table.now.grammar states (L.Text.bytes text.now) (O.gives offers.old)
+        → Fresh table.now.grammar (L.Text.bytes text.now) (value_of_outcome out)
+        × IsSoundOutcome table.now states (L.Text.bytes text.now) out) }
+{
+    laws_hold();
+    packing_laws_hold();
+    only_runs_are_one_way();
+    table.stands();
+    let setting = parse_setting(alloc, table, text.len())?;
+    let mut readings = readings_of(alloc);
+    let mut head = StackHead { top: 0, place: 0 };
+    loop {
+        let graph = &mut readings.graph;
+        match reparse(alloc, table, &setting, lexer, text, offers, graph, head)? {
+            Reparsed::Accepted(root) => return Ok(Outcome::Accepted(root)),
+            Reparsed::Stuck(place) => {
+                return Ok(Outcome::Stuck(furthest(readings.stuck, place)));
+            }
+            Reparsed::Deep => return Ok(Outcome::Deep),
+            Reparsed::Forks(fork) => {
+                match follow_all(alloc, table, &setting, lexer, text, &mut readings, fork)? {
+                    Forked::One(next) => head = next,
+                    Forked::Over(outcome) => return Ok(outcome),
+                }
+            }
+        }
     }
 }
 
@@ -48,37 +104,8 @@ pub fn parse<L: Tokens>(
         (value_of_outcome out)) }
     ensures form { IfOk result (IsTreeOf table.now.grammar) }
 {
-    laws_hold();
-    packing_laws_hold();
     table.stands();
-    unit_ranks();
-    let setting = setting_of(alloc, table, text.len())?;
-    let mut readings = readings_of(alloc)?;
-    let mut ahead: Option<FoundToken> = None;
-    while let Some(head) = next_head(&readings.graph, &mut readings.live) {
-        if join(&readings.graph, &mut readings.live, head) {
-            ahead = None;
-            continue;
-        }
-        let deep = advance(
-            alloc,
-            table,
-            &setting,
-            lexer,
-            text,
-            &mut readings,
-            &mut ahead,
-            head,
-        )?;
-        if deep {
-            return Ok(Outcome::Deep);
-        }
-    }
-    let Readings {
-        graph: _,
-        live: _,
-        best,
-        stuck,
-    } = readings;
-    Ok(outcome(best, stuck))
+    states_are_named();
+    let outcome = parse_with(alloc, table, lexer, text, &mut Nothing)?;
+    Ok(outcome)
 }

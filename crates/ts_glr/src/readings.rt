@@ -1,17 +1,17 @@
-//! What is known while the ways to read a text are followed. Nothing goes in; what is known at the
-//! start comes out: the one empty stack.
-ghost use Rattle.std.specs.Prelude.{◌≡◌, [], ◌∷◌, None, IfOk};
+//! What is known while the ways to read a text are followed. Nothing goes in; what is known before
+//! the first of them is followed comes out.
+ghost use Rattle.std.specs.Prelude.{◌≡◌, [], ◌∷◌, None};
 
-use std::alloc::{AllocError, Global};
+use std::alloc::Global;
 use ts_gss::Graph;
-use ts_moves::StackHead;
 use ts_node::Node;
+use ts_steps::StackHead;
 
 /// The ways to read a text, as far as they were followed.
 #[derive(Drop)]
 pub(crate) struct Readings {
     pub graph: Graph,
-    /// The heads that are still to be followed.
+    /// The heads that are still to be followed, where there are several.
     pub live: Vec<StackHead>,
     /// The best of the trees that were accepted.
     pub best: Option<Node>,
@@ -19,19 +19,17 @@ pub(crate) struct Readings {
     pub stuck: Option<u32>,
 }
 
-/// The beginning: the empty stack, at the start of the text.
-pub(crate) fn readings_of(alloc: Global) -> Result<Readings, AllocError>
-    ensures graph { IfOk result (λ r. r.graph ≡ [] ∷ []) }
-    ensures live { IfOk result (λ r. r.live.items ≡ (record { top = 0; place = 0 }) ∷ []) }
-    ensures best { IfOk result (λ r. r.best ≡ None) }
-    ensures stuck { IfOk result (λ r. r.stuck ≡ None) }
+/// The beginning: the empty stack alone.
+pub(crate) fn readings_of(alloc: Global) -> Readings
+    ensures graph { result.graph ≡ [] ∷ [] }
+    ensures live { result.live.items ≡ [] }
+    ensures best { result.best ≡ None }
+    ensures stuck { result.stuck ≡ None }
 {
-    let mut live = Vec::new(alloc);
-    live.push(StackHead { top: 0, place: 0 })?;
-    Ok(Readings {
+    Readings {
         graph: Graph::new(alloc),
-        live,
+        live: Vec::new(alloc),
         best: None,
         stuck: None,
-    })
+    }
 }

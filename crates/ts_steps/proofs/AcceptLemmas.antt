@@ -20,9 +20,9 @@ use Rattle.ts_table.specs.declared.view.ParseTable.{ParseTable}
 use Rattle.ts_gss.specs.declared.layer.Layer.{Layer}
 use Rattle.ts_gss.specs.Stacks.{trees_on, tree_on, under_top}
 use Rattle.ts_gss.specs.Paths.{IsLifted}
-use Rattle.ts_moves.specs.Laws.{Laws}
-use Rattle.ts_moves.specs.Good.{IsGoodTree, AreGoodTrees}
-use Rattle.ts_moves.specs.Heads.{IsGoodStack, IsRootOf}
+use Rattle.ts_steps.specs.MoveLaws.{Laws}
+use Rattle.ts_steps.specs.Good.{IsGoodTree, AreGoodTrees}
+use Rattle.ts_steps.specs.LiveHeads.{IsGoodStack, IsRootOf}
 use Rattle.ts_steps.proofs.NodeLemmas.{filling_fills, all_spans-append, greatest_depth-append, end_by_wider, end_by_both, each_left, each_right, each_turned, each_settled, fit_is_node, over_layer, forms, own_forms, forms_append, forms_each, both, form_of_none}
 use Rattle.ts_steps.proofs.StackLemmas.{turned_bare, end_by_split, turned, spans_turned, extras_turned, filling_extras, extras_bare}
 use Rattle.ts_node.specs.Falls.{all_nodes-append}

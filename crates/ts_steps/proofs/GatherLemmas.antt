@@ -9,8 +9,8 @@ use Rattle.ts_table.specs.declared.view.ParseTable.{ParseTable}
 use Rattle.ts_gss.specs.declared.layer.Layer.{Layer}
 use Rattle.ts_gss.specs.Stacks.{trees_on}
 use Rattle.ts_gss.specs.Paths.{IsLifted, IsTakenOff}
-use Rattle.ts_moves.specs.Good.{IsGoodTree, AreGoodTrees}
-use Rattle.ts_moves.specs.Heads.{HaveStates, IsGoodStack, IsGathered}
+use Rattle.ts_steps.specs.Good.{IsGoodTree, AreGoodTrees}
+use Rattle.ts_steps.specs.LiveHeads.{HaveStates, IsGoodStack, IsGathered}
 use Rattle.ts_steps.proofs.NodeLemmas.{all_spans-append, end_by_wider, each_left, each_right, each_turned}
 use Rattle.ts_steps.proofs.StackLemmas.{end_by_split, spans_turned, extras_turned, filling_extras, states_drop}
 

@@ -22,20 +22,20 @@ use Rattle.ts_table.specs.declared.view.ParseTable.{ParseTable}
 use Rattle.ts_table.specs.Tables.{IsTable, IsStateOf, ActsBy, actions_of}
 use Rattle.ts_gss.specs.declared.layer.Layer.{Layer}
 use Rattle.ts_gss.specs.Stacks.{stack_at, state_on, trees_on}
-use Rattle.ts_moves.specs.declared.head.StackHead.{StackHead}
-use Rattle.ts_moves.specs.declared.found.FoundToken.{FoundToken}
-use Rattle.ts_moves.specs.Laws.{Laws}
-use Rattle.ts_moves.specs.Good.{EachTree}
-use Rattle.ts_moves.specs.Heads.{config_of, read_on, LiesAhead, IsReducedTo, IsRootOf}
+use Rattle.ts_steps.specs.declared.head.StackHead.{StackHead}
+use Rattle.ts_steps.specs.declared.found.FoundToken.{FoundToken}
+use Rattle.ts_steps.specs.MoveLaws.{Laws}
+use Rattle.ts_steps.specs.Good.{EachTree}
+use Rattle.ts_steps.specs.LiveHeads.{config_of, read_on, LiesAhead, IsReducedTo, IsRootOf}
 use Rattle.ts_steps.proofs.StackLemmas.{state_top, filling_bare}
-use Rattle.ts_steps.specs.declared.reparsed.Reparsed.TheVariants.{Accepted, Deep}
+use Rattle.ts_steps.specs.declared.reparsed.Reparsed.TheVariants.{Accepted, Deep, Forks}
 use Rattle.ts_steps.specs.declared.reparsed.Going.TheVariants.{On, Reduced, Ended}
 use Rattle.ts_steps.specs.Heads.{AreStatesOf, IsOwnWithin, IsOwnHead, StandOnHead, IsMoveAhead, IsExtraAhead}
 use Rattle.ts_steps.specs.Looking.{IsTokenAhead}
 use Rattle.ts_steps.specs.Laws.{SoundLaws, OnlyLaws}
 use Rattle.ts_steps.specs.Reparsing.{GoesTo, LeadsOn}
-use Rattle.ts_steps.proofs.TableLemmas.{move_by, one_acts, one_move, no_move, shift_of, extra_token, valid_tokens}
-use Rattle.ts_steps.proofs.MoveLemmas.{shift_only, pass_only, reduce_only, reduce_deep, accept_only}
+use Rattle.ts_steps.proofs.TableLemmas.{move_by, two_moves, one_acts, one_move, no_move, shift_of, extra_token, valid_tokens}
+use Rattle.ts_steps.proofs.MoveLemmas.{can_move, shift_only, pass_only, reduce_only, reduce_deep, accept_only}
 
 -- the token lies ahead in the text
 pub lies_ahead : (t : ParseTable) (size : ℕ) (text : Bytes) (old : List (List Layer)) (h : StackHead) (f : FoundToken) → length text ≡ size → 0 < f.token.0 → IsTokenAhead t text old h f → LiesAhead size h.place f
@@ -175,6 +175,21 @@ module _ (laws : Laws) (t : ParseTable) (size : ℕ) (old : List (List Layer)) (
 
     pub goes_too_deep : (o : Option StackHead) (number : ℕ) → o ≡ None → Acts (Reduce number ∷ []) → IsReducedTo t size number old new h o → GoesTo t text old new h (Ended Deep)
     goes_too_deep o number none is done = goes_deep number is (subst (λ (x : Option StackHead). IsReducedTo t size number old new h x) none done)
+
+    -- several moves stay
+    pub goes_fork : new ≡ old → 1 < length (actions_of t (state_on (stack_at old h.top)) f.token.0) → GoesTo t text old new h (Ended (Forks h))
+    goes_fork kept many =
+        let two = two_moves t (read_on old h) (state_on (stack_at old h.top)) f.token.0 table state many in (
+          refl,
+          kept,
+          record {
+            first = two.0;
+            second = two.1;
+            here = can_move laws alone t text old new h k f a two.0 two.2;
+            there = can_move laws alone t text old new h k f a two.1 two.3;
+            differ = two.4;
+          },
+        )
 
     pub goes_accept : (u : Tree) → Acts (Accept ∷ []) → IsRootOf (config_of old h).stack (bare u) → IsInForm t.grammar u → EachTree (IsOwnWithin t.grammar) (children_of u) → state_of u ≡ None
         → ((states : States) (w : Bytes) → length w ≡ size → AreStatesOf t states → StandOnHead t states w old h → IsSound t.grammar states w u)

@@ -15,11 +15,11 @@ use Rattle.ts_table.specs.declared.view.ParseTable.{ParseTable}
 use Rattle.ts_table.specs.Tables.{IsTable, IsStateOf, goto_of}
 use Rattle.ts_gss.specs.declared.layer.Layer.{Layer}
 use Rattle.ts_gss.specs.Stacks.{stack_at, trees_on, state_on}
-use Rattle.ts_moves.specs.declared.head.StackHead.{StackHead}
-use Rattle.ts_moves.specs.declared.found.FoundToken.{FoundToken}
-use Rattle.ts_moves.specs.Laws.{Laws}
-use Rattle.ts_moves.specs.Good.{IsGoodTree, EachTree}
-use Rattle.ts_moves.specs.Heads.{config_of, HaveStates, IsGoodStack, read_on, LiesAhead}
+use Rattle.ts_steps.specs.declared.head.StackHead.{StackHead}
+use Rattle.ts_steps.specs.declared.found.FoundToken.{FoundToken}
+use Rattle.ts_steps.specs.MoveLaws.{Laws}
+use Rattle.ts_steps.specs.Good.{IsGoodTree, EachTree}
+use Rattle.ts_steps.specs.LiveHeads.{config_of, HaveStates, IsGoodStack, read_on, LiesAhead}
 use Rattle.ts_steps.proofs.StackLemmas.{SaysLeaf, says_leaf, says_extra, leaf_good, extra_good, leaf_bare, Pushes, pushed_stack, pushed_there, pushed_good, same_config, state_top, span_bare}
 use Rattle.ts_steps.specs.declared.ahead.TokenAhead.{TokenAhead}
 use Rattle.ts_steps.specs.Laws.{SoundLaws}

@@ -3,8 +3,8 @@ use Rattle.std.proofs.Common.{◌≡◌, ℕ, zero, suc, ◌+◌, ◌-◌, ◌/�
 use Rattle.ts_base.proofs.PlaceLemmas.{in_prefix, push_cases}
 use Rattle.std.proofs.lemmas.List.{length-map}
 use Rattle.std.proofs.lemmas.List.Sums.{sum_by-cons}
-use Rattle.ts_moves.specs.declared.lines.Line.{Line}
-use Rattle.ts_moves.specs.Lines.{lengthens_by, IsLine, AreLinesUpTo}
+use Rattle.ts_steps.specs.declared.lines.ProductionLine.{ProductionLine}
+use Rattle.ts_steps.specs.Lines.{lengthens_by, IsLine, AreLinesUpTo}
 use Rattle.std.specs.Prelude.{option_map, nat_le, if◌then◌else◌, ◌⊎◌}
 use Rattle.std.proofs.Common.{inl, inr}
 use Rattle.std.proofs.lemmas.Option.{slice_get_within, slice_get-map}
@@ -110,19 +110,19 @@ form_is_of g r i rule e =
 
 -- ---- lines
 
-pub push_line : (g : FlatGrammar) (n : ℕ) (ls : List Line) (l : Line) → AreLinesUpTo g n ls → IsLine g n l → AreLinesUpTo g (n + 1) (ls ++ l ∷ [])
+pub push_line : (g : FlatGrammar) (n : ℕ) (ls : List ProductionLine) (l : ProductionLine) → AreLinesUpTo g n ls → IsLine g n l → AreLinesUpTo g (n + 1) (ls ++ l ∷ [])
 push_line g n ls l are is = record {
   many = omega (arith, are.many, length-append ls (l ∷ []));
   each = λ k z h. by k z (push_cases ls l k z h);
 }
   where
-    by : (k : ℕ) (z : Line) → ((k < length ls) × (slice_get ls k ≡ Some z)) ⊎ ((k ≡ length ls) × (l ≡ z)) → IsLine g k z
+    by : (k : ℕ) (z : ProductionLine) → ((k < length ls) × (slice_get ls k ≡ Some z)) ⊎ ((k ≡ length ls) × (l ≡ z)) → IsLine g k z
     by k z (inl w) = are.each k z w.1
     by k z (inr w) =
         let m : n ≡ k = sym (w.0 ∙ are.many) in
-        subst (λ (x : Line). IsLine g k x) w.1 (subst (λ (x : ℕ). IsLine g x l) m is)
+        subst (λ (x : ProductionLine). IsLine g k x) w.1 (subst (λ (x : ℕ). IsLine g x l) m is)
 
-pub line_is : (g : FlatGrammar) (r i : ℕ) (rule : FlatRule) (p : Production) (l : Line) → slice_get g.rules r ≡ Some rule → slice_get rule.productions i ≡ Some p
+pub line_is : (g : FlatGrammar) (r i : ℕ) (rule : FlatRule) (p : Production) (l : ProductionLine) → slice_get g.rules r ≡ Some rule → slice_get rule.productions i ≡ Some p
     → l.left.0 ≡ start_symbol g + r
     → lengthens_by (if is_owned (start_symbol g + r) rule then repetition_form (length rule.productions / 2) i else of_rule) ≡ l.lengthens
     → l.steps ≡ length p.steps

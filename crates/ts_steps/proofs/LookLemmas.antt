@@ -18,9 +18,9 @@ use Rattle.ts_gss.specs.Stacks.{stack_at, trees_on}
 use Rattle.ts_lexer.specs.Answers.{SaysFound, extent_of, IsLexedAt, LexesIn}
 use Rattle.ts_lexer.specs.declared.lexed.Lexed.{Lexed}
 use Rattle.ts_lexer.specs.declared.lexed.Lexed.TheVariants.{Token, Absent}
-use Rattle.ts_moves.specs.declared.head.StackHead.{StackHead}
-use Rattle.ts_moves.specs.Laws.{Laws}
-use Rattle.ts_moves.specs.Heads.{read_on}
+use Rattle.ts_steps.specs.declared.head.StackHead.{StackHead}
+use Rattle.ts_steps.specs.MoveLaws.{Laws}
+use Rattle.ts_steps.specs.LiveHeads.{read_on}
 use Rattle.ts_steps.proofs.StackLemmas.{filling_bare}
 use Rattle.ts_steps.specs.Laws.{SoundLaws}
 use Rattle.ts_steps.specs.Looking.{SeesAhead, IsExtentAhead}

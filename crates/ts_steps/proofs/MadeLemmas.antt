@@ -1,8 +1,5 @@
 -- What a reduction's code knows of its production, by the setting.
-use Rattle.std.proofs.Common.{◌≡◌, ◌∙◌, sym, ap, subst, ℕ, ◌<◌, ◌≤◌, List, length, slice_get, Option, Some, None, MatchOption, arith}
-use Rattle.std.specs.Prelude.{option_map}
-use Rattle.std.proofs.lemmas.List.{length-map}
-use Rattle.std.proofs.lemmas.Option.{slice_get-map}
+use Rattle.std.proofs.Common.{◌≡◌, sym, subst, ℕ, ◌<◌, ◌≤◌, List, length, slice_get, Option, Some, None, MatchOption, arith}
 use Rattle.ts_core.specs.declared.flat.FlatGrammar.{FlatGrammar}
 use Rattle.ts_core.specs.declared.flat.Production.{Production}
 use Rattle.spec_trees.specs.declared.tree.Tree.{Tree}
@@ -11,28 +8,27 @@ use Rattle.spec_trees.specs.Made.{form_of, reduced, most_depth}
 use Rattle.spec_runs.specs.Moves.{EndsWithProduction}
 use Rattle.spec_trees.specs.Reducible.{HasSmallValue}
 use Rattle.ts_table.specs.declared.view.ParseTable.{ParseTable}
-use Rattle.ts_moves.specs.Lines.{IsLine, lengthens_by}
-use Rattle.ts_moves.specs.Good.{CanReduce}
+use Rattle.ts_steps.specs.Lines.{IsLine, lengthens_by}
+use Rattle.ts_steps.specs.Good.{CanReduce}
 use Rattle.ts_steps.proofs.PutLemmas.{number_within}
 use Rattle.ts_steps.specs.declared.lines.ProductionLine.{ProductionLine}
 use Rattle.ts_steps.specs.declared.setting.ParseSetting.{ParseSetting}
-use Rattle.ts_steps.specs.Settings.{line_of, lines_of_all, IsParseSetting}
+use Rattle.ts_steps.specs.Settings.{IsParseSetting}
 
 module _ (t : ParseTable) (size : ℕ) (s : ParseSetting) (set : IsParseSetting t size s) (number : ℕ) where
   pub line_there : (read : List ℕ) → EndsWithProduction t.grammar read number → number < length s.lines
   line_there read ends =
       let n = number_within t.grammar read number ends in
       let m = set.lines.many in
-      let k : length (lines_of_all s.lines) ≡ length s.lines = length-map s.lines line_of in
       omega arith
 
-  pub line_at : (l : ProductionLine) → slice_get s.lines number ≡ Some l → IsLine t.grammar number (line_of l)
-  line_at l at = set.lines.each number (line_of l) (slice_get-map line_of s.lines number ∙ ap (option_map line_of) at)
+  pub line_at : (l : ProductionLine) → slice_get s.lines number ≡ Some l → IsLine t.grammar number l
+  line_at l at = set.lines.each number l at
 
   pub small_at : ((k : ℕ) → HasSmallValue s.productions k) → HasSmallValue t.grammar number
   small_at small = subst (λ (g : FlatGrammar). HasSmallValue g number) set.productions (small number)
 
-  pub can_at : (l : ProductionLine) (p : Production) (extent : ℕ) (children : List Tree) → CanReduce t.grammar number l.left.0 p extent children → IsLine t.grammar number (line_of l)
+  pub can_at : (l : ProductionLine) (p : Production) (extent : ℕ) (children : List Tree) → CanReduce t.grammar number l.left.0 p extent children → IsLine t.grammar number l
       → (left : ℕ) × (p : Production) × CanReduce s.productions number left p extent children × (lengthens_by (form_of s.productions left number) ≡ l.lengthens)
   can_at l p extent children can line = (
     l.left.0,

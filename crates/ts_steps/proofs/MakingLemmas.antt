@@ -7,10 +7,10 @@ use Rattle.spec_trees.specs.declared.tree.Tree.TheFolds.{fold-roll-Tree, fold_ou
 use Rattle.spec_trees.specs.Trees.{span_of, node_extent, all_spans, tree_depth, greatest_depth, depth_step, children_of, elements_of, total_of, all_totals}
 use Rattle.spec_trees.specs.Made.{EndBy, Form, of_rule, of_first, of_next, form_of, reduced, made_by, value_of, node_over, element}
 use lib.IntN.{◌+ℤ◌}
-use Rattle.ts_moves.specs.Laws.{Laws}
-use Rattle.ts_moves.specs.Lines.{lengthens_by}
-use Rattle.ts_moves.specs.Good.{CanReduce}
-use Rattle.ts_moves.specs.Making.{depth_when}
+use Rattle.ts_steps.specs.MoveLaws.{Laws}
+use Rattle.ts_steps.specs.Lines.{lengthens_by}
+use Rattle.ts_steps.specs.Good.{CanReduce}
+use Rattle.ts_steps.specs.Making.{depth_when}
 use Rattle.ts_steps.proofs.NodeLemmas.{greatest_depth-append, reduced_is, over_layer}
 
 -- what is left of a list begins with the tree at hand

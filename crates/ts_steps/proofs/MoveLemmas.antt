@@ -20,11 +20,11 @@ use Rattle.spec_forced.specs.OnlyRuns.{IsOnlyStep, GoesTooDeep, GoesToTree, Fres
 use Rattle.ts_table.specs.declared.view.ParseTable.{ParseTable}
 use Rattle.ts_gss.specs.declared.layer.Layer.{Layer}
 use Rattle.ts_gss.specs.Stacks.{stack_at, trees_on}
-use Rattle.ts_moves.specs.declared.head.StackHead.{StackHead}
-use Rattle.ts_moves.specs.declared.found.FoundToken.{FoundToken}
-use Rattle.ts_moves.specs.Laws.{Laws}
+use Rattle.ts_steps.specs.declared.head.StackHead.{StackHead}
+use Rattle.ts_steps.specs.declared.found.FoundToken.{FoundToken}
+use Rattle.ts_steps.specs.MoveLaws.{Laws}
 use Rattle.ts_steps.specs.Laws.{OnlyLaws}
-use Rattle.ts_moves.specs.Heads.{config_of, read_on, IsReducedTo, IsRootOf}
+use Rattle.ts_steps.specs.LiveHeads.{config_of, read_on, IsReducedTo, IsRootOf}
 use Rattle.ts_steps.proofs.StackLemmas.{filling_bare, extras_turned}
 use Rattle.ts_steps.specs.Looking.{IsTokenAhead}
 
@@ -218,6 +218,15 @@ module _ (laws : Laws) (alone : OnlyLaws) (t : ParseTable) (text : Bytes) (old n
 
   next : NextIs t.grammar text (config_of old h) (token f.token f.pad f.size)
   next = next_is laws t text old h f ahead.decided
+
+  pub can_move : (move : Move) → Act t.grammar (read_on old h) f.token.0 move → CanMove t.grammar text (config_of old h) move
+  can_move move act = record {
+    symbol = f.token;
+    pad = f.pad;
+    size = f.size;
+    next = next;
+    stays = subst (λ (read : List ℕ). Act t.grammar read f.token.0 move) (sym (filling_bare laws (trees_on (stack_at old h.top)))) act;
+  }
 
   pub shift_only : IsOnlyMove t.grammar (read_on old h) f.token.0 shift → config_of new k ≡ pushed (config_of old h) (token_tree f.token f.pad f.size) → IsOnlyStep t.grammar text (config_of old h) (config_of new k)
   shift_only only is =

@@ -23,8 +23,8 @@ use Rattle.spec_trees.specs.Made.{IsNode, IsSettledWell, node_over, element, mad
 use Rattle.spec_trees.specs.Choice.{IsInForm, form_step, has_form}
 use Rattle.spec_runs.specs.Moves.{IsUnused}
 use Rattle.ts_node.specs.Falls.{all_nodes-append}
-use Rattle.ts_moves.specs.Laws.{Laws}
-use Rattle.ts_moves.specs.Good.{EachTree, IsLight, IsGoodTree, AreGoodTrees, CanReduce}
+use Rattle.ts_steps.specs.MoveLaws.{Laws}
+use Rattle.ts_steps.specs.Good.{EachTree, IsLight, IsGoodTree, AreGoodTrees, CanReduce}
 
 -- ---- sums
 

@@ -5,7 +5,7 @@ use Rattle.ts_core.specs.declared.flat.FlatGrammar.{FlatGrammar}
 use Rattle.spec_trees.specs.declared.tree.Tree.{Tree}
 use Rattle.spec_trees.specs.Trees.{children_of, is_settled}
 use Rattle.spec_trees.specs.Inside.{IsNodeIn, itself, inside}
-use Rattle.ts_moves.specs.Good.{EachTree}
+use Rattle.ts_steps.specs.Good.{EachTree}
 use Rattle.ts_steps.specs.Heads.{IsOwnTree, IsOwnWithin}
 
 -- a node in a tree is the tree, or stands in one of its children

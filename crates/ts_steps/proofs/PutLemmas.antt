@@ -16,12 +16,12 @@ use Rattle.ts_table.specs.declared.view.ParseTable.{ParseTable}
 use Rattle.ts_table.specs.Tables.{IsTable, IsStateOf}
 use Rattle.ts_gss.specs.declared.layer.Layer.{Layer}
 use Rattle.ts_gss.specs.Stacks.{stack_at, trees_on}
-use Rattle.ts_moves.specs.declared.head.StackHead.{StackHead}
-use Rattle.ts_moves.specs.declared.lines.Line.{Line}
-use Rattle.ts_moves.specs.Laws.{Laws}
-use Rattle.ts_moves.specs.Lines.{IsLine}
-use Rattle.ts_moves.specs.Good.{CanReduce}
-use Rattle.ts_moves.specs.Heads.{IsGoodStack, read_on, CanLay, CanPut, IsGathered}
+use Rattle.ts_steps.specs.declared.head.StackHead.{StackHead}
+use Rattle.ts_steps.specs.declared.lines.ProductionLine.{ProductionLine}
+use Rattle.ts_steps.specs.MoveLaws.{Laws}
+use Rattle.ts_steps.specs.Lines.{IsLine}
+use Rattle.ts_steps.specs.Good.{CanReduce}
+use Rattle.ts_steps.specs.LiveHeads.{IsGoodStack, read_on, CanLay, CanPut, IsGathered}
 use Rattle.ts_steps.proofs.NodeLemmas.{filling_fills, reduced_good}
 use Rattle.ts_steps.proofs.StackLemmas.{extras_turned, filling_extras, filling_append, filling_turned, Pushes, pushed_stack, pushed_good}
 
@@ -53,7 +53,7 @@ many_steps p = length-map p.steps (λ (step : Step). step.symbol.0)
 pub number_within : (g : FlatGrammar) (read : List ℕ) (number : ℕ) → EndsWithProduction g read number → number < length (all_productions g)
 number_within g read number r = slice_get_within (all_productions g) number (r.left, r.production) r.at
 
-module _ (laws : Laws) (t : ParseTable) (size number token : ℕ) (old : List (List Layer)) (h : StackHead) (l : Line) (stays : Act t.grammar (read_on old h) token (reduce number)) (line : IsLine t.grammar number l) (small : HasSmallValue t.grammar number) where
+module _ (laws : Laws) (t : ParseTable) (size number token : ℕ) (old : List (List Layer)) (h : StackHead) (l : ProductionLine) (stays : Act t.grammar (read_on old h) token (reduce number)) (line : IsLine t.grammar number l) (small : HasSmallValue t.grammar number) where
   ends : EndsWithProduction t.grammar (read_on old h) number
   ends = laws.reduces t.grammar (read_on old h) token number stays
 

@@ -22,12 +22,12 @@ use Rattle.ts_table.specs.declared.view.ParseTable.{ParseTable}
 use Rattle.ts_table.specs.Tables.{IsTable, IsStateOf, by_goto}
 use Rattle.ts_gss.specs.declared.layer.Layer.{Layer}
 use Rattle.ts_gss.specs.Stacks.{stack_at, trees_on, state_on}
-use Rattle.ts_moves.specs.declared.head.StackHead.{StackHead}
-use Rattle.ts_moves.specs.declared.lines.Line.{Line}
-use Rattle.ts_moves.specs.Laws.{Laws}
-use Rattle.ts_moves.specs.Lines.{IsLine}
-use Rattle.ts_moves.specs.Good.{CanReduce, EachTree, AreGoodTrees}
-use Rattle.ts_moves.specs.Heads.{config_of, IsGoodStack, IsLiveHead, read_on, CanPut, IsGathered, IsReducedTo}
+use Rattle.ts_steps.specs.declared.head.StackHead.{StackHead}
+use Rattle.ts_steps.specs.declared.lines.ProductionLine.{ProductionLine}
+use Rattle.ts_steps.specs.MoveLaws.{Laws}
+use Rattle.ts_steps.specs.Lines.{IsLine}
+use Rattle.ts_steps.specs.Good.{CanReduce, EachTree, AreGoodTrees}
+use Rattle.ts_steps.specs.LiveHeads.{config_of, IsGoodStack, IsLiveHead, read_on, CanPut, IsGathered, IsReducedTo}
 use Rattle.ts_steps.proofs.NodeLemmas.{reduced_shape, reduced_good, reduced_is, fits, over_layer, each_append, each_left, each_right, each_turned, end_by_both, end_by_wider}
 use Rattle.ts_steps.proofs.StackLemmas.{turned_bare, extras_turned, filling_extras, filling_append, filling_bare, extras_bare, begins_bare, same_config, state_top, spans_turned}
 use Rattle.ts_steps.proofs.MakingLemmas.{dropped}
@@ -153,7 +153,7 @@ module _ (laws : Laws) (g : FlatGrammar) (number left : ℕ) (p : Production) (e
 
 -- ---- the stack after it
 
-module _ (laws : Laws) (t : ParseTable) (size number on : ℕ) (old : List (List Layer)) (h : StackHead) (l : Line) (stays : Act t.grammar (read_on old h) on (reduce number)) (line : IsLine t.grammar number l) (small : HasSmallValue t.grammar number)
+module _ (laws : Laws) (t : ParseTable) (size number on : ℕ) (old : List (List Layer)) (h : StackHead) (l : ProductionLine) (stays : Act t.grammar (read_on old h) on (reduce number)) (line : IsLine t.grammar number l) (small : HasSmallValue t.grammar number)
     (extras children : List Tree) (extent : ℕ) (below : List Layer) (gat : IsGathered t size (stack_at old h.top) h.place l.steps extras children extent below) (table : IsTable t) (short : size ≤ most_span) where
   abbrev g : FlatGrammar
   g = t.grammar

@@ -1,5 +1,5 @@
 -- A parse over one stack: what holds after each move, and at its end.
-use Rattle.std.proofs.Common.{◌≡◌, sym, ap, refl, subst, ℕ, ◌+◌, ◌<◌, ◌≤◌, ◌↔◌, List, [], ◌∷◌, length, drop, Option, Some, None, IfSome, MatchOption, arith}
+use Rattle.std.proofs.Common.{◌≡◌, ◌∙◌, sym, ap, refl, subst, ℕ, ◌+◌, ◌<◌, ◌≤◌, List, ◌∷◌, length, drop, Option, Some, None, IfSome, MatchOption, arith}
 use Rattle.ts_base.specs.Bytes.{Bytes}
 use Rattle.ts_core.specs.declared.flat.FlatGrammar.{FlatGrammar}
 use Rattle.ts_core.specs.declared.symbol.Symbol.{Symbol}
@@ -8,11 +8,11 @@ use Rattle.spec_tables.specs.Fit.{Fit}
 use Rattle.spec_trees.specs.declared.tree.Tree.{Tree}
 use Rattle.spec_trees.specs.Trees.{node_extent, span_of, bare}
 use Rattle.spec_trees.specs.Made.{filling}
-use Rattle.spec_runs.specs.Configurations.{Configuration, starting, stack_symbols, pushed, AreValidTokens}
+use Rattle.spec_runs.specs.Configurations.{Configuration, stack_symbols, pushed, AreValidTokens}
 use Rattle.spec_runs.specs.Runs.{StepsOn, shift_token, pass_extra, reduce_trees}
-use Rattle.spec_runs.specs.Outcomes.{FreshOutcome, Fresh, deep_outcome, tree_outcome, stuck_outcome}
+use Rattle.spec_runs.specs.Outcomes.{FreshOutcome, deep_outcome, tree_outcome, stuck_outcome}
 use Rattle.spec_forced.specs.Forced.{Stands}
-use Rattle.spec_forced.specs.OnlyRuns.{IsOnlyStep, EndAlike, FreshFrom}
+use Rattle.spec_forced.specs.OnlyRuns.{IsOnlyStep, OnlyRun, Meet, IsFork, EndAlike, FreshFrom}
 use Rattle.spec_forced.specs.Sound.{States, IsHonest}
 use Rattle.ts_table.specs.declared.view.ParseTable.{ParseTable}
 use Rattle.ts_table.specs.Tables.{IsTable, IsStateOf}
@@ -20,40 +20,45 @@ use Rattle.ts_table.specs.Ranks.{unit_rank, AreUnitRanks}
 use Rattle.ts_lexer.specs.declared.lexed.Lexed.{Lexed}
 use Rattle.ts_gss.specs.declared.layer.Layer.{Layer}
 use Rattle.ts_gss.specs.Stacks.{stack_at, trees_on, state_on}
-use Rattle.ts_moves.specs.declared.head.StackHead.{StackHead}
-use Rattle.ts_moves.specs.declared.found.FoundToken.{FoundToken}
-use Rattle.ts_moves.specs.Laws.{Laws}
-use Rattle.ts_moves.specs.Heads.{config_of}
+use Rattle.ts_steps.specs.declared.head.StackHead.{StackHead}
+use Rattle.ts_steps.specs.declared.found.FoundToken.{FoundToken}
+use Rattle.ts_steps.specs.MoveLaws.{Laws}
+use Rattle.ts_steps.specs.LiveHeads.{config_of}
 use Rattle.ts_steps.proofs.StackLemmas.{filling_bare, state_top, span_bare}
 use Rattle.ts_steps.specs.declared.reparsed.Reparsed.{Reparsed}
 use Rattle.ts_steps.specs.declared.reparsed.Reparsed.TheVariants.{Accepted, Stuck, Deep, Forks}
 use Rattle.ts_steps.specs.declared.reparsed.Going.{Going}
 use Rattle.ts_steps.specs.declared.reparsed.Going.TheVariants.{On, Reduced, Ended}
-use Rattle.ts_steps.specs.Laws.{SoundLaws, OnlyLaws}
+use Rattle.ts_steps.specs.Laws.{SoundLaws}
 use Rattle.ts_steps.specs.Looking.{SeesAhead}
 use Rattle.ts_steps.specs.Heads.{AreStatesOf, IsOwnHead, StandOnHead, IsTaken}
-use Rattle.ts_steps.specs.Reparsing.{StandsFor, IsResult, IsTakenFrom, EndsFrom, GoesTo}
+use Rattle.ts_steps.specs.Reparsing.{StandsFor, OnFork, IsResult, IsTakenFrom, EndsFrom, GoesTo}
 use Rattle.ts_steps.specs.Weights.{config_weight}
 use Rattle.ts_steps.proofs.TableLemmas.{state_after, valid_tokens}
 use Rattle.ts_steps.proofs.WeightLemmas.{light_step, light_node}
 
 -- ---- the moves
 
-pub stands_on : (alone : OnlyLaws) (t : ParseTable) (states : States) (text : Bytes) (old new : List (List Layer)) (h k : StackHead) → StandsFor t states text old h → IsOnlyStep t.grammar text (config_of old h) (config_of new k)
-    → (StandOnHead t states text old h → StandOnHead t states text new k) → StandsFor t states text new k
-stands_on alone t states text old new h k s step stand = record {
-  alike = alone.joined t.grammar text starting (config_of old h) (config_of new k) s.alike (alone.step t.grammar text (config_of old h) (config_of new k) step);
-  stand = stand s.stand;
-}
+-- for proofs alone: that the only runs from a configuration and from two others meet
+abbrev pub Joins : Type 0
+Joins = (g : FlatGrammar) (text : Bytes) (c d e : Configuration) → Meet g text c d → Meet g text d e → Meet g text c e
+
+module _ (joins : Joins) (alone : (g : FlatGrammar) (text : Bytes) (c d : Configuration) → IsOnlyStep g text c d → Meet g text c d) where
+  pub stands_on : (t : ParseTable) (states : States) (text : Bytes) (c : Configuration) (old new : List (List Layer)) (h k : StackHead) → StandsFor t states text c old h → IsOnlyStep t.grammar text (config_of old h) (config_of new k)
+      → (StandOnHead t states text old h → StandOnHead t states text new k) → StandsFor t states text c new k
+  stands_on t states text c old new h k s step stand = record {
+    meet = joins t.grammar text c (config_of old h) (config_of new k) s.meet (alone t.grammar text (config_of old h) (config_of new k) step);
+    stand = stand s.stand;
+  }
 
 abbrev pub Pushes : Type 0
 Pushes = (g : FlatGrammar) → Fit g → (text : Bytes) (c : Configuration) (t : Tree) (e : ℕ) (valid : List Symbol)
     → Stands g (stack_symbols c.stack) (drop c.place text) t e
     → AreValidTokens g (stack_symbols (bare t ∷ c.stack)) valid
-    → EndAlike g text c (pushed c (bare t))
+    → Meet g text c (pushed c (bare t))
 
-module _ (laws : Laws) (sound : SoundLaws) (alone : OnlyLaws) (push : Pushes) (t : ParseTable) (states : States) (text : Bytes) (old new : List (List Layer)) (h k : StackHead) (node : Tree) (table : IsTable t) (are : AreStatesOf t states) where
-  pub stands_taken : IsOwnHead t (length text) old h → StandsFor t states text old h → IsTakenFrom t (length text) old new h node k → IsHonest t.grammar states text h.place (state_on (stack_at old h.top)) node → StandsFor t states text new k
+module _ (laws : Laws) (sound : SoundLaws) (push : Pushes) (joins : Joins) (t : ParseTable) (states : States) (text : Bytes) (c : Configuration) (old new : List (List Layer)) (h k : StackHead) (node : Tree) (table : IsTable t) (are : AreStatesOf t states) where
+  pub stands_taken : IsOwnHead t (length text) old h → StandsFor t states text c old h → IsTakenFrom t (length text) old new h node k → IsHonest t.grammar states text h.place (state_on (stack_at old h.top)) node → StandsFor t states text c new k
   stands_taken own s w honest =
       let trees = trees_on (stack_at old h.top) in
       let read : stack_symbols (config_of old h).stack ≡ filling trees = filling_bare laws trees in
@@ -63,25 +68,37 @@ module _ (laws : Laws) (sound : SoundLaws) (alone : OnlyLaws) (push : Pushes) (t
       let v = sound.tokens t w.taken.state in
       let valid : AreValidTokens t.grammar (stack_symbols (bare node ∷ (config_of old h).stack)) v.0 =
       subst (λ (r : List ℕ). AreValidTokens t.grammar r v.0) (sym (filling_bare laws (node ∷ trees))) (valid_tokens laws t (filling (node ∷ trees)) w.taken.state v.0 table w.taken.can.leads v.1) in
-      let alike : EndAlike t.grammar text (config_of old h) (pushed (config_of old h) (bare node)) =
+      let meets : Meet t.grammar text (config_of old h) (pushed (config_of old h) (bare node)) =
       push t.grammar table.fit text (config_of old h) node (node_extent node) v.0 (subst (λ (r : List ℕ). Stands t.grammar r (drop h.place text) node (node_extent node)) (sym read) stands) valid in
       record {
-        alike = alone.joined t.grammar text starting (config_of old h) (config_of new k) s.alike (subst (λ (x : Configuration). EndAlike t.grammar text (config_of old h) x) (sym w.taken.config) alike);
+        meet = joins t.grammar text c (config_of old h) (config_of new k) s.meet (subst (λ (x : Configuration). Meet t.grammar text (config_of old h) x) (sym w.taken.config) meets);
         stand = w.stand states text refl are honest s.stand;
       }
 
 -- ---- the end
 
-module _ (alone : OnlyLaws) (fresh : (g : FlatGrammar) (text : Bytes) (c d : Configuration) → EndAlike g text c d → (o : FreshOutcome) → FreshFrom g text c o → FreshFrom g text d o) (start : (g : FlatGrammar) (text : Bytes) (o : FreshOutcome) → FreshFrom g text starting o ↔ Fresh g text o)
-    (t : ParseTable) (states : States) (text : Bytes) (old : List (List Layer)) (h : StackHead) (are : AreStatesOf t states) (s : StandsFor t states text old h) where
-  from_start : (o : FreshOutcome) → FreshFrom t.grammar text (config_of old h) o → Fresh t.grammar text o
-  from_start o f = (start t.grammar text o).0 (fresh t.grammar text (config_of old h) starting (alone.back t.grammar text starting (config_of old h) s.alike) o f)
+module _ (fresh : (g : FlatGrammar) (text : Bytes) (c d : Configuration) → EndAlike g text c d → (o : FreshOutcome) → FreshFrom g text c o → FreshFrom g text d o) (ends : (g : FlatGrammar) (text : Bytes) (c d : Configuration) → Meet g text c d → EndAlike g text c d)
+    (fork : (g : FlatGrammar) (text : Bytes) (c d : Configuration) → Meet g text c d → IsFork g text d → OnlyRun g text c d)
+    (t : ParseTable) (states : States) (text : Bytes) (first old new : List (List Layer)) (start h : StackHead) (are : AreStatesOf t states) (s : StandsFor t states text (config_of first start) old h) where
+  from_start : (o : FreshOutcome) → FreshFrom t.grammar text (config_of old h) o → FreshFrom t.grammar text (config_of first start) o
+  from_start o f = fresh t.grammar text (config_of old h) (config_of first start) (ends t.grammar text (config_of old h) (config_of first start) (s.meet.0, s.meet.2, s.meet.1)) o f
 
-  pub ends_result : (r : Reparsed) → EndsFrom t text old h r → IsResult t states text r
+  pub ends_result : (r : Reparsed) → EndsFrom t text old new h r → IsResult t states text first new start r
   ends_result (Accepted u) e = (from_start (tree_outcome u) e.0, e.4 states are s.stand)
   ends_result (Stuck place) e = from_start (stuck_outcome place) e
   ends_result Deep e = from_start deep_outcome e
-  ends_result (Forks place) e = tt
+  ends_result (Forks k) e =
+      let same : config_of old h ≡ config_of new k = ap (config_of old) (sym e.0) ∙ ap (λ (x : List (List Layer)). config_of x k) (sym e.1) in (
+        subst (λ (x : Configuration). OnlyRun t.grammar text (config_of first start) x) same (fork t.grammar text (config_of first start) (config_of old h) s.meet e.2),
+        subst (λ (x : List (List Layer)). StandOnHead t states text x k) (sym e.1) (subst (λ (x : StackHead). StandOnHead t states text old x) (sym e.0) s.stand),
+      )
+
+-- what is so of the last stack is so of the one at which several moves stay
+pub ends_fork : (t : ParseTable) (text : Bytes) (P : List (List Layer) → StackHead → Type 0) (old new : List (List Layer)) (h : StackHead) (r : Reparsed) → (IsFork t.grammar text (config_of old h) → P old h) → EndsFrom t text old new h r → OnFork (P new) r
+ends_fork t text P old new h (Accepted u) p e = tt
+ends_fork t text P old new h (Stuck place) p e = tt
+ends_fork t text P old new h Deep p e = tt
+ends_fork t text P old new h (Forks k) p e = subst (λ (x : List (List Layer)). P x k) (sym e.1) (subst (λ (x : StackHead). P old x) (sym e.0) (p e.2))
 
 -- ---- each move falls
 
@@ -137,9 +154,9 @@ pub goes_reduced_on : (t : ParseTable) (text : Bytes) (old mid new : List (List 
 goes_reduced_on t text old mid new h k f going kept is goes =
     subst (λ (s : List (List Layer)). GoesTo t text s new h (Reduced k f)) kept (subst (λ (x : Going). GoesTo t text mid new h x) is goes)
 
-pub ends_at : (t : ParseTable) (text : Bytes) (old mid new : List (List Layer)) (h : StackHead) (r : Reparsed) (going : Going) → mid ≡ old → going ≡ Ended r → GoesTo t text mid new h going → EndsFrom t text old h r
+pub ends_at : (t : ParseTable) (text : Bytes) (old mid new : List (List Layer)) (h : StackHead) (r : Reparsed) (going : Going) → mid ≡ old → going ≡ Ended r → GoesTo t text mid new h going → EndsFrom t text old new h r
 ends_at t text old mid new h r going kept is goes =
-    subst (λ (s : List (List Layer)). EndsFrom t text s h r) kept (subst (λ (x : Going). GoesTo t text mid new h x) is goes)
+    subst (λ (s : List (List Layer)). EndsFrom t text s new h r) kept (subst (λ (x : Going). GoesTo t text mid new h x) is goes)
 
 -- where no token is known nothing is said of one
 pub none_known : (P : FoundToken → Type 0) (f : FoundToken) → ◌≡◌ {A = Option FoundToken} None (Some f) → P f

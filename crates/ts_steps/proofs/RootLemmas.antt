@@ -11,8 +11,8 @@ use Rattle.spec_forced.specs.Sound.{States, IsSound, StandOnStack}
 use Rattle.ts_table.specs.declared.view.ParseTable.{ParseTable}
 use Rattle.ts_gss.specs.declared.layer.Layer.{Layer}
 use Rattle.ts_gss.specs.Stacks.{trees_on}
-use Rattle.ts_moves.specs.Laws.{Laws}
-use Rattle.ts_moves.specs.Good.{EachTree, IsGoodTree, AreGoodTrees}
+use Rattle.ts_steps.specs.MoveLaws.{Laws}
+use Rattle.ts_steps.specs.Good.{EachTree, IsGoodTree, AreGoodTrees}
 use Rattle.ts_steps.proofs.NodeLemmas.{over_layer, each_append, each_left, each_right, each_turned}
 use Rattle.ts_steps.proofs.AcceptLemmas.{Taken, whole, ready, same_accepted}
 use Rattle.ts_steps.specs.Laws.{SoundLaws}

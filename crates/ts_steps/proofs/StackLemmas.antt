@@ -19,9 +19,9 @@ use Rattle.ts_table.specs.declared.view.ParseTable.{ParseTable}
 use Rattle.ts_table.specs.Tables.{IsStateOf, at_first}
 use Rattle.ts_gss.specs.declared.layer.Layer.{Layer}
 use Rattle.ts_gss.specs.Stacks.{layer_with, stack_at, trees_on, state_on}
-use Rattle.ts_moves.specs.Laws.{Laws}
-use Rattle.ts_moves.specs.Good.{IsGoodTree}
-use Rattle.ts_moves.specs.Heads.{HaveStates, IsGoodStack, GainsStacks, CanLay}
+use Rattle.ts_steps.specs.MoveLaws.{Laws}
+use Rattle.ts_steps.specs.Good.{IsGoodTree}
+use Rattle.ts_steps.specs.LiveHeads.{HaveStates, IsGoodStack, GainsStacks, CanLay}
 use Rattle.ts_steps.proofs.NodeLemmas.{filling_extra, all_spans-append, end_by_wider, end_by_both}
 
 -- ---- stacks by their heads

@@ -1,5 +1,5 @@
 -- The states of a table: symbols that lead to them, their items and their valid tokens.
-use Rattle.std.proofs.Common.{◌≡◌, ◌∙◌, sym, ap, refl, subst, ℕ, zero, suc, ◌<◌, ◌≤◌, ◌⊎◌, inl, inr, ⊎_elim, Bool, true, false, nat_eq, List, [], ◌∷◌, ◌++◌, length, length-append, get_or, slice_get, Option, Some, None, arith}
+use Rattle.std.proofs.Common.{◌≡◌, ◌∙◌, sym, ap, refl, subst, ℕ, zero, suc, ◌+◌, ◌<◌, ◌≤◌, ◌⊎◌, inl, inr, ⊎_elim, Bool, true, false, nat_eq, List, [], ◌∷◌, ◌++◌, length, length-append, get_or, slice_get, Option, Some, None, arith}
 use Rattle.std.specs.List.{Contains}
 use Rattle.std.proofs.lemmas.Bool.{eq-eqb, eqb-true}
 use Rattle.std.proofs.lemmas.Option.{slice_get_within, slice_get-get_or}
@@ -19,7 +19,7 @@ use Rattle.spec_forced.specs.Sound.{States, IsStateAfter}
 use Rattle.ts_table.specs.declared.view.ParseTable.{ParseTable}
 use Rattle.ts_table.specs.Tables.{IsTable, IsStateOf, at_first, by_goto, goto_of, actions_of, ActsBy, shifts, reduces, accepts}
 use Rattle.ts_lexer.specs.States.{AreValid, IsValidToken, acts, extra}
-use Rattle.ts_moves.specs.Laws.{Laws}
+use Rattle.ts_steps.specs.MoveLaws.{Laws}
 use Rattle.ts_steps.specs.Heads.{AreStatesOf}
 
 -- ---- names of states
@@ -181,6 +181,45 @@ one_move laws t read n token a table st is = record {
       let w = action_of laws t read n token other table st act in
       sym w.2 ∙ ap move_by (in_one (actions_of t n token) w.0 a is w.1);
 }
+
+-- what tells moves apart
+abbrev code_by : Move → ℕ
+code_by shift = 0
+code_by (reduce number) = number + 2
+code_by accept = 1
+
+-- actions of one move are one
+one_action : (t : ParseTable) (read : List ℕ) (token : ℕ) (a b : Action) → IsTable t → ActsBy t read token a → ActsBy t read token b → move_by a ≡ move_by b → a ≡ b
+one_action t read token _ _ table (shifts m act st) (shifts n other so) e = ap (λ (k : ℕ). Shift k) (table.one (token ∷ read) m n st so)
+one_action t read token _ _ table (shifts m act st) (reduces n other) e = absurd (let h : 0 ≡ n + 2 = ap code_by e in omega (arith, h))
+one_action t read token _ _ table (shifts m act st) (accepts other) e = absurd (let h : 0 ≡ 1 = ap code_by e in omega (arith, h))
+one_action t read token _ _ table (reduces m act) (shifts n other so) e = absurd (let h : m + 2 ≡ 0 = ap code_by e in omega (arith, h))
+one_action t read token _ _ table (reduces m act) (reduces n other) e = let h : m + 2 ≡ n + 2 = ap code_by e in let q : m ≡ n = omega (arith, h) in ap (λ (k : ℕ). Reduce k) q
+one_action t read token _ _ table (reduces m act) (accepts other) e = absurd (let h : m + 2 ≡ 1 = ap code_by e in omega (arith, h))
+one_action t read token _ _ table (accepts act) (shifts n other so) e = absurd (let h : 1 ≡ 0 = ap code_by e in omega (arith, h))
+one_action t read token _ _ table (accepts act) (reduces n other) e = absurd (let h : 1 ≡ n + 2 = ap code_by e in omega (arith, h))
+one_action t read token _ _ table (accepts act) (accepts other) e = refl
+
+-- where the table has several actions two moves stay
+pub two_moves : (t : ParseTable) (read : List ℕ) (n token : ℕ) → IsTable t → IsStateOf t read n → 1 < length (actions_of t n token)
+    → (first : Move) × (second : Move) × Act t.grammar read token first × Act t.grammar read token second × (first ≡ second → ⊥)
+two_moves t read n token table st many = by (actions_of t n token) refl many
+  where
+    by : (xs : List Action) → actions_of t n token ≡ xs → 1 < length xs → (first : Move) × (second : Move) × Act t.grammar read token first × Act t.grammar read token second × (first ≡ second → ⊥)
+    by [] e lt = absurd (omega (arith, lt))
+    by (a ∷ []) e lt = absurd (omega (arith, lt))
+    by (a ∷ (b ∷ xs)) e lt =
+        let p : ActsBy t read token a = (table.actions read n token a st).0 (subst (λ (l : List Action). Contains l a) (sym e) (0, (omega arith), refl)) in
+        let q : ActsBy t read token b = (table.actions read n token b st).0 (subst (λ (l : List Action). Contains l b) (sym e) (1, (omega arith), refl)) in (
+          move_by a,
+          move_by b,
+          stays_by t read token a p,
+          stays_by t read token b q,
+          (λ same.
+              let one : a ≡ b = one_action t read token a b table p q same in
+              let places = table.once n token 0 1 a (ap (λ (l : List Action). slice_get l 0) e) (ap (λ (l : List Action). slice_get l 1) e ∙ ap Some (sym one)) in
+              omega (arith, places)),
+        )
 
 pub no_move : (laws : Laws) (t : ParseTable) (read : List ℕ) (n token : ℕ) → IsTable t → IsStateOf t read n → actions_of t n token ≡ [] → HasMove t.grammar read token → ⊥
 no_move laws t read n token table st is m =

@@ -21,7 +21,7 @@ use Rattle.spec_trees.specs.Made.{leaf_of, as_extra, node_over, element, made_by
 use Rattle.spec_runs.specs.Configurations.{Configuration, token_tree, pushed, NextIs, IsReduction}
 use Rattle.spec_runs.specs.Runs.{StepsOn, shift_token, pass_extra, reduce_trees}
 use Rattle.ts_table.specs.Ranks.{unit_rank, AreUnitRanks}
-use Rattle.ts_moves.specs.Laws.{Laws}
+use Rattle.ts_steps.specs.MoveLaws.{Laws}
 use Rattle.ts_steps.proofs.StackLemmas.{filling_extras, filling_append, filling_turned}
 use Rattle.ts_steps.specs.Weights.{weight, weight_of, last_of, config_weight}
 use Rattle.ts_steps.proofs.LookLemmas.{next_some}

@@ -1,4 +1,4 @@
--- What acceptance makes of the only stack.
+-- What acceptance makes of a stack.
 use Rattle.std.specs.Prelude.{◌≡◌, ℕ, suc, false, List, ◌∷◌, ◌++◌, reverse}
 use Rattle.spec_trees.specs.declared.tree.Tree.{Tree}
 use Rattle.spec_trees.specs.Trees.{is_extra_node}

@@ -1,4 +1,4 @@
--- Stacks whose trees stand: what is known of the only stack of a parser, and what is seen from it.
+-- Stacks whose trees stand: what is known of a stack of a parser, and what is seen from it.
 use Rattle.std.specs.Prelude.{◌≡◌, ℕ, ◌+◌, ◌≤◌, suc, Bool, true, if◌then◌else◌, List, ◌∷◌, length, drop, slice_get, Option, Some, None, IsTrue}
 use Rattle.std.proofs.Common.{is_some}
 use Rattle.ts_base.specs.Bytes.{Bytes}
@@ -17,10 +17,10 @@ use Rattle.ts_table.specs.declared.view.ParseTable.{ParseTable}
 use Rattle.ts_table.specs.Tables.{IsStateOf}
 use Rattle.ts_gss.specs.declared.layer.Layer.{Layer}
 use Rattle.ts_gss.specs.Stacks.{layer_with, stack_at, trees_on}
-use Rattle.ts_moves.specs.declared.head.StackHead.{StackHead}
-use Rattle.ts_moves.specs.declared.found.FoundToken.{FoundToken}
-use Rattle.ts_moves.specs.Good.{IsGoodTree, EachTree}
-use Rattle.ts_moves.specs.Heads.{config_of, IsLiveHead, read_on}
+use Rattle.ts_steps.specs.declared.head.StackHead.{StackHead}
+use Rattle.ts_steps.specs.declared.found.FoundToken.{FoundToken}
+use Rattle.ts_steps.specs.Good.{IsGoodTree, EachTree}
+use Rattle.ts_steps.specs.LiveHeads.{config_of, IsLiveHead, read_on}
 use Rattle.ts_steps.specs.declared.ahead.TokenAhead.{TokenAhead}
 
 -- ---- states

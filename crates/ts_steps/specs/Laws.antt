@@ -15,7 +15,7 @@ use Rattle.spec_trees.specs.Trees.{is_settled, state_of, node_extent, children_o
 use Rattle.spec_trees.specs.Made.{leaf_of, as_extra, reduced, accepted, step_symbols, most_depth}
 use Rattle.spec_runs.specs.Configurations.{Configuration, stack_symbols, pushed, token_tree, HasMove, NextIs, IsReduction, AreValidTokens, AreExtras}
 use Rattle.spec_forced.specs.Forced.{IsOnlyMove, IsDecided, Stands, StandInTurn, MakesNode}
-use Rattle.spec_forced.specs.OnlyRuns.{IsOnlyStep, EndAlike}
+use Rattle.spec_forced.specs.OnlyRuns.{IsOnlyStep}
 use Rattle.spec_forced.specs.Sound.{States, IsStateAfter, StandsForState, AllSound, IsSound, EachHasState, IsWholeSoFar, StandOnStack}
 use Rattle.ts_table.specs.declared.view.ParseTable.{ParseTable}
 use Rattle.ts_lexer.specs.States.{AreValid}
@@ -77,8 +77,7 @@ pub record SoundLaws : Type 0 where
       → Stands g read (drop place text) t (node_extent t)
   pub tokens : (t : ParseTable) (state : ℕ) → (valid : List Symbol) × AreValid t state valid
 
--- For proofs alone: laws of steps that are the only ones, and of configurations from which all runs
--- end alike.
+-- For proofs alone: laws of steps that are the only ones.
 pub record OnlyLaws : Type 0 where
   pub shifted : (g : FlatGrammar) (text : Bytes) (c : Configuration) (s : Symbol) (pad size : ℕ)
       → NextIs g text c (token s pad size) → IsOnlyMove g (stack_symbols c.stack) s.0 shift
@@ -93,9 +92,3 @@ pub record OnlyLaws : Type 0 where
       → IsOnlyMove g (stack_symbols c.stack) s.0 (reduce number)
       → IsReduction g number c.stack node after → tree_depth node ≤ most_depth
       → IsOnlyStep g text c (record { stack = after; place = c.place })
-  pub back : (g : FlatGrammar) (text : Bytes) (c d : Configuration) → EndAlike g text c d
-      → EndAlike g text d c
-  pub joined : (g : FlatGrammar) (text : Bytes) (c d e : Configuration)
-      → EndAlike g text c d → EndAlike g text d e → EndAlike g text c e
-  pub step : (g : FlatGrammar) (text : Bytes) (c d : Configuration)
-      → IsOnlyStep g text c d → EndAlike g text c d

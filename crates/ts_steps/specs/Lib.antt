@@ -1,4 +1,9 @@
+pub mod MoveLaws
 pub mod Laws
+pub mod Good
+pub mod Lines
+pub mod Making
+pub mod LiveHeads
 pub mod Heads
 pub mod Settings
 pub mod Looking

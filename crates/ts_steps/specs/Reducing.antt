@@ -10,7 +10,7 @@ use Rattle.spec_forced.specs.Sound.{EachHasState}
 use Rattle.ts_table.specs.declared.view.ParseTable.{ParseTable}
 use Rattle.ts_table.specs.Tables.{IsStateOf}
 use Rattle.ts_gss.specs.declared.layer.Layer.{Layer}
-use Rattle.ts_moves.specs.Heads.{IsGathered}
+use Rattle.ts_steps.specs.LiveHeads.{IsGathered}
 use Rattle.ts_steps.specs.declared.ahead.TokenAhead.{TokenAhead}
 use Rattle.ts_steps.specs.declared.gathering.Gathered.{Gathered}
 use Rattle.ts_steps.specs.Heads.{state_where}
@@ -24,8 +24,8 @@ pub record CoversMaking (extent ahead : ℕ) (children extras : List Tree) : Typ
   pub least : (limit : ℕ) → EndBy limit 0 children → EndBy limit (all_spans children) extras
       → all_spans children + (all_spans extras + ahead) ≤ limit → extent ≤ limit
 
--- No choice was made in making the node: its move is the only one, its production has steps, and
--- what it is made of has states, the extras behind its children among them.
+-- No choice was made in making the node: its move is said to be the only one, its production has
+-- steps, and what it is made of has states, the extras behind its children among them.
 pub record IsWithoutChoice (only : Bool) (steps : ℕ) (children extras : List Tree)
     : Type 0 where
   pub move : only ≡ true

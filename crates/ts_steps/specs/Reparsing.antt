@@ -1,27 +1,27 @@
 -- What a parse over one stack comes to.
-use Rattle.std.specs.Prelude.{◌≡◌, ℕ, ◌<◌, true, List, length, None}
+use Rattle.std.specs.Prelude.{◌≡◌, ℕ, ◌<◌, ◌≤◌, true, List, length, None}
 use Rattle.ts_base.specs.Bytes.{Bytes}
 use Rattle.ts_core.specs.declared.flat.FlatGrammar.{FlatGrammar}
 use Rattle.spec_trees.specs.declared.tree.Tree.{Tree}
 use Rattle.spec_trees.specs.Trees.{children_of, is_settled, state_of, span_of}
 use Rattle.spec_trees.specs.Choice.{IsInForm}
-use Rattle.spec_runs.specs.Configurations.{starting, HasMove}
-use Rattle.spec_runs.specs.Outcomes.{Fresh, deep_outcome, tree_outcome, stuck_outcome}
-use Rattle.spec_forced.specs.OnlyRuns.{IsOnlyStep, EndAlike, FreshFrom}
+use Rattle.spec_runs.specs.Configurations.{Configuration, HasMove}
+use Rattle.spec_runs.specs.Outcomes.{deep_outcome, tree_outcome, stuck_outcome}
+use Rattle.spec_forced.specs.OnlyRuns.{IsOnlyStep, OnlyRun, Meet, IsFork, FreshFrom}
 use Rattle.spec_forced.specs.Sound.{States, IsSound, IsHonest}
 use Rattle.ts_table.specs.declared.view.ParseTable.{ParseTable}
-use Rattle.ts_table.specs.Tables.{actions_of}
 use Rattle.ts_gss.specs.declared.layer.Layer.{Layer}
 use Rattle.ts_gss.specs.Stacks.{stack_at, state_on}
-use Rattle.ts_moves.specs.declared.head.StackHead.{StackHead}
-use Rattle.ts_moves.specs.Good.{EachTree}
-use Rattle.ts_moves.specs.Heads.{config_of, read_on}
+use Rattle.ts_steps.specs.declared.head.StackHead.{StackHead}
+use Rattle.ts_steps.specs.Good.{EachTree}
+use Rattle.ts_steps.specs.LiveHeads.{config_of, read_on}
 use Rattle.ts_steps.specs.declared.reparsed.Reparsed.{Reparsed}
 use Rattle.ts_steps.specs.declared.reparsed.Reparsed.TheVariants.{Accepted, Stuck, Deep, Forks}
 use Rattle.ts_steps.specs.declared.reparsed.Going.{Going}
 use Rattle.ts_steps.specs.declared.reparsed.Going.TheVariants.{On, Reduced, Ended}
 use Rattle.ts_steps.specs.Heads.{AreStatesOf, IsOwnWithin, IsOwnHead, StandOnHead, IsTaken}
 use Rattle.ts_steps.specs.Looking.{IsTokenAhead}
+use Rattle.ts_steps.specs.Weights.{config_weight}
 
 -- a node that may be offered: a settled one with bytes, which a parser of the grammar made
 pub record IsOffered (g : FlatGrammar) (t : Tree) : Type 0 where
@@ -34,34 +34,49 @@ abbrev pub AreHonest : FlatGrammar → States → Bytes → (ℕ → ℕ → Tre
 AreHonest g states text Gives =
     (place state : ℕ) (t : Tree) → Gives place state t → IsHonest g states text place state t
 
--- For proofs alone: all runs of the text end from the stack of the head as from the start, and its
+-- For proofs alone: the only runs from a configuration and from the stack of the head meet, and its
 -- trees stand.
-pub record StandsFor (t : ParseTable) (states : States) (text : Bytes) (stacks : List (List Layer))
-    (h : StackHead) : Type 0 where
-  pub alike : EndAlike t.grammar text starting (config_of stacks h)
+pub record StandsFor (t : ParseTable) (states : States) (text : Bytes) (c : Configuration)
+    (stacks : List (List Layer)) (h : StackHead) : Type 0 where
+  pub meet : Meet t.grammar text c (config_of stacks h)
   pub stand : StandOnHead t states text stacks h
 
--- on some token of some state the table has several actions
-abbrev pub HasChoice : ParseTable → Type 0
-HasChoice t = (state : ℕ) × (token : ℕ) × (1 < length (actions_of t state token))
+-- where several moves stay, this is so of the stack there
+abbrev pub OnFork : (StackHead → Type 0) → Reparsed → Type 0
+OnFork P (Accepted u) = Unit {0}
+OnFork P (Stuck place) = Unit {0}
+OnFork P Deep = Unit {0}
+OnFork P (Forks k) = P k
+
+-- Several moves stay at the stack. It is one that a parser made, and weighs no more than the one
+-- from which it began.
+pub record IsForkFrom (t : ParseTable) (text : Bytes) (old new : List (List Layer))
+    (h k : StackHead) : Type 0 where
+  pub own : IsOwnHead t (length text) new k
+  pub weight : config_weight t.grammar (length text) (config_of new k)
+      ≤ config_weight t.grammar (length text) (config_of old h)
+  pub fork : IsFork t.grammar text (config_of new k)
 
 -- What is so of the result, whatever was offered: a tree is one that a parser of the grammar made,
--- and its root has no state; and the table has a choice where one is told.
+-- and its root has no state.
 abbrev pub IsOwnResult : ParseTable → Reparsed → Type 0
 IsOwnResult t (Accepted u) =
     IsInForm t.grammar u × EachTree (IsOwnWithin t.grammar) (children_of u) × (state_of u ≡ None)
 IsOwnResult t (Stuck place) = Unit {0}
 IsOwnResult t Deep = Unit {0}
-IsOwnResult t (Forks place) = HasChoice t
+IsOwnResult t (Forks k) = Unit {0}
 
--- What the text comes to: the fresh outcome, with a tree that is sound. Where several moves stay,
--- nothing is said.
-abbrev pub IsResult : ParseTable → States → Bytes → Reparsed → Type 0
-IsResult t states text (Accepted u) =
-    Fresh t.grammar text (tree_outcome u) × IsSound t.grammar states text u
-IsResult t states text (Stuck place) = Fresh t.grammar text (stuck_outcome place)
-IsResult t states text Deep = Fresh t.grammar text deep_outcome
-IsResult t states text (Forks place) = Unit {0}
+-- What all runs from the stack of the head come to, with a tree that is sound. Where several moves
+-- stay, they all lead to that stack by one way, and its trees stand.
+abbrev pub IsResult : ParseTable → States → Bytes → List (List Layer) → List (List Layer)
+    → StackHead → Reparsed → Type 0
+IsResult t states text old new h (Accepted u) =
+    FreshFrom t.grammar text (config_of old h) (tree_outcome u) × IsSound t.grammar states text u
+IsResult t states text old new h (Stuck place) =
+    FreshFrom t.grammar text (config_of old h) (stuck_outcome place)
+IsResult t states text old new h Deep = FreshFrom t.grammar text (config_of old h) deep_outcome
+IsResult t states text old new h (Forks k) =
+    OnlyRun t.grammar text (config_of old h) (config_of new k) × StandOnHead t states text new k
 
 -- ---- under way. It serves private clauses and proofs alone.
 
@@ -74,17 +89,19 @@ pub record IsTakenFrom (t : ParseTable) (size : ℕ) (old new : List (List Layer
       → IsHonest t.grammar states text h.place (state_on (stack_at old h.top)) node
       → StandOnHead t states text old h → StandOnHead t states text new k
 
--- what the end of a parse at a stack comes to
-abbrev pub EndsFrom : ParseTable → Bytes → List (List Layer) → StackHead → Reparsed → Type 0
-EndsFrom t text old h (Accepted u) =
+-- What the end of a parse at a stack comes to. Where several moves stay, all stacks do.
+abbrev pub EndsFrom : ParseTable → Bytes → List (List Layer) → List (List Layer) → StackHead
+    → Reparsed → Type 0
+EndsFrom t text old new h (Accepted u) =
     FreshFrom t.grammar text (config_of old h) (tree_outcome u) × IsInForm t.grammar u
     × EachTree (IsOwnWithin t.grammar) (children_of u) × (state_of u ≡ None)
     × ((states : States) → AreStatesOf t states → StandOnHead t states text old h
     → IsSound t.grammar states text u)
-EndsFrom t text old h (Stuck place) =
+EndsFrom t text old new h (Stuck place) =
     FreshFrom t.grammar text (config_of old h) (stuck_outcome place)
-EndsFrom t text old h Deep = FreshFrom t.grammar text (config_of old h) deep_outcome
-EndsFrom t text old h (Forks place) = HasChoice t
+EndsFrom t text old new h Deep = FreshFrom t.grammar text (config_of old h) deep_outcome
+EndsFrom t text old new h (Forks k) =
+    (k ≡ h) × (new ≡ old) × IsFork t.grammar text (config_of old h)
 
 -- a move of the only stack that is the only step leads from one head to another
 pub record LeadsOn (t : ParseTable) (text : Bytes) (old new : List (List Layer)) (h k : StackHead)
@@ -101,4 +118,4 @@ abbrev pub GoesTo : ParseTable → Bytes → List (List Layer) → List (List La
 GoesTo t text old new h (On k) = LeadsOn t text old new h k
 GoesTo t text old new h (Reduced k f) = LeadsOn t text old new h k
     × (HasMove t.grammar (read_on new k) f.token.0 → IsTokenAhead t text new k f)
-GoesTo t text old new h (Ended r) = EndsFrom t text old h r
+GoesTo t text old new h (Ended r) = EndsFrom t text old new h r

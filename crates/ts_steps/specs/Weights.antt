@@ -1,5 +1,5 @@
--- Why a parse over one stack ends: a number that falls with each step. It serves private clauses
--- and proofs alone.
+-- Why a parse ends: a number of a stack that falls with each step. It serves proofs, also those of
+-- the parser of all readings.
 use Rattle.std.specs.Prelude.{ℕ, ◌+◌, ◌-◌, ◌*◌, List, [], ◌∷◌, length, Option, Some, None}
 use Rattle.ts_core.specs.declared.flat.FlatGrammar.{FlatGrammar}
 use Rattle.spec_grammar.specs.Symbols.{symbol_count}

@@ -1,5 +1,5 @@
-//! Acceptance: the only stack, with the start rule alone on it, goes in, and its root with all
-//! extras comes out.
+//! Acceptance: a stack with the start rule alone on it goes in, and its root with all extras comes
+//! out.
 ghost use Rattle.std.specs.Prelude.{◌≡◌, ◌≤◌, ℕ, length, IfOk, None};
 ghost use Rattle.ts_base.specs.Bytes.{Bytes};
 ghost use Rattle.spec_tables.specs.Actions.{Act, accept as accepting_on};
@@ -7,21 +7,21 @@ ghost use Rattle.spec_trees.specs.Trees.{bare, children_of, span_of, state_of};
 ghost use Rattle.spec_trees.specs.Choice.{IsInForm};
 ghost use Rattle.spec_forced.specs.Sound.{States, IsSound};
 ghost use Rattle.ts_gss.specs.Stacks.{stack_at, trees_on};
-ghost use Rattle.ts_moves.specs.Good.{EachTree};
-ghost use Rattle.ts_moves.specs.Heads.{config_of, read_on, IsRootOf};
+ghost use Rattle.ts_steps.specs.Good.{EachTree};
+ghost use Rattle.ts_steps.specs.LiveHeads.{config_of, read_on, IsRootOf};
 ghost use Rattle.ts_steps.specs.Accepting.{IsWholeRoot};
 ghost use Rattle.ts_steps.specs.Settings.{IsParseSetting};
 ghost use Rattle.ts_steps.specs.Heads.{AreStatesOf, IsOwnWithin, IsOwnHead, StandOnHead};
 
+use crate::head::StackHead;
 use crate::laws::{laws_hold, sound_laws_hold};
 use crate::setting::ParseSetting;
 use std::alloc::{AllocError, Global};
 use ts_gss::{Graph, Lifted};
-use ts_moves::StackHead;
 use ts_node::{Node, accept as accepted_root};
 use ts_table::Table;
 
-/// The accepted root of the only stack: the extras before and after it are its children too. It
+/// The accepted root of a stack: the extras before and after it are its children too. It
 /// examined the whole text, and its end, and has no state.
 ///
 /// # Errors

@@ -1,8 +1,9 @@
-//! The token that a stack sees, and whether a parser has a choice there.
+//! The token that a stack sees, and whether it is said that a parser has no choice there.
 
-use ts_moves::FoundToken;
+use crate::found::FoundToken;
 
-/// A token that was found, and whether one move alone stays on it.
+/// A token that was found, and whether one move alone is said to stay on it: a node that is made
+/// then may have a state.
 #[derive(Clone, Copy, Debug, PartialEq, Eq)]
 pub struct TokenAhead {
     pub found: FoundToken,

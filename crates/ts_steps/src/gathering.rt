@@ -5,14 +5,14 @@ ghost use Rattle.spec_trees.specs.Made.{most_span};
 ghost use Rattle.spec_forced.specs.Sound.{EachHasState};
 ghost use Rattle.ts_table.specs.declared.view.ParseTable.{ParseTable};
 ghost use Rattle.ts_gss.specs.Stacks.{stack_at};
-ghost use Rattle.ts_moves.specs.Heads.{IsLiveHead, read_on};
+ghost use Rattle.ts_steps.specs.LiveHeads.{IsLiveHead, read_on};
 ghost use Rattle.ts_steps.specs.Reducing.{IsGatheredBy};
 
+use crate::head::StackHead;
 use crate::making::{extent_over, have_states};
 use std::alloc::{AllocError, Global};
 use ts_core::List;
 use ts_gss::{Graph, Lifted, Taken};
-use ts_moves::StackHead;
 use ts_node::Node;
 
 /// What a reduction takes off a stack: the extras on top, the lowest first; the children; how many

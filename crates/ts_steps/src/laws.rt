@@ -1,18 +1,23 @@
 //! The laws that the moves rest on. No value goes in or out.
-ghost use Rattle.std.specs.Prelude.{◌≡◌, ℕ, List};
+ghost use Rattle.std.specs.Prelude.{◌≡◌, ◌<◌, ◌≤◌, ℕ, List, length};
+ghost use Rattle.ts_base.specs.Bytes.{Bytes};
+ghost use Rattle.ts_core.specs.declared.flat.FlatGrammar.{FlatGrammar};
 ghost use Rattle.ts_core.specs.declared.symbol.Symbol.{Symbol as AnySymbol};
-ghost use Rattle.spec_runs.specs.Configurations.{AreValidTokens};
+ghost use Rattle.spec_tables.specs.Fit.{Fit};
+ghost use Rattle.spec_runs.specs.Configurations.{Configuration, AreValidTokens};
+ghost use Rattle.spec_runs.specs.Runs.{StepsOn};
 ghost use Rattle.spec_forced.specs.Sound.{States, IsStateAfter};
 ghost use Rattle.ts_table.specs.declared.view.ParseTable.{ParseTable};
 ghost use Rattle.ts_table.specs.Tables.{IsTable, IsStateOf};
 ghost use Rattle.ts_lexer.specs.States.{AreValid};
-ghost use Rattle.ts_moves.specs.Laws.{Laws};
+ghost use Rattle.ts_steps.specs.MoveLaws.{Laws};
 ghost use Rattle.ts_steps.specs.Laws.{OnlyLaws, SoundLaws};
 ghost use Rattle.ts_steps.specs.Heads.{AreStatesOf};
+ghost use Rattle.ts_steps.specs.Weights.{config_weight};
 
 use spec_forced::{
-    ends_stay_alike, leaves_stand, lexings_are_decided, nodes_stand, one_move_is_one_step,
-    stacks_stay_sound, states_tell,
+    leaves_stand, lexings_are_decided, nodes_stand, one_move_is_one_step, stacks_stay_sound,
+    states_tell,
 };
 use spec_lexing::{beginnings, fewer_tokens, one_answer, token_within};
 use spec_reuse::{no_new_tokens, some_move_stays};
@@ -21,6 +26,7 @@ use spec_runs::{
     repetitions_repeat, start_is_no_repetition,
 };
 use ts_lexer::tokens_of_states;
+use ts_table::unit_ranks;
 
 /// The laws of moves hold.
 pub(crate) fn laws_hold()
@@ -37,12 +43,11 @@ pub(crate) fn laws_hold()
     token_within();
 }
 
-/// The laws of runs without a choice hold.
+/// The laws of steps that are the only ones hold.
 pub(crate) fn only_laws_hold()
     ensures { OnlyLaws }
 {
     one_move_is_one_step();
-    ends_stay_alike();
 }
 
 /// The laws of nodes that stand hold.
@@ -64,6 +69,16 @@ pub fn states_are_named()
     ensures after { (t : ParseTable) (states : States) (read : List ℕ) (state : ℕ) → IsTable t
         → AreStatesOf t states → IsStateOf t read state → IsStateAfter t.grammar states state read }
 {}
+
+/// Each step makes a configuration lighter.
+pub fn steps_fall()
+    ensures { (g : FlatGrammar) → Fit g → (text : Bytes) (c e : Configuration)
+        → c.place ≤ length text → StepsOn g text c e
+        → config_weight g (length text) e < config_weight g (length text) c }
+{
+    laws_hold();
+    unit_ranks();
+}
 
 /// The valid tokens of a state are those that are valid after all symbols that lead to it.
 pub fn tokens_are_known()

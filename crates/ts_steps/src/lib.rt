@@ -1,13 +1,17 @@
-//! The moves of a parser on its only stack, which keep what is known of its nodes: a token, an
-//! extra, the number of a production, a node of an old tree, or acceptance goes in; the new stack
-//! or the accepted root comes out. Each node has the state below it, where no choice of moves was
-//! made in making it, and how many bytes were examined for all of that. `reparse` is the parser
-//! over that stack: a text and offered nodes go in; what the text comes to comes out.
+//! The moves of a parser on one of its stacks, which keep what is known of its nodes: a token, an
+//! extra, the number of a production, a node of an old tree, or acceptance goes in; the new stack,
+//! the accepted root, or that a node would be too deep comes out. The stack that was there stays,
+//! but where it is reduced alone. A node has the state below it where its caller says that its move
+//! is the only one and all that it is made of has states, and how many bytes were examined for all
+//! of that. `reparse` is the parser over one stack: a text and offered nodes go in; what the text
+//! comes to comes out, or the stack at which several moves stay.
 #![tactic(auto)]
 
 mod accepting;
 mod ahead;
+mod found;
 mod gathering;
+mod head;
 mod laws;
 mod lines;
 mod looking;
@@ -22,7 +26,9 @@ mod taking;
 
 pub use accepting::accept;
 pub use ahead::TokenAhead;
-pub use laws::{states_are_named, tokens_are_known};
+pub use found::FoundToken;
+pub use head::StackHead;
+pub use laws::{states_are_named, steps_fall, tokens_are_known};
 pub use looking::look;
 pub use reducing::reduce;
 pub use reparsed::Reparsed;

@@ -1,10 +1,9 @@
 //! The productions of a grammar by their numbers: the grammar goes in, and for each production its
 //! rule, its number of steps, and whether it lengthens a repetition come out.
-ghost use Rattle.std.specs.Prelude.{◌≡◌, ◌+◌, ◌<◌, ◌≤◌, ◌^◌, suc, length, map, take, slice_get, Some, IfOk, OnOk, if◌then◌else◌};
+ghost use Rattle.std.specs.Prelude.{◌≡◌, ◌+◌, ◌<◌, ◌≤◌, ◌^◌, suc, length, take, slice_get, Some, IfOk, OnOk, if◌then◌else◌};
 ghost use Rattle.spec_grammar.specs.Symbols.{all_productions, symbol_count, count_productions};
 ghost use Rattle.spec_trees.specs.Made.{repetition_form, of_rule};
-ghost use Rattle.ts_moves.specs.Lines.{IsLine, HasAllLines, AreLinesUpTo, lengthens_by};
-ghost use Rattle.ts_steps.specs.Settings.{line_of, lines_of_all};
+ghost use Rattle.ts_steps.specs.Lines.{IsLine, HasAllLines, AreLinesUpTo, lengthens_by};
 
 use std::alloc::{AllocError, Global};
 use ts_core::{FlatGrammar, FlatRule, List, Symbol};
@@ -26,7 +25,7 @@ pub(crate) fn lines_of(
 ) -> Result<List<ProductionLine>, AllocError>
     requires symbols { symbol_count flat.now ≤ 2 ^ 16 }
     requires productions { length (all_productions flat.now) < 2 ^ 32 }
-    ensures { IfOk result (λ lines. HasAllLines flat.now (lines_of_all lines)) }
+    ensures { IfOk result (λ lines. HasAllLines flat.now lines) }
 {
     let mut lines = List::new(alloc);
     for r in 0..flat.rules.len() {
@@ -45,10 +44,9 @@ fn add_rule(
     requires rule { r < length flat.now.rules }
     requires symbols { symbol_count flat.now ≤ 2 ^ 16 }
     requires productions { length (all_productions flat.now) < 2 ^ 32 }
-    requires before { AreLinesUpTo flat.now (count_productions (take r flat.now.rules))
-        (lines_of_all lines.old) }
-    ensures { OnOk result (AreLinesUpTo flat.now
-        (count_productions (take (suc r) flat.now.rules)) (lines_of_all lines.new)) }
+    requires before { AreLinesUpTo flat.now (count_productions (take r flat.now.rules)) lines.old }
+    ensures { OnOk result
+        (AreLinesUpTo flat.now (count_productions (take (suc r) flat.now.rules)) lines.new) }
 {
     let rule = flat.rules.get(r);
     for i in 0..rule.productions.len() {
@@ -62,7 +60,7 @@ fn line_at(flat: &FlatGrammar, r: usize, rule: &FlatRule, i: usize) -> Productio
     requires rule { slice_get flat.now.rules r ≡ Some rule.now }
     requires production { i < length rule.now.productions }
     requires symbols { symbol_count flat.now ≤ 2 ^ 16 }
-    ensures { IsLine flat.now (count_productions (take r flat.now.rules) + i) (line_of result) }
+    ensures { IsLine flat.now (count_productions (take r flat.now.rules) + i) result }
 {
     let left = Symbol((flat.tokens.len() + 1 + r) as u16);
     let count = rule.productions.len();

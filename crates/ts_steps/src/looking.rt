@@ -1,14 +1,14 @@
-//! What the only stack sees: the lexer, the text and the head go in; the token that is found there,
+//! What a stack sees: the lexer, the text and the head go in; the token that is found there,
 //! or the place where none is, comes out.
 ghost use Rattle.std.specs.Prelude.{◌≡◌, ◌+◌, ◌-◌, ◌^◌, min, length};
 ghost use Rattle.ts_lexer.specs.Answers.{extent_of};
 ghost use Rattle.ts_steps.specs.Heads.{IsOwnHead};
 ghost use Rattle.ts_steps.specs.Looking.{SeesAhead, IsExtentAhead};
 
+use crate::head::StackHead;
 use crate::laws::{laws_hold, sound_laws_hold};
 use ts_gss::Graph;
 use ts_lexer::{Lexed, Tokens};
-use ts_moves::StackHead;
 use ts_table::Table;
 
 /// What is lexed where a stack stands, among the tokens that are valid in its state. The bytes that

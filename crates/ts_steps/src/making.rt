@@ -5,9 +5,9 @@ ghost use Rattle.ts_core.specs.declared.flat.Production.{Production};
 ghost use Rattle.spec_trees.specs.Trees.{all_spans, greatest_depth, tree_depth};
 ghost use Rattle.spec_trees.specs.Made.{EndBy, form_of, most_depth, reduced};
 ghost use Rattle.spec_forced.specs.Sound.{EachHasState};
-ghost use Rattle.ts_moves.specs.Lines.{lengthens_by};
-ghost use Rattle.ts_moves.specs.Good.{CanReduce};
-ghost use Rattle.ts_moves.specs.Making.{depth_when};
+ghost use Rattle.ts_steps.specs.Lines.{lengthens_by};
+ghost use Rattle.ts_steps.specs.Good.{CanReduce};
+ghost use Rattle.ts_steps.specs.Making.{depth_when};
 
 use crate::laws::laws_hold;
 use crate::setting::ParseSetting;

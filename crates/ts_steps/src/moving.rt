@@ -13,6 +13,8 @@ ghost use Rattle.ts_steps.specs.Reparsing.{GoesTo};
 
 use crate::accepting::accept;
 use crate::ahead::TokenAhead;
+use crate::found::FoundToken;
+use crate::head::StackHead;
 use crate::laws::{laws_hold, only_laws_hold, sound_laws_hold};
 use crate::reducing::reduce;
 use crate::reparsed::{Going, Reparsed};
@@ -23,7 +25,6 @@ use std::alloc::{AllocError, Global};
 use ts_core::Action;
 use ts_gss::Graph;
 use ts_lexer::Lexed;
-use ts_moves::{FoundToken, StackHead};
 use ts_table::Table;
 
 /// How many actions there are: none, one alone, or several.
@@ -78,7 +79,7 @@ fn act(
             Ok(Going::On(next))
         }
         Action::Reduce(number) => {
-            match reduce(alloc, table, setting, graph, head, number, ahead)? {
+            match reduce(alloc, table, setting, graph, head, number, ahead, true)? {
                 Some(next) => Ok(Going::Reduced(next, found)),
                 None => Ok(Going::Ended(Reparsed::Deep)),
             }
@@ -119,7 +120,7 @@ fn follow(
             let going = act(alloc, table, setting, graph, head, found, action)?;
             Ok(going)
         }
-        Choice::Several => Ok(Going::Ended(Reparsed::Forks(head.place))),
+        Choice::Several => Ok(Going::Ended(Reparsed::Forks(head))),
     }
 }
 

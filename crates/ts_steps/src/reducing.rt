@@ -1,6 +1,6 @@
-//! Reductions of the only stack: the number of a production goes in, and the head of the new stack
-//! comes out, or that the node is too deep.
-ghost use Rattle.std.specs.Prelude.{◌≡◌, ℕ, ◌+◌, ◌<◌, ◌≤◌, ◌∷◌, ◌++◌, ◌↔◌, suc, true, List, length, reverse, IfOk, IfSome, IsTrue, None, OnOk};
+//! Reductions of a stack: the number of a production goes in, and the head of the new stack comes
+//! out, or that the node is too deep.
+ghost use Rattle.std.specs.Prelude.{◌≡◌, ℕ, ◌+◌, ◌<◌, ◌≤◌, ◌∷◌, ◌++◌, ◌↔◌, suc, false, true, List, length, reverse, IfOk, IfSome, IsTrue, None, OnOk};
 ghost use Rattle.ts_base.specs.Bytes.{Bytes};
 ghost use Rattle.spec_tables.specs.Actions.{Act, reduce as reducing_by};
 ghost use Rattle.spec_trees.specs.Trees.{all_spans, span_of};
@@ -10,13 +10,14 @@ ghost use Rattle.spec_forced.specs.Sound.{States};
 ghost use Rattle.ts_table.specs.declared.view.ParseTable.{ParseTable};
 ghost use Rattle.ts_table.specs.Tables.{IsStateOf};
 ghost use Rattle.ts_gss.specs.Stacks.{stack_at, trees_on};
-ghost use Rattle.ts_moves.specs.Heads.{IsGoodStack, read_on, GainsStacks, CanLay, CanPut, IsReducedTo};
+ghost use Rattle.ts_steps.specs.LiveHeads.{IsGoodStack, read_on, GainsStacks, CanLay, CanPut, IsReducedTo};
 ghost use Rattle.ts_steps.specs.Settings.{IsParseSetting};
 ghost use Rattle.ts_steps.specs.Heads.{AreStatesOf, IsOwnHead, StandOnHead, IsMoveAhead};
 ghost use Rattle.ts_steps.specs.Reducing.{IsNodePut};
 
 use crate::ahead::TokenAhead;
 use crate::gathering::{Gathered, gather};
+use crate::head::StackHead;
 use crate::laws::{laws_hold, sound_laws_hold};
 use crate::making::node_of;
 use crate::setting::ParseSetting;
@@ -24,7 +25,6 @@ use crate::shifting::state_below;
 use std::alloc::{AllocError, Global};
 use ts_core::Symbol;
 use ts_gss::Graph;
-use ts_moves::StackHead;
 use ts_node::Node;
 use ts_table::Table;
 
@@ -96,9 +96,21 @@ fn is_without_choice(only: bool, stated: bool, steps: usize) -> bool
     only && stated && steps > 0
 }
 
-/// Reduces the only stack by the production of a number, in place: all stacks of the graph that
-/// were put there after the one below the node are taken out. None where the node would be deeper
-/// than a node may be; it is not made then.
+/// Takes out all stacks of the graph that were put there after this one, if it is alone.
+fn cut_alone(graph: &mut Graph, below: usize, alone: bool)
+    requires { below < length graph.old }
+    ensures there { below < length graph.new }
+    ensures stack { stack_at graph.new below ≡ stack_at graph.old below }
+    ensures kept { alone ≡ false → graph.new ≡ graph.old }
+{
+    if alone {
+        graph.cut(below);
+    }
+}
+
+/// Reduces a stack by the production of a number. Where it is alone this is done in place: all
+/// stacks of the graph that were put there after the one below the node are taken out. Else all
+/// stacks stay. None where the node would be deeper than a node may be; it is not made then.
 ///
 /// # Errors
 ///
@@ -111,6 +123,7 @@ pub fn reduce(
     head: StackHead,
     number: u32,
     ahead: TokenAhead,
+    alone: bool,
 ) -> Result<Option<StackHead>, AllocError>
     requires setting { IsParseSetting table.now setting.now.size setting.now }
     requires live { IsOwnHead table.now setting.now.size graph.old head }
@@ -118,6 +131,7 @@ pub fn reduce(
         × Act table.now.grammar (read_on graph.old head) token (reducing_by number) }
     requires some { 0 < ahead.found.extent }
     requires ahead { head.place + ahead.found.extent ≤ suc setting.now.size }
+    ensures grows { alone ≡ false → OnOk result (GainsStacks graph.old graph.new) }
     ensures done { IfOk result (λ o. IsReducedTo table.now setting.now.size number graph.old
         graph.new head o) }
     ensures kept { IfOk result (λ o. o ≡ None → graph.new ≡ graph.old) }
@@ -155,7 +169,7 @@ pub fn reduce(
     )? {
         None => Ok(None),
         Some(node) => {
-            graph.cut(below);
+            cut_alone(graph, below, alone);
             let top = put(table, graph, below, line.left, node, extras.as_slice())?;
             Ok(Some(StackHead {
                 top,

@@ -1,9 +1,10 @@
 //! What a parse over one stack comes to.
 
-use ts_moves::{FoundToken, StackHead};
+use crate::found::FoundToken;
+use crate::head::StackHead;
 use ts_node::Node;
 
-/// What a text comes to for a parser that keeps one stack alone.
+/// What a parse over one stack comes to.
 #[derive(Drop)]
 pub enum Reparsed {
     /// The tree that is accepted.
@@ -12,9 +13,8 @@ pub enum Reparsed {
     Stuck(u32),
     /// A node would be deeper than 1,000.
     Deep,
-    /// Several moves stay on the token behind this place, in bytes: what the text comes to rests on
-    /// all of them.
-    Forks(u32),
+    /// Several moves stay on the token that this stack sees.
+    Forks(StackHead),
 }
 
 /// What a move comes to: the next stack, or the end of the parse.

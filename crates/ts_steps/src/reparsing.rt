@@ -1,30 +1,33 @@
 //! Parsing a text over one stack, with nodes of an old tree that are offered: the table, the lexer,
-//! the text and the offers go in; what the text comes to comes out, or that several moves stay.
-ghost use Rattle.std.specs.Prelude.{◌≡◌, ℕ, ◌<◌, ◌≤◌, true, Some, None, IfOk, IfSome, length};
+//! the text, the offers and a stack go in; what the text comes to from there comes out, or the
+//! stack at which several moves stay.
+ghost use Rattle.std.specs.Prelude.{◌≡◌, ℕ, ◌<◌, ◌≤◌, true, Some, None, IfOk, IfSome, OnOk, length};
 ghost use Rattle.spec_trees.specs.declared.tree.Tree.{Tree};
 ghost use Rattle.spec_trees.specs.Made.{most_span};
 ghost use Rattle.spec_forced.specs.Sound.{States};
 ghost use Rattle.spec_runs.specs.Configurations.{HasMove};
 ghost use Rattle.ts_gss.specs.Stacks.{stack_at, state_on};
-ghost use Rattle.ts_moves.specs.declared.found.FoundToken.{FoundToken as AnyFound};
-ghost use Rattle.ts_moves.specs.Heads.{read_on};
+ghost use Rattle.ts_steps.specs.declared.found.FoundToken.{FoundToken as AnyFound};
+ghost use Rattle.ts_steps.specs.LiveHeads.{read_on};
 ghost use Rattle.ts_table.specs.Tables.{actions_of};
-ghost use Rattle.ts_steps.specs.Heads.{AreStatesOf, IsOwnHead};
+ghost use Rattle.ts_steps.specs.Settings.{IsParseSetting};
+ghost use Rattle.ts_steps.specs.Heads.{AreStatesOf, IsOwnHead, StandOnHead};
 ghost use Rattle.ts_steps.specs.Looking.{IsTokenAhead, SeesAhead};
-ghost use Rattle.ts_steps.specs.Reparsing.{AreHonest, IsOffered, IsOwnResult, IsResult, IsTakenFrom};
+ghost use Rattle.ts_steps.specs.Reparsing.{AreHonest, IsOffered, OnFork, IsForkFrom, IsOwnResult, IsResult, IsTakenFrom};
 
-use crate::laws::{laws_hold, only_laws_hold, sound_laws_hold};
+use crate::found::FoundToken;
+use crate::head::StackHead;
+use crate::laws::{laws_hold, sound_laws_hold};
 use crate::looking::look;
 use crate::moving::go_on;
 use crate::reparsed::{Going, Reparsed};
-use crate::setting::parse_setting;
+use crate::setting::ParseSetting;
 use crate::taking::take_over;
-use spec_forced::{only_runs_are_one_way, pushed_whole};
+use spec_forced::{only_runs_are_one_way, only_runs_meet, pushed_whole};
 use std::alloc::{AllocError, Global};
 use ts_core::{Action, Symbol};
 use ts_gss::Graph;
-use ts_lexer::{Content, Lexed, Tokens};
-use ts_moves::{FoundToken, StackHead};
+use ts_lexer::{Lexed, Tokens};
 use ts_offer::Offers;
 use ts_table::{Table, unit_ranks};
 
@@ -141,10 +144,11 @@ fn seen_again(
     }
 }
 
-/// What a text comes to for a parser that keeps one stack alone, and takes over the nodes that it
-/// is offered. If what is offered is honest, this is the fresh outcome, and its tree is sound.
-/// Where several moves stay on a token it stops. Each place is asked for once at most, and of a
-/// node that is taken over the first token alone is lexed.
+/// What a text comes to from a stack on, for a parser that keeps one stack alone, and takes over
+/// the nodes that it is offered. If what is offered is honest, this is what all runs from that
+/// stack come to, and the tree is sound. Where several moves stay on a token it stops, and tells
+/// the stack to which these runs lead. Each place is asked for once at most, and of a node that is
+/// taken over the first token alone is lexed.
 ///
 /// # Errors
 ///
@@ -152,46 +156,54 @@ fn seen_again(
 pub fn reparse<'t, L: Tokens, O: Offers<'t>>(
     alloc: Global,
     table: &Table,
+    setting: &ParseSetting,
     lexer: &mut L,
     text: &L::Text,
     offers: &mut O,
+    graph: &mut Graph,
+    start: StackHead,
 ) -> Result<Reparsed, AllocError>
     requires made { L.made_for lexer.old table.now }
-    requires short { length (L.Text.bytes text.now) ≤ most_span }
-    requires asked { O.least offers.old ≡ 0 }
+    requires setting { IsParseSetting table.now (length (L.Text.bytes text.now)) setting.now }
+    requires live { IsOwnHead table.now (length (L.Text.bytes text.now)) graph.old start }
+    requires asked { O.least offers.old ≤ start.place }
     requires own { (place state : ℕ) (t : Tree) → O.gives offers.old place state t
         → IsOffered table.now.grammar t }
     ensures made { L.made_for lexer.new table.now }
+    ensures gives { OnOk result ((place state : ℕ) (t : Tree) → O.gives offers.new place state t
+        → O.gives offers.old place state t) }
+    ensures least { IfOk result (OnFork (λ k. O.least offers.new ≤ k.place)) }
+    ensures forks { IfOk result (OnFork (λ k. IsForkFrom table.now (L.Text.bytes text.now)
+        graph.old graph.new start k)) }
     ensures own { IfOk result (IsOwnResult table.now) }
     ensures fresh { IfOk result (λ r. (states : States) → AreStatesOf table.now states
         → AreHonest table.now.grammar states (L.Text.bytes text.now) (O.gives offers.old)
-        → IsResult table.now states (L.Text.bytes text.now) r) }
+        → StandOnHead table.now states (L.Text.bytes text.now) graph.old start
+        → IsResult table.now states (L.Text.bytes text.now) graph.old graph.new start r) }
 {
     laws_hold();
     sound_laws_hold();
-    only_laws_hold();
     only_runs_are_one_way();
+    only_runs_meet();
     pushed_whole();
     table.stands();
     unit_ranks();
-    let setting = parse_setting(alloc, table, text.len())?;
-    let mut graph = Graph::new(alloc);
-    let mut head = StackHead { top: 0, place: 0 };
+    let mut head = start;
     let mut ahead: Option<FoundToken> = None;
     loop {
-        let lexed = look_once(table, lexer, text, &graph, head, ahead);
-        match take(table, offers, &mut graph, head, &lexed, setting.size)? {
+        let lexed = look_once(table, lexer, text, graph, head, ahead);
+        match take(table, offers, graph, head, &lexed, setting.size)? {
             Some(next) => {
                 head = next;
                 ahead = None;
             }
-            None => match go_on(alloc, table, &setting, &mut graph, head, lexed)? {
+            None => match go_on(alloc, table, setting, graph, head, lexed)? {
                 Going::On(next) => {
                     head = next;
                     ahead = None;
                 }
                 Going::Reduced(next, found) => {
-                    ahead = seen_again(table, &graph, next, found);
+                    ahead = seen_again(table, graph, next, found);
                     head = next;
                 }
                 Going::Ended(result) => return Ok(result),

@@ -9,14 +9,15 @@ ghost use Rattle.spec_forced.specs.Sound.{States};
 ghost use Rattle.ts_table.specs.declared.view.ParseTable.{ParseTable};
 ghost use Rattle.ts_table.specs.Tables.{IsTable, IsStateOf};
 ghost use Rattle.ts_gss.specs.Stacks.{stack_at, state_on};
-ghost use Rattle.ts_moves.specs.Heads.{config_of, read_on, GainsStacks, LiesAhead};
+ghost use Rattle.ts_steps.specs.LiveHeads.{config_of, read_on, GainsStacks, LiesAhead};
 ghost use Rattle.ts_steps.specs.Heads.{AreStatesOf, state_where, IsOwnHead, StandOnHead, IsPutOn, IsMoveAhead, IsExtraAhead};
 
 use crate::ahead::TokenAhead;
+use crate::found::FoundToken;
+use crate::head::StackHead;
 use crate::laws::{laws_hold, sound_laws_hold};
 use std::alloc::AllocError;
 use ts_gss::Graph;
-use ts_moves::{FoundToken, StackHead};
 use ts_node::Node;
 
 /// The state below a node that is put on a stack, where it was made without a choice.

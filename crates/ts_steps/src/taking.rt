@@ -7,13 +7,13 @@ ghost use Rattle.spec_trees.specs.Made.{filling, most_span};
 ghost use Rattle.spec_forced.specs.Sound.{States, IsHonest};
 ghost use Rattle.ts_table.specs.Tables.{IsStateOf};
 ghost use Rattle.ts_gss.specs.Stacks.{stack_at, state_on, trees_on};
-ghost use Rattle.ts_moves.specs.Heads.{GainsStacks, HaveStates};
+ghost use Rattle.ts_steps.specs.LiveHeads.{GainsStacks, HaveStates};
 ghost use Rattle.ts_steps.specs.Heads.{AreStatesOf, IsOwnWithin, IsOwnHead, StandOnHead, CanTake, IsTaken};
 
+use crate::head::StackHead;
 use crate::laws::{laws_hold, sound_laws_hold};
 use std::alloc::AllocError;
 use ts_gss::Graph;
-use ts_moves::StackHead;
 use ts_node::Node;
 use ts_table::Table;
 

@@ -6,8 +6,8 @@ use Rattle.ts_docs.specs.Reuse.{IsReusableIfAny}
 use Rattle.ts_docs.proofs.ReuseLemmas.{offered, reparsed_is}
 use Rattle.ts_docs.proofs.parsing.reparsed.Goals as goal
 
-pub reparse-requires : goal.reparse-requires
-reparse-requires g c κs =
+pub parse_with-requires : goal.parse_with-requires
+parse_with-requires g c κs =
     let text = g.X.Text.Content.bytes c.args.text.now in
     let kept = subst (λ (m : Option Tree). IsReusableIfAny c.args.table.now text m) c.in-Some.is c.requires.kept in (
       (refl, tt),
@@ -28,7 +28,7 @@ returns-in_ok-result-in-Some-clause-reparsed g c =
     let text = g.X.Text.Content.bytes c.args.text.now in
     let kept = subst (λ (m : Option Tree). IsReusableIfAny c.args.table.now text m) c.in-Some.is c.requires.kept in
     let named = c.states_are_named.ensures.names c.args.table.now c.stands.ensures in
-    reparsed_is c.args.table.now text c.in_ok-result-in-Some.result named.0 named.1 c.in_ok-result-in-Some.ensures.own
+    reparsed_is c.args.table.now text c.in_ok-result-in-Some.result named.0 named.1 c.in_ok-result-in-Some.ensures.form c.in_ok-result-in-Some.ensures.own
     (λ states are. c.in_ok-result-in-Some.ensures.fresh states are
     (λ place state t top. c.sound_trees_offer_honestly.ensures c.args.table.now.grammar states text c.in-Some.tree t place state (kept.sound states are)
     (subst (λ (o : Offering). IsTopmost o.tree place state t) c.in_ok-offers-in-Some.ensures top)))
@@ -37,5 +37,5 @@ pub returns-in_ok-result-in-None-clause-reparsed : goal.returns-in_ok-result-in-
 returns-in_ok-result-in-None-clause-reparsed g c =
     let text = g.X.Text.Content.bytes c.args.text.now in
     let named = c.states_are_named.ensures.names c.args.table.now c.stands.ensures in
-    reparsed_is c.args.table.now text c.in_ok-result-in-None.result named.0 named.1 c.in_ok-result-in-None.ensures.own
+    reparsed_is c.args.table.now text c.in_ok-result-in-None.result named.0 named.1 c.in_ok-result-in-None.ensures.form c.in_ok-result-in-None.ensures.own
     (λ states are. c.in_ok-result-in-None.ensures.fresh states are (λ place state t none. absurd none))

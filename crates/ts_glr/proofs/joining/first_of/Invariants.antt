@@ -1,5 +1,5 @@
 use Rattle.std.proofs.Common.{◌<◌, length, get_or, take}
-use Rattle.ts_moves.specs.declared.head.StackHead.{StackHead}
+use Rattle.ts_steps.specs.declared.head.StackHead.{StackHead}
 use Rattle.ts_glr.proofs.JoinLemmas.{NoneBefore}
 use Rattle.ts_glr.proofs.joining.first_of.Given as goal
 

@@ -1,6 +1,6 @@
 use Rattle.std.proofs.Common.{ℕ}
 use Rattle.ts_table.specs.declared.view.ParseTable.{ParseTable}
-use Rattle.ts_moves.specs.Heads.{IsLiveHead}
+use Rattle.ts_steps.specs.LiveHeads.{IsLiveHead}
 use Rattle.ts_glr.proofs.JoinLemmas.{Walking}
 use Rattle.ts_glr.proofs.joining.head_serves.Given as goal
 

@@ -1,5 +1,5 @@
 use Rattle.std.proofs.Common.{◌≡◌, List, Some, slice_get, subst}
-use Rattle.ts_moves.specs.declared.head.StackHead.{StackHead}
+use Rattle.ts_steps.specs.declared.head.StackHead.{StackHead}
 use Rattle.ts_glr.proofs.JoinLemmas.{joins_there}
 use Rattle.ts_glr.proofs.joining.join.Goals as goal
 

@@ -1,6 +1,6 @@
 use Rattle.std.proofs.Common.{◌<◌, List, length, get_or, subst}
 use Rattle.std.specs.List.{Contains}
-use Rattle.ts_moves.specs.declared.head.StackHead.{StackHead}
+use Rattle.ts_steps.specs.declared.head.StackHead.{StackHead}
 use Rattle.ts_glr.specs.Joining.{GoesBefore}
 use Rattle.ts_glr.proofs.JoinLemmas.{taken_out}
 use Rattle.ts_glr.proofs.joining.next_head.Goals as goal

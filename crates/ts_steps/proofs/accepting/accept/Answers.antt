@@ -1,6 +1,6 @@
 use Rattle.std.proofs.Common.{◌≡◌, ℕ, suc, ◌+◌, arith}
 use Rattle.ts_gss.specs.Stacks.{stack_at}
-use Rattle.ts_moves.specs.Heads.{read_on}
+use Rattle.ts_steps.specs.LiveHeads.{read_on}
 use Rattle.ts_steps.proofs.AcceptLemmas.{ready, ready_before, ready_after, ready_node, root_by, form_by, within_by, some_under}
 use Rattle.ts_steps.proofs.RootLemmas.{root_made, root_state, root_own, root_sound}
 use Rattle.ts_steps.proofs.accepting.accept.Goals as goal

@@ -5,7 +5,4 @@ returns c = record {
   shifted = c.one_move_is_one_step.ensures.shifted;
   passed = c.one_move_is_one_step.ensures.passed;
   reduced = c.one_move_is_one_step.ensures.reduced;
-  back = c.ends_stay_alike.ensures.back;
-  joined = c.ends_stay_alike.ensures.joined;
-  step = c.ends_stay_alike.ensures.step;
 }

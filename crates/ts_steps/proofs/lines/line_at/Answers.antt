@@ -3,9 +3,8 @@ use Rattle.std.specs.Prelude.{if◌then◌else◌}
 use Rattle.std.proofs.lemmas.Int.{ints}
 use Rattle.spec_grammar.specs.Symbols.{start_symbol}
 use Rattle.spec_trees.specs.Made.{repetition_form, of_rule}
-use Rattle.ts_moves.specs.Lines.{lengthens_by}
+use Rattle.ts_steps.specs.Lines.{lengthens_by}
 use Rattle.ts_steps.proofs.LineLemmas.{line_is}
-use Rattle.ts_steps.specs.Settings.{line_of}
 use Rattle.ts_steps.proofs.lines.line_at.Goals as goal
 
 pub returns : goal.returns
@@ -18,4 +17,4 @@ returns c =
     subst (λ (s : ℕ). lengthens_by (if not (nat_eq c.args.rule.now.owner.0 s) then repetition_form (c.len-count.result / 2) c.args.i else of_rule) ≡ c.lengthens.result) n f in
     let f2 : lengthens_by (if not (nat_eq c.args.rule.now.owner.0 (start_symbol c.args.flat.now + c.args.r)) then repetition_form (length c.args.rule.now.productions / 2) c.args.i else of_rule) ≡ c.lengthens.result =
     subst (λ (m : ℕ). lengthens_by (if not (nat_eq c.args.rule.now.owner.0 (start_symbol c.args.flat.now + c.args.r)) then repetition_form (m / 2) c.args.i else of_rule) ≡ c.lengthens.result) k f1 in
-    line_is c.args.flat.now c.args.r c.args.i c.args.rule.now c.get-production.result.now (line_of _) c.requires.rule c.get-production.ensures n f2 (omega (arith, ints))
+    line_is c.args.flat.now c.args.r c.args.i c.args.rule.now c.get-production.result.now _ c.requires.rule c.get-production.ensures n f2 (omega (arith, ints))

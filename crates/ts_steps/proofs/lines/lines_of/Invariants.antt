@@ -1,8 +1,7 @@
 use Rattle.std.proofs.Common.{take}
 use Rattle.spec_grammar.specs.Symbols.{count_productions}
-use Rattle.ts_moves.specs.Lines.{AreLinesUpTo}
-use Rattle.ts_steps.specs.Settings.{lines_of_all}
+use Rattle.ts_steps.specs.Lines.{AreLinesUpTo}
 use Rattle.ts_steps.proofs.lines.lines_of.Given as goal
 
 abbrev pub invariant-loop-r : goal.invariant-loop-r
-invariant-loop-r l = AreLinesUpTo l.flat (count_productions (take l.r l.flat.rules)) (lines_of_all l.lines)
+invariant-loop-r l = AreLinesUpTo l.flat (count_productions (take l.r l.flat.rules)) l.lines

@@ -1,7 +1,7 @@
 use Rattle.std.proofs.Common.{sym, subst, ℕ}
 use Rattle.ts_table.specs.Tables.{IsStateOf}
 use Rattle.ts_gss.specs.Stacks.{stack_at}
-use Rattle.ts_moves.specs.Heads.{read_on}
+use Rattle.ts_steps.specs.LiveHeads.{read_on}
 use Rattle.ts_steps.proofs.StackLemmas.{state_top}
 use Rattle.ts_steps.proofs.LookLemmas.{sees_lexed, examined_lexed}
 use Rattle.ts_steps.proofs.looking.look.Goals as goal

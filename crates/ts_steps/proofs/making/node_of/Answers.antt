@@ -1,6 +1,6 @@
 use Rattle.std.proofs.Common.{◌≡◌, ap, List, length, arith}
 use Rattle.spec_trees.specs.declared.tree.Tree.{Tree}
-use Rattle.ts_moves.specs.Making.{depth_when}
+use Rattle.ts_steps.specs.Making.{depth_when}
 use Rattle.ts_steps.proofs.NodeLemmas.{fits, reduced_good}
 use Rattle.ts_steps.proofs.MakingLemmas.{reduced_depth, some_lengthened}
 use Rattle.ts_steps.proofs.making.node_of.Goals as goal

@@ -1,6 +1,6 @@
 use Rattle.std.proofs.Common.{subst}
 use Rattle.ts_lexer.specs.declared.lexed.Lexed.{Lexed}
-use Rattle.ts_moves.specs.Heads.{config_of}
+use Rattle.ts_steps.specs.LiveHeads.{config_of}
 use Rattle.ts_steps.specs.Looking.{SeesAhead}
 use Rattle.ts_steps.proofs.MoveLemmas.{stuck_here}
 use Rattle.ts_steps.proofs.moving.go_on.Goals as goal

@@ -2,7 +2,7 @@ use Rattle.std.proofs.Common.{◌≡◌, ◌<◌, ◌+◌, ◌++◌, ℕ, length
 use Rattle.spec_trees.specs.Trees.{all_spans}
 use Rattle.ts_table.specs.declared.view.ParseTable.{ParseTable}
 use Rattle.ts_gss.specs.Stacks.{stack_at, trees_on}
-use Rattle.ts_moves.specs.Heads.{GainsStacks, CanLay}
+use Rattle.ts_steps.specs.LiveHeads.{GainsStacks, CanLay}
 use Rattle.ts_steps.proofs.StackLemmas.{Laid}
 use Rattle.ts_steps.proofs.reducing.lay.Given as goal
 

@@ -4,7 +4,7 @@ use Rattle.spec_trees.specs.Made.{filling}
 use Rattle.ts_table.specs.Tables.{IsStateOf}
 use Rattle.ts_gss.specs.declared.layer.Layer.{Layer}
 use Rattle.ts_gss.specs.Stacks.{stack_at, trees_on}
-use Rattle.ts_moves.specs.Heads.{IsGoodStack}
+use Rattle.ts_steps.specs.LiveHeads.{IsGoodStack}
 use Rattle.ts_steps.proofs.StackLemmas.{pushes_grow, pushed_there, pushed_stack, grows_more, state_top}
 use Rattle.ts_steps.proofs.PutLemmas.{put_base}
 use Rattle.ts_steps.proofs.reducing.put.Goals as goal

@@ -3,9 +3,9 @@ use Rattle.spec_trees.specs.declared.tree.Tree.{Tree}
 use Rattle.ts_gss.specs.declared.layer.Layer.{Layer}
 use Rattle.spec_trees.specs.Trees.{span_of, all_spans}
 use Rattle.ts_gss.specs.Stacks.{stack_at, trees_on, state_on}
-use Rattle.ts_moves.specs.Heads.{read_on, IsGoodStack, CanPut}
+use Rattle.ts_steps.specs.LiveHeads.{read_on, IsGoodStack, CanPut, GainsStacks}
+use Rattle.ts_steps.proofs.StackLemmas.{grows_none}
 use Rattle.ts_steps.proofs.PutLemmas.{enough, stands, stands_still, can_reduce}
-use Rattle.ts_steps.specs.Settings.{line_of}
 use Rattle.ts_steps.proofs.MadeLemmas.{line_there, line_at, small_at, can_at, made_none, made_some}
 use Rattle.ts_steps.proofs.ReduceLemmas.{without, state_has, done_none, done_some, done_own, done_put, done_stands}
 use Rattle.ts_steps.proofs.reducing.reduce.Goals as goal
@@ -16,7 +16,7 @@ get-line-requires c =
 
 pub gather-requires-clause-enough : goal.gather-requires-clause-enough
 gather-requires-clause-enough c =
-    enough c.laws_hold.ensures c.args.table.now c.args.setting.now.size c.args.number c.requires.stays.0 c.args.graph.now c.args.head (line_of c.get-line.result.now) c.requires.stays.1
+    enough c.laws_hold.ensures c.args.table.now c.args.setting.now.size c.args.number c.requires.stays.0 c.args.graph.now c.args.head c.get-line.result.now c.requires.stays.1
     (line_at c.args.table.now c.args.setting.now.size c.args.setting.now c.requires.setting c.args.number c.get-line.result.now c.get-line.ensures) (small_at c.args.table.now c.args.setting.now.size c.args.setting.now c.requires.setting c.args.number c.values_are_small.ensures)
 
 pub gather-requires-clause-live : goal.gather-requires-clause-live
@@ -32,7 +32,7 @@ node_of-requires c =
     let line = line_at t s.size s c.requires.setting c.args.number l c.get-line.ensures in
     let small = small_at t s.size s c.requires.setting c.args.number c.values_are_small.ensures in
     let gat = (c.in_ok-extras.ensures.gathered t s.size c.requires.live.live c.requires.ahead).gathered in
-    let can = can_reduce c.laws_hold.ensures t s.size c.args.number c.requires.stays.0 old h (line_of l) c.requires.stays.1 line small c.in_ok-extras.field-0.extras.items c.in_ok-extras.field-0.children c.in_ok-extras.field-0.extent (stack_at old c.in_ok-extras.field-0.below) gat
+    let can = can_reduce c.laws_hold.ensures t s.size c.args.number c.requires.stays.0 old h l c.requires.stays.1 line small c.in_ok-extras.field-0.extras.items c.in_ok-extras.field-0.children c.in_ok-extras.field-0.extent (stack_at old c.in_ok-extras.field-0.below) gat
     c.stands.ensures c.requires.setting.short in
     record { can = can_at t s.size s c.requires.setting c.args.number l line.production c.in_ok-extras.field-0.extent c.in_ok-extras.field-0.children can line }
 
@@ -46,8 +46,8 @@ put-requires-clause-stands c =
     let line = line_at t s.size s c.requires.setting c.args.number l c.get-line.ensures in
     let small = small_at t s.size s c.requires.setting c.args.number c.values_are_small.ensures in
     let gat = (c.in_ok-extras.ensures.gathered t s.size c.requires.live.live c.requires.ahead).gathered in
-    let before = stands c.laws_hold.ensures t s.size c.args.number c.requires.stays.0 old h (line_of l) c.requires.stays.1 line small c.in_ok-extras.field-0.extras.items c.in_ok-extras.field-0.children c.in_ok-extras.field-0.extent (stack_at old c.in_ok-extras.field-0.below) gat in
-    stands_still t l.left.0 (stack_at old c.in_ok-extras.field-0.below) (stack_at c.cut.new.self c.in_ok-extras.field-0.below) c.cut.ensures.stack (s.size, _, gat.base, before)
+    let before = stands c.laws_hold.ensures t s.size c.args.number c.requires.stays.0 old h l c.requires.stays.1 line small c.in_ok-extras.field-0.extras.items c.in_ok-extras.field-0.children c.in_ok-extras.field-0.extent (stack_at old c.in_ok-extras.field-0.below) gat in
+    stands_still t l.left.0 (stack_at old c.in_ok-extras.field-0.below) (stack_at c.cut_alone.new.graph c.in_ok-extras.field-0.below) c.cut_alone.ensures.stack (s.size, _, gat.base, before)
 
 pub returns-in-None-clause-done : goal.returns-in-None-clause-done
 returns-in-None-clause-done c =
@@ -64,7 +64,7 @@ returns-in-None-clause-done c =
     let extent = c.in_ok-extras.field-0.extent in
     let below = stack_at old c.in_ok-extras.field-0.below in
     let state = c.state_below-state.result in
-    done_none c.laws_hold.ensures t s.size c.args.number c.requires.stays.0 old h (line_of l) c.requires.stays.1 line small extras children extent below all.gathered c.stands.ensures c.requires.setting.short state old
+    done_none c.laws_hold.ensures t s.size c.args.number c.requires.stays.0 old h l c.requires.stays.1 line small extras children extent below all.gathered c.stands.ensures c.requires.setting.short state old
     (made_none t s.size s c.requires.setting c.args.number extent state children c.in_ok-node_of.field-0 c.in_ok-node_of.ensures c.in-None.is)
 
 pub returns-clause-done : goal.returns-clause-done
@@ -88,11 +88,11 @@ returns-clause-done c =
     let top = c.in_ok-top-in-Some.top in
     let new = c.put.new.graph in
     let trees : trees_on (stack_at new top) ≡ reverse extras ++ u ∷ trees_on below =
-    c.in_ok-top-in-Some.ensures.trees ∙ ap (λ (x : List Layer). reverse c.as_slice.result.now ++ u ∷ trees_on x) c.cut.ensures.stack ∙ ap (λ (es : List Tree). reverse es ++ u ∷ trees_on below) slice in
+    c.in_ok-top-in-Some.ensures.trees ∙ ap (λ (x : List Layer). reverse c.as_slice.result.now ++ u ∷ trees_on x) c.cut_alone.ensures.stack ∙ ap (λ (es : List Tree). reverse es ++ u ∷ trees_on below) slice in
     let good : (place : ℕ) → IsGoodStack t s.size below place → CanPut t s.size place l.left.0 u extras → IsGoodStack t s.size (stack_at new top) (place + (span_of u + all_spans extras)) = λ place base can.
     subst (λ (es : List Tree). IsGoodStack t s.size (stack_at new top) (place + (span_of u + all_spans es))) slice
-    (c.in_ok-top-in-Some.ensures.good s.size place (subst (λ (x : List Layer). IsGoodStack t s.size x place) (sym c.cut.ensures.stack) base) (subst (λ (es : List Tree). CanPut t s.size place l.left.0 u es) (sym slice) can)) in
-    done_some c.laws_hold.ensures t s.size c.args.number c.requires.stays.0 old h (line_of l) c.requires.stays.1 line small extras children extent below all.gathered c.stands.ensures c.requires.setting.short state u w.0 w.1 new top c.in_ok-top-in-Some.ensures.there trees good
+    (c.in_ok-top-in-Some.ensures.good s.size place (subst (λ (x : List Layer). IsGoodStack t s.size x place) (sym c.cut_alone.ensures.stack) base) (subst (λ (es : List Tree). CanPut t s.size place l.left.0 u es) (sym slice) can)) in
+    done_some c.laws_hold.ensures t s.size c.args.number c.requires.stays.0 old h l c.requires.stays.1 line small extras children extent below all.gathered c.stands.ensures c.requires.setting.short state u w.0 w.1 new top c.in_ok-top-in-Some.ensures.there trees good
 
 pub returns-clause-live : goal.returns-clause-live
 returns-clause-live c =
@@ -115,11 +115,11 @@ returns-clause-live c =
     let top = c.in_ok-top-in-Some.top in
     let new = c.put.new.graph in
     let trees : trees_on (stack_at new top) ≡ reverse extras ++ u ∷ trees_on below =
-    c.in_ok-top-in-Some.ensures.trees ∙ ap (λ (x : List Layer). reverse c.as_slice.result.now ++ u ∷ trees_on x) c.cut.ensures.stack ∙ ap (λ (es : List Tree). reverse es ++ u ∷ trees_on below) slice in
+    c.in_ok-top-in-Some.ensures.trees ∙ ap (λ (x : List Layer). reverse c.as_slice.result.now ++ u ∷ trees_on x) c.cut_alone.ensures.stack ∙ ap (λ (es : List Tree). reverse es ++ u ∷ trees_on below) slice in
     let good : (place : ℕ) → IsGoodStack t s.size below place → CanPut t s.size place l.left.0 u extras → IsGoodStack t s.size (stack_at new top) (place + (span_of u + all_spans extras)) = λ place base can.
     subst (λ (es : List Tree). IsGoodStack t s.size (stack_at new top) (place + (span_of u + all_spans es))) slice
-    (c.in_ok-top-in-Some.ensures.good s.size place (subst (λ (x : List Layer). IsGoodStack t s.size x place) (sym c.cut.ensures.stack) base) (subst (λ (es : List Tree). CanPut t s.size place l.left.0 u es) (sym slice) can)) in
-    done_own c.laws_hold.ensures t s.size c.args.number c.requires.stays.0 old h (line_of l) c.requires.stays.1 line small extras children extent below all.gathered c.stands.ensures c.requires.setting.short state u w.0 w.1 new top c.in_ok-top-in-Some.ensures.there trees good c.requires.live.own
+    (c.in_ok-top-in-Some.ensures.good s.size place (subst (λ (x : List Layer). IsGoodStack t s.size x place) (sym c.cut_alone.ensures.stack) base) (subst (λ (es : List Tree). CanPut t s.size place l.left.0 u es) (sym slice) can)) in
+    done_own c.laws_hold.ensures t s.size c.args.number c.requires.stays.0 old h l c.requires.stays.1 line small extras children extent below all.gathered c.stands.ensures c.requires.setting.short state u w.0 w.1 new top c.in_ok-top-in-Some.ensures.there trees good c.requires.live.own
 
 pub returns-clause-put : goal.returns-clause-put
 returns-clause-put c =
@@ -142,12 +142,12 @@ returns-clause-put c =
     let top = c.in_ok-top-in-Some.top in
     let new = c.put.new.graph in
     let trees : trees_on (stack_at new top) ≡ reverse extras ++ u ∷ trees_on below =
-    c.in_ok-top-in-Some.ensures.trees ∙ ap (λ (x : List Layer). reverse c.as_slice.result.now ++ u ∷ trees_on x) c.cut.ensures.stack ∙ ap (λ (es : List Tree). reverse es ++ u ∷ trees_on below) slice in
+    c.in_ok-top-in-Some.ensures.trees ∙ ap (λ (x : List Layer). reverse c.as_slice.result.now ++ u ∷ trees_on x) c.cut_alone.ensures.stack ∙ ap (λ (es : List Tree). reverse es ++ u ∷ trees_on below) slice in
     let good : (place : ℕ) → IsGoodStack t s.size below place → CanPut t s.size place l.left.0 u extras → IsGoodStack t s.size (stack_at new top) (place + (span_of u + all_spans extras)) = λ place base can.
     subst (λ (es : List Tree). IsGoodStack t s.size (stack_at new top) (place + (span_of u + all_spans es))) slice
-    (c.in_ok-top-in-Some.ensures.good s.size place (subst (λ (x : List Layer). IsGoodStack t s.size x place) (sym c.cut.ensures.stack) base) (subst (λ (es : List Tree). CanPut t s.size place l.left.0 u es) (sym slice) can)) in
+    (c.in_ok-top-in-Some.ensures.good s.size place (subst (λ (x : List Layer). IsGoodStack t s.size x place) (sym c.cut_alone.ensures.stack) base) (subst (λ (es : List Tree). CanPut t s.size place l.left.0 u es) (sym slice) can)) in
     let with = without c.args.ahead.only c.in_ok-extras.field-0.stated c.is_without_choice-only.result l.steps children extras c.is_without_choice-only.ensures all.stated in
-    done_put c.laws_hold.ensures t s.size c.args.number c.requires.stays.0 old h (line_of l) c.requires.stays.1 line small extras children extent below all.gathered c.stands.ensures c.requires.setting.short state u w.0 w.1 new top c.in_ok-top-in-Some.ensures.there trees good c.args.ahead c.is_without_choice-only.result all.covers c.state_below-state.ensures with
+    done_put c.laws_hold.ensures t s.size c.args.number c.requires.stays.0 old h l c.requires.stays.1 line small extras children extent below all.gathered c.stands.ensures c.requires.setting.short state u w.0 w.1 new top c.in_ok-top-in-Some.ensures.there trees good c.args.ahead c.is_without_choice-only.result all.covers c.state_below-state.ensures with
 
 pub returns-clause-stand : goal.returns-clause-stand
 returns-clause-stand c states text long are ahead stand =
@@ -170,10 +170,16 @@ returns-clause-stand c states text long are ahead stand =
     let top = c.in_ok-top-in-Some.top in
     let new = c.put.new.graph in
     let trees : trees_on (stack_at new top) ≡ reverse extras ++ u ∷ trees_on below =
-    c.in_ok-top-in-Some.ensures.trees ∙ ap (λ (x : List Layer). reverse c.as_slice.result.now ++ u ∷ trees_on x) c.cut.ensures.stack ∙ ap (λ (es : List Tree). reverse es ++ u ∷ trees_on below) slice in
+    c.in_ok-top-in-Some.ensures.trees ∙ ap (λ (x : List Layer). reverse c.as_slice.result.now ++ u ∷ trees_on x) c.cut_alone.ensures.stack ∙ ap (λ (es : List Tree). reverse es ++ u ∷ trees_on below) slice in
     let good : (place : ℕ) → IsGoodStack t s.size below place → CanPut t s.size place l.left.0 u extras → IsGoodStack t s.size (stack_at new top) (place + (span_of u + all_spans extras)) = λ place base can.
     subst (λ (es : List Tree). IsGoodStack t s.size (stack_at new top) (place + (span_of u + all_spans es))) slice
-    (c.in_ok-top-in-Some.ensures.good s.size place (subst (λ (x : List Layer). IsGoodStack t s.size x place) (sym c.cut.ensures.stack) base) (subst (λ (es : List Tree). CanPut t s.size place l.left.0 u es) (sym slice) can)) in
+    (c.in_ok-top-in-Some.ensures.good s.size place (subst (λ (x : List Layer). IsGoodStack t s.size x place) (sym c.cut_alone.ensures.stack) base) (subst (λ (es : List Tree). CanPut t s.size place l.left.0 u es) (sym slice) can)) in
     let with = without c.args.ahead.only c.in_ok-extras.field-0.stated c.is_without_choice-only.result l.steps children extras c.is_without_choice-only.ensures all.stated in
-    done_stands c.laws_hold.ensures t s.size c.args.number c.requires.stays.0 old h (line_of l) c.requires.stays.1 line small extras children extent below all.gathered c.stands.ensures c.requires.setting.short state u w.0 w.1 new top c.in_ok-top-in-Some.ensures.there trees good c.sound_laws_hold.ensures states text are c.args.ahead all.covers ahead
+    done_stands c.laws_hold.ensures t s.size c.args.number c.requires.stays.0 old h l c.requires.stays.1 line small extras children extent below all.gathered c.stands.ensures c.requires.setting.short state u w.0 w.1 new top c.in_ok-top-in-Some.ensures.there trees good c.sound_laws_hold.ensures states text are c.args.ahead all.covers ahead
     (λ n e. state_has c.args.ahead.only c.is_without_choice-only.result l.steps (state_on below) n state children extras c.state_below-state.ensures with e) stand
+
+pub returns-in-None-clause-grows : goal.returns-in-None-clause-grows
+returns-in-None-clause-grows c beside = grows_none c.args.graph.now
+
+pub returns-clause-grows : goal.returns-clause-grows
+returns-clause-grows c beside = subst (λ (s : List (List Layer)). GainsStacks s c.put.new.graph) (c.cut_alone.ensures.kept beside) c.in_ok-top-in-Some.ensures.grows

@@ -1,95 +1,128 @@
-use Rattle.std.proofs.Common.{◌∙◌, sym, subst, length, arith}
+use Rattle.std.proofs.Common.{◌≤◌, sym, subst, length, arith}
 use Rattle.ts_gss.specs.Stacks.{stack_at, state_on}
-use Rattle.ts_moves.specs.declared.found.FoundToken.{FoundToken}
+use Rattle.ts_steps.specs.declared.found.FoundToken.{FoundToken}
+use Rattle.ts_steps.specs.LiveHeads.{config_of}
 use Rattle.ts_steps.specs.Looking.{IsTokenAhead}
-use Rattle.ts_steps.proofs.ReparseLemmas.{stands_on, stands_taken, ends_result, step_falls, taken_falls, taken_place, step_place, taken_some, goes_on, goes_reduced_on, ends_at, none_known, sees_kept}
+use Rattle.ts_steps.specs.Reparsing.{IsForkFrom}
+use Rattle.ts_steps.proofs.ReparseLemmas.{stands_on, stands_taken, ends_result, ends_fork, step_falls, taken_falls, taken_place, step_place, taken_some, goes_on, goes_reduced_on, ends_at, none_known, sees_kept}
 use Rattle.ts_steps.proofs.reparsing.reparse.Goals as goal
 
-pub loop-graph-smaller-in-Some : goal.loop-graph-smaller-in-Some
-loop-graph-smaller-in-Some g c =
+pub loop-next-smaller-in-Some : goal.loop-next-smaller-in-Some
+loop-next-smaller-in-Some g c =
     let text = g.L.Text.Content.bytes c.args.text.now in
-    let long = c.in_ok-setting.ensures.size_is ∙ c.len.ensures in
-    let w = taken_some c.args.table.now c.in_ok-setting.setting.size (length text) long c.loop-graph.graph c.take.new.graph c.loop-graph.head
-    (g.O.Offers.gives c.loop-graph.offers c.loop-graph.head.place (state_on (stack_at c.loop-graph.graph c.loop-graph.head.top))) c.in_ok-next.field-0 c.in-Some.next c.in-Some.is c.in_ok-next.ensures.taken in
-    taken_falls c.laws_hold.ensures c.args.table.now c.stands.ensures.fit (c.unit_ranks.ensures c.args.table.now.grammar c.stands.ensures.fit) text c.loop-graph.graph c.take.new.graph c.loop-graph.head c.in-Some.next c.loop-graph.invariant.live w.0 w.2
+    let long = c.requires.setting.size_is in
+    let w = taken_some c.args.table.now c.args.setting.now.size (length text) long c.loop-next.graph c.take.new.graph c.loop-next.head
+    (g.O.Offers.gives c.loop-next.offers c.loop-next.head.place (state_on (stack_at c.loop-next.graph c.loop-next.head.top))) c.in_ok-next.field-0 c.in-Some.next c.in-Some.is c.in_ok-next.ensures.taken in
+    taken_falls c.laws_hold.ensures c.args.table.now c.stands.ensures.fit (c.unit_ranks.ensures c.args.table.now.grammar c.stands.ensures.fit) text c.loop-next.graph c.take.new.graph c.loop-next.head c.in-Some.next c.loop-next.invariant.live w.0 w.2
 
-pub loop-graph-preserved-in-Some : goal.loop-graph-preserved-in-Some
-loop-graph-preserved-in-Some g c =
+pub loop-next-preserved-in-Some : goal.loop-next-preserved-in-Some
+loop-next-preserved-in-Some g c =
     let text = g.L.Text.Content.bytes c.args.text.now in
-    let long = c.in_ok-setting.ensures.size_is ∙ c.len.ensures in
-    let h = c.loop-graph.head in
-    let state = state_on (stack_at c.loop-graph.graph h.top) in
-    let w = taken_some c.args.table.now c.in_ok-setting.setting.size (length text) long c.loop-graph.graph c.take.new.graph h
-    (g.O.Offers.gives c.loop-graph.offers h.place state) c.in_ok-next.field-0 c.in-Some.next c.in-Some.is c.in_ok-next.ensures.taken in
-    let far = taken_place c.args.table.now (length text) c.loop-graph.graph c.take.new.graph h w.0 c.in-Some.next w.2 in
+    let long = c.requires.setting.size_is in
+    let h = c.loop-next.head in
+    let state = state_on (stack_at c.loop-next.graph h.top) in
+    let w = taken_some c.args.table.now c.args.setting.now.size (length text) long c.loop-next.graph c.take.new.graph h
+    (g.O.Offers.gives c.loop-next.offers h.place state) c.in_ok-next.field-0 c.in-Some.next c.in-Some.is c.in_ok-next.ensures.taken in
+    let far = taken_place c.args.table.now (length text) c.loop-next.graph c.take.new.graph h w.0 c.in-Some.next w.2 in
     record {
       made = c.look_once-lexed.ensures.made;
       least = (let least = c.in_ok-next.ensures.least in omega (arith, least, far));
-      gives = λ place at t given. c.loop-graph.invariant.gives place at t (c.in_ok-next.ensures.gives place at t given);
+      gives = λ place at t given. c.loop-next.invariant.gives place at t (c.in_ok-next.ensures.gives place at t given);
       live = w.2.taken.live;
-      stands = λ states are honest.
-          stands_taken c.laws_hold.ensures c.sound_laws_hold.ensures c.only_laws_hold.ensures c.pushed_whole.ensures.ends c.args.table.now states text c.loop-graph.graph c.take.new.graph h c.in-Some.next w.0 c.stands.ensures are
-          c.loop-graph.invariant.live (c.loop-graph.invariant.stands states are honest) w.2
-          (honest h.place state w.0 (c.loop-graph.invariant.gives h.place state w.0 w.1));
+      weight = (let fall = taken_falls c.laws_hold.ensures c.args.table.now c.stands.ensures.fit (c.unit_ranks.ensures c.args.table.now.grammar c.stands.ensures.fit) text c.loop-next.graph c.take.new.graph h c.in-Some.next c.loop-next.invariant.live w.0 w.2 in let most = c.loop-next.invariant.weight in omega (arith, fall, most));
+      stands = λ states are honest first.
+          stands_taken c.laws_hold.ensures c.sound_laws_hold.ensures c.pushed_whole.ensures.meet c.only_runs_meet.ensures.joined c.args.table.now states text (config_of c.args.graph.now c.args.start) c.loop-next.graph c.take.new.graph h c.in-Some.next w.0 c.stands.ensures are
+          c.loop-next.invariant.live (c.loop-next.invariant.stands states are honest first) w.2
+          (honest h.place state w.0 (c.loop-next.invariant.gives h.place state w.0 w.1));
       known = none_known (IsTokenAhead c.args.table.now text c.take.new.graph c.in-Some.next);
     }
 
-pub loop-graph-smaller-in-On : goal.loop-graph-smaller-in-On
-loop-graph-smaller-in-On g c =
+pub loop-next-smaller-in-On : goal.loop-next-smaller-in-On
+loop-next-smaller-in-On g c =
     let text = g.L.Text.Content.bytes c.args.text.now in
-    let long = sym (c.in_ok-setting.ensures.size_is ∙ c.len.ensures) in
-    let go = goes_on c.args.table.now text c.loop-graph.graph c.take.new.graph c.go_on.new.graph c.loop-graph.head c.in-On.next c.in_ok-next-in-None.field-0 (c.in_ok-next.ensures.kept c.in-None.is) c.in-On.is
-    (c.in_ok-next-in-None.ensures text long (sees_kept c.args.table.now text c.loop-graph.graph c.take.new.graph c.loop-graph.head c.look_once-lexed.result (c.in_ok-next.ensures.kept c.in-None.is) c.look_once-lexed.ensures.sees)) in
-    step_falls c.laws_hold.ensures c.args.table.now c.stands.ensures.fit (c.unit_ranks.ensures c.args.table.now.grammar c.stands.ensures.fit) text c.loop-graph.graph c.go_on.new.graph c.loop-graph.head c.in-On.next c.loop-graph.invariant.live go.step
+    let long = sym (c.requires.setting.size_is) in
+    let go = goes_on c.args.table.now text c.loop-next.graph c.take.new.graph c.go_on.new.graph c.loop-next.head c.in-On.next c.in_ok-next-in-None.field-0 (c.in_ok-next.ensures.kept c.in-None.is) c.in-On.is
+    (c.in_ok-next-in-None.ensures text long (sees_kept c.args.table.now text c.loop-next.graph c.take.new.graph c.loop-next.head c.look_once-lexed.result (c.in_ok-next.ensures.kept c.in-None.is) c.look_once-lexed.ensures.sees)) in
+    step_falls c.laws_hold.ensures c.args.table.now c.stands.ensures.fit (c.unit_ranks.ensures c.args.table.now.grammar c.stands.ensures.fit) text c.loop-next.graph c.go_on.new.graph c.loop-next.head c.in-On.next c.loop-next.invariant.live go.step
 
-pub loop-graph-preserved-in-On : goal.loop-graph-preserved-in-On
-loop-graph-preserved-in-On g c =
+pub loop-next-preserved-in-On : goal.loop-next-preserved-in-On
+loop-next-preserved-in-On g c =
     let text = g.L.Text.Content.bytes c.args.text.now in
-    let long = sym (c.in_ok-setting.ensures.size_is ∙ c.len.ensures) in
-    let h = c.loop-graph.head in
-    let go = goes_on c.args.table.now text c.loop-graph.graph c.take.new.graph c.go_on.new.graph h c.in-On.next c.in_ok-next-in-None.field-0 (c.in_ok-next.ensures.kept c.in-None.is) c.in-On.is
-    (c.in_ok-next-in-None.ensures text long (sees_kept c.args.table.now text c.loop-graph.graph c.take.new.graph c.loop-graph.head c.look_once-lexed.result (c.in_ok-next.ensures.kept c.in-None.is) c.look_once-lexed.ensures.sees)) in
-    let far = step_place c.args.table.now text c.loop-graph.graph c.go_on.new.graph h c.in-On.next go.step in
+    let long = sym (c.requires.setting.size_is) in
+    let h = c.loop-next.head in
+    let go = goes_on c.args.table.now text c.loop-next.graph c.take.new.graph c.go_on.new.graph h c.in-On.next c.in_ok-next-in-None.field-0 (c.in_ok-next.ensures.kept c.in-None.is) c.in-On.is
+    (c.in_ok-next-in-None.ensures text long (sees_kept c.args.table.now text c.loop-next.graph c.take.new.graph c.loop-next.head c.look_once-lexed.result (c.in_ok-next.ensures.kept c.in-None.is) c.look_once-lexed.ensures.sees)) in
+    let far = step_place c.args.table.now text c.loop-next.graph c.go_on.new.graph h c.in-On.next go.step in
     record {
       made = c.look_once-lexed.ensures.made;
       least = (let least = c.in_ok-next.ensures.least in omega (arith, least, far));
-      gives = λ place at t given. c.loop-graph.invariant.gives place at t (c.in_ok-next.ensures.gives place at t given);
+      gives = λ place at t given. c.loop-next.invariant.gives place at t (c.in_ok-next.ensures.gives place at t given);
       live = go.own;
-      stands = λ states are honest. stands_on c.only_laws_hold.ensures c.args.table.now states text c.loop-graph.graph c.go_on.new.graph h c.in-On.next (c.loop-graph.invariant.stands states are honest) go.step (go.stand states are);
+      weight = (let fall = step_falls c.laws_hold.ensures c.args.table.now c.stands.ensures.fit (c.unit_ranks.ensures c.args.table.now.grammar c.stands.ensures.fit) text c.loop-next.graph c.go_on.new.graph h c.in-On.next c.loop-next.invariant.live go.step in let most = c.loop-next.invariant.weight in omega (arith, fall, most));
+      stands = λ states are honest first. stands_on c.only_runs_meet.ensures.joined c.only_runs_meet.ensures.step c.args.table.now states text (config_of c.args.graph.now c.args.start) c.loop-next.graph c.go_on.new.graph h c.in-On.next (c.loop-next.invariant.stands states are honest first) go.step (go.stand states are);
       known = none_known (IsTokenAhead c.args.table.now text c.go_on.new.graph c.in-On.next);
     }
 
-pub loop-graph-smaller : goal.loop-graph-smaller
-loop-graph-smaller g c =
+pub loop-next-smaller : goal.loop-next-smaller
+loop-next-smaller g c =
     let text = g.L.Text.Content.bytes c.args.text.now in
-    let long = sym (c.in_ok-setting.ensures.size_is ∙ c.len.ensures) in
-    let go = goes_reduced_on c.args.table.now text c.loop-graph.graph c.take.new.graph c.go_on.new.graph c.loop-graph.head c.in-Reduced.next c.in-Reduced.found c.in_ok-next-in-None.field-0 (c.in_ok-next.ensures.kept c.in-None.is) c.in-Reduced.is
-    (c.in_ok-next-in-None.ensures text long (sees_kept c.args.table.now text c.loop-graph.graph c.take.new.graph c.loop-graph.head c.look_once-lexed.result (c.in_ok-next.ensures.kept c.in-None.is) c.look_once-lexed.ensures.sees)) in
-    step_falls c.laws_hold.ensures c.args.table.now c.stands.ensures.fit (c.unit_ranks.ensures c.args.table.now.grammar c.stands.ensures.fit) text c.loop-graph.graph c.go_on.new.graph c.loop-graph.head c.in-Reduced.next c.loop-graph.invariant.live go.0.step
+    let long = sym (c.requires.setting.size_is) in
+    let go = goes_reduced_on c.args.table.now text c.loop-next.graph c.take.new.graph c.go_on.new.graph c.loop-next.head c.in-Reduced.next c.in-Reduced.found c.in_ok-next-in-None.field-0 (c.in_ok-next.ensures.kept c.in-None.is) c.in-Reduced.is
+    (c.in_ok-next-in-None.ensures text long (sees_kept c.args.table.now text c.loop-next.graph c.take.new.graph c.loop-next.head c.look_once-lexed.result (c.in_ok-next.ensures.kept c.in-None.is) c.look_once-lexed.ensures.sees)) in
+    step_falls c.laws_hold.ensures c.args.table.now c.stands.ensures.fit (c.unit_ranks.ensures c.args.table.now.grammar c.stands.ensures.fit) text c.loop-next.graph c.go_on.new.graph c.loop-next.head c.in-Reduced.next c.loop-next.invariant.live go.0.step
 
-pub loop-graph-preserved : goal.loop-graph-preserved
-loop-graph-preserved g c =
+pub loop-next-preserved : goal.loop-next-preserved
+loop-next-preserved g c =
     let text = g.L.Text.Content.bytes c.args.text.now in
-    let long = sym (c.in_ok-setting.ensures.size_is ∙ c.len.ensures) in
-    let h = c.loop-graph.head in
-    let go = goes_reduced_on c.args.table.now text c.loop-graph.graph c.take.new.graph c.go_on.new.graph h c.in-Reduced.next c.in-Reduced.found c.in_ok-next-in-None.field-0 (c.in_ok-next.ensures.kept c.in-None.is) c.in-Reduced.is
-    (c.in_ok-next-in-None.ensures text long (sees_kept c.args.table.now text c.loop-graph.graph c.take.new.graph c.loop-graph.head c.look_once-lexed.result (c.in_ok-next.ensures.kept c.in-None.is) c.look_once-lexed.ensures.sees)) in
-    let far = step_place c.args.table.now text c.loop-graph.graph c.go_on.new.graph h c.in-Reduced.next go.0.step in
+    let long = sym (c.requires.setting.size_is) in
+    let h = c.loop-next.head in
+    let go = goes_reduced_on c.args.table.now text c.loop-next.graph c.take.new.graph c.go_on.new.graph h c.in-Reduced.next c.in-Reduced.found c.in_ok-next-in-None.field-0 (c.in_ok-next.ensures.kept c.in-None.is) c.in-Reduced.is
+    (c.in_ok-next-in-None.ensures text long (sees_kept c.args.table.now text c.loop-next.graph c.take.new.graph c.loop-next.head c.look_once-lexed.result (c.in_ok-next.ensures.kept c.in-None.is) c.look_once-lexed.ensures.sees)) in
+    let far = step_place c.args.table.now text c.loop-next.graph c.go_on.new.graph h c.in-Reduced.next go.0.step in
     record {
       made = c.look_once-lexed.ensures.made;
       least = (let least = c.in_ok-next.ensures.least in omega (arith, least, far));
-      gives = λ place at t given. c.loop-graph.invariant.gives place at t (c.in_ok-next.ensures.gives place at t given);
+      gives = λ place at t given. c.loop-next.invariant.gives place at t (c.in_ok-next.ensures.gives place at t given);
       live = go.0.own;
-      stands = λ states are honest. stands_on c.only_laws_hold.ensures c.args.table.now states text c.loop-graph.graph c.go_on.new.graph h c.in-Reduced.next (c.loop-graph.invariant.stands states are honest) go.0.step (go.0.stand states are);
+      weight = (let fall = step_falls c.laws_hold.ensures c.args.table.now c.stands.ensures.fit (c.unit_ranks.ensures c.args.table.now.grammar c.stands.ensures.fit) text c.loop-next.graph c.go_on.new.graph h c.in-Reduced.next c.loop-next.invariant.live go.0.step in let most = c.loop-next.invariant.weight in omega (arith, fall, most));
+      stands = λ states are honest first. stands_on c.only_runs_meet.ensures.joined c.only_runs_meet.ensures.step c.args.table.now states text (config_of c.args.graph.now c.args.start) c.loop-next.graph c.go_on.new.graph h c.in-Reduced.next (c.loop-next.invariant.stands states are honest first) go.0.step (go.0.stand states are);
       known = λ f e.
           let r = c.seen_again-ahead.ensures f e in
           subst (λ (x : FoundToken). IsTokenAhead c.args.table.now text c.go_on.new.graph c.in-Reduced.next x) (sym r.0) (go.1 r.1);
     }
 
+pub loop-next-init : goal.loop-next-init
+loop-next-init g c = record {
+  made = c.requires.made;
+  least = c.requires.asked;
+  gives = λ place at t given. given;
+  live = c.requires.live;
+  weight = omega arith;
+  stands = λ states are honest first. record { meet = c.only_runs_meet.ensures.same c.args.table.now.grammar (g.L.Text.Content.bytes c.args.text.now) (config_of c.args.graph.now c.args.start); stand = first };
+  known = none_known (IsTokenAhead c.args.table.now (g.L.Text.Content.bytes c.args.text.now) c.args.graph.now c.args.start);
+}
+
 pub returns-in-Ended-clause-fresh : goal.returns-in-Ended-clause-fresh
-returns-in-Ended-clause-fresh g c states are honest =
+returns-in-Ended-clause-fresh g c states are honest first =
     let text = g.L.Text.Content.bytes c.args.text.now in
-    let long = sym (c.in_ok-setting.ensures.size_is ∙ c.len.ensures) in
-    ends_result c.only_laws_hold.ensures c.only_runs_are_one_way.ensures.fresh c.only_runs_are_one_way.ensures.start c.args.table.now states text c.loop-graph.graph c.loop-graph.head are (c.loop-graph.invariant.stands states are honest) c.in-Ended.result
-    (ends_at c.args.table.now text c.loop-graph.graph c.take.new.graph c.go_on.new.graph c.loop-graph.head c.in-Ended.result c.in_ok-next-in-None.field-0 (c.in_ok-next.ensures.kept c.in-None.is) c.in-Ended.is
-    (c.in_ok-next-in-None.ensures text long (sees_kept c.args.table.now text c.loop-graph.graph c.take.new.graph c.loop-graph.head c.look_once-lexed.result (c.in_ok-next.ensures.kept c.in-None.is) c.look_once-lexed.ensures.sees)))
+    let long = sym (c.requires.setting.size_is) in
+    ends_result c.only_runs_are_one_way.ensures.fresh c.only_runs_meet.ensures.ends c.only_runs_meet.ensures.fork c.args.table.now states text c.args.graph.now c.loop-next.graph c.go_on.new.graph c.args.start c.loop-next.head are (c.loop-next.invariant.stands states are honest first) c.in-Ended.result
+    (ends_at c.args.table.now text c.loop-next.graph c.take.new.graph c.go_on.new.graph c.loop-next.head c.in-Ended.result c.in_ok-next-in-None.field-0 (c.in_ok-next.ensures.kept c.in-None.is) c.in-Ended.is
+    (c.in_ok-next-in-None.ensures text long (sees_kept c.args.table.now text c.loop-next.graph c.take.new.graph c.loop-next.head c.look_once-lexed.result (c.in_ok-next.ensures.kept c.in-None.is) c.look_once-lexed.ensures.sees)))
+
+pub returns-in-Ended-clause-forks : goal.returns-in-Ended-clause-forks
+returns-in-Ended-clause-forks g c =
+    let text = g.L.Text.Content.bytes c.args.text.now in
+    let long = sym (c.requires.setting.size_is) in
+    ends_fork c.args.table.now text (λ stacks k. IsForkFrom c.args.table.now text c.args.graph.now stacks c.args.start k) c.loop-next.graph c.go_on.new.graph c.loop-next.head c.in-Ended.result
+    (λ several. record { own = c.loop-next.invariant.live; weight = c.loop-next.invariant.weight; fork = several })
+    (ends_at c.args.table.now text c.loop-next.graph c.take.new.graph c.go_on.new.graph c.loop-next.head c.in-Ended.result c.in_ok-next-in-None.field-0 (c.in_ok-next.ensures.kept c.in-None.is) c.in-Ended.is
+    (c.in_ok-next-in-None.ensures text long (sees_kept c.args.table.now text c.loop-next.graph c.take.new.graph c.loop-next.head c.look_once-lexed.result (c.in_ok-next.ensures.kept c.in-None.is) c.look_once-lexed.ensures.sees)))
+
+pub returns-in-Ended-clause-least : goal.returns-in-Ended-clause-least
+returns-in-Ended-clause-least g c =
+    let text = g.L.Text.Content.bytes c.args.text.now in
+    let long = sym (c.requires.setting.size_is) in
+    ends_fork c.args.table.now text (λ stacks k. g.O.Offers.least c.take.new.offers ≤ k.place) c.loop-next.graph c.go_on.new.graph c.loop-next.head c.in-Ended.result (λ several. c.in_ok-next.ensures.least)
+    (ends_at c.args.table.now text c.loop-next.graph c.take.new.graph c.go_on.new.graph c.loop-next.head c.in-Ended.result c.in_ok-next-in-None.field-0 (c.in_ok-next.ensures.kept c.in-None.is) c.in-Ended.is
+    (c.in_ok-next-in-None.ensures text long (sees_kept c.args.table.now text c.loop-next.graph c.take.new.graph c.loop-next.head c.look_once-lexed.result (c.in_ok-next.ensures.kept c.in-None.is) c.look_once-lexed.ensures.sees)))

@@ -1,5 +1,5 @@
 use Rattle.std.proofs.Common.{◌≡◌, sym}
-use Rattle.ts_moves.specs.Heads.{read_on}
+use Rattle.ts_steps.specs.LiveHeads.{read_on}
 use Rattle.ts_gss.specs.Stacks.{stack_at, state_on}
 use Rattle.ts_steps.proofs.StackLemmas.{state_top}
 use Rattle.ts_steps.proofs.TableLemmas.{some_move}

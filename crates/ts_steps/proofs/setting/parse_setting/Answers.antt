@@ -1,8 +1,7 @@
 use Rattle.std.proofs.Common.{◌∙◌, ◌≤◌, ◌<◌, ◌^◌, length, refl, sym, subst}
 use Rattle.ts_core.specs.declared.flat.FlatGrammar.{FlatGrammar}
 use Rattle.spec_grammar.specs.Symbols.{all_productions, symbol_count}
-use Rattle.ts_moves.specs.Lines.{HasAllLines}
-use Rattle.ts_steps.specs.Settings.{lines_of_all}
+use Rattle.ts_steps.specs.Lines.{HasAllLines}
 use Rattle.ts_steps.proofs.LineLemmas.{few_symbols, few_productions}
 use Rattle.ts_steps.proofs.setting.parse_setting.Goals as goal
 
@@ -21,7 +20,7 @@ lines_of-requires-clause-productions c = subst (λ (g : FlatGrammar). length (al
 pub returns : goal.returns
 returns c = record {
   productions = c.in_ok-productions.ensures ∙ c.grammar-flat.ensures;
-  lines = subst (λ (g : FlatGrammar). HasAllLines g (lines_of_all c.in_ok-lines.lines)) c.grammar-flat.ensures c.in_ok-lines.ensures;
+  lines = subst (λ (g : FlatGrammar). HasAllLines g c.in_ok-lines.lines) c.grammar-flat.ensures c.in_ok-lines.ensures;
   size_is = refl;
   short = c.requires;
 }

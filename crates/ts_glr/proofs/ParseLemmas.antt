@@ -1,0 +1,89 @@
+-- A parse that follows one stack, or all of several, by turns: what holds at its start, after each turn, and at its end.
+use Rattle.std.proofs.Common.{◌≡◌, sym, refl, subst, ℕ, ◌<◌, ◌≤◌, ◌⊎◌, List, [], ◌∷◌, Option, Some, None, length, arith}
+use Rattle.ts_base.specs.Bytes.{Bytes}
+use Rattle.ts_core.specs.declared.flat.FlatGrammar.{FlatGrammar}
+use Rattle.spec_tables.specs.Fit.{Fit}
+use Rattle.spec_trees.specs.declared.tree.Tree.{Tree}
+use Rattle.spec_trees.specs.Trees.{children_of, state_of}
+use Rattle.spec_trees.specs.Choice.{IsInForm}
+use Rattle.spec_runs.specs.Configurations.{Configuration}
+use Rattle.spec_runs.specs.Runs.{Run}
+use Rattle.spec_runs.specs.Outcomes.{Fresh, deep_outcome, tree_outcome, stuck_outcome}
+use Rattle.spec_forced.specs.OnlyRuns.{OnlyRun}
+use Rattle.spec_forced.specs.Sound.{States, IsSound}
+use Rattle.ts_table.specs.declared.view.ParseTable.{ParseTable}
+use Rattle.ts_gss.specs.declared.layer.Layer.{Layer}
+use Rattle.ts_steps.specs.declared.head.StackHead.{StackHead}
+use Rattle.ts_steps.specs.Good.{EachTree}
+use Rattle.ts_steps.specs.LiveHeads.{config_of}
+use Rattle.ts_steps.specs.declared.reparsed.Reparsed.{Reparsed}
+use Rattle.ts_steps.specs.declared.reparsed.Reparsed.TheVariants.{Accepted, Stuck, Deep, Forks}
+use Rattle.ts_steps.specs.Heads.{IsOwnWithin, IsOwnHead, StandOnHead}
+use Rattle.ts_steps.specs.Reparsing.{OnFork, IsForkFrom, IsOwnResult, IsResult}
+use Rattle.ts_steps.specs.Weights.{config_weight}
+use Rattle.ts_glr.specs.declared.outcome.Outcome.{Outcome}
+use Rattle.ts_glr.specs.declared.forking.Forked.{Forked}
+use Rattle.ts_glr.specs.declared.forking.Forked.TheVariants.{One, Over}
+use Rattle.ts_glr.specs.Laws.{PackingLaws}
+use Rattle.ts_glr.specs.Search.{IsPastStuck, Rests}
+use Rattle.ts_glr.specs.Forks.{LeavesOne, EndsAll, ComesTo}
+use Rattle.ts_glr.proofs.RestLemmas.{Through, rests_start, rests_on, rests_tree, rests_stuck, rests_deep}
+
+-- ---- the start
+
+pub own_start : (t : ParseTable) (size : ℕ) (stacks : List (List Layer)) → stacks ≡ [] ∷ [] → IsOwnHead t size stacks (record { top = 0; place = 0 })
+own_start t size stacks is = subst (λ (s : List (List Layer)). IsOwnHead t size s (record { top = 0; place = 0 })) (sym is) (record {
+  live = record {
+    there = omega arith;
+    stack = record { states = tt; good = tt; spans = refl; reach = tt; within = omega arith };
+  };
+  own = tt;
+})
+
+pub start_rests : (packing : PackingLaws) (t : ParseTable) → Fit t.grammar → (states : States) (text : Bytes) (stacks : List (List Layer)) (stuck : Option ℕ) → stacks ≡ [] ∷ [] → stuck ≡ None
+    → Rests t.grammar text stuck (config_of stacks (record { top = 0; place = 0 })) × StandOnHead t states text stacks (record { top = 0; place = 0 })
+start_rests packing t fit states text stacks stuck is none =
+    subst (λ (s : List (List Layer)). Rests t.grammar text stuck (config_of s (record { top = 0; place = 0 })) × StandOnHead t states text s (record { top = 0; place = 0 })) (sym is)
+    (rests_start packing t.grammar fit text stuck none, tt)
+
+-- ---- one stack
+
+module _ (packing : PackingLaws) (t : ParseTable) (fit : Fit t.grammar) (states : States) (text : Bytes) (old new : List (List Layer)) (h : StackHead) (stuck : Option ℕ) (r : Reparsed) (result : IsResult t states text old new h r) (rests : Rests t.grammar text stuck (config_of old h)) where
+  pub accepts_sound : (u : Tree) → r ≡ Accepted u → Fresh t.grammar text (tree_outcome u) × IsSound t.grammar states text u
+  accepts_sound u is =
+      let w = subst (λ (x : Reparsed). IsResult t states text old new h x) is result in
+      (rests_tree packing t.grammar fit text stuck (config_of old h) rests u w.0, w.1)
+
+  pub stuck_at : (place q : ℕ) → r ≡ Stuck place → place ≤ q → ((p : ℕ) → IsPastStuck stuck p → p ≤ q) → (q ≡ place) ⊎ (stuck ≡ Some q) → Fresh t.grammar text (stuck_outcome q)
+  stuck_at place q is mine others from =
+      rests_stuck packing t.grammar fit text stuck (config_of old h) rests place q (subst (λ (x : Reparsed). IsResult t states text old new h x) is result) mine others from
+
+  pub too_deep : r ≡ Deep → Fresh t.grammar text deep_outcome
+  too_deep is = rests_deep packing t.grammar fit text stuck (config_of old h) rests (subst (λ (x : Reparsed). IsResult t states text old new h x) is result)
+
+  -- where several moves stay
+  pub fork_rests : (through : Through) (runs : (g : FlatGrammar) (text : Bytes) (c d : Configuration) → OnlyRun g text c d → Run g text c d) (k : StackHead) → r ≡ Forks k → Rests t.grammar text stuck (config_of new k) × StandOnHead t states text new k
+  fork_rests through runs k is =
+      let w = subst (λ (x : Reparsed). IsResult t states text old new h x) is result in
+      (rests_on packing t.grammar fit text through runs stuck (config_of old h) (config_of new k) w.0 rests, w.1)
+
+pub own_root : (t : ParseTable) (r : Reparsed) (u : Tree) → r ≡ Accepted u → IsOwnResult t r → IsInForm t.grammar u × EachTree (IsOwnWithin t.grammar) (children_of u) × (state_of u ≡ None)
+own_root t r u is own = subst (λ (x : Reparsed). IsOwnResult t x) is own
+
+pub at_fork : (P : StackHead → Type 0) (r : Reparsed) (k : StackHead) → r ≡ Forks k → OnFork P r → P k
+at_fork P r k is on = subst (λ (x : Reparsed). OnFork P x) is on
+
+-- ---- several stacks
+
+module _ (t : ParseTable) (text : Bytes) (first stacks : List (List Layer)) (before stuck : Option ℕ) (live : List StackHead) (best : Option Tree) (h : StackHead) (o : Forked) (comes : ComesTo t text first stacks before stuck live best h o) where
+  pub leaves_one : (k : StackHead) → o ≡ One k → LeavesOne t text first stacks before stuck live best h k
+  leaves_one k is = subst (λ (x : Forked). ComesTo t text first stacks before stuck live best h x) is comes
+
+  pub ends_all : (out : Outcome) → o ≡ Over out → EndsAll t text first before h out
+  ends_all out is = subst (λ (x : Forked). ComesTo t text first stacks before stuck live best h x) is comes
+
+-- what is left weighs less than the stack from which the turn began
+pub turn_falls : (t : ParseTable) (text : Bytes) (old mid new : List (List Layer)) (h f k : StackHead) → IsForkFrom t text old mid h f
+    → config_weight t.grammar (length text) (config_of new k) < config_weight t.grammar (length text) (config_of mid f)
+    → config_weight t.grammar (length text) (config_of new k) < config_weight t.grammar (length text) (config_of old h)
+turn_falls t text old mid new h f k fork less = let le = fork.weight in omega (arith, le, less)

@@ -1,0 +1,91 @@
+//! Following all ways to read a text from a stack on at which several moves stay: the stack goes
+//! in; the one that is left comes out, or what the text comes to.
+ghost use Rattle.std.specs.Prelude.{◌≡◌, [], true, length, None, IfOk};
+ghost use Rattle.ts_glr.specs.Forks.{ComesTo};
+ghost use Rattle.ts_glr.specs.Outcomes.{EndsAs};
+ghost use Rattle.ts_steps.specs.Settings.{IsParseSetting};
+ghost use Rattle.ts_steps.specs.Heads.{IsOwnHead};
+
+use crate::following::advance;
+use crate::joining::{join, next_head};
+use crate::laws::{laws_hold, packing_laws_hold};
+use crate::outcome::Outcome;
+use crate::readings::Readings;
+use std::alloc::{AllocError, Global};
+use ts_lexer::Tokens;
+use ts_steps::{ParseSetting, StackHead, steps_fall};
+use ts_table::Table;
+
+/// What following all live stacks comes to: one that is left alone, before any tree is accepted, or
+/// the outcome of the text.
+#[derive(Drop)]
+pub(crate) enum Forked {
+    One(StackHead),
+    Over(Outcome),
+}
+
+/// The outcome that the best tree and the greatest stuck place come to.
+fn outcome(readings: &mut Readings) -> Outcome
+    requires { readings.old.best ≡ None → readings.old.stuck ≡ None → ⊥ }
+    ensures { EndsAs readings.old.best readings.old.stuck result }
+{
+    match readings.best.take() {
+        Some(node) => Outcome::Accepted(node),
+        None => match readings.stuck {
+            Some(place) => Outcome::Stuck(place),
+            None => unreachable!(),
+        },
+    }
+}
+
+/// Whether no other head is live than the one that was taken out, and no tree is accepted.
+fn is_left_alone(readings: &Readings) -> bool
+    ensures live { result ≡ true → readings.now.live.items ≡ [] }
+    ensures best { result ≡ true → readings.now.best ≡ None }
+{
+    readings.live.is_empty() && readings.best.is_none()
+}
+
+/// Follows all ways to read a text from a stack on, until one stack is left, before any tree is
+/// accepted, or there is none.
+pub(crate) fn follow_all<L: Tokens>(
+    alloc: Global,
+    table: &Table,
+    setting: &ParseSetting,
+    lexer: &mut L,
+    text: &L::Text,
+    readings: &mut Readings,
+    start: StackHead,
+) -> Result<Forked, AllocError>
+    requires made { L.made_for lexer.old table.now }
+    requires setting { IsParseSetting table.now (length (L.Text.bytes text.now)) setting.now }
+    requires own { IsOwnHead table.now (length (L.Text.bytes text.now)) readings.old.graph start }
+    requires alone { readings.old.live.items ≡ [] }
+    requires best { readings.old.best ≡ None }
+    ensures made { L.made_for lexer.new table.now }
+    ensures follows { IfOk result (ComesTo table.now (L.Text.bytes text.now) readings.old.graph
+        readings.new.graph readings.old.stuck readings.new.stuck readings.new.live.items
+        readings.new.best start) }
+{
+    laws_hold();
+    packing_laws_hold();
+    table.stands();
+    steps_fall();
+    let ends_deep = advance(alloc, table, setting, lexer, text, readings, start)?;
+    if ends_deep {
+        return Ok(Forked::Over(Outcome::Deep));
+    }
+    while let Some(head) = next_head(&readings.graph, &mut readings.live) {
+        if is_left_alone(readings) {
+            return Ok(Forked::One(head));
+        }
+        if join(&readings.graph, &mut readings.live, head) {
+            continue;
+        }
+        let deep = advance(alloc, table, setting, lexer, text, readings, head)?;
+        if deep {
+            return Ok(Forked::Over(Outcome::Deep));
+        }
+    }
+    Ok(Forked::Over(outcome(readings)))
+}

@@ -1,5 +1,0 @@
-pub mod Laws
-pub mod Lines
-pub mod Good
-pub mod Making
-pub mod Heads
