@@ -1,22 +1,21 @@
 -- The leaves of a tree without gaps spell the text, and the nodes that a parser makes have no gaps.
-use Rattle.std.proofs.Common.{◌≡◌, ℕ, zero, suc, ◌+◌, ◌-◌, ◌≤◌, sym, ap, ◌∙◌, refl, subst, arith, Bool, true, false, ◌&&◌, List, [], ◌∷◌, ◌++◌, length, map, take, drop, Option, Some, None}
+use Rattle.std.proofs.Common.{◌≡◌, ℕ, zero, suc, ◌+◌, ◌-◌, ◌≤◌, sym, ap, ◌∙◌, refl, arith, Bool, true, ◌&&◌, List, [], ◌∷◌, ◌++◌, map, take, drop, Option}
 use Rattle.std.specs.Prelude.{All}
-use Rattle.std.specs.List.{list_all, flat_map}
+use Rattle.std.specs.List.{list_all}
 use Rattle.std.proofs.Math.Seq.{take-add}
 use Rattle.std.proofs.lemmas.Bool.{eqb-true, eq-eqb}
 use Rattle.std.proofs.lemmas.List.{drop-drop, append-nil}
 use Rattle.std.proofs.lemmas.Grind.{flat_map-append}
 use Rattle.std.proofs.lemmas.List.Elements.{All-nil, All-cons, All-head, All-tail, All-append}
-use lib.IntN.{ℤ, ◌+ℤ◌}
+use lib.IntN.{ℤ}
 use Rattle.ts_base.specs.Bytes.{Bytes}
 use Rattle.ts_core.specs.declared.flat.FlatGrammar.{FlatGrammar}
 use Rattle.spec_trees.specs.declared.tree.Tree.{Tree}
 use Rattle.spec_trees.specs.declared.tree.Element.{Element}
-use Rattle.spec_trees.specs.declared.tree.Tree.TheOpen.{Tree-F}
 use Rattle.spec_trees.specs.declared.tree.Tree.TheViews.{out-Tree, roll-out-Tree}
 use Rattle.spec_trees.specs.declared.tree.Tree.TheFolds.{para-Tree, para-roll-Tree, fold_out-Tree}
-use Rattle.spec_trees.specs.Trees.{symbol_of, production_of, pad_of, size_of, span_of, all_spans, first_pad, elements_of, children_of, total_of, all_totals, tree_depth, depth_step, greatest_depth}
-use Rattle.spec_trees.specs.Made.{leaf_of, as_extra, node_over, element, Form, of_rule, of_first, of_next, form_of, left_of, value_of, made_by, reduced, accepted}
+use Rattle.spec_trees.specs.Trees.{pad_of, size_of, span_of, all_spans, first_pad, children_of, tree_depth, depth_step, greatest_depth}
+use Rattle.spec_trees.specs.Made.{leaf_of, as_extra, node_over, Form, of_rule, of_first, of_next, form_of, left_of, value_of, made_by, reduced, accepted}
 use Rattle.ts_node.specs.Leaves.{LeafAt, leaves_among, leaves_by, leaves_step, leaves_from, leaf_bytes, leaves_bytes, is_filled_by, gapless_step, IsGapless}
 use Rattle.ts_node.proofs.ReducedLemmas.{over_layer, first_pad_within}
 use Rattle.ts_node.proofs.FormLemmas.{both, both_true, token_layer}

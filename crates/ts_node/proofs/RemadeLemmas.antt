@@ -1,13 +1,13 @@
 -- What an edit leaves of a node that can be remade is a node.
-use Rattle.std.proofs.Common.{◌≡◌, ℕ, ◌+◌, ◌*◌, ◌^◌, ◌≤◌, sym, ap, ◌∙◌, subst, arith, false, List, [], ◌∷◌, length}
+use Rattle.std.proofs.Common.{◌≡◌, ℕ, ◌+◌, sym, ap, ◌∙◌, subst, arith, false, List, [], ◌∷◌, length}
 use Rattle.std.specs.Int.RustNames.{unsigned_abs}
 use Rattle.spec_trees.specs.declared.tree.Tree.{Tree}
 use Rattle.spec_trees.specs.declared.tree.Element.{Element}
 use Rattle.spec_trees.specs.declared.tree.Tree.TheOpen.{Tree-F}
 use Rattle.spec_trees.specs.declared.tree.Tree.TheViews.{out-Tree, out-roll-Tree}
 use Rattle.spec_trees.specs.declared.tree.Tree.TheFolds.{fold-roll-Tree, fold_out-Tree}
-use Rattle.spec_trees.specs.Trees.{elements_of, children_of, is_settled, total_of, pad_of, size_of, span_of, all_spans, node_count, nodes_step, all_nodes, tree_depth, depth_step, greatest_depth}
-use Rattle.spec_trees.specs.Made.{IsNode, AreCounted, children_count, remade, replaced}
+use Rattle.spec_trees.specs.Trees.{elements_of, children_of, is_settled, total_of, pad_of, size_of, all_spans, node_count, nodes_step, all_nodes, tree_depth, depth_step, greatest_depth}
+use Rattle.spec_trees.specs.Made.{IsNode, AreCounted, remade, replaced}
 use Rattle.ts_node.specs.Standing.{CanBeRemade}
 use Rattle.ts_node.proofs.RemakeLemmas.{length-replaced}
 

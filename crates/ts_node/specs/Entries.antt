@@ -1,5 +1,5 @@
 -- What is kept of each production.
-use Rattle.std.specs.Prelude.{◌≡◌, ◌≤◌, ◌^◌, ℕ, List, length, slice_get, Some}
+use Rattle.std.specs.Prelude.{◌≡◌, ℕ, List, length, slice_get, Some}
 use Rattle.ts_core.specs.declared.flat.FlatGrammar.{FlatGrammar}
 use Rattle.spec_grammar.specs.Symbols.{all_productions}
 use Rattle.spec_trees.specs.Made as made

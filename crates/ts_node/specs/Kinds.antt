@@ -1,5 +1,5 @@
 -- What a node is, told from outside.
-use Rattle.std.specs.Prelude.{◌≡◌, ◌<◌, ℕ, List, [], length, Some, None, false}
+use Rattle.std.specs.Prelude.{◌≡◌, ◌<◌, ℕ, [], length, Some, None, false}
 use Rattle.spec_trees.specs.declared.tree.Tree.{Tree}
 use Rattle.spec_trees.specs.Trees.{production_of, elements_of, children_of, is_extra_node}
 use Rattle.spec_trees.specs.Made.{children_count}

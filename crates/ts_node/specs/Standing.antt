@@ -1,6 +1,6 @@
 -- What is so of the nodes that are made, and when children can be reduced, a root accepted and a
 -- node remade.
-use Rattle.std.specs.Prelude.{◌≡◌, ℕ, ◌+◌, ◌<◌, ◌≤◌, ◌^◌, max, true, false, List, [], ◌∷◌, ◌++◌, length, Option, All}
+use Rattle.std.specs.Prelude.{◌≡◌, ℕ, ◌+◌, ◌<◌, ◌≤◌, max, true, false, List, [], ◌∷◌, ◌++◌, length, Option, All}
 use Rattle.ts_core.specs.declared.flat.FlatGrammar.{FlatGrammar}
 use Rattle.spec_trees.specs.declared.tree.Tree.{Tree}
 use Rattle.spec_trees.specs.Trees.{symbol_of, node_extent, state_of, elements_of, children_of, is_settled, is_extra_node, node_count, all_nodes, span_of, all_spans, tree_depth, greatest_depth}

@@ -8,6 +8,7 @@ mod kind;
 mod laws;
 mod make;
 mod node;
+mod owned;
 mod productions;
 mod run;
 mod sums;

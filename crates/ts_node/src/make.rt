@@ -8,10 +8,11 @@ ghost use Rattle.spec_trees.specs.Made as made;
 ghost use Rattle.ts_node.specs.Entries.{form_is};
 
 use crate::node::{Kind, Leaf, Node, Repetition, RuleNode, Run, Summary, Sums};
+use crate::owned::Owned;
 use crate::productions::{Entry, Form, Productions};
 use crate::sums::{copy, pad_of_first, plus, sums, totals, with_value};
 use std::alloc::{AllocError, Global};
-use ts_base::{List, Shared};
+use ts_base::List;
 use ts_core::Symbol;
 
 /// What a node is given beside its children.
@@ -106,7 +107,7 @@ fn over(alloc: Global, head: Head, number: u32, children: List<Node>) -> Result<
     let pad = pad_of_first(children.as_slice());
     let sums = sums(children.as_slice());
     let summary = summary(head, pad, 0, sums);
-    let body = Shared::new(
+    let body = Owned::new(
         alloc,
         RuleNode {
             summary,
@@ -120,7 +121,7 @@ fn over(alloc: Global, head: Head, number: u32, children: List<Node>) -> Result<
 }
 
 /// A repetition of these elements.
-fn over_run(alloc: Global, head: Head, run: Shared<Run>) -> Result<Node, AllocError>
+fn over_run(alloc: Global, head: Head, run: Owned<Run>) -> Result<Node, AllocError>
     requires { IsNode (node_over head.symbol.0 None head.dynamic head.extent head.state
         run.elements run.children) }
     ensures { IfOk result (λ node. node ≡ node_over head.symbol.0 None head.dynamic head.extent
@@ -129,7 +130,7 @@ fn over_run(alloc: Global, head: Head, run: Shared<Run>) -> Result<Node, AllocEr
     let counts = run.get().counts();
     let pad = run.get().pad_of_first();
     let summary = summary(head, pad, counts.elements, counts.sums);
-    let body = Shared::new(alloc, Repetition { summary, run })?;
+    let body = Owned::new(alloc, Repetition { summary, run })?;
     Ok(Node {
         kind: Kind::Repetition(body),
     })
@@ -201,25 +202,25 @@ fn next(
         ≡ next_element entry.symbol.0 alternative entry.dynamic extent state children) }
 {
     let (before, more) = parted(children);
-    longer(alloc, entry, alternative, &before, more, extent, state)
+    longer(alloc, entry, alternative, before, more, extent, state)
 }
 
-/// The repetition `before` with one more element of these children. It shares the parts of the
-/// repetition so far.
+/// The repetition `before` with one more element of these children. What nobody
+/// else owns of it is lengthened in place, all else is shared.
 fn longer(
     alloc: Global,
     entry: Entry,
     alternative: u32,
-    before: &Node,
+    before: Node,
     more: List<Node>,
     extent: u32,
     state: Option<u16>,
 ) -> Result<Node, AllocError>
-    requires repetition { 0 < length (elements_of before.now) }
+    requires repetition { 0 < length (elements_of before) }
     requires node { IsNode (next_element entry.symbol.0 alternative entry.dynamic extent state
-        (before.now ∷ more)) }
+        (before ∷ more)) }
     ensures { IfOk result (λ node. node ≡ next_element entry.symbol.0 alternative entry.dynamic
-        extent state (before.now ∷ more)) }
+        extent state (before ∷ more)) }
 {
     let summary = before.summary();
     let others = totals(more.as_slice());
@@ -249,32 +250,45 @@ fn parted(children: List<Node>) -> (Node, List<Node>)
 #[tactic(auto, using(crate::proofs::BodyLemmas::leaf_elements))]
 fn lengthened(
     alloc: Global,
-    before: &Node,
+    before: Node,
     alternative: u32,
     more: List<Node>,
-) -> Result<Shared<Run>, AllocError>
-    requires repetition { 0 < length (elements_of before.now) }
-    requires wide { length (children_of before.now) + length more < 2 ^ 32 }
-    requires fits { length (elements_of before.now) + 1 < 2 ^ 32 }
+) -> Result<Owned<Run>, AllocError>
+    requires repetition { 0 < length (elements_of before) }
+    requires wide { length (children_of before) + length more < 2 ^ 32 }
+    requires fits { length (elements_of before) + 1 < 2 ^ 32 }
     ensures elements { IfOk result (λ run. run.elements
-        ≡ elements_of before.now ++ made.element alternative (length more) ∷ []) }
-    ensures children { IfOk result (λ run. run.children ≡ children_of before.now ++ more) }
+        ≡ elements_of before ++ made.element alternative (length more) ∷ []) }
+    ensures children { IfOk result (λ run. run.children ≡ children_of before ++ more) }
 {
-    match &before.kind {
+    let Node { kind } = before;
+    match kind {
         Kind::Leaf(_) => unreachable!(),
         Kind::Rule(rule) => {
             let _ = rule.get().children();
             unreachable!()
         }
         Kind::Repetition(repetition) => {
-            Run::with_element(alloc, repetition.get().run(), alternative, more)
+            let run = run_of(repetition)?;
+            Run::with_element(alloc, run, alternative, more)
         }
     }
 }
 
+/// The run of a repetition: the run itself, where nobody else owns the repetition.
+fn run_of(repetition: Owned<Repetition>) -> Result<Owned<Run>, AllocError>
+    ensures elements { IfOk result (λ run. run.elements ≡ elements_of repetition) }
+    ensures children { IfOk result (λ run. run.children ≡ children_of repetition) }
+{
+    match repetition.try_unwrap() {
+        Ok(body) => Ok(body.into_run()),
+        Err(shared) => shared.get().run().try_clone(),
+    }
+}
+
 /// The node that a reduction by the production of this number makes of its children. A production
-/// that lengthens a repetition shares the repetition so far, and takes time by the logarithm of its
-/// length.
+/// that lengthens a repetition lengthens in place what nobody else owns of the repetition so far,
+/// and shares all else. It takes time by the logarithm of its length.
 ///
 /// # Errors
 ///

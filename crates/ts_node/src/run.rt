@@ -1,21 +1,23 @@
 //! Runs: the elements of a repetition with their children, in a tree of shared parts that is
 //! balanced as an AVL tree is. Heights and balance are no part of what a run means.
-ghost use Rattle.std.specs.Prelude.{◌≡◌, ◌+◌, ◌<◌, ◌^◌, ◌++◌, ◌∷◌, [], IfOk, OnOk, length, set, slice_get, Some};
+ghost use Rattle.std.specs.Prelude.{◌≡◌, ◌+◌, ◌<◌, ◌^◌, ◌++◌, ◌∷◌, [], IfOk, IfErr, OnOk, ℕ, length, set, slice_get, Some};
+ghost use Rattle.spec_trees.specs.declared.tree.Stretch.{Stretch};
 ghost use Rattle.spec_trees.specs.Trees.{first_pad};
 ghost use Rattle.spec_trees.specs.Made.{children_count, element};
 ghost use Rattle.ts_node.specs.Held.{joined_stretch, stretch, changed, IsCount};
 
 use crate::node::{Counts, Node, Run, Shape, Sums};
-use crate::sums::{copy, sums};
+use crate::owned::Owned;
+use crate::sums::{appended, copy, sums};
 use spec_trees::Element;
 use std::alloc::{AllocError, Global};
-use ts_base::{List, Shared};
+use ts_base::List;
 
 /// The most elements and children together in a leaf, but for a leaf of one long element.
 const MOST_IN_LEAF: u64 = 768;
 
-/// The most elements and children together in the last leaf of a run that is lengthened by one
-/// element after another, so that few are copied for each.
+/// The most elements and children together in the last leaf of a run that is copied for each element
+/// by which it is lengthened, since it has other owners.
 const MOST_IN_LAST: u64 = 32;
 
 impl Run {
@@ -84,7 +86,7 @@ impl Run {
         alloc: Global,
         elements: List<Element>,
         children: List<Node>,
-    ) -> Result<Shared<Run>, AllocError>
+    ) -> Result<Owned<Run>, AllocError>
         requires some { 0 < length elements }
         requires own { children_count elements ≡ length children }
         requires fits { length elements < 2 ^ 32 }
@@ -96,7 +98,20 @@ impl Run {
             children: children.len() as u32,
             sums: sums(children.as_slice()),
         };
-        Shared::new(
+        Run::counted_leaf(alloc, counts, elements, children)
+    }
+
+    /// A run of one leaf, of which this is counted.
+    fn counted_leaf(
+        alloc: Global,
+        counts: Counts,
+        elements: List<Element>,
+        children: List<Node>,
+    ) -> Result<Owned<Run>, AllocError>
+        requires { IsCount counts (stretch elements children) }
+        ensures { IfOk result (λ run. run ≡ stretch elements children) }
+    {
+        Owned::new(
             alloc,
             Run {
                 counts,
@@ -107,11 +122,7 @@ impl Run {
     }
 
     /// A run over these two.
-    fn branch(
-        alloc: Global,
-        left: Shared<Run>,
-        right: Shared<Run>,
-    ) -> Result<Shared<Run>, AllocError>
+    fn branch(alloc: Global, left: Owned<Run>, right: Owned<Run>) -> Result<Owned<Run>, AllocError>
         requires fits { length left.elements + length right.elements < 2 ^ 32 }
         requires wide { length left.children + length right.children < 2 ^ 32 }
         ensures { IfOk result (λ run. run ≡ joined_stretch left right) }
@@ -122,7 +133,7 @@ impl Run {
             .max(right.get().height())
             .saturating_add(1);
         let counts = both(left.get(), right.get());
-        Shared::new(
+        Owned::new(
             alloc,
             Run {
                 counts,
@@ -135,9 +146,9 @@ impl Run {
     /// A run over `left` and `right`, of which the right one may be two levels higher.
     fn lean_right(
         alloc: Global,
-        left: Shared<Run>,
-        right: &Shared<Run>,
-    ) -> Result<Shared<Run>, AllocError>
+        left: Owned<Run>,
+        right: &Owned<Run>,
+    ) -> Result<Owned<Run>, AllocError>
         requires fits { length left.elements + length right.now.elements < 2 ^ 32 }
         requires wide { length left.children + length right.now.children < 2 ^ 32 }
         ensures { IfOk result (λ run. run ≡ joined_stretch left right.now) }
@@ -163,9 +174,9 @@ impl Run {
     /// A run over `left` and `right`, of which the left one may be two levels higher.
     fn lean_left(
         alloc: Global,
-        left: &Shared<Run>,
-        right: Shared<Run>,
-    ) -> Result<Shared<Run>, AllocError>
+        left: &Owned<Run>,
+        right: Owned<Run>,
+    ) -> Result<Owned<Run>, AllocError>
         requires fits { length left.now.elements + length right.elements < 2 ^ 32 }
         requires wide { length left.now.children + length right.children < 2 ^ 32 }
         ensures { IfOk result (λ run. run ≡ joined_stretch left.now right) }
@@ -195,7 +206,7 @@ impl Run {
         low_children: &[Node],
         high: &[Element],
         high_children: &[Node],
-    ) -> Result<Shared<Run>, AllocError>
+    ) -> Result<Owned<Run>, AllocError>
         requires some { 0 < length low.now }
         requires low { children_count low.now ≡ length low_children.now }
         requires high { children_count high.now ≡ length high_children.now }
@@ -216,9 +227,9 @@ impl Run {
     /// Both, one after the other.
     pub(crate) fn join(
         alloc: Global,
-        left: &Shared<Run>,
-        right: &Shared<Run>,
-    ) -> Result<Shared<Run>, AllocError>
+        left: &Owned<Run>,
+        right: &Owned<Run>,
+    ) -> Result<Owned<Run>, AllocError>
         requires fits { length left.now.elements + length right.now.elements < 2 ^ 32 }
         requires wide { length left.now.children + length right.now.children < 2 ^ 32 }
         ensures { IfOk result (λ run. run ≡ joined_stretch left.now right.now) }
@@ -254,7 +265,7 @@ impl Run {
         alloc: Global,
         alternative: u32,
         children: List<Node>,
-    ) -> Result<Shared<Run>, AllocError>
+    ) -> Result<Owned<Run>, AllocError>
         requires wide { length children < 2 ^ 32 }
         ensures { IfOk result
             (λ run. run ≡ stretch (element alternative (length children) ∷ []) children) }
@@ -267,35 +278,172 @@ impl Run {
         Run::leaf(alloc, elements, children)
     }
 
-    /// The run with one more element of these children. The last leaf grows until it is full; it
-    /// then becomes part of the balanced tree before it, and a new one begins.
+    /// The run with one more element of these children. What nobody else owns is lengthened in
+    /// place, all else is copied. The last leaf grows until it is full; it then becomes part of the
+    /// balanced tree before it, and a new one begins.
     pub(crate) fn with_element(
         alloc: Global,
-        run: &Shared<Run>,
+        run: Owned<Run>,
         alternative: u32,
         more: List<Node>,
-    ) -> Result<Shared<Run>, AllocError>
-        requires fits { length run.now.elements + 1 < 2 ^ 32 }
-        requires wide { length run.now.children + length more < 2 ^ 32 }
-        ensures { IfOk result (λ new. new ≡ joined_stretch run.now
+    ) -> Result<Owned<Run>, AllocError>
+        requires fits { length run.elements + 1 < 2 ^ 32 }
+        requires wide { length run.children + length more < 2 ^ 32 }
+        ensures { IfOk result (λ new. new ≡ joined_stretch run
             (stretch (element alternative (length more) ∷ []) more)) }
     {
-        let last = Run::single(alloc, alternative, more)?;
+        match run.try_unwrap() {
+            Ok(run) => run.lengthened(alloc, alternative, more),
+            Err(run) => {
+                let last = Run::single(alloc, alternative, more)?;
+                Run::with_leaf(alloc, &run, &last)
+            }
+        }
+    }
+
+    /// The run, which nobody else owns, with one more element of these children.
+    fn lengthened(
+        self,
+        alloc: Global,
+        alternative: u32,
+        more: List<Node>,
+    ) -> Result<Owned<Run>, AllocError>
+        requires fits { length self.elements + 1 < 2 ^ 32 }
+        requires wide { length self.children + length more < 2 ^ 32 }
+        ensures { IfOk result (λ run. run ≡ joined_stretch self
+            (stretch (element alternative (length more) ∷ []) more)) }
+    {
+        let counts = self.counts();
+        match self.into_leaf() {
+            Ok((elements, children)) => {
+                if has_place(counts, more.len()) {
+                    Run::leaf_lengthened(alloc, counts, elements, children, alternative, more)
+                } else {
+                    let leaf = Run::counted_leaf(alloc, counts, elements, children)?;
+                    let last = Run::single(alloc, alternative, more)?;
+                    Run::branch(alloc, leaf, last)
+                }
+            }
+            Err((before, end)) => Run::end_lengthened(alloc, before, end, alternative, more),
+        }
+    }
+
+    /// A run over `before` and the end of a run, and one more element of these children behind.
+    fn end_lengthened(
+        alloc: Global,
+        before: Owned<Run>,
+        end: Owned<Run>,
+        alternative: u32,
+        more: List<Node>,
+    ) -> Result<Owned<Run>, AllocError>
+        requires fits { length before.elements + length end.elements + 1 < 2 ^ 32 }
+        requires wide { length before.children + length end.children + length more < 2 ^ 32 }
+        ensures { IfOk result (λ new. new ≡ joined_stretch (joined_stretch before end)
+            (stretch (element alternative (length more) ∷ []) more)) }
+    {
+        match Run::leaf_alone(end, more.len()) {
+            Ok(end) => {
+                let longer = end.longer(alloc, alternative, more)?;
+                Run::branch(alloc, before, longer)
+            }
+            Err(end) => {
+                let last = Run::single(alloc, alternative, more)?;
+                Run::with_last(alloc, &before, &end, &last)
+            }
+        }
+    }
+
+    /// The leaf itself, where nobody else owns it and it has room for one more element of so many
+    /// children.
+    fn leaf_alone(run: Owned<Run>, children: usize) -> Result<Run, Owned<Run>>
+        requires { children < 2 ^ 32 }
+        ensures leaf { IfOk result (λ leaf. leaf ≡ run) }
+        ensures run { IfErr result (λ same. same ≡ run) }
+    {
+        if is_leaf(run.get()) && has_place(run.get().counts(), children) {
+            run.try_unwrap()
+        } else {
+            Err(run)
+        }
+    }
+
+    /// The last part of a run, which nobody else owns, with one more element of these children: in
+    /// the same leaf, where it is one.
+    fn longer(
+        self,
+        alloc: Global,
+        alternative: u32,
+        more: List<Node>,
+    ) -> Result<Owned<Run>, AllocError>
+        requires fits { length self.elements + 1 < 2 ^ 32 }
+        requires wide { length self.children + length more < 2 ^ 32 }
+        ensures { IfOk result (λ run. run ≡ joined_stretch self
+            (stretch (element alternative (length more) ∷ []) more)) }
+    {
+        let counts = self.counts();
+        match self.into_leaf() {
+            Ok((elements, children)) => {
+                Run::leaf_lengthened(alloc, counts, elements, children, alternative, more)
+            }
+            Err((before, end)) => {
+                let run = Run::branch(alloc, before, end)?;
+                let last = Run::single(alloc, alternative, more)?;
+                Run::branch(alloc, run, last)
+            }
+        }
+    }
+
+    /// A leaf of these, of which this is counted, and one more element of these children at its
+    /// end.
+    fn leaf_lengthened(
+        alloc: Global,
+        counts: Counts,
+        elements: List<Element>,
+        children: List<Node>,
+        alternative: u32,
+        more: List<Node>,
+    ) -> Result<Owned<Run>, AllocError>
+        requires counts { IsCount counts (stretch elements children) }
+        requires fits { length elements + 1 < 2 ^ 32 }
+        requires wide { length children + length more < 2 ^ 32 }
+        ensures { IfOk result (λ run. run ≡ joined_stretch (stretch elements children)
+            (stretch (element alternative (length more) ∷ []) more)) }
+    {
+        let added = one_more(more.as_slice());
+        let mut elements = elements;
+        elements.push(Element {
+            alternative,
+            children: added.children,
+        })?;
+        let children = appended(children, more)?;
+        Run::counted_leaf(alloc, together(counts, added), elements, children)
+    }
+
+    /// The run, and behind it one more leaf.
+    fn with_leaf(
+        alloc: Global,
+        run: &Owned<Run>,
+        last: &Owned<Run>,
+    ) -> Result<Owned<Run>, AllocError>
+        requires fits { length run.now.elements + length last.now.elements < 2 ^ 32 }
+        requires wide { length run.now.children + length last.now.children < 2 ^ 32 }
+        ensures { IfOk result (λ new. new ≡ joined_stretch run.now last.now) }
+    {
         match &run.get().shape {
             Shape::Branch(before, end) if is_leaf(end.get()) => {
-                Run::with_last(alloc, before, end, &last)
+                Run::with_last(alloc, before, end, last)
             }
-            Shape::Leaf(_, _) | Shape::Branch(_, _) => Run::end_joined(alloc, run, &last),
+            Shape::Leaf(_, _) | Shape::Branch(_, _) => Run::end_joined(alloc, run, last),
         }
     }
 
     /// A run over `before` and the last leaf of a run, `end`, and behind it one more leaf.
     fn with_last(
         alloc: Global,
-        before: &Shared<Run>,
-        end: &Shared<Run>,
-        last: &Shared<Run>,
-    ) -> Result<Shared<Run>, AllocError>
+        before: &Owned<Run>,
+        end: &Owned<Run>,
+        last: &Owned<Run>,
+    ) -> Result<Owned<Run>, AllocError>
         requires fits { length before.now.elements
             + (length end.now.elements + length last.now.elements) < 2 ^ 32 }
         requires wide { length before.now.children
@@ -316,9 +464,9 @@ impl Run {
     /// room for them.
     fn end_joined(
         alloc: Global,
-        left: &Shared<Run>,
-        right: &Shared<Run>,
-    ) -> Result<Shared<Run>, AllocError>
+        left: &Owned<Run>,
+        right: &Owned<Run>,
+    ) -> Result<Owned<Run>, AllocError>
         requires fits { length left.now.elements + length right.now.elements < 2 ^ 32 }
         requires wide { length left.now.children + length right.now.children < 2 ^ 32 }
         ensures { IfOk result (λ run. run ≡ joined_stretch left.now right.now) }
@@ -344,10 +492,10 @@ impl Run {
     /// The run with another child at `k`. It shares all parts but those on the way to that child.
     pub(crate) fn with_child(
         alloc: Global,
-        run: &Shared<Run>,
+        run: &Owned<Run>,
         k: u32,
         child: Node,
-    ) -> Result<Shared<Run>, AllocError>
+    ) -> Result<Owned<Run>, AllocError>
         requires { k < length run.now.children }
         ensures { IfOk result (λ new. new ≡ changed run.now k child) }
     {
@@ -376,7 +524,7 @@ impl Run {
         children: &[Node],
         k: u32,
         child: Node,
-    ) -> Result<Shared<Run>, AllocError>
+    ) -> Result<Owned<Run>, AllocError>
         requires within { k < length children.now }
         requires some { 0 < length elements.now }
         requires own { children_count elements.now ≡ length children.now }
@@ -403,6 +551,18 @@ fn both(left: &Run, right: &Run) -> Counts
     ensures right { 0 < length right.now.elements }
 {
     let (low, high) = (left.counts(), right.counts());
+    together(low, high)
+}
+
+/// What is counted of two parts, one after the other, by what is counted of each.
+fn together(low: Counts, high: Counts) -> Counts
+    requires elements { low.elements + high.elements < 2 ^ 32 }
+    requires children { low.children + high.children < 2 ^ 32 }
+    requires nodes { low.sums.nodes + high.sums.nodes < 2 ^ 64 }
+    requires spans { low.sums.spans + high.sums.spans < 2 ^ 64 }
+    ensures { (s t : Stretch) → IsCount low s → IsCount high t
+        → IsCount result (joined_stretch s t) }
+{
     Counts {
         elements: low.elements + high.elements,
         children: low.children + high.children,
@@ -414,12 +574,32 @@ fn both(left: &Run, right: &Run) -> Counts
     }
 }
 
+/// What is counted of one element of these children.
+fn one_more(children: &[Node]) -> Counts
+    requires { length children.now < 2 ^ 32 }
+    ensures { (alternative : ℕ) → IsCount result
+        (stretch (element alternative (length children.now) ∷ []) children.now) }
+{
+    Counts {
+        elements: 1,
+        children: children.len() as u32,
+        sums: sums(children),
+    }
+}
+
 /// Whether both are small enough to be one leaf.
 fn fit_one_leaf(left: &Run, right: &Run) -> bool {
     size(left) + size(right) <= MOST_IN_LEAF
 }
 
-/// Whether the last leaf of a run has room for one more.
+/// Whether a leaf that nobody else owns has room for one more element of so many children.
+fn has_place(leaf: Counts, children: usize) -> bool
+    requires { children < 2 ^ 32 }
+{
+    leaf.elements as u64 + leaf.children as u64 + 1 + children as u64 <= MOST_IN_LEAF
+}
+
+/// Whether a last leaf that is copied has room for one more.
 fn has_room(end: &Run, more: &Run) -> bool {
     size(end) + size(more) <= MOST_IN_LAST
 }

@@ -1,5 +1,5 @@
 //! Sums over children: a list of nodes goes in, and what a node over them has to know comes out.
-ghost use Rattle.std.specs.Prelude.{◌≡◌, ◌+◌, ◌*◌, ◌<◌, ◌≤◌, ◌^◌, ◌++◌, length, OnOk};
+ghost use Rattle.std.specs.Prelude.{◌≡◌, ◌+◌, ◌*◌, ◌<◌, ◌≤◌, ◌^◌, ◌++◌, length, IfOk, OnOk};
 ghost use Rattle.std.specs.Int.RustNames.{unsigned_abs};
 ghost use lib.IntN.{◌+ℤ◌};
 ghost use Rattle.spec_trees.specs.Trees.{all_nodes, all_totals, first_pad};
@@ -83,4 +83,14 @@ pub(crate) fn copy(nodes: &[Node], to: &mut List<Node>) -> Result<(), AllocError
         to.push(node.try_clone()?)?;
     }
     Ok(())
+}
+
+/// The nodes, and behind them more. None is copied.
+pub(crate) fn appended(nodes: List<Node>, more: List<Node>) -> Result<List<Node>, AllocError>
+    ensures { IfOk result (λ all. all ≡ nodes ++ more) }
+{
+    let mut all = nodes.into_vec();
+    let mut more = more.into_vec();
+    all.append(&mut more)?;
+    Ok(List::from_vec(all))
 }
