@@ -1,5 +1,5 @@
 -- What a reduction's code knows of its production, by the setting.
-use Rattle.std.proofs.Common.{◌≡◌, sym, subst, ℕ, ◌<◌, ◌≤◌, List, length, slice_get, Option, Some, None, MatchOption, arith}
+use Rattle.std.proofs.Common.{◌≡◌, sym, subst, ℕ, ◌<◌, ◌≤◌, List, length, slice_get, Option, Some, arith}
 use Rattle.ts_core.specs.declared.flat.FlatGrammar.{FlatGrammar}
 use Rattle.ts_core.specs.declared.flat.Production.{Production}
 use Rattle.spec_trees.specs.declared.tree.Tree.{Tree}
@@ -10,6 +10,9 @@ use Rattle.spec_trees.specs.Reducible.{HasSmallValue}
 use Rattle.ts_table.specs.declared.view.ParseTable.{ParseTable}
 use Rattle.ts_steps.specs.Lines.{IsLine, lengthens_by}
 use Rattle.ts_steps.specs.Good.{CanReduce}
+use Rattle.ts_steps.specs.MoveLaws.{Laws}
+use Rattle.ts_steps.specs.Making.{depth_when}
+use Rattle.ts_steps.proofs.MakingLemmas.{reduced_depth}
 use Rattle.ts_steps.proofs.PutLemmas.{number_within}
 use Rattle.ts_steps.specs.declared.lines.ProductionLine.{ProductionLine}
 use Rattle.ts_steps.specs.declared.setting.ParseSetting.{ParseSetting}
@@ -38,13 +41,13 @@ module _ (t : ParseTable) (size : ℕ) (s : ParseSetting) (set : IsParseSetting 
   )
 
   module _ (extent : ℕ) (state : Option ℕ) (children : List Tree) where
-    abbrev pub Made : FlatGrammar → Option Tree → Type 0
-    Made g o = MatchOption o (most_depth < tree_depth (reduced g number extent state children))
-        (λ u. (u ≡ reduced g number extent state children) × (tree_depth (reduced g number extent state children) ≤ most_depth))
-
-    pub made_none : (o : Option Tree) → Made s.productions o → o ≡ None → most_depth < tree_depth (reduced t.grammar number extent state children)
-    made_none o m is = subst (λ (g : FlatGrammar). Made g None) set.productions (subst (λ (x : Option Tree). Made s.productions x) is m)
-
-    pub made_some : (o : Option Tree) (u : Tree) → Made s.productions o → o ≡ Some u
+    pub made_is : (u : Tree) → u ≡ reduced s.productions number extent state children → tree_depth u ≤ most_depth
         → (u ≡ reduced t.grammar number extent state children) × (tree_depth (reduced t.grammar number extent state children) ≤ most_depth)
-    made_some o u m is = subst (λ (g : FlatGrammar). Made g (Some u)) set.productions (subst (λ (x : Option Tree). Made s.productions x) is m)
+    made_is u is low =
+        let own : u ≡ reduced t.grammar number extent state children = subst (λ (g : FlatGrammar). u ≡ reduced g number extent state children) set.productions is in
+        (own, subst (λ (x : Tree). tree_depth x ≤ most_depth) own low)
+
+    pub made_deep : Laws → (l : ProductionLine) (p : Production) → CanReduce t.grammar number l.left.0 p extent children → IsLine t.grammar number l
+        → most_depth < depth_when l.lengthens children → most_depth < tree_depth (reduced t.grammar number extent state children)
+    made_deep laws l p can line deep =
+        subst (λ (n : ℕ). most_depth < n) (sym (reduced_depth laws t.grammar number l.left.0 p extent state l.lengthens children can line.lengthens)) deep

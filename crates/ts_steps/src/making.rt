@@ -1,6 +1,6 @@
 //! Nodes of reductions: the children of a reduction go in; how deep its node is, how many bytes
 //! were examined for it, and the node itself come out.
-ghost use Rattle.std.specs.Prelude.{◌≡◌, ℕ, ◌+◌, ◌<◌, ◌≤◌, ◌^◌, ◌↔◌, ◌++◌, true, length, IfOk, IsTrue, MatchOption};
+ghost use Rattle.std.specs.Prelude.{◌≡◌, ℕ, ◌+◌, ◌<◌, ◌≤◌, ◌^◌, ◌↔◌, ◌++◌, true, length, IfOk, IsTrue};
 ghost use Rattle.ts_core.specs.declared.flat.Production.{Production};
 ghost use Rattle.spec_trees.specs.Trees.{all_spans, greatest_depth, tree_depth};
 ghost use Rattle.spec_trees.specs.Made.{EndBy, form_of, most_depth, reduced};
@@ -110,7 +110,15 @@ pub(crate) fn have_states(nodes: &[Node]) -> bool
     true
 }
 
-/// The node of a reduction, where it is not too deep.
+/// Whether the node over these children would be deeper than a node may be.
+pub(crate) fn is_too_deep(children: &[Node], lengthens: bool) -> bool
+    requires { lengthens ≡ true → 0 < length children.now }
+    ensures { IsTrue result ↔ (most_depth < depth_when lengthens children.now) }
+{
+    depth_over(children, lengthens) > MOST_DEPTH
+}
+
+/// The node of a reduction, which is not too deep.
 pub(crate) fn node_of(
     alloc: Global,
     setting: &ParseSetting,
@@ -119,20 +127,16 @@ pub(crate) fn node_of(
     children: List<Node>,
     extent: u32,
     state: Option<u16>,
-) -> Result<Option<Node>, AllocError>
+) -> Result<Node, AllocError>
     requires can { (left : ℕ) × (p : Production)
         × CanReduce setting.now.productions number left p extent children
         × (lengthens_by (form_of setting.now.productions left number) ≡ lengthens) }
-    ensures { IfOk result (λ o. MatchOption o
-        (most_depth < tree_depth (reduced setting.now.productions number extent state children))
-        (λ node. (node ≡ reduced setting.now.productions number extent state children)
-        × (tree_depth (reduced setting.now.productions number extent state children)
-        ≤ most_depth))) }
+    requires shallow { depth_when lengthens children ≤ most_depth }
+    ensures node { IfOk result (λ node.
+        node ≡ reduced setting.now.productions number extent state children) }
+    ensures shallow { IfOk result (λ node. tree_depth node ≤ most_depth) }
 {
     laws_hold();
-    if depth_over(children.as_slice(), lengthens) > MOST_DEPTH {
-        return Ok(None);
-    }
     let node = reduced_node(alloc, &setting.productions, number, children, extent, state)?;
-    Ok(Some(node))
+    Ok(node)
 }

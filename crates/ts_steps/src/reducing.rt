@@ -19,7 +19,7 @@ use crate::ahead::TokenAhead;
 use crate::gathering::{Gathered, gather};
 use crate::head::StackHead;
 use crate::laws::{laws_hold, sound_laws_hold};
-use crate::making::node_of;
+use crate::making::{is_too_deep, node_of};
 use crate::setting::ParseSetting;
 use crate::shifting::state_below;
 use std::alloc::{AllocError, Global};
@@ -96,7 +96,8 @@ fn is_without_choice(only: bool, stated: bool, steps: usize) -> bool
     only && stated && steps > 0
 }
 
-/// Takes out all stacks of the graph that were put there after this one, if it is alone.
+/// Takes out all stacks of the graph that were put there after this one, if it is alone. Of what was
+/// gathered from there the node that is made is then the only owner.
 fn cut_alone(graph: &mut Graph, below: usize, alone: bool)
     requires { below < length graph.old }
     ensures there { below < length graph.new }
@@ -158,7 +159,11 @@ pub fn reduce(
     } = gather(alloc, graph, head, line.steps, ahead.found.extent)?;
     let only = is_without_choice(ahead.only, stated, line.steps);
     let state = state_below(graph, below, only);
-    match node_of(
+    if is_too_deep(children.as_slice(), line.lengthens) {
+        return Ok(None);
+    }
+    cut_alone(graph, below, alone);
+    let node = node_of(
         alloc,
         setting,
         number,
@@ -166,15 +171,10 @@ pub fn reduce(
         children,
         extent,
         state,
-    )? {
-        None => Ok(None),
-        Some(node) => {
-            cut_alone(graph, below, alone);
-            let top = put(table, graph, below, line.left, node, extras.as_slice())?;
-            Ok(Some(StackHead {
-                top,
-                place: head.place,
-            }))
-        }
-    }
+    )?;
+    let top = put(table, graph, below, line.left, node, extras.as_slice())?;
+    Ok(Some(StackHead {
+        top,
+        place: head.place,
+    }))
 }

@@ -1,12 +1,15 @@
-use Rattle.std.proofs.Common.{◌≡◌, ◌∙◌, sym, ap, subst, ℕ, ◌+◌, ◌++◌, ◌∷◌, List, reverse}
+use Rattle.std.proofs.Common.{◌≡◌, ◌∙◌, sym, ap, subst, ℕ, ◌+◌, ◌<◌, ◌++◌, ◌∷◌, List, length, reverse, arith}
 use Rattle.spec_trees.specs.declared.tree.Tree.{Tree}
 use Rattle.ts_gss.specs.declared.layer.Layer.{Layer}
 use Rattle.spec_trees.specs.Trees.{span_of, all_spans}
 use Rattle.ts_gss.specs.Stacks.{stack_at, trees_on, state_on}
 use Rattle.ts_steps.specs.LiveHeads.{read_on, IsGoodStack, CanPut, GainsStacks}
 use Rattle.ts_steps.proofs.StackLemmas.{grows_none}
+use Rattle.spec_trees.specs.Made.{most_depth}
+use Rattle.ts_steps.specs.Making.{depth_when}
+use Rattle.ts_steps.proofs.MakingLemmas.{some_lengthened}
 use Rattle.ts_steps.proofs.PutLemmas.{enough, stands, stands_still, can_reduce}
-use Rattle.ts_steps.proofs.MadeLemmas.{line_there, line_at, small_at, can_at, made_none, made_some}
+use Rattle.ts_steps.proofs.MadeLemmas.{line_there, line_at, small_at, can_at, made_is, made_deep}
 use Rattle.ts_steps.proofs.ReduceLemmas.{without, state_has, done_none, done_some, done_own, done_put, done_stands}
 use Rattle.ts_steps.proofs.reducing.reduce.Goals as goal
 
@@ -22,8 +25,8 @@ gather-requires-clause-enough c =
 pub gather-requires-clause-live : goal.gather-requires-clause-live
 gather-requires-clause-live c = (c.args.table.now, c.args.setting.now.size, c.requires.setting.short, c.requires.live.live, c.requires.ahead)
 
-pub node_of-requires : goal.node_of-requires
-node_of-requires c =
+pub is_too_deep-requires : goal.is_too_deep-requires
+is_too_deep-requires c lengthens =
     let t = c.args.table.now in
     let s = c.args.setting.now in
     let old = c.args.graph.now in
@@ -32,9 +35,35 @@ node_of-requires c =
     let line = line_at t s.size s c.requires.setting c.args.number l c.get-line.ensures in
     let small = small_at t s.size s c.requires.setting c.args.number c.values_are_small.ensures in
     let gat = (c.in_ok-extras.ensures.gathered t s.size c.requires.live.live c.requires.ahead).gathered in
-    let can = can_reduce c.laws_hold.ensures t s.size c.args.number c.requires.stays.0 old h l c.requires.stays.1 line small c.in_ok-extras.field-0.extras.items c.in_ok-extras.field-0.children c.in_ok-extras.field-0.extent (stack_at old c.in_ok-extras.field-0.below) gat
+    let children = c.in_ok-extras.field-0.children in
+    let extent = c.in_ok-extras.field-0.extent in
+    let can = can_reduce c.laws_hold.ensures t s.size c.args.number c.requires.stays.0 old h l c.requires.stays.1 line small c.in_ok-extras.field-0.extras.items children extent (stack_at old c.in_ok-extras.field-0.below) gat
     c.stands.ensures c.requires.setting.short in
-    record { can = can_at t s.size s c.requires.setting c.args.number l line.production c.in_ok-extras.field-0.extent c.in_ok-extras.field-0.children can line }
+    subst (λ (ts : List Tree). 0 < length ts) (sym c.as_slice.ensures) (some_lengthened c.laws_hold.ensures t.grammar c.args.number l.left.0 line.production extent l.lengthens children can line.lengthens lengthens)
+
+pub node_of-requires-clause-can : goal.node_of-requires-clause-can
+node_of-requires-clause-can c =
+    let t = c.args.table.now in
+    let s = c.args.setting.now in
+    let old = c.args.graph.now in
+    let h = c.args.head in
+    let l = c.get-line.result.now in
+    let line = line_at t s.size s c.requires.setting c.args.number l c.get-line.ensures in
+    let small = small_at t s.size s c.requires.setting c.args.number c.values_are_small.ensures in
+    let gat = (c.in_ok-extras.ensures.gathered t s.size c.requires.live.live c.requires.ahead).gathered in
+    let children = c.in_ok-extras.field-0.children in
+    let extent = c.in_ok-extras.field-0.extent in
+    let can = can_reduce c.laws_hold.ensures t s.size c.args.number c.requires.stays.0 old h l c.requires.stays.1 line small c.in_ok-extras.field-0.extras.items children extent (stack_at old c.in_ok-extras.field-0.below) gat
+    c.stands.ensures c.requires.setting.short in
+    can_at t s.size s c.requires.setting c.args.number l line.production extent children can line
+
+pub node_of-requires-clause-shallow : goal.node_of-requires-clause-shallow
+node_of-requires-clause-shallow c =
+    let l = c.get-line.result.now in
+    let same = ap (depth_when l.lengthens) c.as_slice.ensures in
+    let not_deep = c.is_too_deep.ensures in
+    let is = c.if-is_too_deep.false in
+    grind arith
 
 pub put-requires-clause-stands : goal.put-requires-clause-stands
 put-requires-clause-stands c =
@@ -49,8 +78,8 @@ put-requires-clause-stands c =
     let before = stands c.laws_hold.ensures t s.size c.args.number c.requires.stays.0 old h l c.requires.stays.1 line small c.in_ok-extras.field-0.extras.items c.in_ok-extras.field-0.children c.in_ok-extras.field-0.extent (stack_at old c.in_ok-extras.field-0.below) gat in
     stands_still t l.left.0 (stack_at old c.in_ok-extras.field-0.below) (stack_at c.cut_alone.new.graph c.in_ok-extras.field-0.below) c.cut_alone.ensures.stack (s.size, _, gat.base, before)
 
-pub returns-in-None-clause-done : goal.returns-in-None-clause-done
-returns-in-None-clause-done c =
+pub returns-then-is_too_deep-clause-done : goal.returns-then-is_too_deep-clause-done
+returns-then-is_too_deep-clause-done c =
     let t = c.args.table.now in
     let s = c.args.setting.now in
     let old = c.args.graph.now in
@@ -64,8 +93,10 @@ returns-in-None-clause-done c =
     let extent = c.in_ok-extras.field-0.extent in
     let below = stack_at old c.in_ok-extras.field-0.below in
     let state = c.state_below-state.result in
+    let can = can_reduce c.laws_hold.ensures t s.size c.args.number c.requires.stays.0 old h l c.requires.stays.1 line small extras children extent below all.gathered c.stands.ensures c.requires.setting.short in
+    let deep : most_depth < depth_when l.lengthens children = subst (λ (ts : List Tree). most_depth < depth_when l.lengthens ts) c.as_slice.ensures (c.is_too_deep.ensures.0 c.if-is_too_deep.true) in
     done_none c.laws_hold.ensures t s.size c.args.number c.requires.stays.0 old h l c.requires.stays.1 line small extras children extent below all.gathered c.stands.ensures c.requires.setting.short state old
-    (made_none t s.size s c.requires.setting c.args.number extent state children c.in_ok-node_of.field-0 c.in_ok-node_of.ensures c.in-None.is)
+    (made_deep t s.size s c.requires.setting c.args.number extent state children c.laws_hold.ensures l line.production can line deep)
 
 pub returns-clause-done : goal.returns-clause-done
 returns-clause-done c =
@@ -82,17 +113,17 @@ returns-clause-done c =
     let extent = c.in_ok-extras.field-0.extent in
     let below = stack_at old c.in_ok-extras.field-0.below in
     let state = c.state_below-state.result in
-    let u = c.in-Some.node in
-    let w = made_some t s.size s c.requires.setting c.args.number extent state children c.in_ok-node_of.field-0 u c.in_ok-node_of.ensures c.in-Some.is in
-    let slice : c.as_slice.result.now ≡ extras = c.as_slice.ensures.value in
-    let top = c.in_ok-top-in-Some.top in
+    let u = c.in_ok-node.node in
+    let w = made_is t s.size s c.requires.setting c.args.number extent state children u c.in_ok-node.ensures.node c.in_ok-node.ensures.shallow in
+    let slice : c.as_slice-2.result.now ≡ extras = c.as_slice-2.ensures.value in
+    let top = c.in_ok-top.top in
     let new = c.put.new.graph in
     let trees : trees_on (stack_at new top) ≡ reverse extras ++ u ∷ trees_on below =
-    c.in_ok-top-in-Some.ensures.trees ∙ ap (λ (x : List Layer). reverse c.as_slice.result.now ++ u ∷ trees_on x) c.cut_alone.ensures.stack ∙ ap (λ (es : List Tree). reverse es ++ u ∷ trees_on below) slice in
+    c.in_ok-top.ensures.trees ∙ ap (λ (x : List Layer). reverse c.as_slice-2.result.now ++ u ∷ trees_on x) c.cut_alone.ensures.stack ∙ ap (λ (es : List Tree). reverse es ++ u ∷ trees_on below) slice in
     let good : (place : ℕ) → IsGoodStack t s.size below place → CanPut t s.size place l.left.0 u extras → IsGoodStack t s.size (stack_at new top) (place + (span_of u + all_spans extras)) = λ place base can.
     subst (λ (es : List Tree). IsGoodStack t s.size (stack_at new top) (place + (span_of u + all_spans es))) slice
-    (c.in_ok-top-in-Some.ensures.good s.size place (subst (λ (x : List Layer). IsGoodStack t s.size x place) (sym c.cut_alone.ensures.stack) base) (subst (λ (es : List Tree). CanPut t s.size place l.left.0 u es) (sym slice) can)) in
-    done_some c.laws_hold.ensures t s.size c.args.number c.requires.stays.0 old h l c.requires.stays.1 line small extras children extent below all.gathered c.stands.ensures c.requires.setting.short state u w.0 w.1 new top c.in_ok-top-in-Some.ensures.there trees good
+    (c.in_ok-top.ensures.good s.size place (subst (λ (x : List Layer). IsGoodStack t s.size x place) (sym c.cut_alone.ensures.stack) base) (subst (λ (es : List Tree). CanPut t s.size place l.left.0 u es) (sym slice) can)) in
+    done_some c.laws_hold.ensures t s.size c.args.number c.requires.stays.0 old h l c.requires.stays.1 line small extras children extent below all.gathered c.stands.ensures c.requires.setting.short state u w.0 w.1 new top c.in_ok-top.ensures.there trees good
 
 pub returns-clause-live : goal.returns-clause-live
 returns-clause-live c =
@@ -109,17 +140,17 @@ returns-clause-live c =
     let extent = c.in_ok-extras.field-0.extent in
     let below = stack_at old c.in_ok-extras.field-0.below in
     let state = c.state_below-state.result in
-    let u = c.in-Some.node in
-    let w = made_some t s.size s c.requires.setting c.args.number extent state children c.in_ok-node_of.field-0 u c.in_ok-node_of.ensures c.in-Some.is in
-    let slice : c.as_slice.result.now ≡ extras = c.as_slice.ensures.value in
-    let top = c.in_ok-top-in-Some.top in
+    let u = c.in_ok-node.node in
+    let w = made_is t s.size s c.requires.setting c.args.number extent state children u c.in_ok-node.ensures.node c.in_ok-node.ensures.shallow in
+    let slice : c.as_slice-2.result.now ≡ extras = c.as_slice-2.ensures.value in
+    let top = c.in_ok-top.top in
     let new = c.put.new.graph in
     let trees : trees_on (stack_at new top) ≡ reverse extras ++ u ∷ trees_on below =
-    c.in_ok-top-in-Some.ensures.trees ∙ ap (λ (x : List Layer). reverse c.as_slice.result.now ++ u ∷ trees_on x) c.cut_alone.ensures.stack ∙ ap (λ (es : List Tree). reverse es ++ u ∷ trees_on below) slice in
+    c.in_ok-top.ensures.trees ∙ ap (λ (x : List Layer). reverse c.as_slice-2.result.now ++ u ∷ trees_on x) c.cut_alone.ensures.stack ∙ ap (λ (es : List Tree). reverse es ++ u ∷ trees_on below) slice in
     let good : (place : ℕ) → IsGoodStack t s.size below place → CanPut t s.size place l.left.0 u extras → IsGoodStack t s.size (stack_at new top) (place + (span_of u + all_spans extras)) = λ place base can.
     subst (λ (es : List Tree). IsGoodStack t s.size (stack_at new top) (place + (span_of u + all_spans es))) slice
-    (c.in_ok-top-in-Some.ensures.good s.size place (subst (λ (x : List Layer). IsGoodStack t s.size x place) (sym c.cut_alone.ensures.stack) base) (subst (λ (es : List Tree). CanPut t s.size place l.left.0 u es) (sym slice) can)) in
-    done_own c.laws_hold.ensures t s.size c.args.number c.requires.stays.0 old h l c.requires.stays.1 line small extras children extent below all.gathered c.stands.ensures c.requires.setting.short state u w.0 w.1 new top c.in_ok-top-in-Some.ensures.there trees good c.requires.live.own
+    (c.in_ok-top.ensures.good s.size place (subst (λ (x : List Layer). IsGoodStack t s.size x place) (sym c.cut_alone.ensures.stack) base) (subst (λ (es : List Tree). CanPut t s.size place l.left.0 u es) (sym slice) can)) in
+    done_own c.laws_hold.ensures t s.size c.args.number c.requires.stays.0 old h l c.requires.stays.1 line small extras children extent below all.gathered c.stands.ensures c.requires.setting.short state u w.0 w.1 new top c.in_ok-top.ensures.there trees good c.requires.live.own
 
 pub returns-clause-put : goal.returns-clause-put
 returns-clause-put c =
@@ -136,18 +167,18 @@ returns-clause-put c =
     let extent = c.in_ok-extras.field-0.extent in
     let below = stack_at old c.in_ok-extras.field-0.below in
     let state = c.state_below-state.result in
-    let u = c.in-Some.node in
-    let w = made_some t s.size s c.requires.setting c.args.number extent state children c.in_ok-node_of.field-0 u c.in_ok-node_of.ensures c.in-Some.is in
-    let slice : c.as_slice.result.now ≡ extras = c.as_slice.ensures.value in
-    let top = c.in_ok-top-in-Some.top in
+    let u = c.in_ok-node.node in
+    let w = made_is t s.size s c.requires.setting c.args.number extent state children u c.in_ok-node.ensures.node c.in_ok-node.ensures.shallow in
+    let slice : c.as_slice-2.result.now ≡ extras = c.as_slice-2.ensures.value in
+    let top = c.in_ok-top.top in
     let new = c.put.new.graph in
     let trees : trees_on (stack_at new top) ≡ reverse extras ++ u ∷ trees_on below =
-    c.in_ok-top-in-Some.ensures.trees ∙ ap (λ (x : List Layer). reverse c.as_slice.result.now ++ u ∷ trees_on x) c.cut_alone.ensures.stack ∙ ap (λ (es : List Tree). reverse es ++ u ∷ trees_on below) slice in
+    c.in_ok-top.ensures.trees ∙ ap (λ (x : List Layer). reverse c.as_slice-2.result.now ++ u ∷ trees_on x) c.cut_alone.ensures.stack ∙ ap (λ (es : List Tree). reverse es ++ u ∷ trees_on below) slice in
     let good : (place : ℕ) → IsGoodStack t s.size below place → CanPut t s.size place l.left.0 u extras → IsGoodStack t s.size (stack_at new top) (place + (span_of u + all_spans extras)) = λ place base can.
     subst (λ (es : List Tree). IsGoodStack t s.size (stack_at new top) (place + (span_of u + all_spans es))) slice
-    (c.in_ok-top-in-Some.ensures.good s.size place (subst (λ (x : List Layer). IsGoodStack t s.size x place) (sym c.cut_alone.ensures.stack) base) (subst (λ (es : List Tree). CanPut t s.size place l.left.0 u es) (sym slice) can)) in
+    (c.in_ok-top.ensures.good s.size place (subst (λ (x : List Layer). IsGoodStack t s.size x place) (sym c.cut_alone.ensures.stack) base) (subst (λ (es : List Tree). CanPut t s.size place l.left.0 u es) (sym slice) can)) in
     let with = without c.args.ahead.only c.in_ok-extras.field-0.stated c.is_without_choice-only.result l.steps children extras c.is_without_choice-only.ensures all.stated in
-    done_put c.laws_hold.ensures t s.size c.args.number c.requires.stays.0 old h l c.requires.stays.1 line small extras children extent below all.gathered c.stands.ensures c.requires.setting.short state u w.0 w.1 new top c.in_ok-top-in-Some.ensures.there trees good c.args.ahead c.is_without_choice-only.result all.covers c.state_below-state.ensures with
+    done_put c.laws_hold.ensures t s.size c.args.number c.requires.stays.0 old h l c.requires.stays.1 line small extras children extent below all.gathered c.stands.ensures c.requires.setting.short state u w.0 w.1 new top c.in_ok-top.ensures.there trees good c.args.ahead c.is_without_choice-only.result all.covers c.state_below-state.ensures with
 
 pub returns-clause-stand : goal.returns-clause-stand
 returns-clause-stand c states text long are ahead stand =
@@ -164,22 +195,22 @@ returns-clause-stand c states text long are ahead stand =
     let extent = c.in_ok-extras.field-0.extent in
     let below = stack_at old c.in_ok-extras.field-0.below in
     let state = c.state_below-state.result in
-    let u = c.in-Some.node in
-    let w = made_some t s.size s c.requires.setting c.args.number extent state children c.in_ok-node_of.field-0 u c.in_ok-node_of.ensures c.in-Some.is in
-    let slice : c.as_slice.result.now ≡ extras = c.as_slice.ensures.value in
-    let top = c.in_ok-top-in-Some.top in
+    let u = c.in_ok-node.node in
+    let w = made_is t s.size s c.requires.setting c.args.number extent state children u c.in_ok-node.ensures.node c.in_ok-node.ensures.shallow in
+    let slice : c.as_slice-2.result.now ≡ extras = c.as_slice-2.ensures.value in
+    let top = c.in_ok-top.top in
     let new = c.put.new.graph in
     let trees : trees_on (stack_at new top) ≡ reverse extras ++ u ∷ trees_on below =
-    c.in_ok-top-in-Some.ensures.trees ∙ ap (λ (x : List Layer). reverse c.as_slice.result.now ++ u ∷ trees_on x) c.cut_alone.ensures.stack ∙ ap (λ (es : List Tree). reverse es ++ u ∷ trees_on below) slice in
+    c.in_ok-top.ensures.trees ∙ ap (λ (x : List Layer). reverse c.as_slice-2.result.now ++ u ∷ trees_on x) c.cut_alone.ensures.stack ∙ ap (λ (es : List Tree). reverse es ++ u ∷ trees_on below) slice in
     let good : (place : ℕ) → IsGoodStack t s.size below place → CanPut t s.size place l.left.0 u extras → IsGoodStack t s.size (stack_at new top) (place + (span_of u + all_spans extras)) = λ place base can.
     subst (λ (es : List Tree). IsGoodStack t s.size (stack_at new top) (place + (span_of u + all_spans es))) slice
-    (c.in_ok-top-in-Some.ensures.good s.size place (subst (λ (x : List Layer). IsGoodStack t s.size x place) (sym c.cut_alone.ensures.stack) base) (subst (λ (es : List Tree). CanPut t s.size place l.left.0 u es) (sym slice) can)) in
+    (c.in_ok-top.ensures.good s.size place (subst (λ (x : List Layer). IsGoodStack t s.size x place) (sym c.cut_alone.ensures.stack) base) (subst (λ (es : List Tree). CanPut t s.size place l.left.0 u es) (sym slice) can)) in
     let with = without c.args.ahead.only c.in_ok-extras.field-0.stated c.is_without_choice-only.result l.steps children extras c.is_without_choice-only.ensures all.stated in
-    done_stands c.laws_hold.ensures t s.size c.args.number c.requires.stays.0 old h l c.requires.stays.1 line small extras children extent below all.gathered c.stands.ensures c.requires.setting.short state u w.0 w.1 new top c.in_ok-top-in-Some.ensures.there trees good c.sound_laws_hold.ensures states text are c.args.ahead all.covers ahead
+    done_stands c.laws_hold.ensures t s.size c.args.number c.requires.stays.0 old h l c.requires.stays.1 line small extras children extent below all.gathered c.stands.ensures c.requires.setting.short state u w.0 w.1 new top c.in_ok-top.ensures.there trees good c.sound_laws_hold.ensures states text are c.args.ahead all.covers ahead
     (λ n e. state_has c.args.ahead.only c.is_without_choice-only.result l.steps (state_on below) n state children extras c.state_below-state.ensures with e) stand
 
-pub returns-in-None-clause-grows : goal.returns-in-None-clause-grows
-returns-in-None-clause-grows c beside = grows_none c.args.graph.now
+pub returns-then-is_too_deep-clause-grows : goal.returns-then-is_too_deep-clause-grows
+returns-then-is_too_deep-clause-grows c beside = grows_none c.args.graph.now
 
 pub returns-clause-grows : goal.returns-clause-grows
-returns-clause-grows c beside = subst (λ (s : List (List Layer)). GainsStacks s c.put.new.graph) (c.cut_alone.ensures.kept beside) c.in_ok-top-in-Some.ensures.grows
+returns-clause-grows c beside = subst (λ (s : List (List Layer)). GainsStacks s c.put.new.graph) (c.cut_alone.ensures.kept beside) c.in_ok-top.ensures.grows
