@@ -1,5 +1,5 @@
 -- The starts of visible nodes rise, where each node of the tree stands over its children.
-use Rattle.std.proofs.Common.{◌≡◌, ℕ, zero, suc, ◌+◌, ◌<◌, ◌≤◌, sym, ap, ◌∙◌, refl, subst, arith, Bool, true, false, List, [], ◌∷◌, ◌++◌, length, drop, slice_get, Option, Some}
+use Rattle.std.proofs.Common.{◌≡◌, ℕ, zero, suc, ◌+◌, ◌≤◌, sym, ap, refl, subst, arith, Bool, true, false, List, [], ◌∷◌, ◌++◌, drop, slice_get, Some}
 use Rattle.std.proofs.lemmas.Option.{slice_get_within}
 use Rattle.ts_core.specs.declared.flat.FlatGrammar.{FlatGrammar}
 use Rattle.spec_trees.specs.declared.tree.Tree.{Tree}
@@ -10,7 +10,7 @@ use Rattle.spec_trees.specs.VisibleNodes.{Marks, children_marks, first_marks, is
 use Rattle.ts_cursor.specs.Marked.{among, inner_nodes}
 use Rattle.ts_cursor.specs.Preorder.{StartsRise}
 use Rattle.ts_cursor.proofs.WalkLemmas.{depth_is, showing_shown, showing_hidden}
-use Rattle.ts_cursor.proofs.NestLemmas.{Between, Nest, within_child, showing_nests}
+use Rattle.ts_cursor.proofs.NestLemmas.{Between, within_child, showing_nests}
 
 -- each node starts at this place or later, and no node before an earlier one
 abbrev pub RisesFrom : ℕ → List VisibleNode → Type 0

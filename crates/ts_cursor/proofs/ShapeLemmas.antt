@@ -9,6 +9,7 @@ use Rattle.spec_trees.specs.Trees.{symbol_of, production_of, elements_of, childr
 use Rattle.spec_trees.specs.VisibleNodes.{Marks, children_marks, first_marks, is_shown, with_field, showing, visible_nodes, root_marks}
 use Rattle.spec_trees.specs.Family.{depth_at, IsParent}
 use Rattle.ts_cursor.specs.Marked.{among, inner_nodes}
+use Rattle.ts_cursor.specs.Linked.{DepthsRise, AreShallow}
 use Rattle.ts_cursor.proofs.WalkLemmas.{depth_is, showing_shown, showing_hidden}
 
 -- no node is less deep than the least, and none more than one deeper than the one before it
@@ -102,3 +103,55 @@ pub has_parent : (g : FlatGrammar) (t : Tree) (k : ℕ) → 0 < k → k < length
 has_parent g t k some within =
     let e = showing_shown g t 0 0 [] (root_marks g (symbol_of t)) refl in
     subst (λ (vs : List VisibleNode). HasParent vs k) (sym e) (in_list _ (inner_nodes g t 1 0 []) refl (inner_rises g t) k some (subst (λ (vs : List VisibleNode). k < length vs) e within))
+
+rise_in : (x : VisibleNode) (xs : List VisibleNode) → x.depth ≡ 0 → Rises 1 0 xs → DepthsRise (x ∷ xs)
+rise_in x xs root r k h =
+    let all : Rises 0 0 (x ∷ xs) = (omega arith, (omega (arith, root), subst (λ (l : ℕ). Rises 0 l xs) (sym root) (rises_less 0 0 xs r))) in
+    rises_at 0 0 (x ∷ xs) k all h
+
+pub depths_rise : (g : FlatGrammar) (t : Tree) → DepthsRise (visible_nodes g t)
+depths_rise g t =
+    subst (λ (vs : List VisibleNode). DepthsRise vs) (sym (showing_shown g t 0 0 [] (root_marks g (symbol_of t)) refl)) (rise_in _ (inner_nodes g t 1 0 []) refl (inner_rises g t))
+
+-- ---- no visible node is as deep as the tree
+
+abbrev Shallow : ℕ → List VisibleNode → Type 0
+Shallow room [] = Unit {0}
+Shallow room (x ∷ xs) = (x.depth < room) × Shallow room xs
+
+shallow_append : (room : ℕ) (xs ys : List VisibleNode) → Shallow room xs → Shallow room ys → Shallow room (xs ++ ys)
+shallow_append room [] ys s r = r
+shallow_append room (x ∷ xs) ys s r = (s.0, shallow_append room xs ys s.1 r)
+
+shallow_more : (room more : ℕ) (xs : List VisibleNode) → room ≤ more → Shallow room xs → Shallow more xs
+shallow_more room more [] h s = tt
+shallow_more room more (x ∷ xs) h s = (omega (arith, h, s.0), shallow_more room more xs h s.1)
+
+among_shallow : (g : FlatGrammar) (n : ℕ) → ((t : Tree) (depth place : ℕ) (fields : List ℕ) (m : Marks) → tree_depth t ≤ n → Shallow (depth + tree_depth t) (showing g t depth place fields m))
+    → (ts : List Tree) (ms : List Marks) (depth place : ℕ) (fields : List ℕ) → greatest_depth ts ≤ n → Shallow (depth + greatest_depth ts) (among g ts ms depth place fields)
+among_shallow g n f [] ms depth place fields h = tt
+among_shallow g n f (t ∷ ts) ms depth place fields h =
+    shallow_append (depth + greatest_depth (t ∷ ts)) (showing g t depth place fields (first_marks ms)) (among g ts (drop 1 ms) depth (place + span_of t) fields)
+    (shallow_more (depth + tree_depth t) (depth + greatest_depth (t ∷ ts)) _ (omega arith) (f t depth place fields (first_marks ms) (omega (arith, h))))
+    (shallow_more (depth + greatest_depth ts) (depth + greatest_depth (t ∷ ts)) _ (omega arith) (among_shallow g n f ts (drop 1 ms) depth (place + span_of t) fields (omega (arith, h))))
+
+showing_shallow : (n : ℕ) (g : FlatGrammar) (t : Tree) (depth place : ℕ) (fields : List ℕ) (m : Marks) → tree_depth t ≤ n → Shallow (depth + tree_depth t) (showing g t depth place fields m)
+showing_shallow zero g t depth place fields m h = absurd (omega (arith, h, depth_is t))
+showing_shallow (suc n) g t depth place fields m h = by (is_shown g (symbol_of t) m.alias) refl
+    (λ d fs. among_shallow g n (showing_shallow n g) (children_of t) (children_marks g (symbol_of t) (production_of t) (elements_of t) (children_of t)) d place fs (omega (arith, h, depth_is t)))
+  where
+    by : (b : Bool) → is_shown g (symbol_of t) m.alias ≡ b → ((d : ℕ) (fs : List ℕ) → Shallow (d + greatest_depth (children_of t)) (inner_nodes g t d place fs)) → Shallow (depth + tree_depth t) (showing g t depth place fields m)
+    by true e inner = subst (λ (vs : List VisibleNode). Shallow (depth + tree_depth t) vs) (sym (showing_shown g t depth place fields m e))
+        (omega (arith, depth_is t), shallow_more (suc depth + greatest_depth (children_of t)) (depth + tree_depth t) (inner_nodes g t (suc depth) place []) (omega (arith, depth_is t)) (inner (suc depth) []))
+    by false e inner = subst (λ (vs : List VisibleNode). Shallow (depth + tree_depth t) vs) (sym (showing_hidden g t depth place fields m e))
+        (shallow_more (depth + greatest_depth (children_of t)) (depth + tree_depth t) (inner_nodes g t depth place (with_field fields m.field)) (omega (arith, depth_is t)) (inner depth (with_field fields m.field)))
+
+shallow_at : (room : ℕ) (xs : List VisibleNode) → Shallow room xs → AreShallow room xs
+shallow_at room [] s k h = absurd (omega (arith, h))
+shallow_at room (x ∷ xs) s zero h = s.0
+shallow_at room (x ∷ xs) s (suc k) h = shallow_at room xs s.1 k (omega (arith, h))
+
+pub depths_below : (g : FlatGrammar) (t : Tree) → AreShallow (tree_depth t) (visible_nodes g t)
+depths_below g t =
+    let n : 0 + tree_depth t ≡ tree_depth t = omega arith in
+    shallow_at (tree_depth t) (visible_nodes g t) (subst (λ (r : ℕ). Shallow r (visible_nodes g t)) n (showing_shallow (tree_depth t) g t 0 0 [] (root_marks g (symbol_of t)) (omega arith)))

@@ -1,7 +1,7 @@
 -- What a tree comes to, by its parts and by parts of its list of children.
-use Rattle.std.proofs.Common.{◌≡◌, ℕ, zero, suc, ◌+◌, ◌-◌, ◌<◌, ◌≤◌, sym, ap, ◌∙◌, refl, subst, arith, Bool, true, false, List, [], ◌∷◌, ◌++◌, length, map, take, drop, slice_get, get_or, Option, Some, None, length-append, append_assoc}
-use Rattle.std.specs.Prelude.{if◌then◌else◌}
-use Rattle.std.proofs.lemmas.List.{length-map, take-append-drop, drop-drop, map-append}
+use Rattle.std.proofs.Common.{◌≡◌, ℕ, zero, suc, ◌+◌, ◌-◌, ◌<◌, ◌≤◌, sym, ap, ◌∙◌, refl, subst, arith, Bool, true, false, List, [], ◌∷◌, ◌++◌, length, map, take, drop, slice_get, Option, Some, None, length-append, append_assoc}
+use Rattle.std.specs.Prelude.{if◌then◌else◌, option_map}
+use Rattle.std.proofs.lemmas.List.{length-map, take-append-drop, drop-drop}
 use Rattle.std.proofs.lemmas.Option.{slice_get_within}
 use Rattle.ts_core.specs.declared.flat.Alias.{Alias}
 use Rattle.ts_core.specs.declared.flat.Step.{Step}
@@ -19,8 +19,9 @@ use Rattle.ts_base.specs.Bytes.{Bytes}
 use Rattle.ts_core.specs.declared.shown.Shown.{Shown}
 use Rattle.spec_trees.specs.Shown.{shown}
 use Rattle.spec_trees.specs.Family.{LieWithin}
-use Rattle.ts_cursor.specs.declared.nodes.Face.{Face}
-use Rattle.ts_cursor.specs.Marked.{seen_node, seen_nodes, fills, filled_after, window, among, part_nodes, inner_nodes, AppendsNodes}
+use Rattle.ts_cursor.specs.declared.seen.Face.{Face}
+use Rattle.ts_cursor.specs.Pooled.{seen_with}
+use Rattle.ts_cursor.specs.Marked.{start_of, fills, filled_after, window, among, part_nodes, inner_nodes, AppendsNodes}
 
 -- ---- a tree by its parts
 
@@ -192,8 +193,9 @@ lie_more limit more (x ∷ xs) h k = (k.0, (omega (arith, h, k.1.0), lie_more li
 
 -- ---- the walk
 
-pub seen_push : (xs : List Face) (v : Face) → seen_nodes (xs ++ v ∷ []) ≡ seen_nodes xs ++ seen_node v ∷ []
-seen_push xs v = map-append seen_node xs (v ∷ [])
+-- a node that shows, with its fields put in
+pub shows_with : (v : Face) (depth : ℕ) (name : Bytes) (named : Bool) (fields : List ℕ) (start size : ℕ) → seen_with [] v ≡ visible_node depth name named [] start size → seen_with fields v ≡ visible_node depth name named fields start size
+shows_with v depth name named fields start size e = ap (λ (n : VisibleNode). record n { fields = fields }) e
 
 -- how a node shows where its grammar and symbol have been looked up
 pub shown_by : (g h : FlatGrammar) (s t : ℕ) (alias : Option Alias) (b c : Bool) → h ≡ g → s ≡ t → b ≡ is_shown h s alias → b ≡ c → is_shown g t alias ≡ c
@@ -353,17 +355,25 @@ put_root g t mid new pushed within adds =
     let a : AppendsNodes (0 + span_of t) (visible_nodes g t) [] new = put_shown g t 0 0 [] (root_marks g (symbol_of t)) [] mid new refl p within adds in
     (a.nodes, subst (λ (vs : List VisibleNode). LieWithin (span_of t) vs) (sym a.nodes) (subst (λ (k : ℕ). LieWithin k (visible_nodes g t)) s a.lie))
 
-pub few_seen : (g : FlatGrammar) (t : Tree) (vs : List Face) → seen_nodes vs ≡ visible_nodes g t → length vs ≤ node_count t
-few_seen g t vs e = omega (arith, length-map vs seen_node, ap length e, few_nodes g t)
+pub few_seen : (g : FlatGrammar) (t : Tree) (vs : List VisibleNode) → vs ≡ visible_nodes g t → length vs ≤ node_count t
+few_seen g t vs e = omega (arith, ap length e, few_nodes g t)
 
--- a node that is seen starts within the limit
-pub start_within : (limit : ℕ) (vs : List Face) (i : ℕ) (v : Face) → LieWithin limit (seen_nodes vs) → i < length vs → v ≡ get_or vs i v → v.start ≤ limit
-start_within limit [] i v h below is = absurd (omega (arith, below))
-start_within limit (x ∷ vs) zero v h below is =
-    let s : v.start ≡ x.start = ap (λ (y : Face). y.start) is in
-    omega (arith, s, h.0, h.1.0)
-start_within limit (x ∷ vs) (suc i) v h below is = start_within limit vs i v h.1.1 (omega (arith, below)) is
+-- a node starts within the limit
+pub start_within : (limit : ℕ) (vs : List VisibleNode) (k : ℕ) → LieWithin limit vs → start_of vs k ≤ limit
+start_within limit [] k h = omega arith
+start_within limit (v ∷ vs) zero h = omega (arith, h.0, h.1.0)
+start_within limit (v ∷ vs) (suc k) h = start_within limit vs k h.1.1
 
-pub shown_seen : (g : FlatGrammar) (text : Bytes) (vs : List Face) → map (λ (v : Face). shown g text (seen_node v)) vs ≡ map (shown g text) (seen_nodes vs)
-shown_seen g text [] = refl
-shown_seen g text (v ∷ vs) = ap (λ (ss : List Shown). shown g text (seen_node v) ∷ ss) (shown_seen g text vs)
+-- one more node is printed
+shown_step : (g : FlatGrammar) (text : Bytes) (vs : List VisibleNode) (k : ℕ) (s : Shown) → option_map (shown g text) (slice_get vs k) ≡ Some s → map (shown g text) (take k vs) ++ s ∷ [] ≡ map (shown g text) (take (suc k) vs)
+shown_step g text [] k s e = let x : ⊥ = cc in elim x [ ]
+shown_step g text (v ∷ vs) zero s e =
+    let t : Some (shown g text v) ≡ Some s = e in
+    let u : shown g text v ≡ s = cc in
+    ap (λ (x : Shown). x ∷ []) (sym u)
+shown_step g text (v ∷ vs) (suc k) s e = ap (λ (ss : List Shown). shown g text v ∷ ss) (shown_step g text vs k s e)
+
+pub shown_more : (g : FlatGrammar) (text : Bytes) (vs : List VisibleNode) (k : ℕ) (old new : List Shown) (s : Shown) → old ≡ map (shown g text) (take k vs) → option_map (shown g text) (slice_get vs k) ≡ Some s → new ≡ old ++ s ∷ [] → new ≡ map (shown g text) (take (k + 1) vs)
+shown_more g text vs k old new s are at is =
+    let n : k + 1 ≡ suc k = omega arith in
+    is ∙ ap (λ (ss : List Shown). ss ++ s ∷ []) are ∙ shown_step g text vs k s at ∙ ap (λ (m : ℕ). map (shown g text) (take m vs)) (sym n)

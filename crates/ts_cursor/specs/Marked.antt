@@ -1,5 +1,5 @@
 -- What a walk over a tree finds: the visible nodes of some of a node's children.
-use Rattle.std.specs.Prelude.{◌≡◌, ℕ, suc, ◌-◌, ◌++◌, Bool, if◌then◌else◌, List, map, take, drop, Option, Some, None}
+use Rattle.std.specs.Prelude.{◌≡◌, ℕ, suc, ◌-◌, ◌++◌, Bool, if◌then◌else◌, List, map, take, drop, slice_get, Option, Some, None, option_map, unwrap_or}
 use Rattle.std.specs.Borrow.{Bor}
 use Rattle.std.specs.Option.{option_copied}
 use Rattle.ts_core.specs.declared.flat.Step.{Step}
@@ -11,26 +11,14 @@ use Rattle.spec_trees.specs.Trees.{symbol_of, production_of, elements_of, childr
 use Rattle.spec_trees.specs.Made.{fills_from}
 use Rattle.spec_trees.specs.Family.{LieWithin}
 use Rattle.spec_trees.specs.VisibleNodes.{Marks, no_marks, marks_of, marks_at, children_marks, showing, shown_all}
-use Rattle.ts_cursor.specs.declared.nodes.Face.{Face}
-
--- the visible node that a walk has found
-abbrev pub seen_node : Face → VisibleNode
-seen_node v = record {
-  depth = v.depth;
-  name = v.name.now;
-  named = v.named;
-  fields = v.fields;
-  start = v.start;
-  end = v.end;
-}
-
--- the same of several
-abbrev pub seen_nodes : List Face → List VisibleNode
-seen_nodes = map seen_node
 
 -- a focus on the node of a number
-abbrev pub focus_of : List Face → ℕ → Focus
-focus_of nodes number = record { nodes = seen_nodes nodes; number = number }
+abbrev pub focus_of : List VisibleNode → ℕ → Focus
+focus_of nodes number = record { nodes = nodes; number = number }
+
+-- the start of the node of a number
+abbrev pub start_of : List VisibleNode → ℕ → ℕ
+start_of nodes k = unwrap_or (option_map (λ node. node.start) (slice_get nodes k)) 0
 
 -- the marks of a step, where there is one
 abbrev pub marks_by : Option Step → Marks

@@ -3,13 +3,13 @@
 ghost use Rattle.std.specs.Prelude.{◌≡◌, ◌↔◌, ◌<◌, ◌^◌, ℕ, true, false, IsTrue, IfOk, Some, length, slice_get, option_map};
 ghost use Rattle.spec_trees.specs.Trees.{span_of};
 ghost use Rattle.spec_trees.specs.VisibleNodes.{visible_nodes};
-ghost use Rattle.spec_trees.specs.Family.{LieWithin, IsFirstChild, IsNextSibling, IsParent, node_at};
-ghost use Rattle.ts_cursor.specs.Linked.{IsPast};
-ghost use Rattle.ts_cursor.specs.Marked.{seen_node, seen_nodes};
+ghost use Rattle.spec_trees.specs.Family.{LieWithin, IsFirstChild, IsNextSibling, IsParent, depth_at, node_at};
+ghost use Rattle.ts_cursor.specs.Linked.{IsPast, DepthsRise, AreShallow};
 
-use crate::links::{parents, pasts};
+use crate::links::{depth, pasts};
 use crate::moves::{first_child, next_sibling, parent};
-use crate::nodes::{Face, nodes};
+use crate::nodes::nodes;
+use crate::seen::Seen;
 use crate::steps::Steps;
 use std::alloc::{AllocError, Global};
 use std::marker::Model;
@@ -18,13 +18,15 @@ use ts_node::Node;
 
 /// A cursor on a node of a visible tree, which contracts see as that `Focus`.
 ///
-/// It keeps the nodes that show, and for each the number after its descendants and that of its
-/// parent, so that a move takes constant time and no memory.
+/// It keeps the nodes that show, for each the number after its descendants, and the numbers of the
+/// nodes that it stands in, for which there is room from the start. So a move takes constant time
+/// and no memory.
 #[derive(Drop)]
 pub struct Cursor<'g> {
-    nodes: Vec<Face<'g>>,
+    nodes: Seen<'g>,
     pasts: Vec<u32>,
-    parents: Vec<u32>,
+    /// For each depth above that of its node the number of the node that it stands in.
+    path: Vec<u32>,
     number: u32,
 }
 
@@ -37,13 +39,12 @@ impl<'g> Model for Cursor<'g> {
 
     ghost coded = { Prim.hlevel (codes, focus.the_row.coded) };
 
-    ghost use Rattle.ts_cursor.specs.Marked.{focus_of, seen_nodes};
+    ghost use Rattle.ts_cursor.specs.Marked.{focus_of};
     ghost use Rattle.ts_cursor.specs.Linked.{IsLinked};
 
-    ghost view = { λ a. focus_of a.nodes.items a.number };
+    ghost view = { λ a. focus_of a.nodes a.number };
 
-    ghost invariant = { λ a.
-        IsLinked (seen_nodes a.nodes.items) a.pasts.items a.parents.items a.number };
+    ghost invariant = { λ a. IsLinked a.nodes a.pasts.items a.path.items a.number };
 }
 
 impl<'g> Cursor<'g> {
@@ -63,31 +64,27 @@ impl<'g> Cursor<'g> {
     {
         let steps = Steps::new(alloc, grammar)?;
         let nodes = nodes(alloc, &steps, root)?;
-        Cursor::over(alloc, nodes)
+        Cursor::over(alloc, nodes, root.depth())
     }
 
-    /// A cursor on the first of visible nodes.
-    pub(crate) fn over(alloc: Global, nodes: Vec<Face<'g>>) -> Result<Cursor<'g>, AllocError>
-        requires few { length nodes.items < 2 ^ 32 }
-        requires some { 0 < length nodes.items }
-        ensures nodes { IfOk result (λ cursor. cursor.nodes ≡ seen_nodes nodes.entry.items) }
+    /// A cursor on the first of visible nodes, which are all less deep than `room`.
+    fn over(alloc: Global, nodes: Seen<'g>, room: u32) -> Result<Cursor<'g>, AllocError>
+        requires few { length nodes < 2 ^ 32 }
+        requires some { 0 < length nodes }
+        requires root { depth_at nodes 0 ≡ 0 }
+        requires rise { DepthsRise nodes }
+        requires shallow { AreShallow room nodes }
+        ensures nodes { IfOk result (λ cursor. cursor.nodes ≡ nodes.entry) }
         ensures number { IfOk result (λ cursor. cursor.number ≡ 0) }
     {
-        let pasts = pasts(alloc, nodes.as_slice())?;
-        let parents = parents(alloc, nodes.as_slice())?;
+        let pasts = pasts(alloc, &nodes)?;
+        let path = vec![in alloc; 0u32; room as usize]?;
         Ok(Cursor {
             nodes,
             pasts,
-            parents,
+            path,
             number: 0,
         })
-    }
-
-    /// The node itself.
-    fn node(&self) -> &Face<'g>
-        ensures { node_at self.now ≡ Some (seen_node result.now) }
-    {
-        &self.nodes[self.number as usize]
     }
 
     /// Goes to the first child, or stays where there is none.
@@ -97,8 +94,10 @@ impl<'g> Cursor<'g> {
         ensures exact { (m : ℕ) → IsFirstChild self.old.nodes self.old.number m → result ≡ true }
         ensures nodes { self.new.nodes ≡ self.old.nodes }
     {
-        match first_child(self.nodes.as_slice(), self.number) {
+        match first_child(&self.nodes, self.number) {
             Some(child) => {
+                let depth = depth(&self.nodes, self.number);
+                self.path[depth as usize] = self.number;
                 self.number = child;
                 true
             }
@@ -114,7 +113,7 @@ impl<'g> Cursor<'g> {
         ensures exact { (m : ℕ) → IsNextSibling self.old.nodes self.old.number m → result ≡ true }
         ensures nodes { self.new.nodes ≡ self.old.nodes }
     {
-        match next_sibling(self.nodes.as_slice(), self.pasts.as_slice(), self.number) {
+        match next_sibling(&self.nodes, self.pasts.as_slice(), self.number) {
             Some(sibling) => {
                 self.number = sibling;
                 true
@@ -130,7 +129,7 @@ impl<'g> Cursor<'g> {
         ensures exact { (m : ℕ) → IsParent self.old.nodes self.old.number m → result ≡ true }
         ensures nodes { self.new.nodes ≡ self.old.nodes }
     {
-        match parent(self.nodes.as_slice(), self.parents.as_slice(), self.number) {
+        match parent(&self.nodes, self.path.as_slice(), self.number) {
             Some(above) => {
                 self.number = above;
                 true
@@ -143,23 +142,23 @@ impl<'g> Cursor<'g> {
     pub fn name(&self) -> &str
         ensures { option_map (λ node. node.name) (node_at self.now) ≡ Some result.now }
     {
-        self.node().name
+        self.nodes.name(self.number as usize)
     }
 
     /// Whether it shows as named.
     pub fn named(&self) -> bool
         ensures { option_map (λ node. node.named) (node_at self.now) ≡ Some result }
     {
-        self.node().named
+        self.nodes.named(self.number as usize)
     }
 
     /// Its field at `k`, counted from 0, by the field's number. None past the last.
     pub fn field(&self, k: u32) -> Option<u16>
         ensures { option_map (λ node. slice_get node.fields k) (node_at self.now) ≡ Some result }
     {
-        let fields = &self.node().fields;
+        let fields = self.nodes.fields(self.number as usize);
         if (k as usize) < fields.len() {
-            Some(*fields.get(k as usize))
+            Some(fields[k as usize])
         } else {
             None
         }
@@ -169,8 +168,8 @@ impl<'g> Cursor<'g> {
     pub fn range(&self) -> (u32, u32)
         ensures { option_map (λ node. (node.start, node.end)) (node_at self.now) ≡ Some result }
     {
-        let node = self.node();
-        (node.start, node.end)
+        let number = self.number as usize;
+        (self.nodes.start(number), self.nodes.end(number))
     }
 
     /// Its place in preorder, counted from 0.
@@ -195,7 +194,7 @@ impl<'g> Cursor<'g> {
         requires { k < length self.now.nodes }
         ensures { option_map (λ node. node.depth) (slice_get self.now.nodes k) ≡ Some result }
     {
-        self.nodes[k as usize].depth
+        self.nodes.depth(k as usize)
     }
 
     /// The name under which the node of a number shows.
@@ -203,7 +202,7 @@ impl<'g> Cursor<'g> {
         requires { k < length self.now.nodes }
         ensures { option_map (λ node. node.name) (slice_get self.now.nodes k) ≡ Some result.now }
     {
-        self.nodes[k as usize].name
+        self.nodes.name(k as usize)
     }
 
     /// Whether the node of a number shows as named.
@@ -211,7 +210,7 @@ impl<'g> Cursor<'g> {
         requires { k < length self.now.nodes }
         ensures { option_map (λ node. node.named) (slice_get self.now.nodes k) ≡ Some result }
     {
-        self.nodes[k as usize].named
+        self.nodes.named(k as usize)
     }
 
     /// The fields of the node of a number, by the fields' numbers.
@@ -219,7 +218,7 @@ impl<'g> Cursor<'g> {
         requires { k < length self.now.nodes }
         ensures { option_map (λ node. node.fields) (slice_get self.now.nodes k) ≡ Some result.now }
     {
-        self.nodes[k as usize].fields.as_slice()
+        self.nodes.fields(k as usize)
     }
 
     /// The place of the first byte of the node of a number.
@@ -227,7 +226,7 @@ impl<'g> Cursor<'g> {
         requires { k < length self.now.nodes }
         ensures { option_map (λ node. node.start) (slice_get self.now.nodes k) ≡ Some result }
     {
-        self.nodes[k as usize].start
+        self.nodes.start(k as usize)
     }
 
     /// The place after the last byte of the node of a number.
@@ -235,7 +234,7 @@ impl<'g> Cursor<'g> {
         requires { k < length self.now.nodes }
         ensures { option_map (λ node. node.end) (slice_get self.now.nodes k) ≡ Some result }
     {
-        self.nodes[k as usize].end
+        self.nodes.end(k as usize)
     }
 
     /// The number after the descendants of the node of a number.

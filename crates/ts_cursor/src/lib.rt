@@ -9,6 +9,7 @@ mod links;
 mod moves;
 mod nodes;
 mod printed;
+mod seen;
 mod steps;
 
 pub use cursor::Cursor;

@@ -2,18 +2,17 @@
 //! its first child, next sibling or parent comes out.
 ghost use Rattle.std.specs.Prelude.{◌≡◌, ◌<◌, ◌^◌, ◌↔◌, ℕ, IsTrue, length, MatchOption};
 ghost use Rattle.spec_trees.specs.Family.{depth_at, IsFirstChild, IsNextSibling, IsParent};
-ghost use Rattle.ts_cursor.specs.Marked.{seen_nodes};
-ghost use Rattle.ts_cursor.specs.Linked.{ArePasts, AreAbove, HasNone};
+ghost use Rattle.ts_cursor.specs.Linked.{ArePasts, AreShallow, HasNone, IsPath};
 
 use crate::links::depth;
-use crate::nodes::Face;
+use crate::seen::Seen;
 
 /// The first child of a node.
-pub(crate) fn first_child(nodes: &[Face], k: u32) -> Option<u32>
+pub(crate) fn first_child(nodes: &Seen, k: u32) -> Option<u32>
     requires few { length nodes.now < 2 ^ 32 }
     requires within { k < length nodes.now }
-    ensures { MatchOption result (HasNone (IsFirstChild (seen_nodes nodes.now) k))
-        (λ m. IsFirstChild (seen_nodes nodes.now) k m) }
+    ensures { MatchOption result (HasNone (IsFirstChild nodes.now k))
+        (λ m. IsFirstChild nodes.now k m) }
 {
     let next = k as usize + 1;
     if next < nodes.len() && depth(nodes, k) < depth(nodes, next as u32) {
@@ -24,11 +23,11 @@ pub(crate) fn first_child(nodes: &[Face], k: u32) -> Option<u32>
 }
 
 /// The next sibling of a node, where it is known what comes after its descendants.
-pub(crate) fn next_sibling(nodes: &[Face], pasts: &[u32], k: u32) -> Option<u32>
+pub(crate) fn next_sibling(nodes: &Seen, pasts: &[u32], k: u32) -> Option<u32>
     requires within { k < length nodes.now }
-    requires pasts { ArePasts (seen_nodes nodes.now) pasts.now }
-    ensures { MatchOption result (HasNone (IsNextSibling (seen_nodes nodes.now) k))
-        (λ m. IsNextSibling (seen_nodes nodes.now) k m) }
+    requires pasts { ArePasts nodes.now pasts.now }
+    ensures { MatchOption result (HasNone (IsNextSibling nodes.now k))
+        (λ m. IsNextSibling nodes.now k m) }
 {
     let past = pasts[k as usize];
     if is_level(nodes, past, k) {
@@ -39,21 +38,25 @@ pub(crate) fn next_sibling(nodes: &[Face], pasts: &[u32], k: u32) -> Option<u32>
 }
 
 /// Whether there is a node of the first number, and it is as deep as the other.
-fn is_level(nodes: &[Face], m: u32, k: u32) -> bool
+fn is_level(nodes: &Seen, m: u32, k: u32) -> bool
     requires { k < length nodes.now }
     ensures { IsTrue result ↔ (m < length nodes.now)
-        × (depth_at (seen_nodes nodes.now) m ≡ depth_at (seen_nodes nodes.now) k) }
+        × (depth_at nodes.now m ≡ depth_at nodes.now k) }
 {
     (m as usize) < nodes.len() && depth(nodes, m) == depth(nodes, k)
 }
 
-/// The parent of a node, where it is known what stands above it.
-pub(crate) fn parent(nodes: &[Face], parents: &[u32], k: u32) -> Option<u32>
+/// The parent of a node, where it is known in which nodes it stands.
+pub(crate) fn parent(nodes: &Seen, path: &[u32], k: u32) -> Option<u32>
     requires within { k < length nodes.now }
-    requires above { AreAbove (seen_nodes nodes.now) (length nodes.now) parents.now }
-    ensures { MatchOption result (HasNone (IsParent (seen_nodes nodes.now) k))
-        (λ m. IsParent (seen_nodes nodes.now) k m) }
+    requires shallow { AreShallow (length path.now) nodes.now }
+    requires path { IsPath nodes.now k path.now }
+    ensures { MatchOption result (HasNone (IsParent nodes.now k)) (λ m. IsParent nodes.now k m) }
 {
-    let above = parents[k as usize];
-    if above < k { Some(above) } else { None }
+    let depth = depth(nodes, k);
+    if depth > 0 {
+        Some(path[depth as usize - 1])
+    } else {
+        None
+    }
 }

@@ -1,28 +1,19 @@
 //! The visible nodes: a root goes in, and the list of the nodes that show comes out, in preorder.
-ghost use Rattle.std.specs.Prelude.{◌≡◌, ◌+◌, ◌<◌, ◌≤◌, ◌^◌, true, [], Some, None, length, IfOk, OnOk};
+ghost use Rattle.std.specs.Prelude.{◌≡◌, ◌+◌, ◌++◌, ◌∷◌, ◌<◌, ◌≤◌, ◌^◌, true, [], Some, None, length, IfOk, OnOk};
+ghost use Rattle.std.specs.Option.{option_to_list};
 ghost use Rattle.spec_grammar.specs.Symbols.{node_name};
 ghost use Rattle.spec_trees.specs.Trees.{symbol_of, pad_of, size_of, span_of, all_spans, tree_depth, greatest_depth, children_of, elements_of, production_of};
 ghost use Rattle.spec_trees.specs.VisibleNodes.{marks_at, showing, visible_nodes, visible_node, shown_name, shown_named, with_field};
-ghost use Rattle.ts_cursor.specs.Marked.{step_marks, seen_node, seen_nodes, fills, filled_after, window, part_nodes, inner_nodes, AppendsNodes};
+ghost use Rattle.ts_cursor.specs.Marked.{step_marks, fills, filled_after, window, part_nodes, inner_nodes, AppendsNodes};
+ghost use Rattle.ts_cursor.specs.Pooled.{seen_with};
 ghost use Rattle.spec_trees.specs.Family.{LieWithin};
 
 use crate::face::{is_named, name, shows, symbol_name};
+use crate::seen::{Face, Seen};
 use crate::steps::Steps;
 use std::alloc::{AllocError, Global};
-use ts_base::List;
 use ts_core::Step;
 use ts_node::Node;
-
-/// A node that shows.
-#[derive(Drop)]
-pub(crate) struct Face<'g> {
-    pub name: &'g str,
-    pub fields: List<u16>,
-    pub depth: u32,
-    pub start: u32,
-    pub end: u32,
-    pub named: bool,
-}
 
 /// Where nodes stand: how deep, and from which byte on.
 #[derive(Clone, Copy)]
@@ -48,16 +39,14 @@ pub(crate) fn nodes<'g>(
     alloc: Global,
     steps: &Steps<'g>,
     root: &Node,
-) -> Result<Vec<Face<'g>>, AllocError>
-    ensures nodes { IfOk result (λ nodes.
-        seen_nodes nodes.items ≡ visible_nodes steps.now root.now) }
-    ensures few { IfOk result (λ nodes. length nodes.items < 2 ^ 32) }
-    ensures some { IfOk result (λ nodes. 0 < length nodes.items) }
-    ensures lie { IfOk result (λ nodes. LieWithin (span_of root.now) (seen_nodes nodes.items)) }
+) -> Result<Seen<'g>, AllocError>
+    ensures nodes { IfOk result (λ nodes. nodes ≡ visible_nodes steps.now root.now) }
+    ensures few { IfOk result (λ nodes. length nodes < 2 ^ 32) }
+    ensures some { IfOk result (λ nodes. 0 < length nodes) }
+    ensures lie { IfOk result (λ nodes. LieWithin (span_of root.now) nodes) }
 {
-    let _ = root.nodes();
-    let mut nodes = Vec::new(alloc);
-    nodes.push(root_face(alloc, steps, root))?;
+    let mut nodes = Seen::with_room(alloc, root.nodes() as usize)?;
+    nodes.add(root_face(steps, root), &[], None)?;
     let at = At { depth: 1, place: 0 };
     put_children(alloc, steps, root, at, &[], &mut nodes)?;
     Ok(nodes)
@@ -73,25 +62,53 @@ fn put<'g>(
     step: Option<&'g Step>,
     at: At,
     fields: &[u16],
-    nodes: &mut Vec<Face<'g>>,
+    nodes: &mut Seen<'g>,
 ) -> Result<(), AllocError>
-    requires deep { at.depth + tree_depth node.now < 2 ^ 32 }
+    requires deep { at.depth + (length fields.now + tree_depth node.now) < 2 ^ 16 }
     requires within { at.place + span_of node.now < 2 ^ 32 }
     ensures { OnOk result (AppendsNodes (at.place + span_of node.now)
         (showing steps.now node.now at.depth at.place fields.now (step_marks step.entry))
-        (seen_nodes nodes.old.items) (seen_nodes nodes.new.items)) }
+        nodes.old nodes.new) }
 {
     let _ = node.nodes();
-    let own = with(alloc, fields, step)?;
+    let more = missing(fields, step);
     if shows(steps.grammar(), node.symbol(), step) {
-        nodes.push(child_face(steps, node, step, at, own))?;
+        nodes.add(child_face(steps, node, step, at), fields, more)?;
         let below = At {
             depth: at.depth + 1,
             place: at.place,
         };
         put_children(alloc, steps, node, below, &[], nodes)
     } else {
-        put_children(alloc, steps, node, at, own.as_slice(), nodes)
+        put_hidden(alloc, steps, node, at, fields, more, nodes)
+    }
+}
+
+/// Puts at the end what the children of a hidden node come to, where it stands under these fields,
+/// and one more where there is one.
+#[cycle(walk)]
+fn put_hidden<'g>(
+    alloc: Global,
+    steps: &Steps<'g>,
+    node: &Node,
+    at: At,
+    fields: &[u16],
+    more: Option<u16>,
+    nodes: &mut Seen<'g>,
+) -> Result<(), AllocError>
+    requires deep { at.depth
+        + (length fields.now + (1 + greatest_depth (children_of node.now))) < 2 ^ 16 }
+    requires within { at.place + all_spans (children_of node.now) < 2 ^ 32 }
+    ensures { OnOk result (AppendsNodes (at.place + all_spans (children_of node.now))
+        (inner_nodes steps.now node.now at.depth at.place (fields.now ++ option_to_list more))
+        nodes.old nodes.new) }
+{
+    match more {
+        Some(field) => {
+            let own = with_one(alloc, fields, field)?;
+            put_children(alloc, steps, node, at, own.as_slice(), nodes)
+        }
+        None => put_children(alloc, steps, node, at, fields, nodes),
     }
 }
 
@@ -103,14 +120,18 @@ fn put_children<'g>(
     node: &Node,
     at: At,
     fields: &[u16],
-    nodes: &mut Vec<Face<'g>>,
+    nodes: &mut Seen<'g>,
 ) -> Result<(), AllocError>
-    requires deep { at.depth + greatest_depth (children_of node.now) < 2 ^ 32 }
+    requires deep { at.depth
+        + (length fields.now + greatest_depth (children_of node.now)) < 2 ^ 16 }
     requires within { at.place + all_spans (children_of node.now) < 2 ^ 32 }
     ensures { OnOk result (AppendsNodes (at.place + all_spans (children_of node.now))
         (inner_nodes steps.now node.now at.depth at.place fields.now)
-        (seen_nodes nodes.old.items) (seen_nodes nodes.new.items)) }
+        nodes.old nodes.new) }
 {
+    if node.children() == 0 {
+        return Ok(());
+    }
     match node.production() {
         Some(number) => {
             let filled = steps.of(number as usize);
@@ -135,13 +156,14 @@ fn put_all<'g>(
     filled: &'g [Step],
     at: At,
     fields: &[u16],
-    nodes: &mut Vec<Face<'g>>,
+    nodes: &mut Seen<'g>,
 ) -> Result<(), AllocError>
-    requires deep { at.depth + greatest_depth (children_of node.now) < 2 ^ 32 }
+    requires deep { at.depth
+        + (length fields.now + greatest_depth (children_of node.now)) < 2 ^ 16 }
     requires within { at.place + all_spans (children_of node.now) < 2 ^ 32 }
     ensures { OnOk result (AppendsNodes (at.place + all_spans (children_of node.now))
         (part_nodes steps.now filled.now 0 (children_of node.now) at.depth at.place fields.now)
-        (seen_nodes nodes.old.items) (seen_nodes nodes.new.items)) }
+        nodes.old nodes.new) }
 {
     let part = Part {
         from: 0,
@@ -160,15 +182,16 @@ fn put_elements<'g>(
     node: &Node,
     at: At,
     fields: &[u16],
-    nodes: &mut Vec<Face<'g>>,
+    nodes: &mut Seen<'g>,
 ) -> Result<(), AllocError>
     requires repetition { production_of node.now ≡ None }
     requires some { 0 < length (elements_of node.now) }
-    requires deep { at.depth + greatest_depth (children_of node.now) < 2 ^ 32 }
+    requires deep { at.depth
+        + (length fields.now + greatest_depth (children_of node.now)) < 2 ^ 16 }
     requires within { at.place + all_spans (children_of node.now) < 2 ^ 32 }
     ensures { OnOk result (AppendsNodes (at.place + all_spans (children_of node.now))
         (inner_nodes steps.now node.now at.depth at.place fields.now)
-        (seen_nodes nodes.old.items) (seen_nodes nodes.new.items)) }
+        nodes.old nodes.new) }
 {
     let _ = node.nodes();
     let _ = node.children();
@@ -201,11 +224,12 @@ fn put_part<'g>(
     part: Part<'g>,
     at: At,
     fields: &[u16],
-    nodes: &mut Vec<Face<'g>>,
+    nodes: &mut Seen<'g>,
 ) -> Result<u32, AllocError>
     requires rises { part.from ≤ part.to }
     requires inside { part.to ≤ length (children_of node.now) }
-    requires deep { at.depth + greatest_depth (children_of node.now) < 2 ^ 32 }
+    requires deep { at.depth
+        + (length fields.now + greatest_depth (children_of node.now)) < 2 ^ 16 }
     requires within { at.place
         + all_spans (window (children_of node.now) part.from part.to) < 2 ^ 32 }
     ensures nodes { OnOk result (AppendsNodes
@@ -213,7 +237,7 @@ fn put_part<'g>(
         (part_nodes steps.now part.entry.steps.now 0
         (window (children_of node.now) part.entry.from part.entry.to)
         at.depth at.place fields.now)
-        (seen_nodes nodes.old.items) (seen_nodes nodes.new.items)) }
+        nodes.old nodes.new) }
     ensures place { IfOk result (λ place. place
         ≡ at.place + all_spans (window (children_of node.now) part.entry.from part.entry.to)) }
 {
@@ -227,9 +251,10 @@ fn put_part<'g>(
             depth: at.depth,
             place,
         };
+        let end = place + (child.pad() + child.size());
         put(alloc, steps, child, step, here, fields, nodes)?;
         filled = past(filled, extra);
-        place += child.pad() + child.size();
+        place = end;
     }
     Ok(place)
 }
@@ -249,55 +274,53 @@ fn past(filled: usize, extra: bool) -> usize
     if extra { filled } else { filled + 1 }
 }
 
-/// A node as it shows, with its fields.
-fn child_face<'g>(
-    steps: &Steps<'g>,
-    node: &Node,
-    step: Option<&'g Step>,
-    at: At,
-    fields: List<u16>,
-) -> Face<'g>
+/// A node as it shows, without its fields.
+fn child_face<'g>(steps: &Steps<'g>, node: &Node, step: Option<&'g Step>, at: At) -> Face<'g>
     requires within { at.place + span_of node.now < 2 ^ 32 }
-    ensures { seen_node result ≡ visible_node at.depth
+    ensures { seen_with [] result ≡ visible_node at.depth
         (shown_name steps.now (symbol_of node.now) (step_marks step.entry).alias)
         (shown_named steps.now (symbol_of node.now) (step_marks step.entry).alias)
-        fields (at.place + pad_of node.now) (size_of node.now) }
+        [] (at.place + pad_of node.now) (size_of node.now) }
 {
+    let symbol = node.symbol();
     let start = at.place + node.pad();
     Face {
-        depth: at.depth,
-        name: name(steps.grammar(), node.symbol(), step),
-        named: is_named(steps.grammar(), node.symbol(), step),
-        fields,
+        name: name(steps.grammar(), symbol, step),
+        first: 0,
         start,
         end: start + node.size(),
+        depth: at.depth,
+        count: 0,
+        named: is_named(steps.grammar(), symbol, step),
     }
 }
 
 /// The root as it shows: named, under its rule's name.
-fn root_face<'g>(alloc: Global, steps: &Steps<'g>, root: &Node) -> Face<'g>
+fn root_face<'g>(steps: &Steps<'g>, root: &Node) -> Face<'g>
     requires { span_of root.now < 2 ^ 32 }
-    ensures { seen_node result ≡ visible_node 0 (node_name steps.now (symbol_of root.now)) true []
+    ensures { seen_with [] result ≡ visible_node 0 (node_name steps.now (symbol_of root.now)) true []
         (pad_of root.now) (size_of root.now) }
 {
     let start = root.pad();
     Face {
-        depth: 0,
         name: symbol_name(steps.grammar(), root.symbol()),
-        named: true,
-        fields: List::new(alloc),
+        first: 0,
         start,
         end: start + root.size(),
+        depth: 0,
+        count: 0,
+        named: true,
     }
 }
 
-/// The fields, and that of the step where they have it not yet.
-fn with(alloc: Global, fields: &[u16], step: Option<&Step>) -> Result<List<u16>, AllocError>
-    ensures { IfOk result (λ own. own ≡ with_field fields.now (step_marks step.entry).field) }
+/// The field of a step, where the fields have it not yet.
+fn missing(fields: &[u16], step: Option<&Step>) -> Option<u16>
+    ensures { with_field fields.now (step_marks step.entry).field
+        ≡ fields.now ++ option_to_list result }
 {
     match field_of(step) {
-        Some(field) => with_one(alloc, fields, field),
-        None => copied(alloc, fields),
+        Some(field) => new_field(fields, field),
+        None => None,
     }
 }
 
@@ -311,24 +334,23 @@ fn field_of(step: Option<&Step>) -> Option<u16>
     }
 }
 
-/// The fields, and one more where they have it not yet.
-fn with_one(alloc: Global, fields: &[u16], field: u16) -> Result<List<u16>, AllocError>
-    ensures { IfOk result (λ own. own ≡ with_field fields.now (Some field)) }
+/// A field, where the fields have it not yet.
+fn new_field(fields: &[u16], field: u16) -> Option<u16>
+    ensures { with_field fields.now (Some field) ≡ fields.now ++ option_to_list result }
 {
-    let mut own = copied(alloc, fields)?;
-    if !fields.contains(&field) {
-        own.push(field)?;
+    if fields.contains(&field) {
+        None
+    } else {
+        Some(field)
     }
-    Ok(own)
 }
 
-/// The same fields.
-fn copied(alloc: Global, fields: &[u16]) -> Result<List<u16>, AllocError>
-    ensures { IfOk result (λ own. own ≡ fields.now) }
+/// The fields and one more.
+fn with_one(alloc: Global, fields: &[u16], field: u16) -> Result<Vec<u16>, AllocError>
+    ensures { IfOk result (λ own. own.items ≡ fields.now ++ field ∷ []) }
 {
-    let mut own = List::with_capacity(alloc, fields.len())?;
-    for field in fields {
-        own.push(*field)?;
-    }
+    let mut own = Vec::with_capacity(alloc, fields.len() + 1)?;
+    own.extend_from_slice(fields)?;
+    own.push(field)?;
     Ok(own)
 }

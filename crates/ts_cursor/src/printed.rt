@@ -1,11 +1,12 @@
 //! The visible tree as it is printed: a grammar, a text and a root go in, and its nodes come out,
 //! with the names of their fields, and rows and columns.
-ghost use Rattle.std.specs.Prelude.{◌≡◌, ◌≤◌, IfOk, length, map};
+ghost use Rattle.std.specs.Prelude.{◌≡◌, ◌<◌, ◌≤◌, IfOk, Some, length, map, slice_get, option_map};
 ghost use Rattle.spec_trees.specs.Trees.{span_of};
 ghost use Rattle.spec_trees.specs.Shown as printed;
-ghost use Rattle.ts_cursor.specs.Marked.{seen_node};
+ghost use Rattle.ts_cursor.specs.Marked.{start_of};
 
-use crate::nodes::{Face, nodes};
+use crate::nodes::nodes;
+use crate::seen::Seen;
 use crate::steps::Steps;
 use std::alloc::{AllocError, Global};
 use ts_core::{FlatGrammar, List, Shown, Str};
@@ -30,8 +31,8 @@ pub fn shown(
     let nodes = nodes(alloc, &steps, root)?;
     let mut points = PointWalk::new(text);
     let mut all = List::with_capacity(alloc, nodes.len())?;
-    for node in &nodes {
-        all.push(node_shown(alloc, grammar, &mut points, node)?)?;
+    for k in 0..nodes.len() {
+        all.push(node_shown(alloc, grammar, &mut points, &nodes, k)?)?;
     }
     Ok(all)
 }
@@ -41,21 +42,24 @@ fn node_shown<'g>(
     alloc: Global,
     grammar: &FlatGrammar,
     points: &mut PointWalk,
-    node: &Face,
+    nodes: &Seen,
+    k: usize,
 ) -> Result<Shown, AllocError>
-    requires { node.now.start ≤ length points.old }
+    requires within { k < length nodes.now }
+    requires starts { start_of nodes.now k ≤ length points.old }
     ensures node { IfOk result (λ shown.
-        shown ≡ printed.shown grammar.now points.old (seen_node node.now)) }
+        option_map (printed.shown grammar.now points.old) (slice_get nodes.now k) ≡ Some shown) }
     ensures points { points.new ≡ points.old }
 {
-    let (row, column) = points.at(node.start);
+    let start = nodes.start(k);
+    let (row, column) = points.at(start);
     Ok(Shown {
-        depth: node.depth,
-        name: Str::from_text(alloc, node.name)?,
-        named: node.named,
-        fields: field_names(alloc, grammar, node.fields.as_slice())?,
-        start: node.start,
-        end: node.end,
+        depth: nodes.depth(k),
+        name: Str::from_text(alloc, nodes.name(k))?,
+        named: nodes.named(k),
+        fields: field_names(alloc, grammar, nodes.fields(k))?,
+        start,
+        end: nodes.end(k),
         row,
         column,
     })

@@ -1,7 +1,6 @@
 use Rattle.std.proofs.Common.{◌-◌}
-use Rattle.ts_cursor.specs.Marked.{seen_nodes}
 use Rattle.ts_cursor.specs.Linked.{ArePastsFrom}
 use Rattle.ts_cursor.proofs.links.pasts.Given as goal
 
 abbrev pub invariant-loop-i : goal.invariant-loop-i
-invariant-loop-i l = ArePastsFrom (seen_nodes l.nodes) (l.count - l.i) l.pasts.items
+invariant-loop-i l = ArePastsFrom l.nodes (l.count - l.i) l.pasts.items
