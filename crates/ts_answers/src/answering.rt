@@ -58,8 +58,8 @@ pub fn answer<H: Hosts>(
     ensures { IfOk result (IsResult query.now (visible_nodes grammar.now root.now)
         (IsKept (AnswersOf (H.called hosts.now) (H.accepts hosts.now)) query.now text.now)) }
 {
-    let keep = Predicates::new(query, text, hosts);
-    match matches(alloc, grammar, root, query, &keep) {
+    let mut keep = Predicates::new(query, text, hosts);
+    match matches(alloc, grammar, root, query, &mut keep) {
         Ok(found) => {
             let shown = matches_shown(alloc, query, found.as_slice())?;
             Ok(ShownResult::Found(shown))

@@ -1,5 +1,5 @@
 //! Matching: a query, a grammar and a root go in, and the matches come out.
-ghost use Rattle.std.specs.Prelude.{◌≡◌, ◌<◌, ◌≤◌, ◌^◌, IfOk, IfErr, length};
+ghost use Rattle.std.specs.Prelude.{◌≡◌, ◌<◌, ◌≤◌, ◌^◌, IfOk, IfErr, OnOk, length};
 ghost use Rattle.spec_trees.specs.VisibleNodes.{visible_nodes};
 ghost use Rattle.spec_matches.specs.Matches.{AreMatches, AreTooMany, most_matches};
 
@@ -23,14 +23,15 @@ pub fn matches<K: Keep>(
     grammar: &FlatGrammar,
     root: &Node,
     query: &ReadQuery,
-    keep: &K,
+    keep: &mut K,
 ) -> Result<List<Match>, MatchFault>
     requires few { length query.now.patterns < 2 ^ 32 }
     ensures matches { IfOk result (AreMatches query.now (visible_nodes grammar.now root.now)
-        (K.kept keep.now)) }
+        (K.kept keep.old)) }
     ensures few { IfOk result (λ all. length all ≤ most_matches) }
     ensures many { IfErr result (λ e. e ≡ MatchFault.Many
-        → AreTooMany query.now (visible_nodes grammar.now root.now) (K.kept keep.now)) }
+        → AreTooMany query.now (visible_nodes grammar.now root.now) (K.kept keep.old)) }
+    ensures same { OnOk result (keep.new ≡ keep.old) }
 {
     nodes_have_parents();
     let tree = Cursor::new(alloc, grammar, root)?;

@@ -1,7 +1,7 @@
 -- Which matches are kept: of a pattern of the query, with captures inside, of which all predicates hold.
 use Rattle.std.proofs.Common.{◌≡◌, ◌∙◌, ◌↔◌, sym, ap, refl, subst, ℕ, ◌+◌, ◌<◌, ◌≤◌, ⊎_elim, Bool, true, false, IsTrue, List, [], ◌∷◌, ◌++◌, take, length, slice_get, get_or, Option, Some, IfOk, Result, Ok, Err}
-use Rattle.std.specs.List.{Contains}
-use Rattle.std.proofs.lemmas.List.{take_more, take_all}
+use Rattle.std.specs.List.{Contains, slice_set}
+use Rattle.std.proofs.lemmas.List.{set-get_or, take_more, take_all}
 use Rattle.std.proofs.lemmas.List.Elements.{Contains-get_or, Contains-push_cases}
 use Rattle.ts_base.specs.Bytes.{Bytes}
 use Rattle.ts_query_syntax.specs.declared.read_query.Pattern.{Pattern}
@@ -33,6 +33,10 @@ all_held items all i P e past each = (
   (λ t p w. each p (subst (λ (l : List Predicate). Contains l p) (sym (take_all i all (subst (λ (l : List Predicate). length l ≤ i) e past))) w)),
   (λ h. refl),
 )
+
+-- an element is replaced by itself
+pub set_same : (items : List Predicate) (i : ℕ) (d x y : Predicate) → x ≡ get_or items i d → y ≡ x → slice_set items i y ≡ items
+set_same items i d x y is e = ap (λ (p : Predicate). slice_set items i p) (e ∙ is) ∙ set-get_or items i d
 
 -- ---- the whole
 

@@ -1,2 +1,4 @@
 pub mod Predicates
 pub mod Asking
+pub mod Judges
+pub mod Rules

@@ -1,5 +1,5 @@
 -- What predicates ask of a match: of the texts of the nodes that its captures name.
-use Rattle.std.specs.Prelude.{◌≡◌, ℕ, ◌<◌, ◌≤◌, nat_eq, Bool, true, false, List, map, filter, length, Option, Some, is_some, slice_get}
+use Rattle.std.specs.Prelude.{◌≡◌, ℕ, ◌<◌, ◌≤◌, nat_eq, Bool, true, false, List, map, filter, length, Some, is_some, slice_get}
 use Rattle.std.specs.List.{Contains, slice_range}
 use Rattle.std.specs.Str.{IsCharBoundary}
 use Rattle.regex.specs.Patterns.{find_str}

@@ -6,10 +6,11 @@ ghost use Rattle.ts_base.specs.Bytes.{Bytes};
 ghost use Rattle.spec_matches.specs.declared.found.Capture.{Capture as Mark};
 ghost use Rattle.ts_query_syntax.specs.declared.read_query.ReadQuery.{ReadQuery as Asking};
 ghost use Rattle.ts_predicate.specs.Predicates.{AnswersOf, IsAs, IsCaptureIn, OfTexts, OfPairs, Holds, texts_of};
-ghost use Rattle.ts_predicate.specs.Asking.{IsOfOne, LeavesOpen};
+ghost use Rattle.ts_predicate.specs.Asking.{HasMatcher, IsOfOne, LeavesOpen};
 
-use crate::asking::{is_as, matcher_of};
+use crate::asking::is_as;
 use crate::hosts::Hosts;
+use regex::Matcher;
 use spec_matches::Capture;
 use std::alloc::{AllocError, Global};
 use ts_query_syntax::{Asked, Predicate};
@@ -38,24 +39,25 @@ fn texts<'a>(
 
 /// Whether all texts, or some text, are as they are asked to be.
 fn of_texts<H: Hosts>(
-    alloc: Global,
     hosts: &H,
     predicate: &Predicate,
+    matcher: &mut Option<Matcher<'_>>,
     texts: &[&str],
-) -> Result<bool, AllocError>
+) -> bool
     requires one { IsOfOne predicate.now.asked }
-    ensures { IfOk result (λ yes. IsTrue yes ↔ OfTexts predicate.now.some predicate.now.negated
+    requires matcher { HasMatcher matcher.old predicate.now.asked }
+    ensures matcher { HasMatcher matcher.new predicate.now.asked }
+    ensures is { IsTrue result ↔ OfTexts predicate.now.some predicate.now.negated
         (IsAs (AnswersOf (H.called hosts.now) (H.accepts hosts.now)) predicate.now.asked)
-        (map (λ t. t.now) texts.now)) }
+        (map (λ t. t.now) texts.now) }
 {
-    let mut matcher = matcher_of(alloc, &predicate.asked)?;
     for text in texts {
-        let is = is_as(hosts, &predicate.asked, &mut matcher, text);
+        let is = is_as(hosts, &predicate.asked, matcher, text);
         if decides(predicate, is) {
-            return Ok(predicate.some);
+            return predicate.some;
         }
     }
-    Ok(!predicate.some)
+    !predicate.some
 }
 
 /// Whether one text, or one pair, decides: one that is not as asked where all have to be, or one
@@ -109,11 +111,14 @@ pub(crate) fn holds<H: Hosts>(
     hosts: &H,
     text: &Text,
     predicate: &Predicate,
+    matcher: &mut Option<Matcher<'_>>,
     captures: &[Capture],
 ) -> Result<bool, AllocError>
     requires within { (query : Asking) × ((c : Mark) → Contains captures.now c
         → IsCaptureIn query text.now c) }
-    ensures { IfOk result (λ yes. IsTrue yes ↔ Holds (AnswersOf (H.called hosts.now)
+    requires matcher { HasMatcher matcher.old predicate.now.asked }
+    ensures matcher { HasMatcher matcher.new predicate.now.asked }
+    ensures holds { IfOk result (λ yes. IsTrue yes ↔ Holds (AnswersOf (H.called hosts.now)
         (H.accepts hosts.now)) text.now captures.now predicate.now) }
 {
     let own = texts(alloc, text, captures, predicate.capture)?;
@@ -121,5 +126,5 @@ pub(crate) fn holds<H: Hosts>(
         let others = texts(alloc, text, captures, other)?;
         return Ok(of_pairs(predicate, own.as_slice(), others.as_slice()));
     }
-    of_texts(alloc, hosts, predicate, own.as_slice())
+    Ok(of_texts(hosts, predicate, matcher, own.as_slice()))
 }

@@ -4,6 +4,7 @@
 
 mod asking;
 mod hosts;
+mod judge;
 mod judging;
 mod predicates;
 

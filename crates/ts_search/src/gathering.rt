@@ -53,10 +53,11 @@ fn put(found: &mut BTreeSet<Match>, one: Match) -> Result<(), AllocError>
 pub(crate) fn put_kept<K: Keep>(
     alloc: Global,
     found: &mut BTreeSet<Match>,
-    keep: &K,
+    keep: &mut K,
     one: Match,
 ) -> Result<(), AllocError>
-    ensures { OnOk result (Gathers (λ m. (m ≡ one) × K.kept keep.now m) found.old found.new) }
+    ensures adds { OnOk result (Gathers (λ m. (m ≡ one) × K.kept keep.old m) found.old found.new) }
+    ensures same { OnOk result (keep.new ≡ keep.old) }
 {
     if keep.keeps(alloc, &one)? {
         put(found, one)?;

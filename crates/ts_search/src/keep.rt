@@ -1,5 +1,5 @@
 //! Which matches are kept.
-ghost use Rattle.std.specs.Prelude.{◌↔◌, IsTrue, IfOk};
+ghost use Rattle.std.specs.Prelude.{◌≡◌, ◌↔◌, IsTrue, IfOk};
 ghost use Rattle.spec_matches.specs.declared.found.Match.{Match as Hit};
 
 use spec_matches::Match;
@@ -10,13 +10,14 @@ pub trait Keep {
     /// The matches that are kept.
     ghost kept: { Self → Hit → Type 0 };
 
-    /// Whether a match is kept.
+    /// Whether a match is kept. It may change what it works with, and not what it keeps.
     ///
     /// # Errors
     ///
     /// `AllocError` where memory runs out.
-    fn keeps(&self, alloc: Global, found: &Match) -> Result<bool, AllocError>
-        ensures { IfOk result (λ b. IsTrue b ↔ kept self.now found.now) };
+    fn keeps(&mut self, alloc: Global, found: &Match) -> Result<bool, AllocError>
+        ensures keeps { IfOk result (λ b. IsTrue b ↔ kept self.old found.now) }
+        ensures same { self.new ≡ self.old };
 }
 
 /// Keeps all matches.
@@ -26,7 +27,7 @@ pub struct All;
 impl Keep for All {
     ghost kept = { λ _ _. Unit {0} };
 
-    fn keeps(&self, _alloc: Global, _found: &Match) -> Result<bool, AllocError> {
+    fn keeps(&mut self, _alloc: Global, _found: &Match) -> Result<bool, AllocError> {
         Ok(true)
     }
 }

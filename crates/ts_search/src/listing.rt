@@ -44,13 +44,14 @@ impl From<AllocError> for MatchFault {
 fn add_match<K: Keep>(
     alloc: Global,
     out: &mut BTreeSet<Match>,
-    keep: &K,
+    keep: &mut K,
     pattern: u32,
     siblings: &[u32],
     found: &Placing,
 ) -> Result<(), AllocError>
-    ensures { OnOk result (Gathers (Hits (K.kept keep.now) pattern siblings.now found.now)
+    ensures adds { OnOk result (Gathers (Hits (K.kept keep.old) pattern siblings.now found.now)
         out.old out.new) }
+    ensures same { OnOk result (keep.new ≡ keep.old) }
 {
     one_order();
     let Some(place) = found.first else {
@@ -73,13 +74,14 @@ fn add_match<K: Keep>(
 fn add_matches<K: Keep>(
     alloc: Global,
     out: &mut BTreeSet<Match>,
-    keep: &K,
+    keep: &mut K,
     pattern: u32,
     siblings: &[u32],
     found: &[Placing],
 ) -> Result<(), AllocError>
-    ensures { OnOk result (Gathers (OfSome (Hits (K.kept keep.now) pattern siblings.now) found.now)
-        out.old out.new) }
+    ensures adds { OnOk result (Gathers
+        (OfSome (Hits (K.kept keep.old) pattern siblings.now) found.now) out.old out.new) }
+    ensures same { OnOk result (keep.new ≡ keep.old) }
 {
     for one in found {
         add_match(alloc, out, keep, pattern, siblings, one)?;
@@ -92,15 +94,16 @@ fn add_embedded<K: Keep>(
     alloc: Global,
     limit: &mut Limit,
     out: &mut BTreeSet<Match>,
-    keep: &K,
+    keep: &mut K,
     sight: &Sight,
     number: u32,
     pattern: &Pattern,
     siblings: &[u32],
 ) -> Result<(), AllocError>
-    ensures { OnOk result (GathersSome
-        (HitsIn sight.now (K.kept keep.now) number pattern.now siblings.now)
+    ensures adds { OnOk result (GathersSome
+        (HitsIn sight.now (K.kept keep.old) number pattern.now siblings.now)
         limit.old.cut limit.new.cut out.old out.new) }
+    ensures same { OnOk result (keep.new ≡ keep.old) }
 {
     let found = fully(
         alloc,
@@ -120,15 +123,16 @@ fn add_limited<K: Keep>(
     alloc: Global,
     limit: &mut Limit,
     out: &mut BTreeSet<Match>,
-    keep: &K,
+    keep: &mut K,
     sight: &Sight,
     number: u32,
     pattern: &Pattern,
     siblings: &[u32],
 ) -> Result<(), AllocError>
-    ensures { OnOk result (GathersSome
-        (HitsIn sight.now (K.kept keep.now) number pattern.now siblings.now)
+    ensures adds { OnOk result (GathersSome
+        (HitsIn sight.now (K.kept keep.old) number pattern.now siblings.now)
         limit.old.cut limit.new.cut out.old out.new) }
+    ensures same { OnOk result (keep.new ≡ keep.old) }
 {
     if let Some(item) = single(pattern) {
         add_single(alloc, limit, out, keep, sight, number, item, siblings)?;
@@ -144,18 +148,19 @@ fn add_up_to<K: Keep>(
     alloc: Global,
     most: usize,
     out: &mut BTreeSet<Match>,
-    keep: &K,
+    keep: &mut K,
     sight: &Sight,
     number: u32,
     pattern: &Pattern,
     siblings: &[u32],
 ) -> Result<bool, AllocError>
     ensures some { OnOk result (GathersSome
-        (HitsIn sight.now (K.kept keep.now) number pattern.now siblings.now)
+        (HitsIn sight.now (K.kept keep.old) number pattern.now siblings.now)
         true true out.old out.new) }
     ensures all { IfOk result (λ done. IsTrue done
-        → Gathers (HitsIn sight.now (K.kept keep.now) number pattern.now siblings.now)
+        → Gathers (HitsIn sight.now (K.kept keep.old) number pattern.now siblings.now)
         out.old out.new) }
+    ensures same { OnOk result (keep.new ≡ keep.old) }
 {
     let mut limit = Limit { most, cut: false };
     add_limited(
@@ -172,15 +177,16 @@ fn add_up_to<K: Keep>(
 fn add_siblings<K: Keep>(
     alloc: Global,
     out: &mut BTreeSet<Match>,
-    keep: &K,
+    keep: &mut K,
     sight: &Sight,
     number: u32,
     pattern: &Pattern,
     siblings: &[u32],
 ) -> Result<(), AllocError>
-    ensures { OnOk result (Gathers
-        (HitsIn sight.now (K.kept keep.now) number pattern.now siblings.now)
+    ensures adds { OnOk result (Gathers
+        (HitsIn sight.now (K.kept keep.old) number pattern.now siblings.now)
         out.old out.new) }
+    ensures same { OnOk result (keep.new ≡ keep.old) }
 {
     if is_full(out) {
         return Ok(());
@@ -213,15 +219,16 @@ fn add_siblings<K: Keep>(
 fn add_children<K: Keep>(
     alloc: Global,
     out: &mut BTreeSet<Match>,
-    keep: &K,
+    keep: &mut K,
     sight: &Sight,
     number: u32,
     pattern: &Pattern,
     n: u32,
 ) -> Result<(), AllocError>
     requires { n < length sight.now.nodes }
-    ensures { OnOk result (Gathers (HitsUnder sight.now (K.kept keep.now) number pattern.now n)
+    ensures adds { OnOk result (Gathers (HitsUnder sight.now (K.kept keep.old) number pattern.now n)
         out.old out.new) }
+    ensures same { OnOk result (keep.new ≡ keep.old) }
 {
     let children = sight.children(alloc, n)?;
     add_siblings(
@@ -240,13 +247,14 @@ fn add_children<K: Keep>(
 fn add_lists<K: Keep>(
     alloc: Global,
     out: &mut BTreeSet<Match>,
-    keep: &K,
+    keep: &mut K,
     sight: &Sight,
     number: u32,
     pattern: &Pattern,
 ) -> Result<(), AllocError>
-    ensures { OnOk result (Gathers (HitsOf sight.now (K.kept keep.now) number pattern.now)
+    ensures adds { OnOk result (Gathers (HitsOf sight.now (K.kept keep.old) number pattern.now)
         out.old out.new) }
+    ensures same { OnOk result (keep.new ≡ keep.old) }
 {
     add_siblings(alloc, out, keep, sight, number, pattern, &[0])?;
     for n in 0..sight.count() {
@@ -260,7 +268,7 @@ fn add_lists<K: Keep>(
 fn add_node<K: Keep>(
     alloc: Global,
     out: &mut BTreeSet<Match>,
-    keep: &K,
+    keep: &mut K,
     sight: &Sight,
     number: u32,
     pattern: &Pattern,
@@ -268,8 +276,9 @@ fn add_node<K: Keep>(
     n: u32,
 ) -> Result<(), AllocError>
     requires alone { IsAlone item.now pattern.now }
-    ensures { OnOk result (Gathers
-        (HitsIn sight.now (K.kept keep.now) number pattern.now (n ∷ [])) out.old out.new) }
+    ensures adds { OnOk result (Gathers
+        (HitsIn sight.now (K.kept keep.old) number pattern.now (n ∷ [])) out.old out.new) }
+    ensures same { OnOk result (keep.new ≡ keep.old) }
 {
     if !may_take(sight, item, n) {
         return Ok(());
@@ -282,15 +291,16 @@ fn add_node<K: Keep>(
 fn add_nodes<K: Keep>(
     alloc: Global,
     out: &mut BTreeSet<Match>,
-    keep: &K,
+    keep: &mut K,
     sight: &Sight,
     number: u32,
     pattern: &Pattern,
     item: &Item,
 ) -> Result<(), AllocError>
     requires alone { IsAlone item.now pattern.now }
-    ensures { OnOk result (Gathers (HitsOf sight.now (K.kept keep.now) number pattern.now)
+    ensures adds { OnOk result (Gathers (HitsOf sight.now (K.kept keep.old) number pattern.now)
         out.old out.new) }
+    ensures same { OnOk result (keep.new ≡ keep.old) }
 {
     for n in 0..sight.count() {
         add_node(alloc, out, keep, sight, number, pattern, item, n)?;
@@ -302,13 +312,14 @@ fn add_nodes<K: Keep>(
 fn add_pattern<K: Keep>(
     alloc: Global,
     out: &mut BTreeSet<Match>,
-    keep: &K,
+    keep: &mut K,
     sight: &Sight,
     number: u32,
     pattern: &Pattern,
 ) -> Result<(), AllocError>
-    ensures { OnOk result (Gathers (HitsOf sight.now (K.kept keep.now) number pattern.now)
+    ensures adds { OnOk result (Gathers (HitsOf sight.now (K.kept keep.old) number pattern.now)
         out.old out.new) }
+    ensures same { OnOk result (keep.new ≡ keep.old) }
 {
     if let Some(item) = single(pattern) {
         add_nodes(alloc, out, keep, sight, number, pattern, item)?;
@@ -321,12 +332,13 @@ fn add_pattern<K: Keep>(
 /// The matches of patterns that are kept, or more of them than there may be.
 fn gathered<K: Keep>(
     alloc: Global,
-    keep: &K,
+    keep: &mut K,
     sight: &Sight,
     patterns: &[Pattern],
 ) -> Result<BTreeSet<Match>, AllocError>
     requires few { length patterns.now < 2 ^ 32 }
-    ensures { IfOk result (λ out. IsGathered sight.now (K.kept keep.now) patterns.now out) }
+    ensures matches { IfOk result (λ out. IsGathered sight.now (K.kept keep.old) patterns.now out) }
+    ensures same { OnOk result (keep.new ≡ keep.old) }
 {
     let mut out = BTreeSet::new(alloc);
     for number in 0..patterns.len() as u32 {
@@ -351,14 +363,15 @@ pub fn matches<K: Keep>(
     alloc: Global,
     sight: &Sight,
     patterns: &[Pattern],
-    keep: &K,
+    keep: &mut K,
 ) -> Result<List<Match>, MatchFault>
     requires few { length patterns.now < 2 ^ 32 }
     ensures all { IfOk result (AreAll (λ m.
-        OfPatterns sight.now patterns.now m × K.kept keep.now m)) }
+        OfPatterns sight.now patterns.now m × K.kept keep.old m)) }
     ensures few { IfOk result (λ ms. length ms ≤ most_matches) }
     ensures many { IfErr result (λ e. e ≡ MatchFault.Many → AreMoreThan most_matches (λ m.
-        OfPatterns sight.now patterns.now m × K.kept keep.now m)) }
+        OfPatterns sight.now patterns.now m × K.kept keep.old m)) }
+    ensures same { OnOk result (keep.new ≡ keep.old) }
 {
     one_order();
     let found = gathered(alloc, keep, sight, patterns)?;

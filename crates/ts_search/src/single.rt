@@ -1,5 +1,5 @@
 //! A pattern of one plain item and nodes in; the matches at those nodes added to a set out.
-ghost use Rattle.std.specs.Prelude.{IfSome, IsTrue, OnOk};
+ghost use Rattle.std.specs.Prelude.{◌≡◌, IfSome, IsTrue, OnOk};
 ghost use Rattle.ts_search.specs.Adding.{OfSome};
 ghost use Rattle.ts_search.specs.Gathering.{Gathers, GathersSome};
 ghost use Rattle.ts_search.specs.Single.{HitAt, HitsAt, IsAlone, IsSingle};
@@ -40,13 +40,14 @@ pub(crate) fn single(pattern: &Pattern) -> Option<&Item>
 fn add_way<K: Keep>(
     alloc: Global,
     out: &mut BTreeSet<Match>,
-    keep: &K,
+    keep: &mut K,
     pattern: u32,
     n: u32,
     captures: &[Capture],
 ) -> Result<(), AllocError>
-    ensures { OnOk result (Gathers (HitAt (K.kept keep.now) pattern n captures.now)
+    ensures adds { OnOk result (Gathers (HitAt (K.kept keep.old) pattern n captures.now)
         out.old out.new) }
+    ensures same { OnOk result (keep.new ≡ keep.old) }
 {
     one_order();
     let captures = in_order(alloc, captures)?;
@@ -63,13 +64,14 @@ fn add_way<K: Keep>(
 fn add_ways<K: Keep>(
     alloc: Global,
     out: &mut BTreeSet<Match>,
-    keep: &K,
+    keep: &mut K,
     pattern: u32,
     n: u32,
     ways: &[List<Capture>],
 ) -> Result<(), AllocError>
-    ensures { OnOk result (Gathers (OfSome (HitAt (K.kept keep.now) pattern n) ways.now)
+    ensures adds { OnOk result (Gathers (OfSome (HitAt (K.kept keep.old) pattern n) ways.now)
         out.old out.new) }
+    ensures same { OnOk result (keep.new ≡ keep.old) }
 {
     for way in ways {
         add_way(alloc, out, keep, pattern, n, way.as_slice())?;
@@ -82,14 +84,15 @@ fn add_taken<K: Keep>(
     alloc: Global,
     limit: &mut Limit,
     out: &mut BTreeSet<Match>,
-    keep: &K,
+    keep: &mut K,
     sight: &Sight,
     pattern: u32,
     item: &Item,
     n: u32,
 ) -> Result<(), AllocError>
-    ensures { OnOk result (GathersSome (HitsAt sight.now (K.kept keep.now) pattern item.now n)
+    ensures adds { OnOk result (GathersSome (HitsAt sight.now (K.kept keep.old) pattern item.now n)
         limit.old.cut limit.new.cut out.old out.new) }
+    ensures same { OnOk result (keep.new ≡ keep.old) }
 {
     let ways = item_ways(alloc, limit, sight, item, 0, n)?;
     add_ways(alloc, out, keep, pattern, n, ways.as_slice())?;
@@ -101,14 +104,16 @@ pub(crate) fn add_single<K: Keep>(
     alloc: Global,
     limit: &mut Limit,
     out: &mut BTreeSet<Match>,
-    keep: &K,
+    keep: &mut K,
     sight: &Sight,
     pattern: u32,
     item: &Item,
     siblings: &[u32],
 ) -> Result<(), AllocError>
-    ensures { OnOk result (GathersSome (OfSome (HitsAt sight.now (K.kept keep.now) pattern item.now)
-        siblings.now) limit.old.cut limit.new.cut out.old out.new) }
+    ensures adds { OnOk result (GathersSome
+        (OfSome (HitsAt sight.now (K.kept keep.old) pattern item.now) siblings.now)
+        limit.old.cut limit.new.cut out.old out.new) }
+    ensures same { OnOk result (keep.new ≡ keep.old) }
 {
     for n in siblings {
         add_taken(alloc, limit, out, keep, sight, pattern, item, *n)?;

@@ -2,8 +2,8 @@ use Rattle.std.proofs.Common.{◌∙◌, ap, map}
 use Rattle.spec_history.specs.Queries.{shown_match}
 use Rattle.ts_answers.proofs.answering.answer.Goals as goal
 
-pub returns-in_ok-shown-in-Ok : goal.returns-in_ok-shown-in-Ok
-returns-in_ok-shown-in-Ok g c = record {
+pub returns-in-Ok : goal.returns-in-Ok
+returns-in-Ok g c = record {
   matches = c.in-Ok.found;
   are_matches = rw (c.new-keep.ensures.query, c.new-keep.ensures.text, c.new-keep.ensures.hosts) at c.in-Ok.ensures.matches;
   few = c.in-Ok.ensures.few;

@@ -1,7 +1,6 @@
-use Rattle.std.proofs.Common.{◌≡◌, ◌∙◌, sym, ap, ℕ, ◌<◌, [], length, get_or, Bor, arith}
+use Rattle.std.proofs.Common.{◌<◌, [], length, get_or, Bor, arith}
 use Rattle.std.proofs.lemmas.List.{length-map}
 use Rattle.ts_base.specs.Bytes.{Bytes}
-use Rattle.ts_predicate.specs.Predicates.{IsPair}
 use Rattle.ts_predicate.proofs.AskLemmas.{values, text_there, pairs_more, pair_decides, pairs_ended}
 use Rattle.ts_predicate.proofs.judging.of_pairs.Goals as goal
 

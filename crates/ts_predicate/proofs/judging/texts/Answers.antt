@@ -1,7 +1,6 @@
 use Rattle.std.proofs.Common.{slice_index_or}
 use Rattle.std.proofs.lemmas.List.Elements.{Contains-get_or}
 use Rattle.spec_matches.specs.declared.found.Capture.{Capture}
-use Rattle.ts_predicate.specs.Predicates.{IsCaptureIn}
 use Rattle.ts_predicate.proofs.judging.texts.Goals as goal
 
 abbrev none : Capture
