@@ -1,9 +1,12 @@
 -- Lists that a loop has gone over in part.
-use Rattle.std.proofs.Common.{◌≡◌, ◌∙◌, sym, ap, subst, ℕ, ◌+◌, ◌<◌, ◌≤◌, List, [], ◌∷◌, ◌++◌, length, take, get_or, ⊎_elim, true, false}
+use Rattle.std.proofs.Common.{◌≡◌, ◌∙◌, sym, ap, refl, subst, ℕ, ◌+◌, ◌<◌, ◌≤◌, List, [], ◌∷◌, ◌++◌, length, take, get_or, ⊎_elim, true, false}
 use Rattle.std.specs.List.{Contains}
-use Rattle.std.proofs.lemmas.List.{take_more, take_all}
+use Rattle.std.proofs.lemmas.List.{append-nil, take_more, take_all}
 use Rattle.std.proofs.lemmas.List.Elements.{Contains-push_cases, Contains-append_right}
+use Rattle.spec_matches.specs.declared.found.Capture.{Capture}
 use Rattle.ts_search.specs.Adding.{Adds}
+use Rattle.ts_search.specs.Steps.{Before}
+use Rattle.ts_search.proofs.AddLemmas.{in_one, one_in}
 
 module _ {X : Type 0} where
   pub take_push : (xs : List X) (n : ℕ) (x : X) → n < length xs → x ≡ get_or xs n x → take (n + 1) xs ≡ take n xs ++ x ∷ []
@@ -19,6 +22,20 @@ module _ {X : Type 0} where
 
   pub adds_list : (old more new : List X) → new ≡ old ++ more → Adds (Contains more) old new
   adds_list old more new e = record { more = more; is = e; only = λ i h. h; added = λ i h. subst (λ (l : List X). Contains l i) (sym e) (Contains-append_right old more i h) }
+
+  pub adds_first : (old more : List X) → old ≡ [] → Adds (Contains more) old more
+  adds_first old more e = adds_list old more more (sym (ap (λ (l : List X). l ++ more) e))
+
+-- a list before the empty list alone
+pub adds_led : (backs new : List (List Capture)) (front : List Capture) → backs ≡ [] ∷ [] → new ≡ front ∷ [] → Adds (Before backs front) [] new
+adds_led backs new front eb en = record {
+  more = front ∷ [];
+  is = en;
+  only = λ i h. ([], subst (λ (l : List (List Capture)). Contains l []) (sym eb) (in_one [] [] refl), one_in front i h ∙ sym (append-nil front));
+  added = λ i h.
+      let none : h.0 ≡ [] = one_in [] h.0 (subst (λ (l : List (List Capture)). Contains l h.0) eb h.1) in
+      subst (λ (l : List (List Capture)). Contains l i) (sym en) (in_one front i (h.2 ∙ ap (λ (l : List Capture). front ++ l) none ∙ append-nil front));
+}
 
 pub no_truth : false ≡ true → ⊥
 no_truth h = cc

@@ -22,7 +22,7 @@ pub(crate) fn joined(
 ) -> Result<List<Capture>, AllocError>
     ensures { IfOk result (λ c. c ≡ front.now ++ back.now) }
 {
-    let mut items = Vec::new(alloc);
+    let mut items = Vec::with_capacity(alloc, front.len().saturating_add(back.len()))?;
     items.extend_from_slice(front)?;
     items.extend_from_slice(back)?;
     Ok(List::from_vec(items))
@@ -42,7 +42,7 @@ fn add(
 }
 
 /// Adds a list before each of the others.
-pub(crate) fn add_front(
+fn add_front(
     alloc: Global,
     out: &mut Vec<List<Capture>>,
     front: &[Capture],
@@ -54,6 +54,25 @@ pub(crate) fn add_front(
         add(alloc, out, front, back.as_slice())?;
     }
     Ok(())
+}
+
+/// A list before each of the others.
+pub(crate) fn led(
+    alloc: Global,
+    front: Vec<Capture>,
+    backs: Vec<List<Capture>>,
+) -> Result<Vec<List<Capture>>, AllocError>
+    ensures { IfOk result (λ all. Adds (Before backs.items front.items) [] all.items) }
+{
+    if has_only_empty(backs.as_slice()) {
+        let mut one = backs;
+        one.clear();
+        one.push(List::from_vec(front))?;
+        return Ok(one);
+    }
+    let mut all = Vec::new(alloc);
+    add_front(alloc, &mut all, front.as_slice(), backs.as_slice())?;
+    Ok(all)
 }
 
 /// Adds each of some lists before another.

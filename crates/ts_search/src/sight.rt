@@ -1,5 +1,5 @@
 //! The visible tree as a search sees it: its nodes by their numbers, and the kinds of a query.
-ghost use Rattle.std.specs.Prelude.{◌≡◌, ◌↔◌, ◌<◌, ℕ, IsTrue, IfOk, None, Some, MatchOption, length, slice_get};
+ghost use Rattle.std.specs.Prelude.{◌≡◌, ◌↔◌, ◌<◌, ℕ, IsTrue, IfOk, None, Some, MatchOption, [], length, slice_get};
 ghost use Rattle.spec_matches.specs.Siblings.{AreChildren, named_at, nameds};
 ghost use Rattle.spec_matches.specs.Taking.{IsField, IsOfKind};
 ghost use Rattle.ts_cursor.specs.Linked.{IsPast};
@@ -11,6 +11,9 @@ use std::marker::Model;
 use ts_base::List;
 use ts_cursor::Cursor;
 use ts_query_syntax::QueryKind;
+
+/// For how many children room is made at first.
+const FEW: u32 = 16;
 
 /// The kinds that a query names, and a visible tree.
 #[derive(Drop)]
@@ -90,7 +93,7 @@ impl<'q, 't, 'g> Sight<'q, 't, 'g> {
         ensures { IfOk result (λ children. AreChildren self.now.nodes n children.items) }
     {
         let past = self.past(n);
-        let mut children = Vec::new(alloc);
+        let mut children = with_room(alloc, past - n - 1)?;
         let mut m = n + 1;
         while m < past {
             children.push(m)?;
@@ -119,6 +122,14 @@ impl<'q, 't, 'g> Sight<'q, 't, 'g> {
             None => false,
         }
     }
+}
+
+/// An empty list with room for the first children of a node that has so many descendants.
+fn with_room(alloc: Global, descendants: u32) -> Result<Vec<u32>, AllocError>
+    ensures { IfOk result (λ list. list.items ≡ []) }
+{
+    let list = Vec::with_capacity(alloc, descendants.min(FEW) as usize)?;
+    Ok(list)
 }
 
 /// The node of a number of a visible tree.

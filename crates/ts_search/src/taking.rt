@@ -19,7 +19,7 @@ ghost use Rattle.ts_search.specs.Ways.{AnyTakes, HasOne, HasRow, HasRows, HasTab
 use crate::anchors::{closed_start, tied_end};
 use crate::limit::{Limit, stops};
 use crate::once::{captures_of, once_each};
-use crate::products::add_front;
+use crate::products::led;
 use crate::row::Row;
 use crate::search::embeddings;
 use crate::sight::{Sight, has_field};
@@ -191,10 +191,14 @@ fn is_none(ways: &[List<Capture>]) -> bool
     ways.is_empty()
 }
 
-/// Adds each of some lists.
+/// Adds each of some lists. Where there was none, no list is copied.
 fn add_all(out: &mut Vec<List<Capture>>, more: Vec<List<Capture>>) -> Result<(), AllocError>
     ensures { OnOk result (Adds (Contains more.items) out.old.items out.new.items) }
 {
+    if is_none(out.as_slice()) {
+        *out = more;
+        return Ok(());
+    }
     let mut more = more;
     out.append(&mut more)?;
     Ok(())
@@ -362,8 +366,7 @@ fn plain_ways(
         return Ok(inner);
     }
     let own = captured(alloc, item.captures.as_slice(), n, row)?;
-    let mut ways = Vec::new(alloc);
-    add_front(alloc, &mut ways, own.as_slice(), inner.as_slice())?;
+    let ways = led(alloc, own, inner)?;
     Ok(ways)
 }
 

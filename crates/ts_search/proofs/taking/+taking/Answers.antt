@@ -41,8 +41,8 @@ plain_ways-returns-then-has_no_captures t c =
     bare_are c.args.sight.now c.args.item.now c.args.n (seen_row c.in-Some.row) _ _ c.in_ok-inner.inner.items c.in-Some.ensures c.in_ok-inner.ensures (c.has_no_captures.ensures c.if-has_no_captures.true) (c.has_field.ensures.0 c.if-not-has_field.false)
 
 pub plain_ways-returns : goal.plain_ways-returns
-plain_ways-returns t c = plain_are c.args.sight.now c.args.item.now c.args.n (seen_row c.in-Some.row) _ _ c.in_ok-inner.inner.items c.in-Some.ensures c.in_ok-inner.ensures c.add_front.new.out.items (c.has_field.ensures.0 c.if-not-has_field.false)
-    (before_of _ _ _ _ _ _ c.as_slice-4.ensures.value (c.as_slice-3.ensures.value ∙ c.in_ok-own.ensures ∙ ap (λ (l : List ℕ). captured l c.args.n (seen_row c.in-Some.row)) c.as_slice-2.ensures) c.new-ways.ensures.items c.in_ok-add_front.ensures)
+plain_ways-returns t c = plain_are c.args.sight.now c.args.item.now c.args.n (seen_row c.in-Some.row) _ _ c.in_ok-inner.inner.items c.in-Some.ensures c.in_ok-inner.ensures c.in_ok-ways.ways.items (c.has_field.ensures.0 c.if-not-has_field.false)
+    (before_of _ _ _ _ _ _ refl (c.in_ok-own.ensures ∙ ap (λ (l : List ℕ). captured l c.args.n (seen_row c.in-Some.row)) c.as_slice-2.ensures) refl c.in_ok-ways.ensures)
 
 pub passing-returns-in_ok-ways-in-Any : goal.passing-returns-in_ok-ways-in-Any
 passing-returns-in_ok-ways-in-Any t c = passes_any c.args.sight.now c.args.item.now c.args.n (seen_row c.args.row) _ c.in_ok-ways-in-Any.ways.items c.in-Any.is

@@ -3,7 +3,7 @@ use Rattle.ts_search.proofs.ChildLemmas.{listed_none, listed_more, listed_all}
 use Rattle.ts_search.proofs.sight.Sight.children.Goals as goal
 
 pub loop-m-init : goal.loop-m-init
-loop-m-init c = rw c.new-children.ensures.items (listed_none c.args.self.now.nodes c.args.n c.past-past.result c.past-past.ensures)
+loop-m-init c = rw c.in_ok-children.ensures (listed_none c.args.self.now.nodes c.args.n c.past-past.result c.past-past.ensures)
 
 pub past-m-requires : goal.past-m-requires
 past-m-requires c = let w = c.past-past.ensures.within in omega (arith, c.loop-m-test.true)
