@@ -5,10 +5,8 @@
 mod faults;
 mod line;
 mod outcome;
-mod parse;
 mod status;
 
 pub use faults::{absent, fault, fault_at_name, fault_at_number, text_fault, usage};
 pub use outcome::{members_in, send_outcome};
-pub use parse::parsed;
 pub use status::number;

@@ -12,13 +12,7 @@ pub(crate) fn line(alloc: Global, value: Value) -> Result<String, AllocError>
     requires { has_float (view value) ≡ false }
     ensures { IfOk result (λ s. string_bytes s ≡ compact_text (view value) ++ newline ∷ []) }
 {
-    ended(value.to_string(alloc)?)
-}
-
-/// A text, and a newline.
-pub(crate) fn ended(mut text: String) -> Result<String, AllocError>
-    ensures { IfOk result (λ s. string_bytes s ≡ string_bytes text ++ newline ∷ []) }
-{
+    let mut text = value.to_string(alloc)?;
     text.push_str("\n")?;
     Ok(text)
 }

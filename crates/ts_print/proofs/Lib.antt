@@ -1,2 +1,2 @@
 pub mod SpanLemmas
-mod WrittenLemmas
+pub mod WrittenLemmas

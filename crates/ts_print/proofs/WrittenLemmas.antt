@@ -1,5 +1,5 @@
 -- What is written by parts comes to the tokens of the whole, and nodes are lent by their parts.
-use Rattle.std.proofs.Common.{◌≡◌, ◌∙◌, sym, ap, subst, ℕ, zero, suc, ◌+◌, ◌<◌, ◌≤◌, Bool, List, [], ◌∷◌, ◌++◌, length, map, drop, get_or, Option, Some, None, option_map, slice_get, Ok, append_assoc, decimal, arith}
+use Rattle.std.proofs.Common.{◌≡◌, ◌∙◌, sym, ap, subst, ℕ, zero, suc, ◌+◌, ◌<◌, ◌≤◌, Bool, List, [], ◌∷◌, ◌++◌, length, map, drop, get_or, Option, Some, None, option_map, slice_get, Ok, append_assoc, codes, decimal, arith}
 use Rattle.std.proofs.Math.Seq.{drop-cons}
 use Rattle.std.proofs.lemmas.List.{drop_all}
 use Rattle.std.proofs.lemmas.Option.{get_or_from_slice_get, slice_get_within}
@@ -8,7 +8,7 @@ use Rattle.json.specs.Token as json
 use Rattle.json.specs.Token.{Token}
 use Rattle.json.specs.Tree.{items_tokens}
 use Rattle.json.specs.Written.{Written, Writes}
-use Rattle.serde_json.specs.Data.{object, string, no_members}
+use Rattle.serde_json.specs.Data.{Data, array, object, string, Members, no_members, member}
 use Rattle.serde_json.specs.View.{items_of}
 use Rattle.serde_json.specs.Written.{items_outline}
 use Rattle.serde_json.proofs.Texts.{print-outline}
@@ -19,10 +19,10 @@ use Rattle.spec_trees.specs.declared.visible.VisibleNode.{VisibleNode}
 use Rattle.spec_trees.specs.Family.{LieWithin}
 use Rattle.spec_trees.specs.Shown.{Visible, field_name, shown}
 use Rattle.spec_trees.specs.VisibleNodes.{visible_nodes}
-use Rattle.spec_output.specs.Lines.{newline}
-use Rattle.spec_output.specs.Outcomes.{node_data, node_items, outcome_members, parse_line}
+use Rattle.spec_output.specs.Lines.{newline, object_line}
+use Rattle.spec_output.specs.Outcomes.{node_data, node_items, outcome_members}
 use Rattle.spec_output.specs.declared.outcome.ShownOutcome.TheVariants.{Tree as TreeOutcome}
-use Rattle.ts_print.specs.Written.{AddsTokens, AddsValue, tokens_of}
+use Rattle.ts_print.specs.Written.{AddsTokens, AddsValue, AddsBefore, tokens_of, tokens_of_members}
 
 -- ---- parts
 
@@ -119,14 +119,31 @@ pub lie_wider : (few many : ℕ) (nodes : List VisibleNode) → few ≤ many →
 lie_wider few many [] le lie = tt
 lie_wider few many (n ∷ ns) le lie = (lie.0, (omega (arith, le, lie.1.0), lie_wider few many ns le lie.1.1))
 
--- ---- the line
+-- ---- members of an object, and its line
 
-pub line_is : (g : FlatGrammar) (text : Bytes) (root : Tree) (nodes : List VisibleNode) (before tokens : List Token) (line : Bytes)
-    → nodes ≡ visible_nodes g root → before ≡ []
-    → tokens ≡ before ++ tokens_of (object (outcome_members (TreeOutcome (map (shown g text) nodes)) no_members))
-    → line ≡ print tokens ++ newline ∷ [] → line ≡ parse_line (TreeOutcome (Visible g text root))
-line_is g text root nodes before tokens line seen none all ends =
-    let whole : tokens ≡ tokens_of (object (outcome_members (TreeOutcome (map (shown g text) nodes)) no_members)) = all ∙ ap (λ (ts : List Token). ts ++ tokens_of (object (outcome_members (TreeOutcome (map (shown g text) nodes)) no_members))) none in
-    ends ∙ ap (λ (ts : List Token). print ts ++ newline ∷ []) whole
-    ∙ ap (λ (bs : Bytes). bs ++ newline ∷ []) (print-outline (object (outcome_members (TreeOutcome (map (shown g text) nodes)) no_members)))
-    ∙ ap (λ (ns : List VisibleNode). parse_line (TreeOutcome (map (shown g text) ns))) seen
+pub member_added : (name : Bytes) (value : Data) (old mid new : Written) → AddsTokens (json.key name ∷ []) old mid → AddsValue value mid new
+    → (after : Members) → AddsBefore after (member name value after) old new
+member_added name value old mid new named added after end rest =
+    joined (json.key name ∷ []) (tokens_of value ++ tokens_of_members after) old mid end named
+    (joined (tokens_of value) (tokens_of_members after) mid new end added rest)
+
+pub tree_added : (g : FlatGrammar) (text : Bytes) (root : Tree) (nodes : List VisibleNode) (old named listed new : Written)
+    → nodes ≡ visible_nodes g root → AddsTokens (json.key (codes "nodes") ∷ []) old named
+    → AddsValue (array (node_items (map (shown g text) nodes))) named listed
+    → ((after : Members) → AddsBefore after (member (codes "outcome") (string (codes "tree")) after) listed new)
+    → (after : Members) → AddsBefore after (outcome_members (TreeOutcome (Visible g text root)) after) old new
+tree_added g text root nodes old named listed new seen key list told after =
+    subst (λ (ns : List VisibleNode). AddsBefore after (outcome_members (TreeOutcome (map (shown g text) ns)) after) old new) seen
+    (λ end rest. member_added (codes "nodes") (array (node_items (map (shown g text) nodes))) old named listed key list
+    (member (codes "outcome") (string (codes "tree")) after) end (told after end rest))
+
+pub object_added : (members : Members) (old begin mid new : Written) → AddsTokens (json.begin_object ∷ []) old begin → AddsBefore no_members members begin mid
+    → AddsTokens (json.end_object ∷ []) mid new → AddsValue (object members) old new
+object_added members old begin mid new begun added ended =
+    joined (json.begin_object ∷ []) (tokens_of_members members) old begin new begun (added new ended)
+
+pub line_is : (members : Members) (before tokens : List Token) (line : Bytes) → before ≡ [] → tokens ≡ before ++ tokens_of (object members)
+    → line ≡ print tokens ++ newline ∷ [] → line ≡ object_line members
+line_is members before tokens line none all ends =
+    let whole : tokens ≡ tokens_of (object members) = all ∙ ap (λ (ts : List Token). ts ++ tokens_of (object members)) none in
+    ends ∙ ap (λ (ts : List Token). print ts ++ newline ∷ []) whole ∙ ap (λ (bs : Bytes). bs ++ newline ∷ []) (print-outline (object members))

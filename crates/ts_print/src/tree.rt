@@ -1,23 +1,18 @@
-//! The line of a tree: a grammar, a text and a root go in, and the line of the nodes that show
-//! comes out. Each node is written as it stands in a cursor, so that no list of printed nodes is
-//! made.
-ghost use Rattle.std.specs.Prelude.{◌≡◌, ◌<◌, ◌≤◌, ◌++◌, ◌∷◌, [], Some, IfOk, OnOk, length, map, slice_get, codes, string_bytes, decimal};
-ghost use Rattle.json.specs.Print.{print};
+//! The nodes of a cursor in; their list put into a value that is being written. Each node is put as
+//! it stands in the cursor, so that no list of printed nodes is made.
+ghost use Rattle.std.specs.Prelude.{◌≡◌, ◌<◌, ◌≤◌, ◌∷◌, [], Some, OnOk, length, map, slice_get, decimal};
 ghost use Rattle.json.specs.Token.{number};
-ghost use Rattle.serde_json.specs.Data.{array, object, string, no_members, member};
+ghost use Rattle.serde_json.specs.Data.{array};
 ghost use Rattle.spec_trees.specs.Family.{LieWithin};
-ghost use Rattle.spec_trees.specs.Shown.{Visible, field_name, shown};
-ghost use Rattle.spec_trees.specs.Trees.{span_of};
-ghost use Rattle.spec_output.specs.Lines.{newline, text_list};
-ghost use Rattle.spec_output.specs.Outcomes.{node_data, node_items, outcome_members, parse_line};
-ghost use Rattle.spec_output.specs.declared.outcome.ShownOutcome.TheVariants.{Tree as TreeOutcome};
+ghost use Rattle.spec_trees.specs.Shown.{field_name, shown};
+ghost use Rattle.spec_output.specs.Lines.{text_list};
+ghost use Rattle.spec_output.specs.Outcomes.{node_data, node_items};
 ghost use Rattle.ts_print.specs.Written.{AddsTokens, AddsValue, lent_node};
 
 use json::Writer;
-use std::alloc::{AllocError, Global};
+use std::alloc::AllocError;
 use ts_core::FlatGrammar;
 use ts_cursor::Cursor;
-use ts_node::Node;
 use ts_text::{PointWalk, Text};
 
 /// A visible node whose name and fields are lent.
@@ -31,73 +26,9 @@ struct Row<'a> {
     end: u32,
 }
 
-/// The line of the visible tree of a root, which stands at the text's start, in time by the sizes
-/// of both.
-///
-/// # Errors
-///
-/// `AllocError` where memory runs out.
-pub(crate) fn tree_line(
-    alloc: Global,
-    grammar: &FlatGrammar,
-    text: &Text,
-    root: &Node,
-) -> Result<String, AllocError>
-    requires { span_of root.now ≤ length text.now }
-    ensures { IfOk result (λ s. string_bytes s
-        ≡ parse_line (TreeOutcome (Visible grammar.now text.now root.now))) }
-{
-    let cursor = Cursor::new(alloc, grammar, root)?;
-    let bytes = Vec::new(alloc);
-    let mut out = Writer::new(bytes);
-    put_tree(grammar, text, &cursor, &mut out)?;
-    ended(out)
-}
-
-/// What was written, and a newline.
-fn ended(out: Writer) -> Result<String, AllocError>
-    requires { out.before ≡ [] }
-    ensures { IfOk result (λ s. string_bytes s ≡ print out.tokens ++ newline ∷ []) }
-{
-    let mut text = written(out);
-    text.push_str("\n")?;
-    Ok(text)
-}
-
-/// What was written, which is UTF-8.
-fn written(out: Writer) -> String
-    requires { out.before ≡ [] }
-    ensures { string_bytes result ≡ print out.tokens }
-{
-    let Ok(text) = String::from_utf8(out.into_inner()) else {
-        unreachable!();
-    };
-    text
-}
-
-/// Writes the object that tells a tree and nothing else.
-fn put_tree(
-    grammar: &FlatGrammar,
-    text: &Text,
-    cursor: &Cursor,
-    out: &mut Writer,
-) -> Result<(), AllocError>
-    requires { LieWithin (length text.now) cursor.now.nodes }
-    ensures { OnOk result (AddsValue
-        (object (outcome_members (TreeOutcome (map (shown grammar.now text.now) cursor.now.nodes))
-        no_members)) out.old out.new) }
-{
-    out.begin_object()?;
-    out.key("nodes")?;
-    put_nodes(grammar, text, cursor, out)?;
-    out.key("outcome")?;
-    out.string("tree")?;
-    out.end_object()
-}
-
 /// Writes the nodes in their order. Their starts are found by one walk over the text where they
 /// never fall.
-fn put_nodes(
+pub(crate) fn put_nodes(
     grammar: &FlatGrammar,
     text: &Text,
     cursor: &Cursor,
@@ -157,7 +88,7 @@ fn put_node(
 }
 
 /// Writes a number.
-fn put_number(n: u32, out: &mut Writer) -> Result<(), AllocError>
+pub(crate) fn put_number(n: u32, out: &mut Writer) -> Result<(), AllocError>
     ensures { OnOk result (AddsTokens (number (decimal n) ∷ []) out.old out.new) }
 {
     out.u64(u64::from(n))

@@ -1,8 +1,8 @@
--- The lines of versions and replies hold no float, as many items are sent as there are, and what is left
+-- The lines of replies hold no float, as many items are sent as there are, and what is left
 -- at a place of a list begins with the item there.
 use Rattle.std.proofs.Common.{arith, ◌≡◌, ◌∙◌, refl, sym, ap, ℕ, suc, ◌+◌, ◌<◌, List, [], ◌∷◌, false, map, length, drop, get_or}
 use Rattle.std.proofs.Math.Seq.{drop-cons}
-use Rattle.serde_json.specs.Data.{Data, string, object, Members, no_members}
+use Rattle.serde_json.specs.Data.{Data, string, Members}
 use Rattle.serde_json.specs.Events.{items_len}
 use Rattle.serde_json.specs.View.{items_of}
 use Rattle.serde_json.specs.Written.{has_float, items_have_float, members_have_float}
@@ -11,9 +11,7 @@ use Rattle.ts_core.specs.declared.shown.Shown.{Shown}
 use Rattle.spec_output.specs.Outcomes.{node_items, outcome_members}
 use Rattle.spec_output.specs.declared.outcome.ShownOutcome.{ShownOutcome}
 use Rattle.spec_output.specs.declared.outcome.ShownOutcome.TheVariants.{Tree, Stuck, Deep}
-use Rattle.ts_replies.specs.Replies.{head_members, capture_data, match_data, result_data, reply_members}
-use Rattle.ts_replies.specs.declared.reply.Head.{Head}
-use Rattle.ts_replies.specs.declared.reply.Head.TheVariants.{Parsed, Opening, Accepted}
+use Rattle.ts_replies.specs.Replies.{capture_data, match_data, result_data, reply_members}
 use Rattle.ts_replies.specs.declared.reply.Reply.{Reply}
 use Rattle.ts_replies.specs.declared.reply.Reply.TheVariants as reply
 use Rattle.ts_replies.specs.declared.reply.ShownCapture.{ShownCapture}
@@ -35,11 +33,6 @@ outcome_has_none : (outcome : ShownOutcome) (after : Members) → members_have_f
 outcome_has_none (Tree nodes) after h = rw (nodes_have_none nodes) h
 outcome_has_none (Stuck place) after h = h
 outcome_has_none Deep after h = h
-
-pub version_has_none : (head : Head) (outcome : ShownOutcome) → has_float (object (head_members head outcome)) ≡ false
-version_has_none Parsed outcome = outcome_has_none outcome _ refl
-version_has_none (Opening document) outcome = outcome_has_none outcome _ refl
-version_has_none (Accepted client document step turn version) outcome = outcome_has_none outcome _ refl
 
 captures_have_none : (captures : List ShownCapture) → items_have_float (items_of (map capture_data captures)) ≡ false
 captures_have_none [] = refl

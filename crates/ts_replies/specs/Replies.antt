@@ -1,13 +1,13 @@
 -- The lines of versions and of replies: their members in the order of their names' bytes.
-use Rattle.std.specs.Prelude.{ℕ, List, map, codes}
+use Rattle.std.specs.Prelude.{ℕ, map, codes}
 use Rattle.ts_base.specs.Bytes.{Bytes}
-use Rattle.serde_json.specs.Data.{Data, string, array, Items, no_items, item, Members, no_members, member}
+use Rattle.serde_json.specs.Data.{Data, string, array, no_items, item, Members, no_members, member}
 use Rattle.serde_json.specs.View.{items_of}
 use Rattle.spec_output.specs.Lines.{object_line, numeral}
 use Rattle.spec_output.specs.Outcomes.{outcome_members}
 use Rattle.spec_output.specs.declared.outcome.ShownOutcome.{ShownOutcome}
 use Rattle.ts_replies.specs.declared.reply.Head.{Head}
-use Rattle.ts_replies.specs.declared.reply.Head.TheVariants.{Parsed, Opening, Accepted}
+use Rattle.ts_replies.specs.declared.reply.Head.TheVariants.{Opening, Accepted}
 use Rattle.ts_replies.specs.declared.reply.Reply.{Reply}
 use Rattle.ts_replies.specs.declared.reply.Reply.TheVariants as reply
 use Rattle.ts_replies.specs.declared.reply.ShownCapture.{ShownCapture}
@@ -23,7 +23,6 @@ with_number name n after = member name (numeral n) after
 
 -- the members of a version's line
 abbrev pub head_members : Head → ShownOutcome → Members
-head_members Parsed outcome = outcome_members outcome no_members
 head_members (Opening document) outcome =
     with_number (codes "document") document
     (outcome_members outcome (with_number (codes "version") 0 no_members))
@@ -32,7 +31,7 @@ head_members (Accepted client document step turn version) outcome =
     (outcome_members outcome (with_number (codes "step") step (with_number (codes "turn") turn
     (with_number (codes "version") version no_members)))))
 
--- the line of a version, or of a parse
+-- the line of a version
 abbrev pub version_line : Head → ShownOutcome → Bytes
 version_line head outcome = object_line (head_members head outcome)
 

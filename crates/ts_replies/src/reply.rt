@@ -6,8 +6,6 @@ use ts_core::{List, Str};
 /// What a line says beside the outcome of a text.
 #[derive(Clone, Copy, Debug, PartialEq, Eq)]
 pub enum Head {
-    /// Nothing: it is the one text of a run.
-    Parsed,
     /// It is the first version of a document.
     Opening {
         document: u32,

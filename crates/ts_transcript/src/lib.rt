@@ -8,5 +8,6 @@ mod making;
 mod printing;
 mod threads;
 mod told;
+mod version;
 
 pub use printing::{transcript, transcript_on_threads};

@@ -1,13 +1,12 @@
 //! Lines in; their bytes out, made one after another.
 ghost use Rattle.std.specs.Prelude.{IfOk};
-ghost use Rattle.ts_transcript.specs.Told.{AreLines, TellsLine, TellsVersion};
+ghost use Rattle.ts_transcript.specs.Told.{AreLines, TellsLine};
 
 use crate::line::RunLine;
+use crate::version::version_bytes;
 use std::alloc::{AllocError, Global};
 use ts_core::FlatGrammar;
-use ts_docs::Version;
-use ts_print::{fresh_trees_lie_in_the_text, outcome_shown};
-use ts_replies::{Head, print_outcome, print_reply};
+use ts_replies::print_reply;
 
 /// The bytes of these lines. No more than one line is kept beside them.
 pub(crate) fn one_by_one(
@@ -41,19 +40,4 @@ pub(crate) fn bytes_of(
             reply,
         } => print_reply(alloc, *client, *step, reply),
     }
-}
-
-/// The bytes of the line of a version.
-fn version_bytes(
-    alloc: Global,
-    grammar: &FlatGrammar,
-    head: &Head,
-    version: &Version,
-) -> Result<Vec<u8>, AllocError>
-    ensures { IfOk result (λ bytes. TellsVersion grammar.now head.now version.now bytes.items) }
-{
-    version.stands();
-    fresh_trees_lie_in_the_text();
-    let outcome = outcome_shown(alloc, grammar, version.text(), version.outcome())?;
-    print_outcome(alloc, head, &outcome)
 }

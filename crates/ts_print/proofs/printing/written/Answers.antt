@@ -1,7 +1,7 @@
 use Rattle.std.proofs.Common.{◌++◌, ap, sym, subst, ◌∙◌, List, ℕ}
 use Rattle.std.specs.Str.{IsUtf8}
 use Rattle.json.specs.Print.{print}
-use Rattle.ts_print.proofs.tree.written.Goals as goal
+use Rattle.ts_print.proofs.printing.written.Goals as goal
 
 pub unreachable-requires : goal.unreachable-requires
 unreachable-requires c =
