@@ -16,9 +16,10 @@ The bytes are reckoned from the layout of the structs and the chunks of the allo
 - builds the deepest trees with as many tokens as a text of 1 MiB has room for, and drops them, and tells the least
   stack with which that goes well: one with all tokens in the deepest repetition, one with 500 repetitions and nodes of
   a rule by turns in one another, and one with 999 repetitions in one another. The inner node of each stands where the
-  tree of the run is highest,
-- lengthens repetitions by one token, and changes one of their children, where repetitions of 1,000 and of 1,000,000
-  tokens lie in as much memory.
+  tree of the run is highest, and the runs of the last two are copied where they are lengthened, since such trees are
+  higher than those that are lengthened in place,
+- lengthens repetitions that have another owner by one token, and changes one of their children, where repetitions of
+  1,000 and of 1,000,000 tokens lie in as much memory.
 """
 import sys
 import tempfile
@@ -344,6 +345,16 @@ impl Maker {
         Ok(value)
     }
 
+    /// A repetition with one more word, by the production of this number. The repetition so far has
+    /// another owner, so that its last leaf is copied and not lengthened in place.
+    fn word(&self, alloc: Global, number: u32, run: Node) -> Result<Node, AllocError> {
+        trust();
+        let owner = run.try_clone()?;
+        let longer = self.two(alloc, number, run, leaf(9, 0, 1))?;
+        drop(owner);
+        Ok(longer)
+    }
+
     /// A repetition of words and a node in brackets, where the repetition's productions begin with
     /// this number.
     fn around(&self, alloc: Global, number: u32, inner: Node, words: Words) -> Result<Node, AllocError> {
@@ -354,12 +365,15 @@ impl Maker {
         } else {
             let mut first = self.one(alloc, number, leaf(9, 0, 1))?;
             for _ in 1..words.before {
-                first = self.two(alloc, number + 2, first, leaf(9, 0, 1))?;
+                first = self.word(alloc, number + 2, first)?;
             }
-            self.four(alloc, number + 3, first, open, inner, close)?
+            let owner = first.try_clone()?;
+            let run = self.four(alloc, number + 3, first, open, inner, close)?;
+            drop(owner);
+            run
         };
         for _ in 0..words.after {
-            run = self.two(alloc, number + 2, run, leaf(9, 0, 1))?;
+            run = self.word(alloc, number + 2, run)?;
         }
         Ok(run)
     }
