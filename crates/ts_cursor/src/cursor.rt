@@ -1,6 +1,6 @@
 //! The cursor: a grammar and a root go in, and a place in the visible tree comes out, which moves
 //! to children, siblings and parents.
-ghost use Rattle.std.specs.Prelude.{◌≡◌, ◌↔◌, ◌<◌, ◌^◌, ℕ, true, false, IsTrue, IfOk, Some, length, slice_get, option_map};
+ghost use Rattle.std.specs.Prelude.{◌≡◌, ◌<◌, ◌^◌, ℕ, true, false, IfOk, Some, length, slice_get, option_map};
 ghost use Rattle.spec_trees.specs.Trees.{span_of};
 ghost use Rattle.spec_trees.specs.VisibleNodes.{visible_nodes};
 ghost use Rattle.spec_trees.specs.Family.{LieWithin, IsFirstChild, IsNextSibling, IsParent, depth_at, node_at};

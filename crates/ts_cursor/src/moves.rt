@@ -1,6 +1,6 @@
 //! Moves in a visible tree: its nodes in preorder and the number of one go in, and the number of
 //! its first child, next sibling or parent comes out.
-ghost use Rattle.std.specs.Prelude.{◌≡◌, ◌<◌, ◌^◌, ◌↔◌, ℕ, IsTrue, length, MatchOption};
+ghost use Rattle.std.specs.Prelude.{◌≡◌, ◌<◌, ◌^◌, ◌↔◌, IsTrue, length, MatchOption};
 ghost use Rattle.spec_trees.specs.Family.{depth_at, IsFirstChild, IsNextSibling, IsParent};
 ghost use Rattle.ts_cursor.specs.Linked.{ArePasts, AreShallow, HasNone, IsPath};
 

@@ -38,7 +38,7 @@ pub fn shown(
 }
 
 /// A node as it is printed.
-fn node_shown<'g>(
+fn node_shown(
     alloc: Global,
     grammar: &FlatGrammar,
     points: &mut PointWalk,

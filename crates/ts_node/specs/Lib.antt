@@ -4,4 +4,3 @@ pub mod Falls
 pub mod Standing
 pub mod Leaves
 pub mod Kinds
-pub mod formers

@@ -6,10 +6,9 @@ ghost use Rattle.spec_trees.specs.Made.{remade, replaced, IsNode};
 ghost use Rattle.ts_node.specs.Held.{stretch};
 
 use crate::node::{Kind, Node, Repetition, RuleNode, Run, Summary, Sums};
-use crate::owned::Owned;
 use crate::sums::{copy, sums};
 use std::alloc::{AllocError, Global};
-use ts_base::List;
+use ts_base::{List, Shared};
 
 /// The node with another pad and size, its children of these numbers replaced, and not settled. All
 /// else stays, its dynamic total too. It shares all other children.
@@ -80,7 +79,7 @@ impl RuleNode {
     {
         let children = with_changes(alloc, self.children.as_slice(), changed)?;
         let summary = self.summary.remade(pad, size, 0, sums(children.as_slice()));
-        let body = Owned::new(
+        let body = Shared::new(
             alloc,
             RuleNode {
                 summary,
@@ -109,7 +108,7 @@ impl Repetition {
         let run = run_with_changes(alloc, &self.run, changed)?;
         let counts = run.get().counts();
         let summary = self.summary.remade(pad, size, counts.elements, counts.sums);
-        let body = Owned::new(alloc, Repetition { summary, run })?;
+        let body = Shared::new(alloc, Repetition { summary, run })?;
         Ok(Node {
             kind: Kind::Repetition(body),
         })
@@ -137,9 +136,9 @@ fn with_changes(
 /// The run with those of its children replaced.
 fn run_with_changes(
     alloc: Global,
-    run: &Owned<Run>,
+    run: &Shared<Run>,
     changed: &[(u32, Node)],
-) -> Result<Owned<Run>, AllocError>
+) -> Result<Shared<Run>, AllocError>
     requires { All (λ change. change.0 < length run.now.children) changed.now }
     ensures { IfOk result
         (λ new. new ≡ stretch run.now.elements (replaced changed.now run.now.children)) }

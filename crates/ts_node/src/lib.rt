@@ -8,7 +8,6 @@ mod kind;
 mod laws;
 mod make;
 mod node;
-mod owned;
 mod productions;
 mod run;
 mod sums;

@@ -8,11 +8,10 @@ ghost use Rattle.spec_trees.specs.Made as made;
 ghost use Rattle.ts_node.specs.Entries.{form_is};
 
 use crate::node::{Kind, Leaf, Node, Repetition, RuleNode, Run, Summary, Sums};
-use crate::owned::Owned;
 use crate::productions::{Entry, Form, Productions};
 use crate::sums::{copy, pad_of_first, plus, sums, totals, with_value};
 use std::alloc::{AllocError, Global};
-use ts_base::List;
+use ts_base::{List, Shared};
 use ts_core::Symbol;
 
 /// What a node is given beside its children.
@@ -107,7 +106,7 @@ fn over(alloc: Global, head: Head, number: u32, children: List<Node>) -> Result<
     let pad = pad_of_first(children.as_slice());
     let sums = sums(children.as_slice());
     let summary = summary(head, pad, 0, sums);
-    let body = Owned::new(
+    let body = Shared::new(
         alloc,
         RuleNode {
             summary,
@@ -121,7 +120,7 @@ fn over(alloc: Global, head: Head, number: u32, children: List<Node>) -> Result<
 }
 
 /// A repetition of these elements.
-fn over_run(alloc: Global, head: Head, run: Owned<Run>) -> Result<Node, AllocError>
+fn over_run(alloc: Global, head: Head, run: Shared<Run>) -> Result<Node, AllocError>
     requires { IsNode (node_over head.symbol.0 None head.dynamic head.extent head.state
         run.elements run.children) }
     ensures { IfOk result (λ node. node ≡ node_over head.symbol.0 None head.dynamic head.extent
@@ -130,7 +129,7 @@ fn over_run(alloc: Global, head: Head, run: Owned<Run>) -> Result<Node, AllocErr
     let counts = run.get().counts();
     let pad = run.get().pad_of_first();
     let summary = summary(head, pad, counts.elements, counts.sums);
-    let body = Owned::new(alloc, Repetition { summary, run })?;
+    let body = Shared::new(alloc, Repetition { summary, run })?;
     Ok(Node {
         kind: Kind::Repetition(body),
     })
@@ -205,8 +204,8 @@ fn next(
     longer(alloc, entry, alternative, before, more, extent, state)
 }
 
-/// The repetition `before` with one more element of these children. What nobody
-/// else owns of it is lengthened in place, all else is shared.
+/// The repetition `before` with one more element of these children. What nobody else owns of it is
+/// lengthened in place, all else is shared.
 fn longer(
     alloc: Global,
     entry: Entry,
@@ -253,7 +252,7 @@ fn lengthened(
     before: Node,
     alternative: u32,
     more: List<Node>,
-) -> Result<Owned<Run>, AllocError>
+) -> Result<Shared<Run>, AllocError>
     requires repetition { 0 < length (elements_of before) }
     requires wide { length (children_of before) + length more < 2 ^ 32 }
     requires fits { length (elements_of before) + 1 < 2 ^ 32 }
@@ -276,7 +275,7 @@ fn lengthened(
 }
 
 /// The run of a repetition: the run itself, where nobody else owns the repetition.
-fn run_of(repetition: Owned<Repetition>) -> Result<Owned<Run>, AllocError>
+fn run_of(repetition: Shared<Repetition>) -> Result<Shared<Run>, AllocError>
     ensures elements { IfOk result (λ run. run.elements ≡ elements_of repetition) }
     ensures children { IfOk result (λ run. run.children ≡ children_of repetition) }
 {

@@ -1,14 +1,13 @@
 //! The node itself, and what it says of itself.
-ghost use Rattle.std.specs.Prelude.{◌≡◌, ◌<◌, ◌^◌, IfOk, IfErr, false, length, slice_get, Some, None};
+ghost use Rattle.std.specs.Prelude.{◌≡◌, ◌<◌, IfOk, IfErr, false, length, slice_get, Some, None};
 ghost use Rattle.spec_trees.specs.Trees.{symbol_of, production_of, pad_of, size_of, node_extent, state_of, total_of, is_settled, is_extra_node, children_of, elements_of, node_count, tree_depth};
 ghost use Rattle.spec_trees.specs.Made.{AreCounted, IsNode, node_limit};
 ghost use Rattle.ts_node.specs.Held.{leaf_tree, extra_leaf, remade_leaf, stretch, stretch_of, joined_stretch, HoldsNodes, Tells};
 
-use crate::owned::Owned;
 use spec_trees::Element;
 use std::alloc::AllocError;
 use std::marker::Model;
-use ts_base::List;
+use ts_base::{List, Shared};
 use ts_core::Symbol;
 
 /// A node of a parse tree, which contracts see as a `Tree`: a leaf, or one more owner of a node
@@ -23,8 +22,8 @@ pub struct Node {
 #[derive(Drop)]
 pub(crate) enum Kind {
     Leaf(Leaf),
-    Rule(Owned<RuleNode>),
-    Repetition(Owned<Repetition>),
+    Rule(Shared<RuleNode>),
+    Repetition(Shared<Repetition>),
 }
 
 /// A node over a token.
@@ -66,7 +65,7 @@ pub(crate) struct RuleNode {
 #[cycle(node)]
 pub(crate) struct Repetition {
     pub summary: Summary,
-    pub run: Owned<Run>,
+    pub run: Shared<Run>,
 }
 
 /// Written out so that it takes little stack, as is that of `Shape`.
@@ -111,7 +110,7 @@ pub(crate) struct Sums {
 #[cycle(node)]
 pub(crate) enum Shape {
     Leaf(List<Element>, List<Node>),
-    Branch(Owned<Run>, Owned<Run>),
+    Branch(Shared<Run>, Shared<Run>),
 }
 
 /// Written out, with functions of their own for a part and for a leaf: a derived drop copies the
@@ -132,7 +131,7 @@ impl Drop for Shape {
 
 #[cycle(node)]
 #[inline(never)]
-fn drop_run(run: Owned<Run>) {
+fn drop_run(run: Shared<Run>) {
     drop(run);
 }
 
@@ -278,7 +277,7 @@ impl Repetition {
     }
 
     #[tactic(auto, using(crate::proofs::BodyLemmas::children_are, crate::proofs::BodyLemmas::elements_are, crate::proofs::BodyLemmas::production_is, crate::proofs::BodyLemmas::few_children))]
-    pub(crate) fn run(&self) -> &Owned<Run>
+    pub(crate) fn run(&self) -> &Shared<Run>
         ensures elements { result.now.elements ≡ elements_of self.now }
         ensures children { result.now.children ≡ children_of self.now }
         ensures production { production_of self.now ≡ None }
@@ -289,7 +288,7 @@ impl Repetition {
 
     /// Its run, without the repetition.
     #[tactic(auto, using(crate::proofs::BodyLemmas::children_are, crate::proofs::BodyLemmas::elements_are))]
-    pub(crate) fn into_run(self) -> Owned<Run>
+    pub(crate) fn into_run(self) -> Shared<Run>
         ensures elements { result.elements ≡ elements_of self }
         ensures children { result.children ≡ children_of self }
     {
@@ -304,7 +303,7 @@ impl Run {
     /// # Errors
     ///
     /// Both parts of a branch.
-    pub(crate) fn into_leaf(self) -> Result<(List<Element>, List<Node>), (Owned<Run>, Owned<Run>)>
+    pub(crate) fn into_leaf(self) -> Result<(List<Element>, List<Node>), (Shared<Run>, Shared<Run>)>
         ensures leaf { IfOk result (λ parts. stretch parts.0 parts.1 ≡ self) }
         ensures branch { IfErr result (λ parts. joined_stretch parts.0 parts.1 ≡ self) }
     {
@@ -323,7 +322,7 @@ impl Shape {
     /// # Errors
     ///
     /// Both parts of a branch.
-    fn into_leaf(self) -> Result<(List<Element>, List<Node>), (Owned<Run>, Owned<Run>)>
+    fn into_leaf(self) -> Result<(List<Element>, List<Node>), (Shared<Run>, Shared<Run>)>
         ensures leaf { IfOk result (λ parts. stretch parts.0 parts.1 ≡ stretch_of self) }
         ensures branch { IfErr result
             (λ parts. joined_stretch parts.0 parts.1 ≡ stretch_of self) }

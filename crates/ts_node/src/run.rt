@@ -7,17 +7,16 @@ ghost use Rattle.spec_trees.specs.Made.{children_count, element};
 ghost use Rattle.ts_node.specs.Held.{joined_stretch, stretch, changed, IsCount};
 
 use crate::node::{Counts, Node, Run, Shape, Sums};
-use crate::owned::Owned;
 use crate::sums::{appended, copy, sums};
 use spec_trees::Element;
 use std::alloc::{AllocError, Global};
-use ts_base::List;
+use ts_base::{List, Shared};
 
 /// The most elements and children together in a leaf, but for a leaf of one long element.
 const MOST_IN_LEAF: u64 = 768;
 
-/// The most elements and children together in the last leaf of a run that is copied for each element
-/// by which it is lengthened, since it has other owners.
+/// The most elements and children together in the last leaf of a run that has other owners, and is
+/// so copied for each element by which it is lengthened.
 const MOST_IN_LAST: u64 = 32;
 
 impl Run {
@@ -86,7 +85,7 @@ impl Run {
         alloc: Global,
         elements: List<Element>,
         children: List<Node>,
-    ) -> Result<Owned<Run>, AllocError>
+    ) -> Result<Shared<Run>, AllocError>
         requires some { 0 < length elements }
         requires own { children_count elements ≡ length children }
         requires fits { length elements < 2 ^ 32 }
@@ -107,11 +106,11 @@ impl Run {
         counts: Counts,
         elements: List<Element>,
         children: List<Node>,
-    ) -> Result<Owned<Run>, AllocError>
+    ) -> Result<Shared<Run>, AllocError>
         requires { IsCount counts (stretch elements children) }
         ensures { IfOk result (λ run. run ≡ stretch elements children) }
     {
-        Owned::new(
+        Shared::new(
             alloc,
             Run {
                 counts,
@@ -122,7 +121,11 @@ impl Run {
     }
 
     /// A run over these two.
-    fn branch(alloc: Global, left: Owned<Run>, right: Owned<Run>) -> Result<Owned<Run>, AllocError>
+    fn branch(
+        alloc: Global,
+        left: Shared<Run>,
+        right: Shared<Run>,
+    ) -> Result<Shared<Run>, AllocError>
         requires fits { length left.elements + length right.elements < 2 ^ 32 }
         requires wide { length left.children + length right.children < 2 ^ 32 }
         ensures { IfOk result (λ run. run ≡ joined_stretch left right) }
@@ -133,7 +136,7 @@ impl Run {
             .max(right.get().height())
             .saturating_add(1);
         let counts = both(left.get(), right.get());
-        Owned::new(
+        Shared::new(
             alloc,
             Run {
                 counts,
@@ -146,9 +149,9 @@ impl Run {
     /// A run over `left` and `right`, of which the right one may be two levels higher.
     fn lean_right(
         alloc: Global,
-        left: Owned<Run>,
-        right: &Owned<Run>,
-    ) -> Result<Owned<Run>, AllocError>
+        left: Shared<Run>,
+        right: &Shared<Run>,
+    ) -> Result<Shared<Run>, AllocError>
         requires fits { length left.elements + length right.now.elements < 2 ^ 32 }
         requires wide { length left.children + length right.now.children < 2 ^ 32 }
         ensures { IfOk result (λ run. run ≡ joined_stretch left right.now) }
@@ -174,9 +177,9 @@ impl Run {
     /// A run over `left` and `right`, of which the left one may be two levels higher.
     fn lean_left(
         alloc: Global,
-        left: &Owned<Run>,
-        right: Owned<Run>,
-    ) -> Result<Owned<Run>, AllocError>
+        left: &Shared<Run>,
+        right: Shared<Run>,
+    ) -> Result<Shared<Run>, AllocError>
         requires fits { length left.now.elements + length right.elements < 2 ^ 32 }
         requires wide { length left.now.children + length right.children < 2 ^ 32 }
         ensures { IfOk result (λ run. run ≡ joined_stretch left.now right) }
@@ -206,7 +209,7 @@ impl Run {
         low_children: &[Node],
         high: &[Element],
         high_children: &[Node],
-    ) -> Result<Owned<Run>, AllocError>
+    ) -> Result<Shared<Run>, AllocError>
         requires some { 0 < length low.now }
         requires low { children_count low.now ≡ length low_children.now }
         requires high { children_count high.now ≡ length high_children.now }
@@ -227,9 +230,9 @@ impl Run {
     /// Both, one after the other.
     pub(crate) fn join(
         alloc: Global,
-        left: &Owned<Run>,
-        right: &Owned<Run>,
-    ) -> Result<Owned<Run>, AllocError>
+        left: &Shared<Run>,
+        right: &Shared<Run>,
+    ) -> Result<Shared<Run>, AllocError>
         requires fits { length left.now.elements + length right.now.elements < 2 ^ 32 }
         requires wide { length left.now.children + length right.now.children < 2 ^ 32 }
         ensures { IfOk result (λ run. run ≡ joined_stretch left.now right.now) }
@@ -265,7 +268,7 @@ impl Run {
         alloc: Global,
         alternative: u32,
         children: List<Node>,
-    ) -> Result<Owned<Run>, AllocError>
+    ) -> Result<Shared<Run>, AllocError>
         requires wide { length children < 2 ^ 32 }
         ensures { IfOk result
             (λ run. run ≡ stretch (element alternative (length children) ∷ []) children) }
@@ -278,15 +281,15 @@ impl Run {
         Run::leaf(alloc, elements, children)
     }
 
-    /// The run with one more element of these children. What nobody else owns is lengthened in
-    /// place, all else is copied. The last leaf grows until it is full; it then becomes part of the
-    /// balanced tree before it, and a new one begins.
+    /// The run with one more element of these children. A last leaf that nobody else owns is
+    /// lengthened in place; another is copied, and all before it is shared. The last leaf grows
+    /// until it is full; it then becomes part of the balanced tree before it, and a new one begins.
     pub(crate) fn with_element(
         alloc: Global,
-        run: Owned<Run>,
+        run: Shared<Run>,
         alternative: u32,
         more: List<Node>,
-    ) -> Result<Owned<Run>, AllocError>
+    ) -> Result<Shared<Run>, AllocError>
         requires fits { length run.elements + 1 < 2 ^ 32 }
         requires wide { length run.children + length more < 2 ^ 32 }
         ensures { IfOk result (λ new. new ≡ joined_stretch run
@@ -307,7 +310,7 @@ impl Run {
         alloc: Global,
         alternative: u32,
         more: List<Node>,
-    ) -> Result<Owned<Run>, AllocError>
+    ) -> Result<Shared<Run>, AllocError>
         requires fits { length self.elements + 1 < 2 ^ 32 }
         requires wide { length self.children + length more < 2 ^ 32 }
         ensures { IfOk result (λ run. run ≡ joined_stretch self
@@ -316,7 +319,7 @@ impl Run {
         let counts = self.counts();
         match self.into_leaf() {
             Ok((elements, children)) => {
-                if has_place(counts, more.len()) {
+                if has_room_alone(counts, more.len()) {
                     Run::leaf_lengthened(alloc, counts, elements, children, alternative, more)
                 } else {
                     let leaf = Run::counted_leaf(alloc, counts, elements, children)?;
@@ -328,14 +331,14 @@ impl Run {
         }
     }
 
-    /// A run over `before` and the end of a run, and one more element of these children behind.
+    /// A run over `before` and its last leaf, `end`, and one more element of these children behind.
     fn end_lengthened(
         alloc: Global,
-        before: Owned<Run>,
-        end: Owned<Run>,
+        before: Shared<Run>,
+        end: Shared<Run>,
         alternative: u32,
         more: List<Node>,
-    ) -> Result<Owned<Run>, AllocError>
+    ) -> Result<Shared<Run>, AllocError>
         requires fits { length before.elements + length end.elements + 1 < 2 ^ 32 }
         requires wide { length before.children + length end.children + length more < 2 ^ 32 }
         ensures { IfOk result (λ new. new ≡ joined_stretch (joined_stretch before end)
@@ -343,7 +346,7 @@ impl Run {
     {
         match Run::leaf_alone(end, more.len()) {
             Ok(end) => {
-                let longer = end.longer(alloc, alternative, more)?;
+                let longer = end.last_lengthened(alloc, alternative, more)?;
                 Run::branch(alloc, before, longer)
             }
             Err(end) => {
@@ -355,12 +358,12 @@ impl Run {
 
     /// The leaf itself, where nobody else owns it and it has room for one more element of so many
     /// children.
-    fn leaf_alone(run: Owned<Run>, children: usize) -> Result<Run, Owned<Run>>
+    fn leaf_alone(run: Shared<Run>, children: usize) -> Result<Run, Shared<Run>>
         requires { children < 2 ^ 32 }
         ensures leaf { IfOk result (λ leaf. leaf ≡ run) }
         ensures run { IfErr result (λ same. same ≡ run) }
     {
-        if is_leaf(run.get()) && has_place(run.get().counts(), children) {
+        if is_leaf(run.get()) && has_room_alone(run.get().counts(), children) {
             run.try_unwrap()
         } else {
             Err(run)
@@ -369,12 +372,12 @@ impl Run {
 
     /// The last part of a run, which nobody else owns, with one more element of these children: in
     /// the same leaf, where it is one.
-    fn longer(
+    fn last_lengthened(
         self,
         alloc: Global,
         alternative: u32,
         more: List<Node>,
-    ) -> Result<Owned<Run>, AllocError>
+    ) -> Result<Shared<Run>, AllocError>
         requires fits { length self.elements + 1 < 2 ^ 32 }
         requires wide { length self.children + length more < 2 ^ 32 }
         ensures { IfOk result (λ run. run ≡ joined_stretch self
@@ -402,14 +405,14 @@ impl Run {
         children: List<Node>,
         alternative: u32,
         more: List<Node>,
-    ) -> Result<Owned<Run>, AllocError>
+    ) -> Result<Shared<Run>, AllocError>
         requires counts { IsCount counts (stretch elements children) }
         requires fits { length elements + 1 < 2 ^ 32 }
         requires wide { length children + length more < 2 ^ 32 }
         ensures { IfOk result (λ run. run ≡ joined_stretch (stretch elements children)
             (stretch (element alternative (length more) ∷ []) more)) }
     {
-        let added = one_more(more.as_slice());
+        let added = counts_of_one(more.as_slice());
         let mut elements = elements;
         elements.push(Element {
             alternative,
@@ -422,9 +425,9 @@ impl Run {
     /// The run, and behind it one more leaf.
     fn with_leaf(
         alloc: Global,
-        run: &Owned<Run>,
-        last: &Owned<Run>,
-    ) -> Result<Owned<Run>, AllocError>
+        run: &Shared<Run>,
+        last: &Shared<Run>,
+    ) -> Result<Shared<Run>, AllocError>
         requires fits { length run.now.elements + length last.now.elements < 2 ^ 32 }
         requires wide { length run.now.children + length last.now.children < 2 ^ 32 }
         ensures { IfOk result (λ new. new ≡ joined_stretch run.now last.now) }
@@ -440,10 +443,10 @@ impl Run {
     /// A run over `before` and the last leaf of a run, `end`, and behind it one more leaf.
     fn with_last(
         alloc: Global,
-        before: &Owned<Run>,
-        end: &Owned<Run>,
-        last: &Owned<Run>,
-    ) -> Result<Owned<Run>, AllocError>
+        before: &Shared<Run>,
+        end: &Shared<Run>,
+        last: &Shared<Run>,
+    ) -> Result<Shared<Run>, AllocError>
         requires fits { length before.now.elements
             + (length end.now.elements + length last.now.elements) < 2 ^ 32 }
         requires wide { length before.now.children
@@ -451,7 +454,7 @@ impl Run {
         ensures { IfOk result (λ run. run
             ≡ joined_stretch (joined_stretch before.now end.now) last.now) }
     {
-        if has_room(end.get(), last.get()) {
+        if has_room_as_copy(end.get(), last.get()) {
             let longer = Run::end_joined(alloc, end, last)?;
             Run::branch(alloc, before.try_clone()?, longer)
         } else {
@@ -464,9 +467,9 @@ impl Run {
     /// room for them.
     fn end_joined(
         alloc: Global,
-        left: &Owned<Run>,
-        right: &Owned<Run>,
-    ) -> Result<Owned<Run>, AllocError>
+        left: &Shared<Run>,
+        right: &Shared<Run>,
+    ) -> Result<Shared<Run>, AllocError>
         requires fits { length left.now.elements + length right.now.elements < 2 ^ 32 }
         requires wide { length left.now.children + length right.now.children < 2 ^ 32 }
         ensures { IfOk result (λ run. run ≡ joined_stretch left.now right.now) }
@@ -474,7 +477,7 @@ impl Run {
         let (first, second) = (left.get(), right.get());
         match (&first.shape, &second.shape) {
             (Shape::Leaf(low, low_children), Shape::Leaf(high, high_children))
-                if has_room(first, second) => {
+                if has_room_as_copy(first, second) => {
                 Run::merge(
                     alloc,
                     low.as_slice(),
@@ -492,10 +495,10 @@ impl Run {
     /// The run with another child at `k`. It shares all parts but those on the way to that child.
     pub(crate) fn with_child(
         alloc: Global,
-        run: &Owned<Run>,
+        run: &Shared<Run>,
         k: u32,
         child: Node,
-    ) -> Result<Owned<Run>, AllocError>
+    ) -> Result<Shared<Run>, AllocError>
         requires { k < length run.now.children }
         ensures { IfOk result (λ new. new ≡ changed run.now k child) }
     {
@@ -524,7 +527,7 @@ impl Run {
         children: &[Node],
         k: u32,
         child: Node,
-    ) -> Result<Owned<Run>, AllocError>
+    ) -> Result<Shared<Run>, AllocError>
         requires within { k < length children.now }
         requires some { 0 < length elements.now }
         requires own { children_count elements.now ≡ length children.now }
@@ -575,7 +578,7 @@ fn together(low: Counts, high: Counts) -> Counts
 }
 
 /// What is counted of one element of these children.
-fn one_more(children: &[Node]) -> Counts
+fn counts_of_one(children: &[Node]) -> Counts
     requires { length children.now < 2 ^ 32 }
     ensures { (alternative : ℕ) → IsCount result
         (stretch (element alternative (length children.now) ∷ []) children.now) }
@@ -593,14 +596,14 @@ fn fit_one_leaf(left: &Run, right: &Run) -> bool {
 }
 
 /// Whether a leaf that nobody else owns has room for one more element of so many children.
-fn has_place(leaf: Counts, children: usize) -> bool
+fn has_room_alone(leaf: Counts, children: usize) -> bool
     requires { children < 2 ^ 32 }
 {
     leaf.elements as u64 + leaf.children as u64 + 1 + children as u64 <= MOST_IN_LEAF
 }
 
 /// Whether a last leaf that is copied has room for one more.
-fn has_room(end: &Run, more: &Run) -> bool {
+fn has_room_as_copy(end: &Run, more: &Run) -> bool {
     size(end) + size(more) <= MOST_IN_LAST
 }
 

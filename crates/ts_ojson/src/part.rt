@@ -1,5 +1,5 @@
-//! The parts of a number: the last part that was read and the class of the next byte go in; the part
-//! with that byte comes out, or that the number does not go on with it.
+//! The parts of a number: the last part that was read and the class of the next byte go in; the
+//! part with that byte comes out, or that the number does not go on with it.
 
 ghost use Rattle.std.specs.Prelude.{◌≡◌};
 ghost use Rattle.ts_ojson.specs.Machine.{part_next, part_ends, whole_next, digit_next, is_digit_class};

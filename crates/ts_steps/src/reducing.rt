@@ -96,8 +96,8 @@ fn is_without_choice(only: bool, stated: bool, steps: usize) -> bool
     only && stated && steps > 0
 }
 
-/// Takes out all stacks of the graph that were put there after this one, if it is alone. Of what was
-/// gathered from there the node that is made is then the only owner.
+/// Takes out all stacks of the graph that were put there after this one, if it is alone. Of what
+/// was gathered from there the node that is made is then the only owner.
 fn cut_alone(graph: &mut Graph, below: usize, alone: bool)
     requires { below < length graph.old }
     ensures there { below < length graph.new }

@@ -1,4 +1,4 @@
-use Rattle.std.proofs.Common.{◌≡◌, ap, arith}
+use Rattle.std.proofs.Common.{ap, arith}
 use Rattle.spec_trees.specs.Trees.{tree_depth}
 use Rattle.ts_steps.proofs.NodeLemmas.{fits, reduced_good}
 use Rattle.ts_steps.proofs.MakingLemmas.{reduced_depth}

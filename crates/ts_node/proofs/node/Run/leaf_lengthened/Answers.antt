@@ -15,30 +15,30 @@ one_is added alternative ts us e h =
 pub together-requires-clause-elements : goal.together-requires-clause-elements
 together-requires-clause-elements c =
     let p = c.requires.counts in
-    let q = one_is _ c.args.alternative _ _ c.as_slice.ensures (c.one_more-added.ensures c.args.alternative) in
+    let q = one_is _ c.args.alternative _ _ c.as_slice.ensures (c.counts_of_one-added.ensures c.args.alternative) in
     omega (arith, p.elements, q.elements, c.requires.fits)
 
 pub together-requires-clause-children : goal.together-requires-clause-children
 together-requires-clause-children c =
     let p = c.requires.counts in
-    let q = one_is _ c.args.alternative _ _ c.as_slice.ensures (c.one_more-added.ensures c.args.alternative) in
+    let q = one_is _ c.args.alternative _ _ c.as_slice.ensures (c.counts_of_one-added.ensures c.args.alternative) in
     omega (arith, p.children, q.children, c.requires.wide)
 
 pub together-requires-clause-nodes : goal.together-requires-clause-nodes
 together-requires-clause-nodes c =
     let p = c.requires.counts in
-    let q = one_is _ c.args.alternative _ _ c.as_slice.ensures (c.one_more-added.ensures c.args.alternative) in
+    let q = one_is _ c.args.alternative _ _ c.as_slice.ensures (c.counts_of_one-added.ensures c.args.alternative) in
     omega (arith, p.sums.nodes, q.sums.nodes, p.sums.few, q.sums.few, c.requires.wide)
 
 pub together-requires-clause-spans : goal.together-requires-clause-spans
 together-requires-clause-spans c =
     let p = c.requires.counts in
-    let q = one_is _ c.args.alternative _ _ c.as_slice.ensures (c.one_more-added.ensures c.args.alternative) in
+    let q = one_is _ c.args.alternative _ _ c.as_slice.ensures (c.counts_of_one-added.ensures c.args.alternative) in
     omega (arith, p.sums.spans, q.sums.spans, p.sums.short, q.sums.short, c.requires.wide)
 
 pub counted_leaf-requires : goal.counted_leaf-requires
 counted_leaf-requires c =
-    let q = one_is _ c.args.alternative _ _ c.as_slice.ensures (c.one_more-added.ensures c.args.alternative) in
+    let q = one_is _ c.args.alternative _ _ c.as_slice.ensures (c.counts_of_one-added.ensures c.args.alternative) in
     let es : c.push.new.self ≡ c.args.elements ++ element c.args.alternative (length c.args.more) ∷ [] =
     c.in_ok-push.ensures.ok ∙ ap (λ n. c.args.elements ++ element c.args.alternative n ∷ []) q.children in
     let ks : c.in_ok-children.children ≡ c.args.children ++ c.args.more = c.in_ok-children.ensures in
@@ -48,7 +48,7 @@ counted_leaf-requires c =
 
 pub returns : goal.returns
 returns c =
-    let q = one_is _ c.args.alternative _ _ c.as_slice.ensures (c.one_more-added.ensures c.args.alternative) in
+    let q = one_is _ c.args.alternative _ _ c.as_slice.ensures (c.counts_of_one-added.ensures c.args.alternative) in
     let es : c.push.new.self ≡ c.args.elements ++ element c.args.alternative (length c.args.more) ∷ [] =
     c.in_ok-push.ensures.ok ∙ ap (λ n. c.args.elements ++ element c.args.alternative n ∷ []) q.children in
     let ks : c.in_ok-children.children ≡ c.args.children ++ c.args.more = c.in_ok-children.ensures in
