@@ -1,8 +1,9 @@
 -- One text after another, or one pair after another, leaves the answer open or decides.
-use Rattle.std.proofs.Common.{◌≡◌, ◌∙◌, ◌↔◌, sym, ap, refl, subst, ℕ, ◌+◌, ◌<◌, ◌≤◌, suc, ◌⊎◌, inl, inr, ⊎_elim, Bool, true, false, not, IsTrue, List, [], ◌∷◌, ◌++◌, length, map, slice_get, get_or, Option, Some, option_map, Bor, arith}
+use Rattle.std.proofs.Common.{◌≡◌, ◌∙◌, ◌↔◌, sym, ap, refl, subst, ℕ, ◌+◌, ◌<◌, ◌≤◌, suc, ◌⊎◌, inl, inr, ⊎_elim, Bool, true, false, not, nat_eq, cond, IsTrue, List, [], ◌∷◌, ◌++◌, length, map, take, drop, slice_get, get_or, Option, Some, option_map, Bor, arith}
 use Rattle.std.specs.List.{Contains}
 use Rattle.std.proofs.lemmas.Bool.{cases_lt}
-use Rattle.std.proofs.lemmas.List.Elements.{Contains-push_cases}
+use Rattle.std.proofs.lemmas.List.{append-nil, map-append, take-append-drop}
+use Rattle.std.proofs.lemmas.List.Elements.{Contains-append_left, Contains-push, Contains-push_cases, filter-append, filter_more}
 use Rattle.std.proofs.lemmas.Option.{slice_get_within, slice_get-map, slice_get-get_or, get_or_from_slice_get}
 use Rattle.ts_base.specs.Bytes.{Bytes}
 use Rattle.ts_query_syntax.specs.declared.read_query.Asked.{Asked}
@@ -10,7 +11,7 @@ use Rattle.ts_query_syntax.specs.declared.read_query.Asked.TheVariants as asked
 use Rattle.ts_query_syntax.specs.declared.read_query.Predicate.{Predicate}
 use Rattle.spec_matches.specs.declared.found.Capture.{Capture}
 use Rattle.ts_predicate.specs.Asking.{IsOfOne, LeavesOpen, AllLeaveOpen, PairsLeaveOpen}
-use Rattle.ts_predicate.specs.Predicates.{IsAs, AsksBy, OfTexts, OfPairs, IsPair, texts_of}
+use Rattle.ts_predicate.specs.Predicates.{IsAs, AsksBy, OfTexts, OfPairs, IsPair, capture_text, named_by, texts_of}
 
 untrue : IsTrue false → ⊥
 untrue e = cc
@@ -103,6 +104,35 @@ pub text_in : (texts : List (Bor Bytes)) (k : ℕ) (d : Bor Bytes) → k < lengt
 text_in texts k d low =
     let at = text_there texts k d low in
     (k, slice_get_within (values texts) k (get_or texts k d).now at, get_or_from_slice_get (values texts) k (get_or texts k d).now (get_or texts k d).now at)
+
+-- ---- the texts that a capture names
+
+module _ (text : Bytes) (name : ℕ) (captures : List Capture) (n : ℕ) (d : Capture) (low : n < length captures) where
+  abbrev current : Capture
+  current = get_or captures n d
+
+  texts_push : texts_of text name (take (n + 1) captures) ≡ texts_of text name (take n captures) ++ map (capture_text text) (cond (nat_eq current.name name) (current ∷ []) [])
+  texts_push =
+      ap (map (capture_text text)) (filter_more (λ (c : Capture). nat_eq c.name name) captures n d low)
+      ∙ map-append (capture_text text) (named_by name (take n captures)) (cond (nat_eq current.name name) (current ∷ []) [])
+
+  pub texts_one : nat_eq current.name name ≡ true → texts_of text name (take (n + 1) captures) ≡ texts_of text name (take n captures) ++ capture_text text current ∷ []
+  texts_one named = texts_push ∙ ap (λ (b : Bool). texts_of text name (take n captures) ++ map (capture_text text) (cond b (current ∷ []) [])) named
+
+  pub texts_none : nat_eq current.name name ≡ false → texts_of text name (take (n + 1) captures) ≡ texts_of text name (take n captures)
+  texts_none other = texts_push ∙ ap (λ (b : Bool). texts_of text name (take n captures) ++ map (capture_text text) (cond b (current ∷ []) [])) other ∙ append-nil (texts_of text name (take n captures))
+
+  pub text_named : nat_eq current.name name ≡ true → Contains (texts_of text name captures) (capture_text text current)
+  text_named named =
+      subst (λ (l : List Bytes). Contains l (capture_text text current)) (sym whole)
+      (Contains-append_left (texts_of text name (take (n + 1) captures)) (texts_of text name (drop (n + 1) captures)) (capture_text text current)
+      (subst (λ (l : List Bytes). Contains l (capture_text text current)) (sym (texts_one named)) (Contains-push (texts_of text name (take n captures)) (capture_text text current))))
+    where
+      whole : texts_of text name captures ≡ texts_of text name (take (n + 1) captures) ++ texts_of text name (drop (n + 1) captures)
+      whole =
+          ap (texts_of text name) (sym (take-append-drop (n + 1) captures))
+          ∙ ap (map (capture_text text)) (filter-append (λ (c : Capture). nat_eq c.name name) (take (n + 1) captures) (drop (n + 1) captures))
+          ∙ map-append (capture_text text) (named_by name (take (n + 1) captures)) (named_by name (drop (n + 1) captures))
 
 -- ---- one predicate
 

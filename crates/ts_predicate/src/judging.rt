@@ -1,8 +1,7 @@
 //! One predicate of a match: the texts of the match's captures and what is asked of them go in, and
 //! whether the predicate holds comes out.
-ghost use Rattle.std.specs.Prelude.{◌≡◌, ◌↔◌, ℕ, ◌<◌, true, false, map, length, IfOk, IsTrue};
+ghost use Rattle.std.specs.Prelude.{◌≡◌, ◌↔◌, true, false, map, nat_eq, IfOk, IsTrue};
 ghost use Rattle.std.specs.List.{Contains};
-ghost use Rattle.ts_base.specs.Bytes.{Bytes};
 ghost use Rattle.spec_matches.specs.declared.found.Capture.{Capture as Mark};
 ghost use Rattle.ts_query_syntax.specs.declared.read_query.ReadQuery.{ReadQuery as Asking};
 ghost use Rattle.ts_predicate.specs.Predicates.{AnswersOf, IsAs, IsCaptureIn, OfTexts, OfPairs, Holds, texts_of};
@@ -37,22 +36,37 @@ fn texts<'a>(
     Ok(texts)
 }
 
-/// Whether all texts, or some text, are as they are asked to be.
+/// Whether a capture is of this name.
+fn is_named(capture: &Capture, name: u16) -> bool
+    ensures { result ≡ nat_eq capture.now.name name }
+{
+    capture.name == name
+}
+
+/// Whether the texts of the nodes that a predicate's capture names, all or some, are as they are
+/// asked to be. No list of them is made.
 fn of_texts<H: Hosts>(
     hosts: &H,
+    text: &Text,
     predicate: &Predicate,
     matcher: &mut Option<Matcher<'_>>,
-    texts: &[&str],
+    captures: &[Capture],
 ) -> bool
+    requires within { (query : Asking) × ((c : Mark) → Contains captures.now c
+        → IsCaptureIn query text.now c) }
     requires one { IsOfOne predicate.now.asked }
     requires matcher { HasMatcher matcher.old predicate.now.asked }
     ensures matcher { HasMatcher matcher.new predicate.now.asked }
     ensures is { IsTrue result ↔ OfTexts predicate.now.some predicate.now.negated
         (IsAs (AnswersOf (H.called hosts.now) (H.accepts hosts.now)) predicate.now.asked)
-        (map (λ t. t.now) texts.now) }
+        (texts_of text.now predicate.now.capture captures.now) }
 {
-    for text in texts {
-        let is = is_as(hosts, &predicate.asked, matcher, text);
+    for capture in captures {
+        if !is_named(capture, predicate.capture) {
+            continue;
+        }
+        let one = text.slice(capture.start, capture.end);
+        let is = is_as(hosts, &predicate.asked, matcher, one);
         if decides(predicate, is) {
             return predicate.some;
         }
@@ -121,10 +135,10 @@ pub(crate) fn holds<H: Hosts>(
     ensures holds { IfOk result (λ yes. IsTrue yes ↔ Holds (AnswersOf (H.called hosts.now)
         (H.accepts hosts.now)) text.now captures.now predicate.now) }
 {
-    let own = texts(alloc, text, captures, predicate.capture)?;
     if let Asked::Capture(other) = predicate.asked {
+        let own = texts(alloc, text, captures, predicate.capture)?;
         let others = texts(alloc, text, captures, other)?;
         return Ok(of_pairs(predicate, own.as_slice(), others.as_slice()));
     }
-    Ok(of_texts(hosts, predicate, matcher, own.as_slice()))
+    Ok(of_texts(hosts, text, predicate, matcher, captures))
 }

@@ -165,7 +165,7 @@ module _ (nodes : List VisibleNode) where
       (λ ge. (children, listed_all k m past children ge ends l))
       (cases_lt m past)
 
-  children_of : (k : ℕ) → k < length nodes → (all : List ℕ) × AreChildren nodes k all
+  pub children_of : (k : ℕ) → k < length nodes → (all : List ℕ) × AreChildren nodes k all
   children_of k within = let p = past_of k within in children_from k p.0 p.1 p.0 (k + 1) [] (omega arith) (listed_none k p.0 p.1)
 
   -- each node has siblings

@@ -42,7 +42,7 @@ module _ {Y : Type 0} (S : Y → Match → Type 0) where
   pub hits_none : (s : BTreeSet Match) → Gathers (OfSome S []) s s
   hits_none s = gathers_none (OfSome S []) s (λ m h. none_in_nil h.0 h.1)
 
-  push_more : (ys : List Y) (y : Y) (a b c : BTreeSet Match) → Gathers (OfSome S ys) a b → Gathers (S y) b c → Gathers (OfSome S (ys ++ y ∷ [])) a c
+  pub push_more : (ys : List Y) (y : Y) (a b c : BTreeSet Match) → Gathers (OfSome S ys) a b → Gathers (S y) b c → Gathers (OfSome S (ys ++ y ∷ [])) a c
   push_more ys y a b c before one =
       gathers_both (OfSome S ys) (S y) (OfSome S (ys ++ y ∷ [])) a b c before one
       (λ m h. (h.0, Contains-append_left ys (y ∷ []) h.0 h.1, h.2))
@@ -56,6 +56,9 @@ module _ {Y : Type 0} (S : Y → Match → Type 0) where
 
   pub hits_all : (ys : List Y) (n : ℕ) (a b : BTreeSet Match) → length ys ≤ n → Gathers (OfSome S (take n ys)) a b → Gathers (OfSome S ys) a b
   hits_all ys n a b past h = subst (λ (l : List Y). Gathers (OfSome S l) a b) (take_all n ys past) h
+
+  pub hits_whole : (ys all : List Y) (a b : BTreeSet Match) → ys ≡ all → Gathers (OfSome S ys) a b → Gathers (OfSome S all) a b
+  hits_whole ys all a b whole h = subst (λ (l : List Y). Gathers (OfSome S l) a b) whole h
 
 -- ---- the set itself
 

@@ -1,5 +1,5 @@
 -- The matches that are added.
-use Rattle.std.proofs.Common.{◌≡◌, ◌∙◌, sym, ap, refl, subst, ℕ, ◌+◌, ◌<◌, ◌≤◌, ◌⊎◌, inl, inr, ⊎_elim, List, [], ◌∷◌, length, Some, None, slice_get, true, ◌↔◌, arith}
+use Rattle.std.proofs.Common.{◌≡◌, ◌∙◌, sym, ap, refl, subst, ℕ, ◌≤◌, ◌⊎◌, ⊎_elim, List, length, Some, None, slice_get, true, ◌↔◌, arith}
 use Rattle.std.specs.List.{Contains}
 use Rattle.std.specs.List.Sorted.{IsStrictlySortedBy}
 use Rattle.std.specs.BTreeSet.{BTreeSet}
@@ -13,10 +13,10 @@ use Rattle.spec_matches.specs.declared.scene.Scene.{Scene}
 use Rattle.spec_matches.specs.Siblings.{AreChildren, AreSiblings}
 use Rattle.spec_matches.specs.Taking.{Embedded}
 use Rattle.spec_matches.specs.Matches.{AreAll, AreMoreThan, OfPatterns, capture_cmp, match_cmp, match_eq, most_matches}
-use Rattle.ts_search.specs.Gathering.{Gathers, Has, Hits, HitsIn, HitsUnder, HitsUpTo, HitsOf, HitsBelow, IsFull, IsGathered}
+use Rattle.ts_search.specs.Gathering.{Gathers, Has, Hits, HitsIn, HitsUnder, HitsOfAny, IsFull, IsGathered}
 use Rattle.ts_search.proofs.ChildLemmas.{same_children}
-use Rattle.ts_search.proofs.PlaceLemmas.{cases_lt_or_eq, same_at}
-use Rattle.ts_search.proofs.GatherLemmas.{gathers_none, gathers_both, gathers_same, has_iff}
+use Rattle.ts_search.proofs.PlaceLemmas.{same_at}
+use Rattle.ts_search.proofs.GatherLemmas.{gathers_none, gathers_same, has_iff}
 
 module _ (kept : Match → Type 0) (k : ℕ) (siblings : List ℕ) (f : Placing) where
   pub hit_none : (a : BTreeSet Match) → f.first ≡ None → Gathers (Hits kept k siblings f) a a
@@ -67,57 +67,12 @@ module _ (scene : Scene) (kept : Match → Type 0) (k : ℕ) (pattern : Pattern)
       gathers_same (HitsIn scene kept k pattern children) (HitsUnder scene kept k pattern n) a b adds (λ m h. (children, kids, h))
       (λ m h. subst (λ (l : List ℕ). HitsIn scene kept k pattern l m) (same_children scene.nodes n h.0 children h.1 kids) h.2)
 
-  pub up_to_none : (a b : BTreeSet Match) → Gathers (HitsIn scene kept k pattern (0 ∷ [])) a b → Gathers (HitsUpTo scene kept k pattern 0) a b
-  up_to_none a b adds =
-      gathers_same (HitsIn scene kept k pattern (0 ∷ [])) (HitsUpTo scene kept k pattern 0) a b adds (λ m h. inl h)
-      (λ m h. ⊎_elim (λ x. x) (λ x. let lt = x.1 in absurd (omega arith)) h)
-
-  pub up_to_more : (n : ℕ) (a b c : BTreeSet Match) → Gathers (HitsUpTo scene kept k pattern n) a b → Gathers (HitsUnder scene kept k pattern n) b c → Gathers (HitsUpTo scene kept k pattern (n + 1)) a c
-  up_to_more n a b c before one =
-      gathers_both (HitsUpTo scene kept k pattern n) (HitsUnder scene kept k pattern n) (HitsUpTo scene kept k pattern (n + 1)) a b c before one
-      (λ m h. ⊎_elim (λ x. inl x) (λ x. inr (x.0, (let lt = x.1 in omega arith), x.2)) h) (λ m h. inr (n, omega arith, h)) either
-    where
-      split : (m : Match) (j : ℕ) → HitsUnder scene kept k pattern j m → (j < n) ⊎ (j ≡ n) → HitsUpTo scene kept k pattern n m ⊎ HitsUnder scene kept k pattern n m
-      split m j h (inl lt) = inl (inr (j, lt, h))
-      split m j h (inr e) = inr (subst (λ (i : ℕ). HitsUnder scene kept k pattern i m) e h)
-
-      either : (m : Match) → HitsUpTo scene kept k pattern (n + 1) m → HitsUpTo scene kept k pattern n m ⊎ HitsUnder scene kept k pattern n m
-      either m (inl h) = inl (inl h)
-      either m (inr (j, lt, h)) = split m j h (cases_lt_or_eq j n lt)
-
-  pub up_to_all : (n : ℕ) (a b : BTreeSet Match) → n ≤ length scene.nodes → length scene.nodes ≤ n → Gathers (HitsUpTo scene kept k pattern n) a b → Gathers (HitsOf scene kept k pattern) a b
-  up_to_all n a b le ge adds = gathers_same (HitsUpTo scene kept k pattern n) (HitsOf scene kept k pattern) a b adds to (λ m h. from m h.0 h.1 h.2)
-    where
-      to : (m : Match) → HitsUpTo scene kept k pattern n m → HitsOf scene kept k pattern m
-      to m (inl h) = (0 ∷ [], inl refl, h)
-      to m (inr (j, lt, h)) = (h.0, inr (j, omega arith, h.1), h.2)
-
-      from : (m : Match) (siblings : List ℕ) → AreSiblings scene.nodes siblings → HitsIn scene kept k pattern siblings m → HitsUpTo scene kept k pattern n m
-      from m siblings (inl e) h = inl (subst (λ (l : List ℕ). HitsIn scene kept k pattern l m) e h)
-      from m siblings (inr (j, lt, kids)) h = inr (j, omega arith, (siblings, kids, h))
-
 module _ (scene : Scene) (kept : Match → Type 0) (patterns : List Pattern) where
-  pub below_none : (s : BTreeSet Match) → Gathers (HitsBelow scene kept patterns 0) s s
-  below_none s = gathers_none (HitsBelow scene kept patterns 0) s (λ m h. let lt = h.1 in omega arith)
-
-  pub below_more : (n : ℕ) (pattern : Pattern) (a b c : BTreeSet Match) → slice_get patterns n ≡ Some pattern → Gathers (HitsBelow scene kept patterns n) a b → Gathers (HitsOf scene kept n pattern) b c
-      → Gathers (HitsBelow scene kept patterns (n + 1)) a c
-  below_more n pattern a b c at before one =
-      gathers_both (HitsBelow scene kept patterns n) (HitsOf scene kept n pattern) (HitsBelow scene kept patterns (n + 1)) a b c before one
-      (λ m h. (h.0, omega (arith, h.1), h.2, h.3, h.4)) (λ m h. (n, omega arith, pattern, at, h)) (λ m h. split m h.0 h.2 h.3 h.4 (cases_lt_or_eq h.0 n h.1))
-    where
-      split : (m : Match) (k : ℕ) (p : Pattern) → slice_get patterns k ≡ Some p → HitsOf scene kept k p m → (k < n) ⊎ (k ≡ n) → HitsBelow scene kept patterns n m ⊎ HitsOf scene kept n pattern m
-      split m k p is h (inl lt) = inl (k, lt, p, is, h)
-      split m k p is h (inr e) =
-          let q : p ≡ pattern = same_at patterns n p pattern (subst (λ (j : ℕ). slice_get patterns j ≡ Some p) e is) at in
-          inr (subst (λ (r : Pattern). HitsOf scene kept n r m) q (subst (λ (j : ℕ). HitsOf scene kept j p m) e h))
-
-  pub gathered_all : (n : ℕ) (a b : BTreeSet Match) → length patterns ≤ n → ((m : Match) → Has a m → ⊥) → Gathers (HitsBelow scene kept patterns n) a b → IsGathered scene kept patterns b
-  gathered_all n a b past empty adds = record {
-    only = λ m h. ⊎_elim (λ o. absurd (empty m o)) (λ x. to m x.0 x.2 x.3 x.4.0 x.4.1 x.4.2.0 x.4.2.1 x.4.2.2) (adds.only m h);
+  pub gathered_all : (a b : BTreeSet Match) → ((m : Match) → Has a m → ⊥) → Gathers (HitsOfAny scene kept patterns) a b → IsGathered scene kept patterns b
+  gathered_all a b empty adds = record {
+    only = λ m h. ⊎_elim (λ o. absurd (empty m o)) (λ x. to m x.0 x.1 x.2 x.3.0 x.3.1 x.3.2.0 x.3.2.1 x.3.2.2) (adds.only m h);
     all = λ free m o keeps. adds.all free m (
       m.pattern,
-      (let w = slice_get_within patterns m.pattern o.pattern o.is_pattern in omega arith),
       o.pattern,
       o.is_pattern,
       (o.siblings, o.are_siblings, (o.matches.0, o.matches.1, record { pattern = refl; comes = o.matches.2; keeps = keeps })),

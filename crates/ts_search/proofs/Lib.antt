@@ -2,11 +2,13 @@ pub mod AddLemmas
 pub mod AlongLemmas
 pub mod CarryLemmas
 pub mod ChildLemmas
+pub mod FirstLemmas
 pub mod GainLemmas
 pub mod GatherLemmas
 pub mod GrowLemmas
 pub mod HeadLemmas
 pub mod HitLemmas
+pub mod IndexLemmas
 pub mod LimitLemmas
 pub mod LoneLemmas
 pub mod MemoLemmas
@@ -19,9 +21,11 @@ pub mod PlaceLemmas
 pub mod ReachLemmas
 pub mod RowLemmas
 pub mod RunLemmas
+pub mod ShallowLemmas
 pub mod ShapeLemmas
 pub mod SingleLemmas
 pub mod TakeLemmas
+pub mod VisitLemmas
 pub mod WayLemmas
 pub mod WidenLemmas
 pub mod YieldLemmas

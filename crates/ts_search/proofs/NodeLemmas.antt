@@ -1,35 +1,23 @@
--- The matches of a pattern of one plain item, one node after another.
-use Rattle.std.proofs.Common.{◌≡◌, ◌∙◌, subst, refl, sym, ℕ, ◌+◌, ◌<◌, ◌≤◌, ◌⊎◌, inl, inr, List, [], ◌∷◌, length, Bool, false, true, arith}
+-- The matches of a pattern of one plain item at a node.
+use Rattle.std.proofs.Common.{◌≡◌, ◌∙◌, subst, refl, sym, ℕ, zero, suc, ◌<◌, List, [], ◌∷◌, length, Bool, false, true, Some, None, get_or, slice_get, arith}
 use Rattle.std.specs.Bool.{IsTrue}
 use Rattle.std.specs.BTreeSet.{BTreeSet}
+use Rattle.std.specs.List.{Contains}
+use Rattle.std.proofs.lemmas.Option.{get_or_from_slice_get, slice_get-get_or}
 use Rattle.ts_query_syntax.specs.declared.read_query.Item.{Item}
 use Rattle.ts_query_syntax.specs.declared.read_query.Pattern.{Pattern}
 use Rattle.spec_matches.specs.declared.found.Capture.{Capture}
 use Rattle.spec_matches.specs.declared.found.Match.{Match}
 use Rattle.spec_matches.specs.declared.scene.Scene.{Scene}
 use Rattle.spec_matches.specs.Siblings.{AreSiblings}
-use Rattle.ts_search.specs.Gathering.{Gathers, HitsFirst, HitsIn, HitsOf}
+use Rattle.ts_search.specs.Gathering.{Gathers, HitsIn, HitsOf}
 use Rattle.ts_search.specs.Rows.{HaveParents}
 use Rattle.ts_search.specs.Single.{HitsAt, IsAlone}
 use Rattle.ts_search.specs.Ways.{ItemTakes}
 use Rattle.ts_search.proofs.AddLemmas.{in_one, one_in}
 use Rattle.ts_search.proofs.ChildLemmas.{siblings_of, siblings_within}
-use Rattle.ts_search.proofs.GatherLemmas.{gathers_both, gathers_none, gathers_same}
-use Rattle.ts_search.proofs.PlaceLemmas.{cases_lt_or_eq}
+use Rattle.ts_search.proofs.GatherLemmas.{gathers_none}
 use Rattle.ts_search.proofs.SingleLemmas.{of_hits, to_hits}
-
-module _ (scene : Scene) (kept : Match → Type 0) (k : ℕ) (pattern : Pattern) where
-  pub first_none : (a : BTreeSet Match) → Gathers (HitsFirst scene kept k pattern 0) a a
-  first_none a = gathers_none (HitsFirst scene kept k pattern 0) a (λ m h. let lt = h.1 in omega arith)
-
-  pub first_more : (n : ℕ) (a b c : BTreeSet Match) → Gathers (HitsFirst scene kept k pattern n) a b → Gathers (HitsIn scene kept k pattern (n ∷ [])) b c → Gathers (HitsFirst scene kept k pattern (n + 1)) a c
-  first_more n a b c before one =
-      gathers_both (HitsFirst scene kept k pattern n) (HitsIn scene kept k pattern (n ∷ [])) (HitsFirst scene kept k pattern (n + 1)) a b c before one
-      (λ m h. (h.0, (let lt = h.1 in omega arith), h.2)) (λ m h. (n, omega arith, h)) (λ m h. split m h.0 h.2 (cases_lt_or_eq h.0 n h.1))
-    where
-      split : (m : Match) (j : ℕ) → HitsIn scene kept k pattern (j ∷ []) m → (j < n) ⊎ (j ≡ n) → HitsFirst scene kept k pattern n m ⊎ HitsIn scene kept k pattern (n ∷ []) m
-      split m j h (inl lt) = inl (j, lt, h)
-      split m j h (inr e) = inr (subst (λ (l : ℕ). HitsIn scene kept k pattern (l ∷ []) m) e h)
 
 module _ (scene : Scene) (kept : Match → Type 0) (k : ℕ) (i : Item) (pattern : Pattern) (alone : IsAlone i pattern) where
   -- a node that the item cannot take gives no match
@@ -39,18 +27,37 @@ module _ (scene : Scene) (kept : Match → Type 0) (k : ℕ) (i : Item) (pattern
       let t = takes w.2.0 (subst (λ (j : ℕ). ItemTakes scene i 0 j w.2.0) (one_in n w.0 w.1) w.2.1) in
       let e : false ≡ true = sym fails ∙ t in cc)
 
-  pub first_all : 0 < length scene.nodes → HaveParents scene.nodes → (n : ℕ) → n ≤ length scene.nodes → length scene.nodes ≤ n → (a b : BTreeSet Match) → Gathers (HitsFirst scene kept k pattern n) a b
-      → Gathers (HitsOf scene kept k pattern) a b
-  first_all some parents n le ge a b adds = gathers_same (HitsFirst scene kept k pattern n) (HitsOf scene kept k pattern) a b adds (λ m h. to m h.0 h.1 h.2) (λ m h. from m h.0 h.1 h.2)
-    where
-      to : (m : Match) (j : ℕ) → j < n → HitsIn scene kept k pattern (j ∷ []) m → HitsOf scene kept k pattern m
-      to m j lt h =
-          let w = of_hits scene kept k i pattern alone (j ∷ []) m h in
-          let s = siblings_of scene.nodes parents j (omega (arith, lt, le)) in
-          (s.0, s.1, to_hits scene kept k i pattern alone s.0 m (j, s.2, subst (λ (l : ℕ). HitsAt scene kept k i l m) (one_in j w.0 w.1) w.2))
+  -- the node of a match, and siblings among which it stands
+  module _ (some : 0 < length scene.nodes) (parents : HaveParents scene.nodes) (m : Match) where
+    pub of_node : (j : ℕ) → j < length scene.nodes → HitsIn scene kept k pattern (j ∷ []) m → HitsOf scene kept k pattern m
+    of_node j lt h =
+        let w = of_hits scene kept k i pattern alone (j ∷ []) m h in
+        let s = siblings_of scene.nodes parents j lt in
+        (s.0, s.1, to_hits scene kept k i pattern alone s.0 m (j, s.2, subst (λ (l : ℕ). HitsAt scene kept k i l m) (one_in j w.0 w.1) w.2))
 
-      from : (m : Match) (siblings : List ℕ) → AreSiblings scene.nodes siblings → HitsIn scene kept k pattern siblings m → HitsFirst scene kept k pattern n m
-      from m siblings are h =
-          let w = of_hits scene kept k i pattern alone siblings m h in
-          let inside = siblings_within scene.nodes some siblings are w.0 w.1 in
-          (w.0, omega (arith, inside, ge), to_hits scene kept k i pattern alone (w.0 ∷ []) m (w.0, in_one w.0 w.0 refl, w.2))
+    pub at_node : (siblings : List ℕ) → AreSiblings scene.nodes siblings → HitsIn scene kept k pattern siblings m → (j : ℕ) × (j < length scene.nodes) × HitsIn scene kept k pattern (j ∷ []) m
+    at_node siblings are h =
+        let w = of_hits scene kept k i pattern alone siblings m h in
+        (w.0, siblings_within scene.nodes some siblings are w.0 w.1, to_hits scene kept k i pattern alone (w.0 ∷ []) m (w.0, in_one w.0 w.0 refl, w.2))
+
+-- the item that a pattern is
+pub has_item : (pattern : Pattern) → ((i : Item) × IsAlone i pattern) → 0 < length pattern.items
+has_item pattern (i, alone) = subst (λ (is : List Item). 0 < length is) (sym alone.is_it) (omega arith)
+
+pub item_alone : (pattern : Pattern) (j : Item) → ((i : Item) × IsAlone i pattern) → slice_get pattern.items 0 ≡ Some j → IsAlone j pattern
+item_alone pattern j (i, alone) at = subst (λ (k : Item). IsAlone k pattern) (same (subst (λ (is : List Item). slice_get is 0 ≡ Some j) alone.is_it at)) alone
+  where
+    same : Some i ≡ Some j → i ≡ j
+    same e = cc
+
+-- what a list has at a place
+pub get_again : {X : Type 0} (xs : List X) (n : ℕ) (d : X) → n < length xs → get_or xs n d ≡ get_or xs n (get_or xs n d)
+get_again xs n d below = sym (get_or_from_slice_get xs n (get_or xs n d) (get_or xs n d) (slice_get-get_or xs n d below))
+
+pub member : {X : Type 0} (xs : List X) (n : ℕ) (d : X) → n < length xs → Contains xs (get_or xs n d)
+member xs n d below = (n, below, sym (get_again xs n d below))
+
+pub not_past : {X : Type 0} (xs : List X) (n : ℕ) → n < length xs → slice_get xs n ≡ None → ⊥
+not_past [] n below e = omega (arith, below)
+not_past (x ∷ xs) zero below e = let f : Some x ≡ None = e in cc
+not_past (x ∷ xs) (suc n) below e = not_past xs n (omega (arith, below)) e

@@ -1,5 +1,5 @@
 -- Lists that a loop has gone over in part.
-use Rattle.std.proofs.Common.{◌≡◌, ◌∙◌, sym, ap, refl, subst, ℕ, ◌+◌, ◌<◌, ◌≤◌, List, [], ◌∷◌, ◌++◌, length, take, get_or, ⊎_elim, true, false}
+use Rattle.std.proofs.Common.{◌≡◌, ◌∙◌, sym, ap, refl, subst, ℕ, ◌+◌, ◌<◌, ◌≤◌, List, [], ◌∷◌, ◌++◌, length, map, take, get_or, ⊎_elim, true, false}
 use Rattle.std.specs.List.{Contains}
 use Rattle.std.proofs.lemmas.List.{append-nil, take_more, take_all}
 use Rattle.std.proofs.lemmas.List.Elements.{Contains-push_cases, Contains-append_right}
@@ -36,6 +36,10 @@ adds_led backs new front eb en = record {
       let none : h.0 ≡ [] = one_in [] h.0 (subst (λ (l : List (List Capture)). Contains l h.0) eb h.1) in
       subst (λ (l : List (List Capture)). Contains l i) (sym en) (in_one front i (h.2 ∙ ap (λ (l : List Capture). front ++ l) none ∙ append-nil front));
 }
+
+pub map_same : {X : Type 0} (xs : List X) → map (λ x. x) xs ≡ xs
+map_same [] = refl
+map_same (x ∷ xs) = ap (λ l. x ∷ l) (map_same xs)
 
 pub no_truth : false ≡ true → ⊥
 no_truth h = cc

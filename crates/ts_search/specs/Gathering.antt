@@ -53,26 +53,20 @@ HitsUnder scene kept k pattern n m =
     (siblings : List ℕ) × AreChildren scene.nodes n siblings
     × HitsIn scene kept k pattern siblings m
 
--- .. in the root alone, or in the children of a node below a number
-abbrev pub HitsUpTo : Scene → (Match → Type 0) → ℕ → Pattern → ℕ → Match → Type 0
-HitsUpTo scene kept k pattern n m =
-    HitsIn scene kept k pattern (0 ∷ []) m
-    ⊎ ((j : ℕ) × (j < n) × HitsUnder scene kept k pattern j m)
-
--- .. in one of the first nodes alone
-abbrev pub HitsFirst : Scene → (Match → Type 0) → ℕ → Pattern → ℕ → Match → Type 0
-HitsFirst scene kept k pattern n m =
-    (j : ℕ) × (j < n) × HitsIn scene kept k pattern (j ∷ []) m
+-- .. in the children of a node, or, of the first node, in the root alone
+abbrev pub HitsBeside : Scene → (Match → Type 0) → ℕ → Pattern → ℕ → Match → Type 0
+HitsBeside scene kept k pattern n m =
+    ((n ≡ 0) × HitsIn scene kept k pattern (0 ∷ []) m) ⊎ HitsUnder scene kept k pattern n m
 
 -- .. in any siblings
 abbrev pub HitsOf : Scene → (Match → Type 0) → ℕ → Pattern → Match → Type 0
 HitsOf scene kept k pattern m =
     (siblings : List ℕ) × AreSiblings scene.nodes siblings × HitsIn scene kept k pattern siblings m
 
--- .. of the patterns below a number
-abbrev pub HitsBelow : Scene → (Match → Type 0) → List Pattern → ℕ → Match → Type 0
-HitsBelow scene kept patterns n m =
-    (k : ℕ) × (k < n) × (pattern : Pattern) × (slice_get patterns k ≡ Some pattern)
+-- .. of one of some patterns
+abbrev pub HitsOfAny : Scene → (Match → Type 0) → List Pattern → Match → Type 0
+HitsOfAny scene kept patterns m =
+    (k : ℕ) × (pattern : Pattern) × (slice_get patterns k ≡ Some pattern)
     × HitsOf scene kept k pattern m
 
 -- all matches of patterns that are kept, unless there are too many

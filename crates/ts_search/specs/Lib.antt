@@ -1,5 +1,7 @@
 pub mod Adding
+pub mod First
 pub mod Gathering
+pub mod Index
 pub mod Lone
 pub mod Looks
 pub mod Memory
@@ -7,4 +9,5 @@ pub mod Rows
 pub mod Single
 pub mod Steps
 pub mod Table
+pub mod Visits
 pub mod Ways

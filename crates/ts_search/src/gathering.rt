@@ -16,17 +16,16 @@ use ts_base::List;
 /// How many matches there may be.
 pub(crate) const MOST: usize = 100_000;
 
-/// Captures in order, each once.
-pub(crate) fn in_order(alloc: Global, captures: &[Capture]) -> Result<List<Capture>, AllocError>
-    ensures members { IfOk result (λ all. (c : Mark) → Contains all c ↔ Contains captures.now c) }
-    ensures order { IfOk result (λ all. IsStrictlySortedBy capture_cmp all) }
+/// Captures in order, each once. Nothing is copied.
+pub(crate) fn in_order(captures: List<Capture>) -> List<Capture>
+    ensures members { (c : Mark) → Contains result c ↔ Contains captures c }
+    ensures order { IsStrictlySortedBy capture_cmp result }
 {
     one_order();
-    let mut items = Vec::new(alloc);
-    items.extend_from_slice(captures)?;
+    let mut items = captures.into_vec();
     items.sort_unstable();
     items.dedup();
-    Ok(List::from_vec(items))
+    List::from_vec(items)
 }
 
 /// Whether there are more matches than there may be.
@@ -57,7 +56,7 @@ pub(crate) fn put_kept<K: Keep>(
     one: Match,
 ) -> Result<(), AllocError>
     ensures adds { OnOk result (Gathers (λ m. (m ≡ one) × K.kept keep.old m) found.old found.new) }
-    ensures same { OnOk result (keep.new ≡ keep.old) }
+    ensures same { keep.new ≡ keep.old }
 {
     if keep.keeps(alloc, &one)? {
         put(found, one)?;

@@ -3,7 +3,10 @@
 #![tactic(auto)]
 
 mod anchors;
+mod first;
 mod gathering;
+mod group;
+mod index;
 mod keep;
 mod limit;
 mod listing;

@@ -1,13 +1,21 @@
 //! The matches of patterns: patterns and a visible tree go in, and the matches come out in order.
-ghost use Rattle.std.specs.Prelude.{◌≡◌, ◌∷◌, [], ◌<◌, ◌≤◌, ◌^◌, length, IfOk, OnOk, IfErr, IsTrue, true};
+ghost use Rattle.std.specs.Prelude.{◌≡◌, ◌↔◌, ◌∷◌, [], ◌<◌, ◌≤◌, ◌^◌, length, slice_get, Some, IfOk, OnOk, IfErr, IsTrue, true};
+ghost use Rattle.ts_query_syntax.specs.declared.read_query.Item.{Item as Part};
 ghost use Rattle.spec_matches.specs.Matches.{AreAll, AreMoreThan, OfPatterns, most_matches};
 ghost use Rattle.ts_search.specs.Adding.{OfSome};
-ghost use Rattle.ts_search.specs.Gathering.{Gathers, GathersSome, Hits, HitsIn, HitsOf, HitsUnder, IsGathered};
+ghost use Rattle.ts_search.specs.Gathering.{Gathers, GathersSome, Hits, HitsBeside, HitsIn, HitsUnder, IsGathered};
+ghost use Rattle.ts_search.specs.Index.{HasRoot, HaveRoot, IsIndex, IsRoot, MayBe};
+ghost use Rattle.ts_search.specs.Rows.{seen_row};
 ghost use Rattle.ts_search.specs.Single.{IsAlone};
+ghost use Rattle.ts_search.specs.Visits.{HitsAtNode, HitsBy, HitsOfGroup, HitsOfNumber};
 
+use crate::first::may_match;
 use crate::gathering::{MOST, in_order, is_full, listed, put_kept};
+use crate::group::{Group, Root};
+use crate::index::groups_of;
 use crate::keep::Keep;
 use crate::limit::Limit;
+use crate::row::Row;
 use crate::sight::Sight;
 use crate::single::{add_single, single};
 use crate::taking::{fully, may_take};
@@ -47,20 +55,25 @@ fn add_match<K: Keep>(
     keep: &mut K,
     pattern: u32,
     siblings: &[u32],
-    found: &Placing,
+    found: Placing,
 ) -> Result<(), AllocError>
-    ensures adds { OnOk result (Gathers (Hits (K.kept keep.old) pattern siblings.now found.now)
+    ensures adds { OnOk result (Gathers (Hits (K.kept keep.old) pattern siblings.now found)
         out.old out.new) }
-    ensures same { OnOk result (keep.new ≡ keep.old) }
+    ensures same { keep.new ≡ keep.old }
 {
     one_order();
-    let Some(place) = found.first else {
+    let Placing {
+        first,
+        near: _,
+        captures,
+    } = found;
+    let Some(place) = first else {
         return Ok(());
     };
     if place >= siblings.len() {
         return Ok(());
     }
-    let captures = in_order(alloc, found.captures.as_slice())?;
+    let captures = in_order(captures);
     let one = Match {
         root: siblings[place],
         pattern,
@@ -77,11 +90,11 @@ fn add_matches<K: Keep>(
     keep: &mut K,
     pattern: u32,
     siblings: &[u32],
-    found: &[Placing],
+    found: Vec<Placing>,
 ) -> Result<(), AllocError>
     ensures adds { OnOk result (Gathers
-        (OfSome (Hits (K.kept keep.old) pattern siblings.now) found.now) out.old out.new) }
-    ensures same { OnOk result (keep.new ≡ keep.old) }
+        (OfSome (Hits (K.kept keep.old) pattern siblings.now) found.items) out.old out.new) }
+    ensures same { keep.new ≡ keep.old }
 {
     for one in found {
         add_match(alloc, out, keep, pattern, siblings, one)?;
@@ -103,7 +116,7 @@ fn add_embedded<K: Keep>(
     ensures adds { OnOk result (GathersSome
         (HitsIn sight.now (K.kept keep.old) number pattern.now siblings.now)
         limit.old.cut limit.new.cut out.old out.new) }
-    ensures same { OnOk result (keep.new ≡ keep.old) }
+    ensures same { keep.new ≡ keep.old }
 {
     let found = fully(
         alloc,
@@ -113,7 +126,7 @@ fn add_embedded<K: Keep>(
         pattern.closed,
         siblings,
     )?;
-    add_matches(alloc, out, keep, number, siblings, found.as_slice())?;
+    add_matches(alloc, out, keep, number, siblings, found)?;
     Ok(())
 }
 
@@ -132,7 +145,7 @@ fn add_limited<K: Keep>(
     ensures adds { OnOk result (GathersSome
         (HitsIn sight.now (K.kept keep.old) number pattern.now siblings.now)
         limit.old.cut limit.new.cut out.old out.new) }
-    ensures same { OnOk result (keep.new ≡ keep.old) }
+    ensures same { keep.new ≡ keep.old }
 {
     if let Some(item) = single(pattern) {
         add_single(alloc, limit, out, keep, sight, number, item, siblings)?;
@@ -160,7 +173,7 @@ fn add_up_to<K: Keep>(
     ensures all { IfOk result (λ done. IsTrue done
         → Gathers (HitsIn sight.now (K.kept keep.old) number pattern.now siblings.now)
         out.old out.new) }
-    ensures same { OnOk result (keep.new ≡ keep.old) }
+    ensures same { keep.new ≡ keep.old }
 {
     let mut limit = Limit { most, cut: false };
     add_limited(
@@ -186,7 +199,7 @@ fn add_siblings<K: Keep>(
     ensures adds { OnOk result (Gathers
         (HitsIn sight.now (K.kept keep.old) number pattern.now siblings.now)
         out.old out.new) }
-    ensures same { OnOk result (keep.new ≡ keep.old) }
+    ensures same { keep.new ≡ keep.old }
 {
     if is_full(out) {
         return Ok(());
@@ -215,7 +228,8 @@ fn add_siblings<K: Keep>(
     Err(AllocError)
 }
 
-/// Adds the matches of a pattern in the children of a node.
+/// Adds the matches of a pattern in the children of a node. Where the pattern's first item can take
+/// none of them, it takes no memory.
 fn add_children<K: Keep>(
     alloc: Global,
     out: &mut BTreeSet<Match>,
@@ -228,8 +242,11 @@ fn add_children<K: Keep>(
     requires { n < length sight.now.nodes }
     ensures adds { OnOk result (Gathers (HitsUnder sight.now (K.kept keep.old) number pattern.now n)
         out.old out.new) }
-    ensures same { OnOk result (keep.new ≡ keep.old) }
+    ensures same { keep.new ≡ keep.old }
 {
+    if !may_match(sight, pattern, n) {
+        return Ok(());
+    }
     let children = sight.children(alloc, n)?;
     add_siblings(
         alloc,
@@ -243,7 +260,29 @@ fn add_children<K: Keep>(
     Ok(())
 }
 
-/// Adds the matches of a pattern, one list of siblings after another.
+/// Adds the matches of a pattern in the list of the root alone, when the root is visited.
+fn add_root<K: Keep>(
+    alloc: Global,
+    out: &mut BTreeSet<Match>,
+    keep: &mut K,
+    sight: &Sight,
+    number: u32,
+    pattern: &Pattern,
+    n: u32,
+) -> Result<(), AllocError>
+    ensures adds { OnOk result (Gathers (λ m. (n ≡ 0)
+        × HitsIn sight.now (K.kept keep.old) number pattern.now (0 ∷ []) m) out.old out.new) }
+    ensures same { keep.new ≡ keep.old }
+{
+    if n > 0 {
+        return Ok(());
+    }
+    add_siblings(alloc, out, keep, sight, number, pattern, &[0])?;
+    Ok(())
+}
+
+/// Adds the matches of a pattern in the list of the root alone, when the root is visited, and in
+/// the children of a node.
 fn add_lists<K: Keep>(
     alloc: Global,
     out: &mut BTreeSet<Match>,
@@ -251,15 +290,15 @@ fn add_lists<K: Keep>(
     sight: &Sight,
     number: u32,
     pattern: &Pattern,
+    n: u32,
 ) -> Result<(), AllocError>
-    ensures adds { OnOk result (Gathers (HitsOf sight.now (K.kept keep.old) number pattern.now)
-        out.old out.new) }
-    ensures same { OnOk result (keep.new ≡ keep.old) }
+    requires { n < length sight.now.nodes }
+    ensures adds { OnOk result (Gathers
+        (HitsBeside sight.now (K.kept keep.old) number pattern.now n) out.old out.new) }
+    ensures same { keep.new ≡ keep.old }
 {
-    add_siblings(alloc, out, keep, sight, number, pattern, &[0])?;
-    for n in 0..sight.count() {
-        add_children(alloc, out, keep, sight, number, pattern, n)?;
-    }
+    add_root(alloc, out, keep, sight, number, pattern, n)?;
+    add_children(alloc, out, keep, sight, number, pattern, n)?;
     Ok(())
 }
 
@@ -278,7 +317,7 @@ fn add_node<K: Keep>(
     requires alone { IsAlone item.now pattern.now }
     ensures adds { OnOk result (Gathers
         (HitsIn sight.now (K.kept keep.old) number pattern.now (n ∷ [])) out.old out.new) }
-    ensures same { OnOk result (keep.new ≡ keep.old) }
+    ensures same { keep.new ≡ keep.old }
 {
     if !may_take(sight, item, n) {
         return Ok(());
@@ -287,45 +326,177 @@ fn add_node<K: Keep>(
     Ok(())
 }
 
-/// Adds the matches of a pattern of one plain item, one node after another.
-fn add_nodes<K: Keep>(
+/// Adds the matches at a node of a pattern of one plain item.
+fn add_alone<K: Keep>(
     alloc: Global,
     out: &mut BTreeSet<Match>,
     keep: &mut K,
     sight: &Sight,
     number: u32,
     pattern: &Pattern,
-    item: &Item,
+    n: u32,
 ) -> Result<(), AllocError>
-    requires alone { IsAlone item.now pattern.now }
-    ensures adds { OnOk result (Gathers (HitsOf sight.now (K.kept keep.old) number pattern.now)
-        out.old out.new) }
-    ensures same { OnOk result (keep.new ≡ keep.old) }
+    requires alone { (item : Part) × IsAlone item pattern.now }
+    ensures adds { OnOk result (Gathers
+        (HitsIn sight.now (K.kept keep.old) number pattern.now (n ∷ [])) out.old out.new) }
+    ensures same { keep.new ≡ keep.old }
 {
-    for n in 0..sight.count() {
-        add_node(alloc, out, keep, sight, number, pattern, item, n)?;
-    }
+    let item = pattern.items.get(0);
+    add_node(alloc, out, keep, sight, number, pattern, item, n)?;
     Ok(())
 }
 
-/// Adds the matches of a pattern.
+/// Adds the matches of a pattern when a node is visited.
 fn add_pattern<K: Keep>(
     alloc: Global,
     out: &mut BTreeSet<Match>,
     keep: &mut K,
     sight: &Sight,
+    root: Root,
     number: u32,
     pattern: &Pattern,
+    n: u32,
 ) -> Result<(), AllocError>
-    ensures adds { OnOk result (Gathers (HitsOf sight.now (K.kept keep.old) number pattern.now)
-        out.old out.new) }
-    ensures same { OnOk result (keep.new ≡ keep.old) }
+    requires root { IsRoot root pattern.now }
+    requires inside { n < length sight.now.nodes }
+    ensures adds { OnOk result (Gathers
+        (HitsBy sight.now (K.kept keep.old) root number pattern.now n) out.old out.new) }
+    ensures same { keep.new ≡ keep.old }
 {
-    if let Some(item) = single(pattern) {
-        add_nodes(alloc, out, keep, sight, number, pattern, item)?;
+    match root {
+        Root::Kind(_) | Root::Node => {
+            add_alone(alloc, out, keep, sight, number, pattern, n)?;
+            Ok(())
+        }
+        Root::Siblings => {
+            add_lists(alloc, out, keep, sight, number, pattern, n)?;
+            Ok(())
+        }
+    }
+}
+
+/// Adds the matches of the pattern of a number when a node is visited.
+fn add_numbered<K: Keep>(
+    alloc: Global,
+    out: &mut BTreeSet<Match>,
+    keep: &mut K,
+    sight: &Sight,
+    patterns: &[Pattern],
+    root: Root,
+    number: u32,
+    n: u32,
+) -> Result<(), AllocError>
+    requires root { HasRoot patterns.now root number }
+    requires inside { n < length sight.now.nodes }
+    ensures adds { OnOk result (Gathers
+        (HitsOfNumber sight.now (K.kept keep.old) patterns.now root n number) out.old out.new) }
+    ensures same { keep.new ≡ keep.old }
+{
+    let pattern = &patterns[number as usize];
+    add_pattern(alloc, out, keep, sight, root, number, pattern, n)?;
+    Ok(())
+}
+
+/// Adds the matches of the patterns of a group when a node is visited.
+fn add_group<K: Keep>(
+    alloc: Global,
+    out: &mut BTreeSet<Match>,
+    keep: &mut K,
+    sight: &Sight,
+    patterns: &[Pattern],
+    group: &Group,
+    n: u32,
+) -> Result<(), AllocError>
+    requires roots { HaveRoot patterns.now group.now }
+    requires inside { n < length sight.now.nodes }
+    ensures adds { OnOk result (Gathers
+        (HitsOfGroup sight.now (K.kept keep.old) patterns.now n group.now) out.old out.new) }
+    ensures same { keep.new ≡ keep.old }
+{
+    for number in group.numbers.as_slice() {
+        add_numbered(alloc, out, keep, sight, patterns, group.root, *number, n)?;
+    }
+    Ok(())
+}
+
+/// Whether a node may be such a root.
+fn may_be(sight: &Sight, root: Root, row: Row) -> bool
+    ensures { IsTrue result ↔ MayBe sight.now.kinds root (seen_row row.entry) }
+{
+    match root {
+        Root::Kind(kind) => sight.is_of_kind(kind, row),
+        Root::Node | Root::Siblings => true,
+    }
+}
+
+/// Adds the matches of the patterns of a group when a node is visited. Where the node cannot be
+/// their root, none of them is looked at.
+fn add_likely<K: Keep>(
+    alloc: Global,
+    out: &mut BTreeSet<Match>,
+    keep: &mut K,
+    sight: &Sight,
+    patterns: &[Pattern],
+    group: &Group,
+    n: u32,
+    row: Row,
+) -> Result<(), AllocError>
+    requires roots { HaveRoot patterns.now group.now }
+    requires node { slice_get sight.now.nodes n ≡ Some (seen_row row) }
+    ensures adds { OnOk result (Gathers
+        (HitsOfGroup sight.now (K.kept keep.old) patterns.now n group.now) out.old out.new) }
+    ensures same { keep.new ≡ keep.old }
+{
+    if !may_be(sight, group.root, row) {
         return Ok(());
     }
-    add_lists(alloc, out, keep, sight, number, pattern)?;
+    add_group(alloc, out, keep, sight, patterns, group, n)?;
+    Ok(())
+}
+
+/// Adds the matches of the patterns of groups when a node is visited.
+fn add_groups<K: Keep>(
+    alloc: Global,
+    out: &mut BTreeSet<Match>,
+    keep: &mut K,
+    sight: &Sight,
+    patterns: &[Pattern],
+    groups: &[Group],
+    n: u32,
+    row: Row,
+) -> Result<(), AllocError>
+    requires index { IsIndex patterns.now groups.now }
+    requires node { slice_get sight.now.nodes n ≡ Some (seen_row row) }
+    ensures adds { OnOk result (Gathers
+        (HitsAtNode sight.now (K.kept keep.old) patterns.now groups.now n) out.old out.new) }
+    ensures same { keep.new ≡ keep.old }
+{
+    for group in groups {
+        add_likely(alloc, out, keep, sight, patterns, group, n, row)?;
+    }
+    Ok(())
+}
+
+/// Adds the matches of the patterns of groups when the node of a number is visited.
+fn visit<K: Keep>(
+    alloc: Global,
+    out: &mut BTreeSet<Match>,
+    keep: &mut K,
+    sight: &Sight,
+    patterns: &[Pattern],
+    groups: &[Group],
+    n: u32,
+) -> Result<(), AllocError>
+    requires index { IsIndex patterns.now groups.now }
+    requires inside { n < length sight.now.nodes }
+    ensures adds { OnOk result (Gathers
+        (HitsAtNode sight.now (K.kept keep.old) patterns.now groups.now n) out.old out.new) }
+    ensures same { keep.new ≡ keep.old }
+{
+    let Some(row) = sight.row(n) else {
+        unreachable!()
+    };
+    add_groups(alloc, out, keep, sight, patterns, groups, n, row)?;
     Ok(())
 }
 
@@ -338,18 +509,12 @@ fn gathered<K: Keep>(
 ) -> Result<BTreeSet<Match>, AllocError>
     requires few { length patterns.now < 2 ^ 32 }
     ensures matches { IfOk result (λ out. IsGathered sight.now (K.kept keep.old) patterns.now out) }
-    ensures same { OnOk result (keep.new ≡ keep.old) }
+    ensures same { keep.new ≡ keep.old }
 {
+    let groups = groups_of(alloc, patterns)?;
     let mut out = BTreeSet::new(alloc);
-    for number in 0..patterns.len() as u32 {
-        add_pattern(
-            alloc,
-            &mut out,
-            keep,
-            sight,
-            number,
-            &patterns[number as usize],
-        )?;
+    for n in 0..sight.count() {
+        visit(alloc, &mut out, keep, sight, patterns, groups.as_slice(), n)?;
     }
     Ok(out)
 }
@@ -371,7 +536,7 @@ pub fn matches<K: Keep>(
     ensures few { IfOk result (λ ms. length ms ≤ most_matches) }
     ensures many { IfErr result (λ e. e ≡ MatchFault.Many → AreMoreThan most_matches (λ m.
         OfPatterns sight.now patterns.now m × K.kept keep.old m)) }
-    ensures same { OnOk result (keep.new ≡ keep.old) }
+    ensures same { keep.new ≡ keep.old }
 {
     one_order();
     let found = gathered(alloc, keep, sight, patterns)?;

@@ -80,7 +80,7 @@ impl<'q, 't, 'g> Sight<'q, 't, 'g> {
     }
 
     /// The number after a node's descendants.
-    fn past(&self, n: u32) -> u32
+    pub(crate) fn past(&self, n: u32) -> u32
         requires { n < length self.now.nodes }
         ensures { IsPast self.now.nodes n result }
     {

@@ -43,14 +43,14 @@ fn add_way<K: Keep>(
     keep: &mut K,
     pattern: u32,
     n: u32,
-    captures: &[Capture],
+    captures: List<Capture>,
 ) -> Result<(), AllocError>
-    ensures adds { OnOk result (Gathers (HitAt (K.kept keep.old) pattern n captures.now)
+    ensures adds { OnOk result (Gathers (HitAt (K.kept keep.old) pattern n captures)
         out.old out.new) }
-    ensures same { OnOk result (keep.new ≡ keep.old) }
+    ensures same { keep.new ≡ keep.old }
 {
     one_order();
-    let captures = in_order(alloc, captures)?;
+    let captures = in_order(captures);
     let one = Match {
         root: n,
         pattern,
@@ -67,14 +67,14 @@ fn add_ways<K: Keep>(
     keep: &mut K,
     pattern: u32,
     n: u32,
-    ways: &[List<Capture>],
+    ways: Vec<List<Capture>>,
 ) -> Result<(), AllocError>
-    ensures adds { OnOk result (Gathers (OfSome (HitAt (K.kept keep.old) pattern n) ways.now)
+    ensures adds { OnOk result (Gathers (OfSome (HitAt (K.kept keep.old) pattern n) ways.items)
         out.old out.new) }
-    ensures same { OnOk result (keep.new ≡ keep.old) }
+    ensures same { keep.new ≡ keep.old }
 {
     for way in ways {
-        add_way(alloc, out, keep, pattern, n, way.as_slice())?;
+        add_way(alloc, out, keep, pattern, n, way)?;
     }
     Ok(())
 }
@@ -92,10 +92,10 @@ fn add_taken<K: Keep>(
 ) -> Result<(), AllocError>
     ensures adds { OnOk result (GathersSome (HitsAt sight.now (K.kept keep.old) pattern item.now n)
         limit.old.cut limit.new.cut out.old out.new) }
-    ensures same { OnOk result (keep.new ≡ keep.old) }
+    ensures same { keep.new ≡ keep.old }
 {
     let ways = item_ways(alloc, limit, sight, item, 0, n)?;
-    add_ways(alloc, out, keep, pattern, n, ways.as_slice())?;
+    add_ways(alloc, out, keep, pattern, n, ways)?;
     Ok(())
 }
 
@@ -113,7 +113,7 @@ pub(crate) fn add_single<K: Keep>(
     ensures adds { OnOk result (GathersSome
         (OfSome (HitsAt sight.now (K.kept keep.old) pattern item.now) siblings.now)
         limit.old.cut limit.new.cut out.old out.new) }
-    ensures same { OnOk result (keep.new ≡ keep.old) }
+    ensures same { keep.new ≡ keep.old }
 {
     for n in siblings {
         add_taken(alloc, limit, out, keep, sight, pattern, item, *n)?;

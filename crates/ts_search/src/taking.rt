@@ -7,13 +7,13 @@ ghost use Rattle.ts_query_syntax.specs.declared.read_query.Item.TheViews.{out-It
 ghost use Rattle.spec_matches.specs.declared.found.Capture.{Capture as Mark};
 ghost use Rattle.spec_matches.specs.declared.placing.Placing.{Placing as Way};
 ghost use Rattle.spec_matches.specs.Embedding.{IsWayFrom};
-ghost use Rattle.spec_matches.specs.Taking.{Embedded, NoneHas};
+ghost use Rattle.spec_matches.specs.Taking.{Embedded, IsField, NoneHas};
 ghost use Rattle.spec_matches.specs.Taking as of_spec;
 ghost use Rattle.ts_search.specs.Adding.{Adds, Yields};
 ghost use Rattle.ts_search.specs.Lone.{FirstTakes, IsLone, IsOnce, WholeOf};
 ghost use Rattle.ts_search.specs.Memory.{WaysOf};
 ghost use Rattle.ts_search.specs.Rows.{seen_row};
-ghost use Rattle.ts_search.specs.Looks.{Looks};
+ghost use Rattle.ts_search.specs.Looks.{AsksLook, IsShallow, Looks};
 ghost use Rattle.ts_search.specs.Ways.{AnyTakes, HasOne, HasRow, HasRows, HasTable, InsideOf, ItemTakes, PassesOf, PlainOf, TakenOf, size_of, slot_of};
 
 use crate::anchors::{closed_start, tied_end};
@@ -241,6 +241,55 @@ pub(crate) fn may_take(sight: &Sight, item: &Item, n: u32) -> bool
     has_field(item.field, row)
 }
 
+/// Whether a test asks of a node no more than its look, where its item has no parts.
+fn asks_look(test: Test) -> bool
+    ensures { IsTrue result ↔ AsksLook test }
+{
+    match test {
+        Test::Any | Test::Named | Test::Kind(_) => true,
+        Test::Choice | Test::Round => false,
+    }
+}
+
+/// Whether an item asks nothing of what is inside a node.
+fn is_shallow(item: &Item) -> bool
+    ensures { IsTrue result ↔ IsShallow item.now }
+{
+    asks_look(item.test) && !item.closed && item.parts.is_empty() && item.without.is_empty()
+}
+
+/// The list that has this list alone.
+fn only(alloc: Global, captures: Vec<Capture>) -> Result<Vec<List<Capture>>, AllocError>
+    ensures { IfOk result (λ ways. ways.items ≡ captures.items ∷ []) }
+{
+    let mut ways = Vec::with_capacity(alloc, 1)?;
+    ways.push(List::from_vec(captures))?;
+    Ok(ways)
+}
+
+/// The captures of each way in which an item that asks nothing of what is inside a node takes one
+/// that has its field: one way, or none.
+fn shallow_ways(
+    alloc: Global,
+    sight: &Sight,
+    item: &Item,
+    n: u32,
+    row: Row,
+) -> Result<Vec<List<Capture>>, AllocError>
+    requires node { slice_get sight.now.nodes n ≡ Some (seen_row row) }
+    requires shallow { IsShallow item.now }
+    requires field { IsField (out-Item item.now).field (seen_row row) }
+    ensures { IfOk result (λ ways. (c : Values Mark)
+        → Contains ways.items c ↔ PlainOf sight.now item.now n c) }
+{
+    if looks(sight, item.test, row) {
+        let own = captured(alloc, item.captures.as_slice(), n, row)?;
+        let ways = only(alloc, own)?;
+        return Ok(ways);
+    }
+    Ok(Vec::new(alloc))
+}
+
 /// Whether there is no embedding.
 fn are_none(found: &[Placing]) -> bool
     ensures { IsTrue result ↔ (found.now ≡ []) }
@@ -357,6 +406,10 @@ fn plain_ways(
     };
     if !has_field(item.field, row) {
         return Ok(Vec::new(alloc));
+    }
+    if is_shallow(item) {
+        let taken = shallow_ways(alloc, sight, item, n, row)?;
+        return Ok(taken);
     }
     let inner = passing(alloc, limit, sight, item, n, row)?;
     if is_none(inner.as_slice()) {

@@ -1,30 +1,43 @@
-use Rattle.std.proofs.Common.{sym, subst, List, [], take, get_or, Bor}
-use Rattle.std.proofs.lemmas.List.{map_more, take_all}
+use Rattle.std.proofs.Common.{◌∙◌, ◌↔◌, sym, subst, List, IsTrue, take, get_or, slice_index_or}
+use Rattle.std.proofs.lemmas.List.{take_all}
+use Rattle.std.proofs.lemmas.List.Elements.{Contains-get_or}
 use Rattle.ts_base.specs.Bytes.{Bytes}
+use Rattle.spec_matches.specs.declared.found.Capture.{Capture}
 use Rattle.ts_predicate.specs.Asking.{AllLeaveOpen}
-use Rattle.ts_predicate.specs.Predicates.{AnswersOf, IsAs}
-use Rattle.ts_predicate.proofs.AskLemmas.{values, text_in, open_more, decided, ended}
+use Rattle.ts_predicate.specs.Predicates.{AnswersOf, IsAs, capture_text, texts_of}
+use Rattle.ts_predicate.proofs.AskLemmas.{open_more, decided, ended, text_named, texts_none, texts_one}
 use Rattle.ts_predicate.proofs.judging.of_texts.Goals as goal
 
-abbrev none : Bor Bytes
-none = record { ref_ptr = (0, 0); now = [] }
+abbrev none : Capture
+none = record { node = 0; name = 0; start = 0; end = 0 }
+
+pub slice-one-requires-clause-ordered : goal.slice-one-requires-clause-ordered
+slice-one-requires-clause-ordered g c = (c.requires.within.1 (slice_index_or c.args.captures.now c.loop-capture.capture-index none) (Contains-get_or c.args.captures.now c.loop-capture.capture-index none c.loop-capture-test.true)).ordered
+
+pub slice-one-requires-clause-from : goal.slice-one-requires-clause-from
+slice-one-requires-clause-from g c = (c.requires.within.1 (slice_index_or c.args.captures.now c.loop-capture.capture-index none) (Contains-get_or c.args.captures.now c.loop-capture.capture-index none c.loop-capture-test.true)).start_on
+
+pub slice-one-requires-clause-to : goal.slice-one-requires-clause-to
+slice-one-requires-clause-to g c = (c.requires.within.1 (slice_index_or c.args.captures.now c.loop-capture.capture-index none) (Contains-get_or c.args.captures.now c.loop-capture.capture-index none c.loop-capture-test.true)).end_on
+
+pub loop-capture-preserved-then-not-is_named : goal.loop-capture-preserved-then-not-is_named
+loop-capture-preserved-then-not-is_named g c = record {
+  matcher = c.loop-capture.invariant.matcher;
+  left_open = subst (λ (l : List Bytes). AllLeaveOpen c.args.predicate.now.some c.args.predicate.now.negated (IsAs (AnswersOf (g.H.Hosts.called c.args.hosts.now) (g.H.Hosts.accepts c.args.hosts.now)) c.args.predicate.now.asked) l) (sym (texts_none c.args.text.now c.args.predicate.now.capture c.args.captures.now c.loop-capture.capture-index none c.loop-capture-test.true (sym c.is_named.ensures ∙ c.if-not-is_named.true))) c.loop-capture.invariant.left_open;
+}
 
 pub returns-then-decides-clause-is : goal.returns-then-decides-clause-is
 returns-then-decides-clause-is g c =
-    decided c.args.predicate.now.some c.args.predicate.now.negated (IsAs (AnswersOf (g.H.Hosts.called c.args.hosts.now) (g.H.Hosts.accepts c.args.hosts.now)) c.args.predicate.now.asked)
-    (values c.args.texts.now) (get_or c.args.texts.now c.loop-text.text-index none).now c.is_as-is.result (text_in c.args.texts.now c.loop-text.text-index none c.loop-text-test.true) c.is_as-is.ensures.is (c.decides.ensures.yes c.if-decides.true)
+    decided c.args.predicate.now.some c.args.predicate.now.negated (IsAs (AnswersOf (g.H.Hosts.called c.args.hosts.now) (g.H.Hosts.accepts c.args.hosts.now)) c.args.predicate.now.asked) (texts_of c.args.text.now c.args.predicate.now.capture c.args.captures.now) (capture_text c.args.text.now (get_or c.args.captures.now c.loop-capture.capture-index none)) c.is_as-is.result (text_named c.args.text.now c.args.predicate.now.capture c.args.captures.now c.loop-capture.capture-index none c.loop-capture-test.true (sym c.is_named.ensures ∙ c.if-not-is_named.false)) (subst (λ (t : Bytes). IsTrue c.is_as-is.result ↔ IsAs (AnswersOf (g.H.Hosts.called c.args.hosts.now) (g.H.Hosts.accepts c.args.hosts.now)) c.args.predicate.now.asked t) c.slice-one.ensures c.is_as-is.ensures.is) (c.decides.ensures.yes c.if-decides.true)
 
-pub loop-text-preserved : goal.loop-text-preserved
-loop-text-preserved g c = record {
+pub loop-capture-preserved : goal.loop-capture-preserved
+loop-capture-preserved g c = record {
   matcher = c.is_as-is.ensures.matcher;
-  left_open = subst (λ (l : List Bytes). AllLeaveOpen c.args.predicate.now.some c.args.predicate.now.negated (IsAs (AnswersOf (g.H.Hosts.called c.args.hosts.now) (g.H.Hosts.accepts c.args.hosts.now)) c.args.predicate.now.asked) l)
-      (sym (map_more (λ (t : Bor Bytes). t.now) c.args.texts.now c.loop-text.text-index none c.loop-text-test.true))
-      (open_more c.args.predicate.now.some c.args.predicate.now.negated (IsAs (AnswersOf (g.H.Hosts.called c.args.hosts.now) (g.H.Hosts.accepts c.args.hosts.now)) c.args.predicate.now.asked)
-      (values (take c.loop-text.text-index c.args.texts.now)) (get_or c.args.texts.now c.loop-text.text-index none).now c.is_as-is.result c.is_as-is.ensures.is (c.decides.ensures.no c.if-decides.false) c.loop-text.invariant.left_open);
+  left_open = subst (λ (l : List Bytes). AllLeaveOpen c.args.predicate.now.some c.args.predicate.now.negated (IsAs (AnswersOf (g.H.Hosts.called c.args.hosts.now) (g.H.Hosts.accepts c.args.hosts.now)) c.args.predicate.now.asked) l) (sym (texts_one c.args.text.now c.args.predicate.now.capture c.args.captures.now c.loop-capture.capture-index none c.loop-capture-test.true (sym c.is_named.ensures ∙ c.if-not-is_named.false)))
+      (open_more c.args.predicate.now.some c.args.predicate.now.negated (IsAs (AnswersOf (g.H.Hosts.called c.args.hosts.now) (g.H.Hosts.accepts c.args.hosts.now)) c.args.predicate.now.asked) (texts_of c.args.text.now c.args.predicate.now.capture (take c.loop-capture.capture-index c.args.captures.now)) (capture_text c.args.text.now (get_or c.args.captures.now c.loop-capture.capture-index none)) c.is_as-is.result (subst (λ (t : Bytes). IsTrue c.is_as-is.result ↔ IsAs (AnswersOf (g.H.Hosts.called c.args.hosts.now) (g.H.Hosts.accepts c.args.hosts.now)) c.args.predicate.now.asked t) c.slice-one.ensures c.is_as-is.ensures.is) (c.decides.ensures.no c.if-decides.false) c.loop-capture.invariant.left_open);
 }
 
 pub returns-clause-is : goal.returns-clause-is
 returns-clause-is g c =
-    ended c.args.predicate.now.some c.args.predicate.now.negated (IsAs (AnswersOf (g.H.Hosts.called c.args.hosts.now) (g.H.Hosts.accepts c.args.hosts.now)) c.args.predicate.now.asked) (values c.args.texts.now)
-    (subst (λ (l : List (Bor Bytes)). AllLeaveOpen c.args.predicate.now.some c.args.predicate.now.negated (IsAs (AnswersOf (g.H.Hosts.called c.args.hosts.now) (g.H.Hosts.accepts c.args.hosts.now)) c.args.predicate.now.asked) (values l))
-    (take_all c.loop-text.text-index c.args.texts.now c.loop-text-test.false) c.loop-text.invariant.left_open)
+    ended c.args.predicate.now.some c.args.predicate.now.negated (IsAs (AnswersOf (g.H.Hosts.called c.args.hosts.now) (g.H.Hosts.accepts c.args.hosts.now)) c.args.predicate.now.asked) (texts_of c.args.text.now c.args.predicate.now.capture c.args.captures.now)
+    (subst (λ (l : List Capture). AllLeaveOpen c.args.predicate.now.some c.args.predicate.now.negated (IsAs (AnswersOf (g.H.Hosts.called c.args.hosts.now) (g.H.Hosts.accepts c.args.hosts.now)) c.args.predicate.now.asked) (texts_of c.args.text.now c.args.predicate.now.capture l)) (take_all c.loop-capture.capture-index c.args.captures.now c.loop-capture-test.false) c.loop-capture.invariant.left_open)

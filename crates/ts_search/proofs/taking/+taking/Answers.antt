@@ -4,12 +4,12 @@ use Rattle.spec_matches.specs.declared.found.Capture.{Capture}
 use Rattle.ts_query_syntax.specs.declared.read_query.Item.{Item}
 use Rattle.spec_matches.specs.Taking.{Embedded, captured}
 use Rattle.ts_search.specs.Rows.{seen_row}
-use Rattle.ts_search.specs.Ways.{InsideOf, ItemTakes}
+use Rattle.ts_search.specs.Ways.{InsideOf, ItemTakes, PlainOf}
 use Rattle.ts_search.proofs.AddLemmas.{one_in, in_one}
 use Rattle.ts_search.proofs.LoneLemmas.{first_all, first_cut, first_more, first_none, free_are, lone_are, whole_are}
 use Rattle.ts_search.proofs.PairLemmas.{fully_are, row_all, row_more, row_none, rows_all, rows_more, rows_none, table_all, table_more, table_none}
 use Rattle.ts_search.proofs.PassLemmas.{bare_are, before_of, choices_are, inside_are, no_field, no_inner, no_node, not_inside, part_are, part_past, passes_any, passes_choice, passes_kind, passes_named, plain_are, ways_past, ways_plain, ways_round}
-use Rattle.ts_search.proofs.YieldLemmas.{yield_all, yield_empty, yield_more, yields_each, yields_empty}
+use Rattle.ts_search.proofs.YieldLemmas.{yield_all, yield_empty, yield_more, yields_each, yields_empty, yields_exact}
 use Rattle.ts_search.proofs.taking.+taking.Goals as goal
 
 pub item_ways-returns-then-is_round : goal.item_ways-returns-then-is_round
@@ -32,6 +32,12 @@ plain_ways-returns-in_default t c = no_node c.args.sight.now c.args.item.now c.a
 
 pub plain_ways-returns-then-not-has_field : goal.plain_ways-returns-then-not-has_field
 plain_ways-returns-then-not-has_field t c = no_field c.args.sight.now c.args.item.now c.args.n (seen_row c.in-Some.row) _ c.new-then-not-has_field.result.items c.new-then-not-has_field.ensures.items c.in-Some.ensures (λ h. let y = c.has_field.ensures.1 h in let f = c.if-not-has_field.true in cc)
+
+pub plain_ways-shallow_ways-requires-clause-field : goal.plain_ways-shallow_ways-requires-clause-field
+plain_ways-shallow_ways-requires-clause-field t c = c.has_field.ensures.0 c.if-not-has_field.false
+
+pub plain_ways-returns-then-is_shallow : goal.plain_ways-returns-then-is_shallow
+plain_ways-returns-then-is_shallow t c = yields_exact (PlainOf c.args.sight.now c.args.item.now c.args.n) _ c.in_ok-taken.taken.items c.in_ok-taken.ensures
 
 pub plain_ways-returns-then-is_none : goal.plain_ways-returns-then-is_none
 plain_ways-returns-then-is_none t c = no_inner c.args.sight.now c.args.item.now c.args.n (seen_row c.in-Some.row) _ _ c.in_ok-inner.inner.items c.in-Some.ensures c.in_ok-inner.ensures ((rw c.as_slice.ensures.value at c.is_none.ensures).0 c.if-is_none.true)
