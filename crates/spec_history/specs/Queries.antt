@@ -49,13 +49,13 @@ IsResult query nodes kept (Found shown) = ShowsMatches query nodes kept shown
 
 -- ---- the queries of a script
 
--- What the query of this number comes to in a tree of the text. Those of its matches are kept of
--- which the predicates hold, by the text and by which texts a host accepts.
-pub record IsResultOf (g : FlatGrammar) (queries : List ReadQuery) (host : ℕ → Bytes → Type 0)
-    (text : Bytes) (t : ParseTree) (number : ℕ) (result : ShownResult) : Type 0 where
+-- What the query of this number comes to in a visible tree of the text. Those of its matches are
+-- kept of which the predicates hold, by the text and by which texts a host accepts.
+pub record IsResultOf (queries : List ReadQuery) (host : ℕ → Bytes → Type 0) (text : Bytes)
+    (nodes : List VisibleNode) (number : ℕ) (result : ShownResult) : Type 0 where
   pub query : ReadQuery
   pub query_is : slice_get queries number ≡ Some query
-  pub result_is : IsResult query (visible_nodes g t) (IsKept host query text) result
+  pub result_is : IsResult query nodes (IsKept host query text) result
 
 -- what queries of these numbers come to in a tree of the text, one after another
 pub record AreResults (g : FlatGrammar) (queries : List ReadQuery) (host : ℕ → Bytes → Type 0)
@@ -64,7 +64,7 @@ pub record AreResults (g : FlatGrammar) (queries : List ReadQuery) (host : ℕ �
   pub count : length results ≡ length numbers
   pub each : (place number : ℕ) (result : ShownResult) → slice_get numbers place ≡ Some number
       → slice_get results place ≡ Some result
-      → IsResultOf g queries host text t number result
+      → IsResultOf queries host text (visible_nodes g t) number result
 
 -- What queries of these numbers find in a text: what they come to in the tree that parsing the
 -- whole text from its start comes to.

@@ -2,6 +2,7 @@
 ghost use Rattle.std.specs.Prelude.{◌≡◌, ℕ, ◌≤◌, List as AnyList, Some, length, slice_get};
 ghost use Rattle.ts_base.specs.Bytes.{Bytes};
 ghost use Rattle.spec_trees.specs.declared.tree.Tree.{Tree as AnyTree};
+ghost use Rattle.spec_trees.specs.VisibleNodes.{visible_nodes};
 ghost use Rattle.spec_runs.specs.Outcomes.{tree_outcome, Fresh};
 ghost use Rattle.ts_script.specs.declared.plan.ScriptStep.{ScriptStep as AnyStep};
 ghost use Rattle.ts_replies.specs.declared.reply.Reply.{Reply as AnyReply};
@@ -25,6 +26,6 @@ pub fn found_one_by_one<F: Finder>(_finder: &F)
         → Fresh (F.form _finder.now) text (tree_outcome tree) → length results ≡ length numbers
         → ((place number : ℕ) (result : AnyResult) → slice_get numbers place ≡ Some number
         → slice_get results place ≡ Some result
-        → F.finds_one _finder.now text tree number result)
+        → F.finds_one _finder.now text (visible_nodes (F.form _finder.now) tree) number result)
         → F.finds _finder.now text numbers results }
 {}

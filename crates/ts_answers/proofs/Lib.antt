@@ -1,1 +1,2 @@
 mod ResultLemmas
+mod KeepingLemmas

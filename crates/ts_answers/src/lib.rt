@@ -3,6 +3,7 @@
 #![tactic(auto)]
 
 mod answering;
+mod keeping;
 mod queries;
 mod showing;
 

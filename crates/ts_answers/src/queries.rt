@@ -7,6 +7,7 @@ use spec_history::Finder;
 use std::alloc::{AllocError, Global};
 use ts_base::List;
 use ts_core::FlatGrammar;
+use ts_match::VisibleTree;
 use ts_node::Node;
 use ts_predicate::Hosts;
 use ts_query_syntax::ReadQuery;
@@ -35,7 +36,7 @@ impl<H: Hosts> Finder for Queries<'_, H> {
     ghost finds = { λ q. Finds q.grammar.now q.queries.now
         (AnswersOf (H.called q.hosts.now) (H.accepts q.hosts.now)) };
 
-    ghost finds_one = { λ q. IsResultOf q.grammar.now q.queries.now
+    ghost finds_one = { λ q. IsResultOf q.queries.now
         (AnswersOf (H.called q.hosts.now) (H.accepts q.hosts.now)) };
 
     ghost one_by_one = { λ q text tree numbers results fresh count each. record {
@@ -43,6 +44,10 @@ impl<H: Hosts> Finder for Queries<'_, H> {
       fresh = fresh;
       results_are = record { count = count; each = each };
     } };
+
+    fn grammar(&self) -> &FlatGrammar {
+        self.grammar
+    }
 
     fn find(
         &self,
@@ -66,10 +71,10 @@ impl<H: Hosts> Finder for Queries<'_, H> {
         &self,
         alloc: Global,
         text: &Text,
-        root: &Node,
+        tree: &VisibleTree,
         number: u32,
     ) -> Result<ShownResult, AllocError> {
         let query = &self.queries[number as usize];
-        answer(alloc, self.grammar, text, root, query, self.hosts)
+        answer(alloc, text, tree, query, self.hosts)
     }
 }

@@ -7,6 +7,7 @@ use spec_history::{Finder, found_one_by_one};
 use std::alloc::{AllocError, Global};
 use std::thread::{self, Threads};
 use ts_base::List;
+use ts_match::VisibleTree;
 use ts_node::Node;
 use ts_replies::ShownResult;
 use ts_text::Text;
@@ -42,7 +43,7 @@ pub(crate) fn found_in<R: Threads + Sync, F: Finder + Sync>(
     }
 }
 
-/// The same, with the queries asked on several threads at once.
+/// The same, with the queries asked on several threads at once, of one visible tree.
 fn found_at_once<R: Threads + Sync, F: Finder + Sync>(
     rt: &R,
     alloc: Global,
@@ -56,8 +57,9 @@ fn found_at_once<R: Threads + Sync, F: Finder + Sync>(
     ensures { IfOk result (F.finds finder.now text.now numbers.now) }
 {
     found_one_by_one(finder);
+    let tree = VisibleTree::new(alloc, finder.grammar(), root)?;
     let mut places = empty_places(alloc, numbers.len())?;
-    find_each(rt, alloc, finder, text, root, numbers, &mut places);
+    find_each(rt, alloc, finder, text, &tree, numbers, &mut places);
     all_found(alloc, places)
 }
 
@@ -69,30 +71,28 @@ fn find_each<R: Threads + Sync, F: Finder + Sync>(
     alloc: Global,
     finder: &F,
     text: &Text,
-    root: &Node,
+    tree: &VisibleTree,
     numbers: &[u32],
     places: &mut [Option<ShownResult>],
 )
-    requires fresh { Fresh (F.form finder.now) text.now (tree_outcome root.now) }
     requires there { All (λ (number : ℕ). number < F.count finder.now) numbers.now }
     requires count { length places.old ≡ length numbers.now }
     ensures count { length places.new ≡ length places.old }
     ensures each { (index number : ℕ) → slice_get numbers.now index ≡ Some number
         → IfSome (slice_index_or places.new index None)
-        (F.finds_one finder.now text.now root.now number) }
+        (F.finds_one finder.now text.now tree.now number) }
 {
     thread::for_each_mut(
         rt,
         places,
         MOST_THREADS,
         &|index: usize, place: &mut Option<ShownResult>|
-            requires { Fresh (F.form finder.now) text.now (tree_outcome root.now)
-                × All (λ (number : ℕ). number < F.count finder.now) numbers.now
+            requires { All (λ (number : ℕ). number < F.count finder.now) numbers.now
                 × (index < length numbers.now) }
             ensures { (number : ℕ) → slice_get numbers.entry.now index ≡ Some number
                 → IfSome place.exit.now
-                (F.finds_one finder.entry.now text.entry.now root.entry.now number) }
-        { *place = finder.find_one(alloc, text, root, numbers[index]).ok() },
+                (F.finds_one finder.entry.now text.entry.now tree.entry.now number) }
+        { *place = finder.find_one(alloc, text, tree, numbers[index]).ok() },
     );
 }
 

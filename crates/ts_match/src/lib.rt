@@ -3,6 +3,8 @@
 #![tactic(auto)]
 
 mod matching;
+mod tree;
 
 pub use matching::matches;
+pub use tree::VisibleTree;
 pub use ts_search::{All, Keep, MatchFault};
