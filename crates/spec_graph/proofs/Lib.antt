@@ -11,3 +11,4 @@ pub mod KeyLemmas
 pub mod BaseLemmas
 pub mod OutcomeLemmas
 pub mod DueLemmas
+pub mod AskedLemmas

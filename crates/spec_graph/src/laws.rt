@@ -1,23 +1,27 @@
 //! Laws of the definitions, each a function without a body: what other crates may use of them.
 
-ghost use Rattle.std.specs.Prelude.{◌≡◌, ℕ, ◌+◌, ◌<◌, ◌≤◌, suc, true, List, [], ◌∷◌, ◌++◌, length, map, reverse};
+ghost use Rattle.std.specs.Prelude.{◌≡◌, ℕ, ◌+◌, ◌<◌, ◌≤◌, suc, true, List, [], ◌∷◌, ◌++◌, length, map, reverse, slice_get, Some};
+ghost use Rattle.spec_grammar.specs.Symbols.{production_at};
+ghost use Rattle.spec_lexing.specs.Lexing.{token};
+ghost use Rattle.spec_tables.specs.Actions.{Act, reduce};
 ghost use Rattle.spec_tables.specs.Fit.{Fit};
 ghost use Rattle.ts_core.specs.declared.flat.Production.{Production};
 ghost use Rattle.ts_core.specs.declared.symbol.Symbol.{Symbol as AnySymbol};
 ghost use Rattle.spec_trees.specs.declared.tree.Tree.{Tree};
 ghost use Rattle.spec_trees.specs.Trees.{is_extra_node, span_of, all_spans, tree_depth, bare};
-ghost use Rattle.spec_trees.specs.Made.{form_of, filling, BeginsFilled, most_depth};
+ghost use Rattle.spec_trees.specs.Made.{form_of, filling, step_symbols, BeginsFilled, most_depth};
 ghost use Rattle.spec_trees.specs.Choice.{Better};
-ghost use Rattle.spec_runs.specs.Configurations.{Configuration, stack_symbols};
+ghost use Rattle.spec_runs.specs.Configurations.{Configuration, stack_symbols, AreExtras};
+ghost use Rattle.spec_runs.specs.Moves.{StandsBefore};
 ghost use Rattle.spec_runs.specs.Runs.{Run, IsReached, ComesTooDeep, AcceptsTree, StopsAt};
 ghost use Rattle.spec_runs.specs.Outcomes.{SomeIsTooDeep, SomeAccepts, SomeStopsAt, IsBestTree, IsLastStop};
 ghost use Rattle.spec_graph.specs.declared.graph.Head.{Head as AnyHead};
 ghost use Rattle.spec_graph.specs.declared.graph.Link.{Link as AnyLink};
-ghost use Rattle.spec_graph.specs.States.{LeadsTo, AreStates, AreRanks};
-ghost use Rattle.spec_graph.specs.Laying.{Parsing, from_start, PassesAt, ReducesAt, extra_tree, PassesTree, node_made, Lays, CanMakeNode, IsBegun, ComesOver};
+ghost use Rattle.spec_graph.specs.States.{LeadsTo, ShareState, AreStates, AreRanks};
+ghost use Rattle.spec_graph.specs.Laying.{Parsing, from_start, SeesAt, PassesAt, ReducesAt, extra_tree, PassesTree, node_made, Lays, CanMakeNode, IsBegun, ComesOver};
 ghost use Rattle.spec_graph.specs.Replacing.{AreAlike, Replaces, ReplacesBoth, AllReplace, depth_over};
 ghost use Rattle.spec_graph.specs.Keys.{Key, Earlier, IsNextKey, LaysBefore};
-ghost use Rattle.spec_graph.specs.Links.{IsAt, way_trees, HasWay, IsGraph, IsWholeTo, IsDue, way_depth, AreDone, HasNoneDue, HasGrown, AreAdded, IsOpened, HasStood};
+ghost use Rattle.spec_graph.specs.Links.{IsAt, IsWay, way_trees, HasWay, IsGraph, IsWholeTo, IsDue, way_depth, AreDone, HasNoneDue, HasGrown, AreAdded, IsOpened, HasStood};
 ghost use Rattle.spec_graph.specs.Outcomes.{GraphAccepts, GraphStopsAt, GraphIsDeep, IsBestOfGraph, IsLastOfGraph};
 ghost use Rattle.spec_graph.specs.Laws.{GraphLaws};
 
@@ -45,7 +49,7 @@ fn laws_hold()
 }
 
 /// What runs reach is laid, from the start and over the stack from which runs go on; and what is
-/// laid is reached, once the extras behind it are passed.
+/// laid is reached, once the extras behind it are passed. It reaches from place to place.
 pub fn runs_lay()
     ensures start { (P : Parsing) → Fit P.grammar → AreStates P.grammar P.goto → (c : Configuration)
         → IsReached P.grammar P.text c
@@ -60,6 +64,9 @@ pub fn runs_lay()
         → (c : Configuration) → IsReached P.grammar P.text c → IsBegun P c
         → (read now : List ℕ) (from place : ℕ) (w : List Tree)
         → Lays P read from w place now → Lays (from_start P) read from w place now }
+    ensures spans { (P : Parsing) → Fit P.grammar → AreStates P.grammar P.goto
+        → (read now : List ℕ) (from place : ℕ) (w : List Tree)
+        → Lays (from_start P) read from w place now → from + all_spans w ≡ place }
 {
     laws_hold();
 }
@@ -135,7 +142,8 @@ pub fn links_pack()
     laws_hold();
 }
 
-/// An extra that is laid alone is passed there, and no symbol comes with it.
+/// An extra that is laid alone is passed there, and no symbol comes with it. What is passed after
+/// some symbols is passed after all that lead to the same state.
 pub fn extras_are_passed()
     ensures tree { (P : Parsing) → Fit P.grammar → AreStates P.grammar P.goto
         → (read now : List ℕ) (from place : ℕ) (t : Tree)
@@ -145,6 +153,10 @@ pub fn extras_are_passed()
         → (read now : List ℕ) (from place : ℕ) (t : Tree)
         → Lays (from_start P) read from (t ∷ []) place now → is_extra_node t ≡ true
         → now ≡ read }
+    ensures shared { (P : Parsing) → Fit P.grammar → AreStates P.grammar P.goto
+        → (read other : List ℕ) (place : ℕ) (s : AnySymbol) (pad size : ℕ)
+        → ShareState P.goto read other → PassesAt P read place s pad size
+        → PassesAt P other place s pad size }
 {
     laws_hold();
 }
@@ -215,6 +227,32 @@ pub fn keys_pass()
         (record { look = look; begins = b; rank = i }))
         → IsWholeTo P rank heads links
         (record { look = look; begins = begins; rank = most }) }
+{
+    laws_hold();
+}
+
+/// A reduction that stays on the token seen at a head of a sound graph is due, where a way leads
+/// down from there over extras and then over so many trees as it takes. These fill its steps, and
+/// an item stands before its rule's symbol below them.
+pub fn reductions_are_due()
+    ensures { (P : Parsing) → Fit P.grammar → AreStates P.grammar P.goto
+        → (rank : ℕ → ℕ) (heads : List AnyHead) (links : List AnyLink)
+        → IsGraph (from_start P) heads links
+        → (k : Key) (number left : ℕ) (p : Production) (h e b : ℕ) (outer inner : List AnyLink)
+        (read : List ℕ) (s : AnySymbol) (pad size : ℕ)
+        → IsAt (from_start P) heads h read k.look
+        → SeesAt (from_start P) read k.look (token s pad size)
+        → Act P.grammar read s.0 (reduce number)
+        → production_at P.grammar number ≡ Some (left, p) → k.rank ≡ rank left
+        → IsWay links h outer e → AreExtras (way_trees outer) → IsWay links e inner b
+        → 0 < length (way_trees inner) → BeginsFilled (way_trees inner)
+        → BeginsFilled (reverse (way_trees inner))
+        → length (filling (way_trees inner)) ≡ length p.steps
+        → ((low : AnyHead) → slice_get heads b ≡ Some low → low.place ≡ k.begins)
+        → (over now : List ℕ) × (end : ℕ)
+        × IsDue (from_start P) rank heads links k number left p h e b outer inner over now end
+        × (filling (way_trees inner) ≡ reverse (step_symbols p))
+        × StandsBefore P.grammar now left }
 {
     laws_hold();
 }

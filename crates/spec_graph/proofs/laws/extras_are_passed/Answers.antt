@@ -1,5 +1,5 @@
 use Rattle.std.proofs.Common.{[], ◌∷◌, refl}
-use Rattle.spec_graph.proofs.SightLemmas.{Facts}
+use Rattle.spec_graph.proofs.SightLemmas.{Facts, passes_shared}
 use Rattle.spec_graph.specs.Laying.{from_start}
 use Rattle.spec_graph.proofs.LayLemmas.{extras_same}
 use Rattle.spec_graph.proofs.GraphLemmas.{passes_tree}
@@ -15,3 +15,8 @@ pub returns-clause-same : goal.returns-clause-same
 returns-clause-same c P fit states read now from place t l e =
     let facts : Facts P = record { laws = c.laws_hold.ensures; fit = fit; states = states } in
     extras_same (from_start P) (start_facts P facts) (start_base P facts) (t ∷ []) read from place now (e, tt) l
+
+pub returns-clause-shared : goal.returns-clause-shared
+returns-clause-shared c P fit states read other place s pad size share passes =
+    let facts : Facts P = record { laws = c.laws_hold.ensures; fit = fit; states = states } in
+    passes_shared P facts read other share place s pad size passes

@@ -1,0 +1,13 @@
+pub mod SmallLemmas
+pub mod FactLemmas
+pub mod LineLemmas
+pub mod SpanLemmas
+pub mod WayLemmas
+pub mod NodeLemmas
+pub mod AskLemmas
+pub mod MadeLemmas
+pub mod GatherLemmas
+pub mod CallLemmas
+pub mod AddLemmas
+pub mod FitLemmas
+pub mod DoneLemmas

@@ -1,0 +1,52 @@
+-- What the reductions of one key come to.
+use Rattle.std.specs.Prelude.{◌≡◌, ℕ, ◌<◌, List}
+use Rattle.ts_base.specs.Bytes.{Bytes}
+use Rattle.ts_core.specs.declared.flat.Production.{Production}
+use Rattle.spec_trees.specs.Made.{most_depth}
+use Rattle.spec_graph.specs.declared.graph.Link.{Link}
+use Rattle.spec_graph.specs.Keys.{Key}
+use Rattle.spec_graph.specs.Links.{IsDue, way_depth, AreDone, HasGrown, AreAdded}
+use Rattle.ts_graph.specs.declared.view.GraphView.{GraphView}
+use Rattle.ts_table.specs.declared.view.ParseTable.{ParseTable}
+use Rattle.ts_table.specs.Ranks.{unit_rank}
+use Rattle.ts_reductions.specs.declared.reducing.Reduced.{Reduced}
+use Rattle.ts_reductions.specs.declared.reducing.Reduced.TheVariants.{Done, TooDeep}
+use Rattle.ts_laying.specs.Sound.{bare_links}
+use Rattle.ts_reductions.specs.Sound.{parsing_of, IsSoundBy}
+use Rattle.ts_laying.specs.Laying.{Grows}
+
+-- Some reduction of the key in the graph would make a node that is too deep.
+pub record IsDeepAt (t : ParseTable) (text : Bytes) (g : GraphView) (k : Key) : Type 0 where
+  pub number : ℕ
+  pub left : ℕ
+  pub production : Production
+  pub top : ℕ
+  pub middle : ℕ
+  pub bottom : ℕ
+  pub outer : List Link
+  pub inner : List Link
+  pub over : List ℕ
+  pub now : List ℕ
+  pub end : ℕ
+  pub due : IsDue (parsing_of t text) (unit_rank t.grammar) g.heads (bare_links g.links) k
+      number left production top middle bottom outer inner over now end
+  pub deep : most_depth < way_depth (parsing_of t text) number left inner
+
+-- All reductions of the key that the graph had were done, none of which was too deep. The graph is
+-- sound still, and has grown; and all that is laid on new heads before a key at the same place has
+-- a link.
+pub record AreReduced (t : ParseTable) (text : Bytes) (old new : GraphView) (k : Key)
+    : Type 0 where
+  pub sound : IsSoundBy t text new
+  pub grows : Grows old new
+  pub done : AreDone (parsing_of t text) (unit_rank t.grammar) old.heads (bare_links old.links)
+      new.heads (bare_links new.links) k
+  pub grown : HasGrown (parsing_of t text) old.heads (bare_links old.links)
+      new.heads (bare_links new.links)
+  pub added : (m : Key) → m.look ≡ k.look → AreAdded (parsing_of t text) (unit_rank t.grammar)
+      old.heads new.heads (bare_links new.links) m
+
+-- What is said of the key. Where a node would be too deep, the graph stays as it was.
+abbrev pub Reduces : ParseTable → Bytes → GraphView → GraphView → Key → Reduced → Type 0
+Reduces t text old new k Done = AreReduced t text old new k
+Reduces t text old new k TooDeep = IsDeepAt t text old k × (new ≡ old)
