@@ -4,10 +4,11 @@
     python3 bench/queries.py [PROGRAM [SECONDS]]
 
 PROGRAM is `crates/ts_cli/out/ts_cli` if none is given, which `./hemshale build` makes. What takes longer than SECONDS
-by the clock (300 if none are given) or more than 4 GiB of memory is stopped, and that is said. Each query is asked
-once in a replay of one document. Its time is the processor time of that replay less that of one that loads the query
-and asks nothing, so that tables, parsing and the printed tree do not count, but the printed matches do. The inputs,
-which this script writes:
+by the clock (300 if none are given) or more than 4 GiB of memory is stopped, and that is said. Each query is asked in
+steps of its own in a replay of one document. The time of a step is the processor time of a replay with nine of them
+less that of one with one, by eight, and of both the quickest of three counts, so that tables, parsing and the printed tree do not count, but the visible tree
+that each step makes and the printed matches do. The four queries of calls are asked together in one step, too, and
+one of two patterns whose matches come in turns. The inputs, which this script writes:
 
 - a C-like text of 1 MiB, with one function of 65,000 calls: some 1,100,000 visible nodes
 - up to 10,000 siblings of two kinds: all of one, and four of one and one of the other in turn
@@ -26,6 +27,8 @@ from memory import most, started, under_time
 
 TOP = os.path.dirname(os.path.dirname(os.path.abspath(__file__)))
 TEXT_BYTES = 1_048_576
+FEW, MANY = 1, 9
+ROUNDS = 3
 MOST_MEMORY = 4 << 30
 SIBLINGS = {
     "name": "siblings",
@@ -47,6 +50,7 @@ CALL_QUERIES = [
     '((call function: (identifier) @f) (#match? @f "^g"))',
     "(expression_statement (call (arguments . (identifier) @first)) @c)",
 ]
+TURNS_QUERY = '((call function: (identifier) @f) (#match? @f "^g")) (arguments) @a'
 SIBLING_QUERY = "(s (x)* @a (x) @b (y)? @c)"
 NESTED_QUERY = "(_ (_ (_) @c))"
 
@@ -95,11 +99,10 @@ def ended(child, seconds):
         time.sleep(0.05)
 
 
-def replayed(program, grammar, folder, query, asks, seconds):
-    """The seconds of processor time, the most memory in MiB and what was printed."""
-    script = line(op="open", path=f"{folder}/text") + line(op="load", source=query)
-    if asks:
-        script += line(client=0, op="query", document=0, queries=[0])
+def replayed(program, grammar, folder, queries, asks, seconds):
+    """The seconds of processor time, the most memory in MiB and what was printed of so many steps with the queries."""
+    script = line(op="open", path=f"{folder}/text") + "".join(line(op="load", source=query) for query in queries)
+    script += line(client=0, op="query", document=0, queries=list(range(len(queries)))) * asks
     with open(f"{folder}/script", "w") as out:
         out.write(script)
     with open(f"{folder}/printed", "wb") as printed:
@@ -113,11 +116,17 @@ def replayed(program, grammar, folder, query, asks, seconds):
     return used.ru_utime + used.ru_stime, most(f"{folder}/most") >> 20, lines
 
 
+def quickest(*what):
+    """The quickest of some replays."""
+    return min((replayed(*what) for _ in range(ROUNDS)), key=lambda it: it[0])
+
+
 def matches_in(printed):
     """How many matches the last line tells."""
     reply = json.loads(printed[-1])
-    results = reply.get("results", [reply["reply"]])[0]
-    return results if isinstance(results, str) else f"{len(results):,} matches"
+    if "results" not in reply:
+        return reply["reply"]
+    return " and ".join(many if isinstance(many, str) else f"{len(many):,}" for many in reply["results"]) + " matches"
 
 
 def measure(program, name, grammar, text, queries, seconds):
@@ -129,21 +138,17 @@ def measure(program, name, grammar, text, queries, seconds):
                 json.dump(grammar, out)
         with open(f"{folder}/text", "w") as out:
             out.write(text)
-        for query in queries:
+        for asked in queries:
             try:
-                none = replayed(program, path, folder, query, False, seconds)
+                few = quickest(program, path, folder, asked, FEW, seconds)
+                many = quickest(program, path, folder, asked, MANY, seconds)
             except Stopped as why:
-                print(f"{name}: {why} without a query", flush=True)
-                return
-            told = f"{name}, {none[2][0].count(b'],[') + 1:,} nodes, {query}"
-            try:
-                found = replayed(program, path, folder, query, True, seconds)
-            except Stopped as why:
-                print(f"{told}: {why}", flush=True)
+                print(f"{name}, {asked}: {why}", flush=True)
                 continue
+            nodes, step = few[2][0].count(b"],[") + 1, (many[0] - few[0]) / (MANY - FEW)
             print(
-                f"{told}: {found[0] - none[0]:.2f} s, {matches_in(found[2])}, {found[1]} MiB"
-                f" ({none[0]:.2f} s and {none[1]} MiB without it)",
+                f"{name}, {nodes:,} nodes, {asked}: {step:.3f} s a step, {matches_in(few[2])}"
+                f" ({few[0]:.2f} s and {few[1]} MiB with one step)",
                 flush=True,
             )
 
@@ -151,11 +156,12 @@ def measure(program, name, grammar, text, queries, seconds):
 def main():
     program = sys.argv[1] if len(sys.argv) > 1 else f"{TOP}/crates/ts_cli/out/ts_cli"
     seconds = int(sys.argv[2]) if len(sys.argv) > 2 else 300
-    measure(program, "calls", f"{TOP}/examples/clike.json", calls(), CALL_QUERIES, seconds)
+    alone = [[query] for query in CALL_QUERIES]
+    measure(program, "calls", f"{TOP}/examples/clike.json", calls(), [*alone, CALL_QUERIES, [TURNS_QUERY]], seconds)
     for siblings in (100, 1_000, 10_000):
-        measure(program, "one kind", SIBLINGS, "a" * siblings, [SIBLING_QUERY], seconds)
-        measure(program, "two kinds", SIBLINGS, "aaaaz" * (siblings // 5), [SIBLING_QUERY], seconds)
-    measure(program, "nested", f"{TOP}/examples/json.json", nested(100_000), [NESTED_QUERY], seconds)
+        measure(program, "one kind", SIBLINGS, "a" * siblings, [[SIBLING_QUERY]], seconds)
+        measure(program, "two kinds", SIBLINGS, "aaaaz" * (siblings // 5), [[SIBLING_QUERY]], seconds)
+    measure(program, "nested", f"{TOP}/examples/json.json", nested(100_000), [[NESTED_QUERY]], seconds)
 
 
 if __name__ == "__main__":
