@@ -6,9 +6,10 @@
 PROGRAM is `crates/ts_cli/out/ts_cli` if none is given, which `./hemshale build` makes. What takes longer than SECONDS
 by the clock (300 if none are given) or more than 4 GiB of memory is stopped, and that is said. Each query is asked in
 steps of its own in a replay of one document. The time of a step is the processor time of a replay with nine of them
-less that of one with one, by eight, and of both the quickest of three counts, so that tables, parsing and the printed tree do not count, but the visible tree
-that each step makes and the printed matches do. The four queries of calls are asked together in one step, too, and
-one of two patterns whose matches come in turns. The inputs, which this script writes:
+less that of one with one, by eight, and of both the quickest of three counts, so that tables, parsing and the printed
+tree do not count, but the visible tree that each step makes and the printed matches do. The four queries of calls are
+asked together in one step, too, and one of two patterns whose matches come in turns. The inputs, which this script
+writes:
 
 - a C-like text of 1 MiB, with one function of 65,000 calls: some 1,100,000 visible nodes
 - up to 10,000 siblings of two kinds: all of one, and four of one and one of the other in turn

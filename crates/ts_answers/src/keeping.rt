@@ -1,5 +1,5 @@
-//! The predicates of a query, pattern by pattern: a query, a text and what a host answers go in, and
-//! which matches are kept comes out.
+//! The predicates of a query, pattern by pattern: a query, a text and what a host answers go in,
+//! and which matches are kept comes out.
 ghost use Rattle.std.specs.Prelude.{◌≡◌, IfOk};
 ghost use Rattle.ts_predicate.specs.Predicates.{AnswersOf, IsKept};
 

@@ -100,11 +100,6 @@ values = map (λ t. t.now)
 pub text_there : (texts : List (Bor Bytes)) (k : ℕ) (d : Bor Bytes) → k < length texts → slice_get (values texts) k ≡ Some (get_or texts k d).now
 text_there texts k d low = slice_get-map (λ (t : Bor Bytes). t.now) texts k ∙ ap (option_map (λ (t : Bor Bytes). t.now)) (slice_get-get_or texts k d low)
 
-pub text_in : (texts : List (Bor Bytes)) (k : ℕ) (d : Bor Bytes) → k < length texts → Contains (values texts) (get_or texts k d).now
-text_in texts k d low =
-    let at = text_there texts k d low in
-    (k, slice_get_within (values texts) k (get_or texts k d).now at, get_or_from_slice_get (values texts) k (get_or texts k d).now (get_or texts k d).now at)
-
 -- ---- the texts that a capture names
 
 module _ (text : Bytes) (name : ℕ) (captures : List Capture) (n : ℕ) (d : Capture) (low : n < length captures) where

@@ -1,5 +1,5 @@
 //! The visible tree as a search sees it: its nodes by their numbers, and the kinds of a query.
-ghost use Rattle.std.specs.Prelude.{◌≡◌, ◌↔◌, ◌<◌, ℕ, IsTrue, IfOk, None, Some, MatchOption, [], length, slice_get};
+ghost use Rattle.std.specs.Prelude.{◌≡◌, ◌↔◌, ◌<◌, IsTrue, IfOk, None, Some, MatchOption, [], length, slice_get};
 ghost use Rattle.spec_matches.specs.Siblings.{AreChildren, named_at, nameds};
 ghost use Rattle.spec_matches.specs.Taking.{IsField, IsOfKind};
 ghost use Rattle.ts_cursor.specs.Linked.{IsPast};

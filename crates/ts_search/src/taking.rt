@@ -6,7 +6,6 @@ ghost use Rattle.ts_query_syntax.specs.declared.read_query.Test.TheVariants as t
 ghost use Rattle.ts_query_syntax.specs.declared.read_query.Item.TheViews.{out-Item};
 ghost use Rattle.spec_matches.specs.declared.found.Capture.{Capture as Mark};
 ghost use Rattle.spec_matches.specs.declared.placing.Placing.{Placing as Way};
-ghost use Rattle.spec_matches.specs.Embedding.{IsWayFrom};
 ghost use Rattle.spec_matches.specs.Taking.{Embedded, IsField, NoneHas};
 ghost use Rattle.spec_matches.specs.Taking as of_spec;
 ghost use Rattle.ts_search.specs.Adding.{Adds, Yields};
