@@ -9,7 +9,6 @@ use Rattle.ts_query_syntax.specs.declared.read_query.Quantity.{Quantity}
 use Rattle.ts_query_syntax.specs.declared.read_query.Quantity.TheVariants.{One, Optional, Many, Several}
 use Rattle.ts_query_syntax.specs.declared.read_query.Item.{Item}
 use Rattle.ts_query_syntax.specs.declared.read_query.Item.TheOpen.{Item-F}
-use Rattle.ts_query_syntax.specs.declared.read_query.Item.TheViews.{out-Item}
 use Rattle.ts_query_syntax.specs.declared.read_query.Item.TheFolds.{fold-Item}
 use Rattle.spec_matches.specs.declared.found.Capture.{Capture}
 use Rattle.spec_matches.specs.declared.placing.Slot.{Slot}

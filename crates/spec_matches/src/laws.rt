@@ -2,6 +2,8 @@
 ghost use Rattle.std.specs.Prelude.{◌≡◌, ◌↔◌, Bool, List, true};
 ghost use Rattle.std.specs.List.{Contains};
 ghost use Rattle.std.specs.List.Sorted.{IsStrictlySortedBy};
+ghost use Rattle.std.specs.Ordering.{nat_cmp, ordering_then};
+ghost use Rattle.std.specs.Cmp.Lexicographic.{slice_cmp};
 ghost use Rattle.spec_trees.specs.declared.visible.VisibleNode.{VisibleNode};
 ghost use Rattle.ts_query_syntax.specs.declared.read_query.ReadQuery.{ReadQuery as Asked};
 ghost use Rattle.spec_matches.specs.declared.found.Capture.{Capture as Mark};
@@ -26,4 +28,15 @@ pub fn one_order()
         → ((m : Hit) → Contains xs m ↔ Contains ys m) → xs ≡ ys }
     ensures one_capture { (x y : Mark) → capture_eq x y ≡ true → x ≡ y }
     ensures one_match { (x y : Hit) → match_eq x y ≡ true → x ≡ y }
+{}
+
+/// Matches stand in the order of their roots, then of their patterns, and then of their captures;
+/// captures in that of their nodes, then of their names, and then of their ranges.
+pub fn order_by_parts()
+    ensures matches { (x y : Hit) → match_cmp x y ≡ ordering_then (nat_cmp x.root y.root)
+        (ordering_then (nat_cmp x.pattern y.pattern)
+        (slice_cmp capture_cmp x.captures y.captures)) }
+    ensures captures { (x y : Mark) → capture_cmp x y ≡ ordering_then (nat_cmp x.node y.node)
+        (ordering_then (nat_cmp x.name y.name)
+        (ordering_then (nat_cmp x.start y.start) (nat_cmp x.end y.end))) }
 {}

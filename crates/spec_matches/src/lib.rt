@@ -7,6 +7,6 @@ mod placing;
 mod scene;
 
 pub use found::{Capture, Match};
-pub use laws::{one_list, one_order};
+pub use laws::{one_list, one_order, order_by_parts};
 pub use placing::{Placing, Run, Slot};
 pub use scene::Scene;

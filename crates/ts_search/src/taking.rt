@@ -557,7 +557,8 @@ fn first_ways(
     Ok(out)
 }
 
-/// The captures of each way in which one of some branches takes a node.
+/// The captures of each way in which one of some branches takes a node, those of several branches
+/// once.
 #[cycle(taking)]
 fn choices(
     alloc: Global,
@@ -574,7 +575,7 @@ fn choices(
         let more = item_ways(alloc, limit, sight, branch, 0, n)?;
         add_all(&mut out, more)?;
     }
-    Ok(out)
+    Ok(once_each(out))
 }
 
 /// The ways of an item, at a place in its round, at each of some siblings.

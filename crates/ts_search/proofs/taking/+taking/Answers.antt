@@ -4,7 +4,7 @@ use Rattle.spec_matches.specs.declared.found.Capture.{Capture}
 use Rattle.ts_query_syntax.specs.declared.read_query.Item.{Item}
 use Rattle.spec_matches.specs.Taking.{Embedded, captured}
 use Rattle.ts_search.specs.Rows.{seen_row}
-use Rattle.ts_search.specs.Ways.{InsideOf, ItemTakes, PlainOf}
+use Rattle.ts_search.specs.Ways.{AnyTakes, InsideOf, ItemTakes, PlainOf}
 use Rattle.ts_search.proofs.AddLemmas.{one_in, in_one}
 use Rattle.ts_search.proofs.LoneLemmas.{first_all, first_cut, first_more, first_none, free_are, lone_are, whole_are}
 use Rattle.ts_search.proofs.PairLemmas.{fully_are, row_all, row_more, row_none, rows_all, rows_more, rows_none, table_all, table_more, table_none}
@@ -123,8 +123,10 @@ choices-loop-branch-preserved t c =
 
 pub choices-returns : goal.choices-returns
 choices-returns t c =
-    choices_are c.args.sight.now c.args.branches.now c.args.n _ _ c.loop-branch.out.items (yield_all (λ (i : Item) (cs : List Capture). ItemTakes c.args.sight.now i 0 c.args.n cs) c.args.branches.now c.loop-branch.branch-index _ _ _ c.loop-branch-test.false
-    c.loop-branch.invariant)
+    yields_each (AnyTakes c.args.sight.now c.args.branches.now c.args.n) _ _ c.loop-branch.out.items c.once_each.result.items
+    (choices_are c.args.sight.now c.args.branches.now c.args.n _ _ c.loop-branch.out.items (yield_all (λ (i : Item) (cs : List Capture). ItemTakes c.args.sight.now i 0 c.args.n cs) c.args.branches.now c.loop-branch.branch-index _ _ _ c.loop-branch-test.false
+    c.loop-branch.invariant))
+    c.once_each.ensures
 
 pub row-loop-n-init : goal.row-loop-n-init
 row-loop-n-init t c = row_none c.args.sight.now c.args.item.now c.args.at _ c.in_ok-out.out.items c.in_ok-out.ensures.items
