@@ -1,6 +1,7 @@
 pub mod SmallLemmas
 pub mod FactLemmas
 pub mod LineLemmas
+pub mod RankLemmas
 pub mod SpanLemmas
 pub mod WayLemmas
 pub mod NodeLemmas

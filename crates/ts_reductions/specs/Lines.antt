@@ -2,12 +2,12 @@
 use Rattle.std.specs.Prelude.{◌≡◌, ℕ, ◌≤◌, Bool, true, false, List, length, slice_get, Some}
 use Rattle.ts_core.specs.declared.flat.FlatGrammar.{FlatGrammar}
 use Rattle.ts_core.specs.declared.flat.Production.{Production}
-use Rattle.spec_grammar.specs.Symbols.{all_productions, production_at, symbol_count}
+use Rattle.spec_grammar.specs.Symbols.{all_productions, production_at}
 use Rattle.spec_trees.specs.Made.{Form, of_rule, of_first, of_next, form_of, most_span}
 use Rattle.ts_table.specs.declared.view.ParseTable.{ParseTable}
-use Rattle.ts_table.specs.Ranks.{unit_rank}
 use Rattle.ts_reductions.specs.declared.lines.Line.{Line}
 use Rattle.ts_reductions.specs.declared.setting.Setting.{Setting}
+use Rattle.ts_reductions.specs.Ranking.{AreRanksOf}
 
 -- whether a production of this form lengthens a repetition
 abbrev pub lengthens_by : Form → Bool
@@ -30,11 +30,6 @@ pub record AreLinesUpTo (g : FlatGrammar) (count : ℕ) (lines : List Line) : Ty
 -- there is a line for each production, in their order
 abbrev pub HasAllLines : FlatGrammar → List Line → Type 0
 HasAllLines g lines = AreLinesUpTo g (length (all_productions g)) lines
-
--- the ranks of all symbols, by their numbers
-pub record AreRanksOf (g : FlatGrammar) (ranks : List ℕ) : Type 0 where
-  pub many : length ranks ≡ symbol_count g
-  pub each : (symbol rank : ℕ) → slice_get ranks symbol ≡ Some rank → rank ≡ unit_rank g symbol
 
 -- the setting is that of the table, and of a text of this size, which is not too long
 pub record IsSetting (t : ParseTable) (size : ℕ) (s : Setting) : Type 0 where

@@ -8,6 +8,7 @@ mod gathering;
 mod laws;
 mod lines;
 mod making;
+mod ranks;
 mod reducing;
 mod setting;
 mod top;

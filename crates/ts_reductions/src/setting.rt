@@ -1,10 +1,11 @@
-//! What stays the same through a parse: a table, the ranks of its symbols and the size of a text go
-//! in; the productions of the table's grammar by their numbers, with these, come out.
+//! What stays the same through a parse: a table and the size of a text go in; the productions of
+//! the table's grammar by their numbers, the ranks of its symbols, and the size come out.
 ghost use Rattle.std.specs.Prelude.{◌≡◌, ◌≤◌, IfOk};
 ghost use Rattle.spec_trees.specs.Made.{most_span};
-ghost use Rattle.ts_reductions.specs.Lines.{AreRanksOf, IsSetting};
+ghost use Rattle.ts_reductions.specs.Lines.{IsSetting};
 
 use crate::lines::{Line, lines_of};
+use crate::ranks::ranks_of;
 use std::alloc::{AllocError, Global};
 use ts_core::List;
 use ts_node::Productions;
@@ -19,18 +20,12 @@ pub struct Setting {
     pub size: u32,
 }
 
-/// The setting of a parse, in time by the number of productions.
+/// The setting of a parse, in time by the number of productions and by the greatest rank.
 ///
 /// # Errors
 ///
 /// `AllocError` where memory runs out.
-pub fn setting_of(
-    alloc: Global,
-    table: &Table,
-    ranks: List<u32>,
-    size: u32,
-) -> Result<Setting, AllocError>
-    requires ranks { AreRanksOf table.now.grammar ranks }
+pub fn setting_of(alloc: Global, table: &Table, size: u32) -> Result<Setting, AllocError>
     requires short { size ≤ most_span }
     ensures { IfOk result (IsSetting table.now size) }
 {
@@ -38,6 +33,7 @@ pub fn setting_of(
     let flat = table.grammar();
     let productions = Productions::new(alloc, flat)?;
     let lines = lines_of(alloc, flat)?;
+    let ranks = ranks_of(alloc, flat)?;
     Ok(Setting {
         productions,
         lines,
