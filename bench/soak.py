@@ -5,7 +5,9 @@
 
 PROGRAM is `crates/ts_cli/out/ts_cli` if none is given, which `./hemshale build` makes; RUNS is 200, WORD `run` or
 `replay`, which is then in an order by chance, and SEED the number of the first script. A script has three documents and
-steps of every kind, by chance. What is printed is tested by the rules of docs/FORMATS.md and by no run of the program,
+steps of every kind, by chance. In every tenth script one text is so long that its queries are asked, and the lines are
+made, on several threads; and there one step waits for a version that never comes, and one edit makes a text too large.
+What is printed is tested by the rules of docs/FORMATS.md and by no run of the program,
 but that the outcome of a text has to be that of the word `parse`:
 
 - the lines are those of all first versions, of all published edits and of all steps, in their order
@@ -29,6 +31,11 @@ CLIENTS, DOCUMENTS, STEPS = 16, 3, 12
 MOST_LOOKS = 10_000_000
 # Awaited are versions below this one. The first step of each client makes version 1 come.
 AWAITED = 2
+# No document comes to this version.
+NEVER = CLIENTS * STEPS + 1
+# One script of so many has a long text, with this piece, and the steps that take long.
+LONG, LONG_PIECE = 10, "ab(c)" * 600
+MOST_BYTES = 1_048_576
 GRAMMAR = {
     "name": "soak",
     "rules": {
@@ -111,10 +118,17 @@ def step(chance, client, first):
     return made
 
 
-def script(chance):
+def script(chance, is_long):
     """The texts of the documents, the steps by client, and the script's lines."""
     texts = [piece(chance) + "aé(b)" + piece(chance) for _ in range(DOCUMENTS)]
     steps = [[step(chance, client, k == 0) for k in range(STEPS)] for client in range(CLIENTS)]
+    if is_long:
+        texts[0] += LONG_PIECE
+        steps[chance.randrange(CLIENTS)][-1] = {"op": "await", "document": 1, "version": NEVER}
+        large = {"op": "edit", "document": 0, "start": 0, "end": 0, "new": "a" * MOST_BYTES}
+        steps[chance.randrange(CLIENTS)][-2] = large
+        for client, own in enumerate(steps):
+            own[:] = [{**one, "client": client} for one in own]
     lines = [line(op="open", text=text) for text in texts] + [line(op="load", source=q) for q, _ in QUERIES]
     ahead = [0] * CLIENTS
     while any(at < STEPS for at in ahead):
@@ -217,6 +231,12 @@ def judge_edit(asked, reply, held, text, journal):
         must(not in_range(text, asked) and set(reply) == {"client", "reply", "step", "version"}, "range")
         return held
     must(in_range(text, asked), "in range")
+    size = len(changed(text, asked))
+    if reply["reply"] == "size":
+        must(reply["size"] == size > MOST_BYTES, "size")
+        must(set(reply) == {"client", "reply", "size", "step", "version"}, "members")
+        return held
+    must(size <= MOST_BYTES, "too large")
     if reply["reply"] == "published":
         must(below(journal, reply["turn"]) == held, "published over another number of edits")
         entry = journal[held]
@@ -318,7 +338,7 @@ def main():
         outcomes = Outcomes(program, folder)
         for number in range(seed, seed + runs):
             chance = random.Random(number)
-            texts, steps, lines = script(chance)
+            texts, steps, lines = script(chance, number % LONG == 0)
             with open(f"{folder}/script", "w", encoding="utf-8") as out:
                 out.write(lines)
             words = [program, word, f"{folder}/grammar", f"{folder}/script"]
