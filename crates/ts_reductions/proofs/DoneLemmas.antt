@@ -368,5 +368,6 @@ module _ (laws : ReductionLaws) (nodes : NodeLaws) (t : ParseTable) (table : IsT
         grows = laid.grows;
         done = all_done;
         grown = grows_grown laws P g new laid.grows;
+        only = laid.only;
         added = λ m same. added m same;
       }

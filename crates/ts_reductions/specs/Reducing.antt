@@ -1,8 +1,9 @@
 -- What the reductions of one key come to.
-use Rattle.std.specs.Prelude.{◌≡◌, ℕ, ◌<◌, List}
+use Rattle.std.specs.Prelude.{◌≡◌, ℕ, ◌<◌, ◌⊎◌, List, slice_get, Some}
 use Rattle.ts_base.specs.Bytes.{Bytes}
 use Rattle.ts_core.specs.declared.flat.Production.{Production}
 use Rattle.spec_trees.specs.Made.{most_depth}
+use Rattle.spec_graph.specs.declared.graph.Head.{Head}
 use Rattle.spec_graph.specs.declared.graph.Link.{Link}
 use Rattle.spec_graph.specs.Keys.{Key}
 use Rattle.spec_graph.specs.Links.{IsDue, way_depth, AreDone, HasGrown, AreAdded}
@@ -13,7 +14,7 @@ use Rattle.ts_reductions.specs.declared.reducing.Reduced.{Reduced}
 use Rattle.ts_reductions.specs.declared.reducing.Reduced.TheVariants.{Done, TooDeep}
 use Rattle.ts_laying.specs.Sound.{bare_links}
 use Rattle.ts_reductions.specs.Sound.{parsing_of, IsSoundBy}
-use Rattle.ts_laying.specs.Laying.{Grows}
+use Rattle.ts_laying.specs.Laying.{Grows, IsNewHead}
 
 -- Some reduction of the key in the graph would make a node that is too deep.
 pub record IsDeepAt (t : ParseTable) (text : Bytes) (g : GraphView) (k : Key) : Type 0 where
@@ -33,8 +34,8 @@ pub record IsDeepAt (t : ParseTable) (text : Bytes) (g : GraphView) (k : Key) : 
   pub deep : most_depth < way_depth (parsing_of t text) number left inner
 
 -- All reductions of the key that the graph had were done, none of which was too deep. The graph is
--- sound still, and has grown; and all that is laid on new heads before a key at the same place has
--- a link.
+-- sound still, and has grown; each new head stands at the key's place, or an extra is passed there;
+-- and all that is laid on new heads before a key at the same place has a link.
 pub record AreReduced (t : ParseTable) (text : Bytes) (old new : GraphView) (k : Key)
     : Type 0 where
   pub sound : IsSoundBy t text new
@@ -43,6 +44,8 @@ pub record AreReduced (t : ParseTable) (text : Bytes) (old new : GraphView) (k :
       new.heads (bare_links new.links) k
   pub grown : HasGrown (parsing_of t text) old.heads (bare_links old.links)
       new.heads (bare_links new.links)
+  pub only : (h : ℕ) (head : Head) → slice_get new.heads h ≡ Some head
+      → (slice_get old.heads h ≡ Some head) ⊎ IsNewHead (parsing_of t text) new k.look h head
   pub added : (m : Key) → m.look ≡ k.look → AreAdded (parsing_of t text) (unit_rank t.grammar)
       old.heads new.heads (bare_links new.links) m
 
