@@ -1,0 +1,15 @@
+pub mod SmallLemmas
+pub mod SeenLemmas
+pub mod HeadLemmas
+pub mod PlaceLemmas
+pub mod SightLemmas
+pub mod ActionLemmas
+pub mod LeafLemmas
+pub mod GrowLemmas
+pub mod OpenLemmas
+pub mod FarLemmas
+pub mod AllLemmas
+pub mod StayLemmas
+pub mod NextLemmas
+pub mod PassLemmas
+pub mod EndLemmas
