@@ -115,7 +115,7 @@ def tried(program, word, clients, seed):
     """The numbers of runs that ended with either status, by refused allocations."""
     soak.CLIENTS, soak.STEPS, soak.AWAITED = clients, STEPS, 1
     chance = random.Random(seed)
-    texts, steps, lines = soak.script(chance)
+    texts, steps, lines = soak.script(chance, is_long=False)
     ended = {0: 0, 4: 0}
     memory = 0
     with tempfile.TemporaryDirectory() as folder:
