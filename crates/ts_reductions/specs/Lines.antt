@@ -6,7 +6,9 @@ use Rattle.spec_grammar.specs.Symbols.{all_productions, production_at}
 use Rattle.spec_trees.specs.Made.{Form, of_rule, of_first, of_next, form_of, most_span}
 use Rattle.ts_table.specs.declared.view.ParseTable.{ParseTable}
 use Rattle.ts_reductions.specs.declared.lines.Line.{Line}
+use Rattle.ts_table.specs.Ranks.{unit_rank}
 use Rattle.ts_reductions.specs.declared.setting.Setting.{Setting}
+use Rattle.ts_reductions.specs.declared.setting.Wanted.{Wanted}
 use Rattle.ts_reductions.specs.Ranking.{AreRanksOf}
 
 -- whether a production of this form lengthens a repetition
@@ -38,3 +40,12 @@ pub record IsSetting (t : ParseTable) (size : ℕ) (s : Setting) : Type 0 where
   pub ranks : AreRanksOf t.grammar s.ranks
   pub size_is : s.size ≡ size
   pub short : size ≤ most_span
+
+-- the production of a number, with its left side
+abbrev pub HasProduction : ParseTable → ℕ → ℕ → Production → Type 0
+HasProduction t number left p = production_at t.grammar number ≡ Some (left, p)
+
+-- what a production asks for: how many steps it has, and the rank of its left side
+pub record IsWanted (t : ParseTable) (left : ℕ) (p : Production) (w : Wanted) : Type 0 where
+  pub steps : w.steps ≡ length p.steps
+  pub rank : w.rank ≡ unit_rank t.grammar left

@@ -15,5 +15,5 @@ mod top;
 
 pub use batch::Batch;
 pub use reducing::{Reduced, reduce_all};
-pub use setting::{Setting, setting_of};
+pub use setting::{Setting, Wanted, setting_of};
 pub use top::Top;
