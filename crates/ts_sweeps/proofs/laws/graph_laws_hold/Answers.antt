@@ -1,0 +1,13 @@
+use Rattle.ts_sweeps.proofs.laws.graph_laws_hold.Goals as goal
+
+pub returns-clause-laying : goal.returns-clause-laying
+returns-clause-laying c = record {
+  keeps = c.bare_trees.ensures.keeps;
+  same = c.trees_replace.ensures.same;
+  through = c.trees_replace.ensures.through;
+  both = c.trees_replace.ensures.both;
+  alike = c.links_pack.ensures.alike;
+  either = c.links_pack.ensures.either;
+  passes_tree = c.extras_are_passed.ensures.tree;
+  passes_same = c.extras_are_passed.ensures.same;
+}
