@@ -5,8 +5,8 @@
 
 PROGRAM is `crates/ts_cli/out/ts_cli` if none is given, which `./hemshale build` makes; RUNS is 200, WORD `run` or
 `replay`, which is then in an order by chance, and SEED the number of the first script. A script has three documents and
-steps of every kind, by chance. In every tenth script one text is so long that its queries are asked, and the lines are
-made, on several threads; and there one step waits for a version that never comes, and one edit makes a text too large.
+steps of every kind, by chance. In every tenth script one text is so long that the lines are made, and queries of its
+tree asked, on several threads; and there one step waits for a version that never comes, and one edit makes a text too large.
 What is printed is tested by the rules of docs/FORMATS.md and by no run of the program,
 but that the outcome of a text has to be that of the word `parse`:
 
@@ -34,7 +34,7 @@ AWAITED = 2
 # No document comes to this version.
 NEVER = CLIENTS * STEPS + 1
 # One script of so many has a long text, with this piece, and the steps that take long.
-LONG, LONG_PIECE = 10, "ab(c)" * 600
+LONG, LONG_PIECE = 10, "ab(c)" * 6_000
 MOST_BYTES = 1_048_576
 GRAMMAR = {
     "name": "soak",
