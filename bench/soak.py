@@ -5,10 +5,10 @@
 
 PROGRAM is `crates/ts_cli/out/ts_cli` if none is given, which `./hemshale build` makes; RUNS is 200, WORD `run` or
 `replay`, which is then in an order by chance, and SEED the number of the first script. A script has three documents and
-steps of every kind, by chance. In every tenth script one text is so long that the lines are made, and queries of its
-tree asked, on several threads; and there one step waits for a version that never comes, and one edit makes a text too large.
-What is printed is tested by the rules of docs/FORMATS.md and by no run of the program,
-but that the outcome of a text has to be that of the word `parse`:
+steps of every kind, by chance. In every tenth script one text is so long that queries of its tree are asked on several
+threads; and there one step waits for a version that never comes, and one edit makes a text too large. What is printed
+is tested by the rules of docs/FORMATS.md and by no run of the program, but that the outcome of a text has to be that of
+the word `parse`:
 
 - the lines are those of all first versions, of all published edits and of all steps, in their order
 - the edits in the journals are the steps answered `published`, each once; versions count from 1 and turns rise

@@ -27,8 +27,8 @@ impl Session {
     /// queries, on each of all these threads. Each client passes the gate before each of its steps.
     ///
     /// A client for which no thread can be started is run by the thread that would have started it.
-    /// The call waits until all clients are done; an await ends after 10,000,000 looks. Where much
-    /// is to be printed, its lines are made on threads too.
+    /// The call waits until all clients are done; an await ends after 10,000,000 looks. The lines are
+    /// made on threads too.
     ///
     /// # Errors
     ///

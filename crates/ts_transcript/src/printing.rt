@@ -6,7 +6,7 @@ ghost use Rattle.spec_history.specs.Books.{IsHistoryOf};
 ghost use Rattle.spec_history.specs.Printed.{IsPrinted};
 
 use crate::making::one_by_one;
-use crate::threads::{are_long, on_threads};
+use crate::threads::on_threads;
 use crate::told::lines;
 use std::alloc::{AllocError, Global};
 use std::thread::Threads;
@@ -38,12 +38,10 @@ pub fn transcript(
     one_by_one(alloc, grammar, lines.as_slice())
 }
 
-/// The same lines, made by as many threads as there are processors, where the versions' texts have
-/// 65,536 bytes or more, and by one thread where they have fewer.
+/// The same lines, made by as many threads as there are processors.
 ///
-/// Where several threads make them, they are made in batches of a multiple of eight lines, with
-/// 4 MiB of texts or more, and the lines of two batches are kept beside the bytes of all before
-/// them.
+/// They are made in batches of a multiple of eight lines, with 4 MiB of texts or more, and the
+/// lines of two batches are kept beside the bytes of all before them.
 ///
 /// # Errors
 ///
@@ -62,8 +60,5 @@ pub fn transcript_on_threads<R: Threads + Sync>(
         → IsHistoryOf h books.now replies.now → IsPrinted h bytes.items) }
 {
     let lines = lines(alloc, books, replies)?;
-    if are_long(lines.as_slice()) {
-        return on_threads(rt, alloc, grammar, lines.as_slice());
-    }
-    one_by_one(alloc, grammar, lines.as_slice())
+    on_threads(rt, alloc, grammar, lines.as_slice())
 }

@@ -1,4 +1,4 @@
-//! Lines in; their bytes out, made by several threads where that pays.
+//! Lines in; their bytes out, made by several threads.
 ghost use Rattle.std.specs.Prelude.{◌≡◌, ◌≤◌, ◌<◌, ℕ, length, IfOk};
 ghost use Rattle.std.specs.Global.{Vec as AnyVec};
 ghost use Rattle.ts_transcript.specs.Told.{AreLines};
@@ -11,9 +11,6 @@ use rayon::prelude::*;
 use std::alloc::{AllocError, Global};
 use std::thread::{self, Threads};
 use ts_core::FlatGrammar;
-
-/// Below so many bytes of texts a thread costs more than it saves.
-const LEAST_BYTES: u64 = 65_536;
 
 /// How many bytes of texts the lines of a batch have at least, but for the last batch.
 const BATCH_BYTES: u64 = 4_194_304;
@@ -30,15 +27,6 @@ const STEP: usize = 8;
 struct Made {
     bytes: Vec<u8>,
     columns: Vec<Vec<Vec<u8>>>,
-}
-
-/// Whether the versions of these lines have so many bytes that threads pay. It changes no line.
-pub(crate) fn are_long(lines: &[RunLine<'_>]) -> bool {
-    let mut bytes: u64 = 0;
-    for line in lines {
-        bytes = bytes.saturating_add(text_len(line));
-    }
-    LEAST_BYTES <= bytes
 }
 
 /// How many bytes of a text are shown for this line. What a reply shows stands in a version too.
