@@ -41,8 +41,9 @@ pub struct Asker {
 /// Does a step, and gives the reply to it. Out of memory is a reply, and then the held version
 /// stays. `None` comes where all turns of the document are over.
 ///
-/// Several queries are asked at once, on 16 threads at most, where the tree of the held version has
-/// 1,000 nodes or more. Else they are asked one after another, on the calling thread.
+/// Several queries are asked at once where the tree of the held version has 1,000 nodes or more,
+/// each on a thread of its own, and one of them on the calling thread: so on 64 threads at most.
+/// Else they are asked one after another, on the calling thread.
 pub fn serve<R: Threads + Wait + Sync, F: Finder + Sync>(
     rt: &R,
     alloc: Global,

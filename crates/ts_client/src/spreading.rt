@@ -12,9 +12,6 @@ use ts_node::Node;
 use ts_replies::ShownResult;
 use ts_text::Text;
 
-/// On how many threads the queries of a step are asked at most.
-const MOST_THREADS: usize = 16;
-
 /// How many nodes a tree has at least where queries are asked on several threads. In a smaller one
 /// most are answered within a millisecond.
 const FEWEST_NODES: u32 = 1000;
@@ -43,7 +40,7 @@ pub(crate) fn found_in<R: Threads + Sync, F: Finder + Sync>(
     }
 }
 
-/// The same, with the queries asked on several threads at once, of one visible tree.
+/// The same, with each query asked on a thread of its own, all of one visible tree.
 fn found_at_once<R: Threads + Sync, F: Finder + Sync>(
     rt: &R,
     alloc: Global,
@@ -58,53 +55,39 @@ fn found_at_once<R: Threads + Sync, F: Finder + Sync>(
 {
     found_one_by_one(finder);
     let tree = VisibleTree::new(alloc, finder.grammar(), root)?;
-    let mut places = empty_places(alloc, numbers.len())?;
-    find_each(rt, alloc, finder, text, &tree, numbers, &mut places);
+    let places = found_each(rt, alloc, finder, text, &tree, numbers)?;
     all_found(alloc, places)
 }
 
-/// Puts what each query comes to at its place, and leaves nothing there where memory runs out. The
-/// queries are dealt out to the threads in runs of neighbours. Where no thread can be started, the
-/// thread that would have started it asks them.
-fn find_each<R: Threads + Sync, F: Finder + Sync>(
+/// What each query comes to, at its place, and nothing there where memory runs out. All but one are
+/// asked on new threads. Where no thread can be started, the one that would have started it asks.
+fn found_each<R: Threads + Sync, F: Finder + Sync>(
     rt: &R,
     alloc: Global,
     finder: &F,
     text: &Text,
     tree: &VisibleTree,
     numbers: &[u32],
-    places: &mut [Option<ShownResult>],
-)
+) -> Result<Vec<Option<ShownResult>>, AllocError>
     requires there { All (λ (number : ℕ). number < F.count finder.now) numbers.now }
-    requires count { length places.old ≡ length numbers.now }
-    ensures count { length places.new ≡ length places.old }
-    ensures each { (index number : ℕ) → slice_get numbers.now index ≡ Some number
-        → IfSome (slice_index_or places.new index None)
-        (F.finds_one finder.now text.now tree.now number) }
+    ensures count { IfOk result (λ places. length places.items ≡ length numbers.now) }
+    ensures each { IfOk result (λ places. (index number : ℕ)
+        → slice_get numbers.now index ≡ Some number
+        → IfSome (slice_index_or places.items index None)
+        (F.finds_one finder.now text.now tree.now number)) }
 {
-    thread::for_each_mut(
+    thread::map_indices(
         rt,
-        places,
-        MOST_THREADS,
-        &|index: usize, place: &mut Option<ShownResult>|
+        alloc,
+        numbers.len(),
+        &|index: usize| -> Option<ShownResult>
             requires { All (λ (number : ℕ). number < F.count finder.now) numbers.now
                 × (index < length numbers.now) }
             ensures { (number : ℕ) → slice_get numbers.entry.now index ≡ Some number
-                → IfSome place.exit.now
+                → IfSome result
                 (F.finds_one finder.entry.now text.entry.now tree.entry.now number) }
-        { *place = finder.find_one(alloc, text, tree, numbers[index]).ok() },
-    );
-}
-
-/// So many places with nothing in them.
-fn empty_places(alloc: Global, count: usize) -> Result<Vec<Option<ShownResult>>, AllocError>
-    ensures { IfOk result (λ places. length places.items ≡ count) }
-{
-    let mut places = Vec::with_capacity(alloc, count)?;
-    for _ in 0..count {
-        places.push(None)?;
-    }
-    Ok(places)
+        { finder.find_one(alloc, text, tree, numbers[index]).ok() },
+    )
 }
 
 /// What stands at all places, if there is something at each.

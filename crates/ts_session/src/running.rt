@@ -22,8 +22,8 @@ use ts_workers::{Ran, run};
 
 impl Session {
     /// Runs the steps of all clients of the script at once, each client on a thread of its own, and
-    /// answers what is printed of that run. Several queries of one step are asked on up to 16
-    /// threads, where the tree has 1,000 nodes or more. The host's predicates answer in the
+    /// answers what is printed of that run. Several queries of one step are asked on a thread each,
+    /// 64 at most, where the tree has 1,000 nodes or more. The host's predicates answer in the
     /// queries, on each of all these threads. Each client passes the gate before each of its steps.
     ///
     /// A client for which no thread can be started is run by the thread that would have started it.

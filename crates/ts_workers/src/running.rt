@@ -44,7 +44,7 @@ pub struct Ran {
 /// all clients are done; an await ends after 10,000,000 looks.
 ///
 /// Where a step asks several queries of a tree of 1,000 nodes or more, its client asks them at
-/// once, on 16 threads at most.
+/// once, each on a thread of its own, 64 at most.
 ///
 /// # Errors
 ///
