@@ -4,7 +4,6 @@ use Rattle.std.proofs.lemmas.Bool.{ltb-true, ltb-false}
 use Rattle.std.proofs.lemmas.List.{length-append}
 use Rattle.std.proofs.lemmas.List.Elements.{All-head, All-tail}
 use Rattle.atomic_table.specs.Seated.{TableId}
-use Rattle.ts_core.specs.declared.flat.FlatGrammar.{FlatGrammar}
 use Rattle.ts_table.specs.declared.view.ParseTable.{ParseTable}
 use Rattle.ts_shelf.specs.declared.journal.Entry.{Entry}
 use Rattle.ts_shelf.specs.declared.view.Knowledge.{Knowledge}
@@ -14,7 +13,6 @@ use Rattle.ts_shelf.specs.Passes.{Known, IsPass}
 use Rattle.ts_shelf.specs.declared.shelf.Seen.{Seen}
 use Rattle.ts_shelf.specs.Calls.{Looked, Publishes, IsNewer}
 use Rattle.ts_text.specs.declared.edit.Edit.{Edit as TextEdit}
-use Rattle.spec_output.specs.declared.outcome.ShownOutcome.{ShownOutcome}
 use Rattle.ts_docs.specs.declared.parsed.ParsedText.{ParsedText}
 use Rattle.ts_docs.specs.declared.parsed.Drafted.{Drafted}
 use Rattle.ts_docs.specs.Versions.{IsOfTable, Drafts}
@@ -22,11 +20,11 @@ use Rattle.ts_script.specs.declared.plan.ScriptStep.TheVariants as step
 use Rattle.ts_replies.specs.declared.reply.Reply.{Reply}
 use Rattle.ts_replies.specs.declared.reply.Reply.TheVariants as reply
 use Rattle.spec_history.specs.Replies.{most_looks}
-use Rattle.spec_history.specs.Legal.{CanEdit, IsShown}
+use Rattle.spec_history.specs.Legal.{CanEdit}
 use Rattle.ts_client.specs.declared.desk.Desk.{Desk}
 use Rattle.ts_client.specs.Looks.{IsLatest, SawLast, Watched}
 use Rattle.ts_client.specs.Serving.{MayServe}
-use Rattle.ts_client.specs.Steps.{Standing, standing, ServesStep, StopsEarly, publishes, is_behind, waits, gives_up, shows}
+use Rattle.ts_client.specs.Steps.{Standing, standing, ServesStep, StopsEarly, publishes, is_behind, waits, gives_up}
 use Rattle.ts_client.specs.Turns.{TakesIdle, SamePass}
 use Rattle.ts_client.proofs.LookLemmas.{looked_once, newer_once, look_more}
 
@@ -115,11 +113,6 @@ pub offer_newer : (client number at : ℕ) (edit : TextEdit) (old : Standing) (k
     → ServesStep client number old (step.Edit at edit) (reply.Newer turn number_now) (standing k number_now version)
 offer_newer client number at edit old k draft turn number_now version n latest can =
     is_behind at edit k turn number_now version can (newer_once old.knows k old.number draft turn number_now n) n.more latest
-
-pub tree_shows : (client number at : ℕ) (old : Standing) (g : FlatGrammar) (v : ParsedText) (outcome : ShownOutcome) → v ≡ old.version → g ≡ old.version.table.grammar
-    → IsShown g v.text outcome → ServesStep client number old (step.Tree at) (reply.Tree outcome old.number) old
-tree_shows client number at old g v outcome is of_table shown_it = shows at outcome
-    (subst (λ (h : FlatGrammar). IsShown h old.version.text outcome) of_table (subst (λ (w : ParsedText). IsShown g w.text outcome) is shown_it))
 
 -- ---- waiting
 

@@ -105,14 +105,6 @@ pub data Serves (Finds : Bytes → List ℕ → List ShownResult → Type 0) (cl
       → Serves Finds client number old (step.Query document queries)
       (reply.Absent outcome old.number) old
 
--- the reply tells that the held version has no tree, and its outcome, or that there is no memory
-pub data TellsNoTree (old : Standing) : Reply → Type 0 where
-  tells_outcome : (outcome : ShownOutcome)
-      → (HasTree old.version.table.grammar old.version.text → ⊥)
-      → IsShown old.version.table.grammar old.version.text outcome
-      → TellsNoTree old (reply.Absent outcome old.number)
-  tells_nothing : TellsNoTree old (reply.Memory old.number)
-
 -- all turns of the document were over before the step was done
 pub record StopsEarly (old new : Standing) : Type 0 where
   pub turns : List ℕ

@@ -13,5 +13,5 @@ mod working;
 
 pub use desk::Desk;
 pub use laws::served_step_is_next_reply;
-pub use serving::{Asker, serve};
+pub use serving::serve;
 pub use working::{Client, work};

@@ -1,11 +1,10 @@
 //! One step of a client at its desk of the step's document: the shelf, the desk and the step go in;
 //! the reply comes out, and the desk is changed.
-ghost use Rattle.std.specs.Prelude.{◌≡◌, ℕ, ◌+◌, ◌<◌, ◌≤◌, IfSome, IfNone, IsNone, IfOk, OnOk, IsErrOf};
+ghost use Rattle.std.specs.Prelude.{◌≡◌, ℕ, ◌+◌, ◌<◌, ◌≤◌, IfSome, IfNone, IsNone};
 ghost use Rattle.ts_docs.specs.Versions.{Drafts};
 ghost use Rattle.ts_table.specs.declared.view.ParseTable.{ParseTable as AnyTable};
 ghost use Rattle.ts_lexer.specs.Lexers.{IsLexerOf};
 ghost use Rattle.ts_text.specs.declared.edit.Edit.{Edit as AnyEdit};
-ghost use Rattle.ts_text.specs.Edit.{InRange, IsOver};
 ghost use Rattle.ts_script.specs.declared.plan.ScriptStep.TheVariants as script_step;
 ghost use Rattle.ts_replies.specs.declared.reply.Reply.TheVariants as reply;
 ghost use Rattle.spec_history.specs.Legal.{CanEdit};
@@ -14,29 +13,21 @@ ghost use Rattle.ts_client.specs.Steps.{standing_at, ServesStep, Serves, StopsEa
 ghost use Rattle.ts_client.specs.Serving.{MayServe, offers_of};
 ghost use Rattle.ts_client.specs.Turns.{SamePass};
 
-use crate::asking::query;
+use crate::asking::found;
 use crate::desk::Desk;
 use crate::looking::watch;
 use spec_history::Finder;
 use std::alloc::Global;
 use std::sync::Wait;
 use std::thread::Threads;
-use ts_docs::{Book, Draft, Refused, Version, prepare};
+use ts_base::Shared;
+use ts_docs::{Book, Draft, Version};
 use ts_lexer::Lexer;
-use ts_replay::shown;
+use ts_replay::{Asker, Begun, begin};
 use ts_replies::Reply;
 use ts_script::ScriptStep;
 use ts_shelf::{Denied, Offered, Shelf};
 use ts_table::Table;
-use ts_text::Edit;
-
-/// The step of this number of a client.
-#[derive(Clone, Copy)]
-pub struct Asker {
-    pub client: u32,
-    /// Counted from 0 among the client's own steps.
-    pub number: u32,
-}
 
 /// Does a step, and gives the reply to it. Out of memory is a reply, and then the held version
 /// stays. `None` comes where all turns of the document are over.
@@ -68,83 +59,36 @@ pub fn serve<R: Threads + Wait + Sync, F: Finder + Sync>(
         (standing_at desk.old) step.now reply (standing_at desk.new)) }
     ensures stops { IfNone result (StopsEarly (standing_at desk.old) (standing_at desk.new)) }
 {
-    match step {
-        ScriptStep::Edit { document: _, edit } => {
-            change(rt, alloc, table, lexer, shelf, desk, asker, edit)
-        }
-        ScriptStep::Look { document: _ } => look(rt, shelf, desk),
-        ScriptStep::Query {
-            document: _,
-            queries,
-        } => Some(query(rt, alloc, table, finder, desk, queries.as_slice())),
-        ScriptStep::Tree { document: _ } => Some(tree(alloc, table, desk)),
-        ScriptStep::Await {
-            document: _,
-            version,
-        } => wait(rt, shelf, desk, *version),
+    match begin(
+        alloc,
+        table,
+        lexer,
+        desk.version.get(),
+        desk.number,
+        asker,
+        step,
+    ) {
+        Begun::Told(reply) => Some(reply),
+        Begun::Offer { draft, made } => offer(rt, shelf, desk, draft, made),
+        Begun::Look => look(rt, shelf, desk),
+        Begun::Await(wanted) => wait(rt, shelf, desk, wanted),
+        Begun::Ask { root, queries } => Some(found(rt, alloc, finder, desk, root, queries)),
     }
 }
 
-/// Changes the held version, and offers what comes of it.
-fn change<R: Wait>(
+/// Offers a draft of the held version, at one turn. Where it is published, its version is held
+/// then.
+fn offer<R: Wait>(
     rt: &R,
-    alloc: Global,
-    table: &Table,
-    lexer: &mut Lexer,
     shelf: &Shelf<Book>,
     desk: &mut Desk,
-    asker: Asker,
-    edit: &Edit,
+    draft: Draft,
+    made: Shared<Version>,
 ) -> Option<Reply>
-    requires lexer { IsLexerOf lexer.old table.now }
-    requires may { MayServe table.now shelf.now desk.old }
-    requires offers { 0 < desk.old.pass.knows.offers }
-    ensures lexer { IsLexerOf lexer.new table.now }
-    ensures may { MayServe table.now shelf.now desk.new }
-    ensures same { SamePass desk.old.pass.knows desk.new.pass.knows }
-    ensures offers { desk.old.pass.knows.offers ≤ desk.new.pass.knows.offers + 1 }
-    ensures serves { IfSome result (λ reply. (document : ℕ) → ServesStep asker.client asker.number
-        (standing_at desk.old) (script_step.Edit document edit.now) reply (standing_at desk.new)) }
-    ensures stops { IfNone result (StopsEarly (standing_at desk.old) (standing_at desk.new)) }
-{
-    let version = desk.number;
-    match drafted(alloc, table, lexer, desk.version.get(), asker, edit) {
-        Ok(draft) => offer(rt, shelf, desk, draft),
-        Err(Refused::Range) => Some(Reply::Range { version }),
-        Err(Refused::Size(size)) => Some(Reply::Size { size, version }),
-        Err(Refused::Memory) => Some(Reply::Memory { version }),
-    }
-}
-
-/// The version after an edit of the held one. That there is no number for one more version is taken
-/// as out of memory.
-fn drafted(
-    alloc: Global,
-    table: &Table,
-    lexer: &mut Lexer,
-    base: &Version,
-    asker: Asker,
-    edit: &Edit,
-) -> Result<Draft, Refused>
-    requires lexer { IsLexerOf lexer.old table.now }
-    requires table { base.now.table ≡ table.now }
-    ensures lexer { IsLexerOf lexer.new table.now }
-    ensures drafts { IfOk result (Drafts base.now asker.client asker.number edit.now) }
-    ensures can { OnOk result (CanEdit base.now.text edit.now) }
-    ensures range { IsErrOf result Refused.Range → ¬ (InRange base.now.text edit.now) }
-    ensures size { (n : ℕ) → IsErrOf result (Refused.Size n) → IsOver base.now.text edit.now n }
-{
-    if base.number() == u32::MAX {
-        return Err(Refused::Memory);
-    }
-    prepare(alloc, table, lexer, base, asker.client, asker.number, edit)
-}
-
-/// Offers a draft of the held version, at one turn.
-fn offer<R: Wait>(rt: &R, shelf: &Shelf<Book>, desk: &mut Desk, draft: Draft) -> Option<Reply>
     requires may { (table : AnyTable) × MayServe table shelf.now desk.old
         × (draft.version.table ≡ table) }
     requires offers { 0 < desk.old.pass.knows.offers }
+    requires made { made ≡ draft.version }
     ensures may { (table : AnyTable) → MayServe table shelf.now desk.old
         → draft.version.table ≡ table → MayServe table shelf.now desk.new }
     ensures same { SamePass desk.old.pass.knows desk.new.pass.knows }
@@ -155,11 +99,6 @@ fn offer<R: Wait>(rt: &R, shelf: &Shelf<Book>, desk: &mut Desk, draft: Draft) ->
         (standing_at desk.new)) }
     ensures stops { IfNone result (StopsEarly (standing_at desk.old) (standing_at desk.new)) }
 {
-    let Ok(made) = draft.version().try_clone() else {
-        return Some(Reply::Memory {
-            version: desk.number,
-        });
-    };
     match shelf.offer(rt, &mut desk.pass, desk.number, draft) {
         Ok(Offered::Published { turn, number }) => {
             desk.number = number;
@@ -254,18 +193,5 @@ fn refused(denied: Denied, version: u32) -> Option<Reply>
     match denied {
         Denied::Spent => None,
         Denied::Memory => Some(Reply::Memory { version }),
-    }
-}
-
-/// What the held version comes to.
-fn tree(alloc: Global, table: &Table, desk: &Desk) -> Reply
-    requires { desk.now.version.table ≡ table.now }
-    ensures { (client number document : ℕ) → ServesStep client number (standing_at desk.now)
-        (script_step.Tree document) result (standing_at desk.now) }
-{
-    let version = desk.number;
-    match shown(alloc, table.grammar(), desk.version.get()) {
-        Ok(outcome) => Reply::Tree { outcome, version },
-        Err(_) => Reply::Memory { version },
     }
 }

@@ -3,14 +3,13 @@
 ghost use Rattle.std.specs.Prelude.{◌≡◌, ◌+◌, ◌<◌, List as AnyList, length, slice_get, Some, MatchBool, IsTrue};
 ghost use Rattle.ts_lexer.specs.Lexers.{IsLexerOf};
 ghost use Rattle.ts_script.specs.declared.plan.ScriptStep.{ScriptStep as AnyStep};
-ghost use Rattle.spec_history.specs.Replies as histories;
 ghost use Rattle.ts_replay.specs.Replays.{MayReplay};
 ghost use Rattle.ts_client.specs.declared.desk.Desk.{Desk as AnyDesk};
 ghost use Rattle.ts_client.specs.Between.{AreAtDesks, MayServeNext, ServesNext, StopsNext};
 ghost use Rattle.ts_client.specs.Working.{IsNewClient, HasWorked};
 
 use crate::desk::Desk;
-use crate::serving::{Asker, serve};
+use crate::serving::serve;
 use spec_clients::next_reply_is_served;
 use spec_history::Finder;
 use std::alloc::Global;
@@ -19,6 +18,7 @@ use std::thread::Threads;
 use ts_docs::Book;
 use ts_io::Gate;
 use ts_lexer::Lexer;
+use ts_replay::{Asker, document_of};
 use ts_replies::Reply;
 use ts_script::{Plan, ScriptStep};
 use ts_shelf::Shelf;
@@ -176,23 +176,4 @@ fn serve_next<R: Threads + Wait + Sync, G: Gate, F: Finder + Sync>(
         unreachable!();
     }
     true
-}
-
-/// The document of a step.
-fn document_of(step: &ScriptStep) -> usize
-    ensures { result ≡ histories.document_of step.now }
-{
-    match step {
-        ScriptStep::Edit { document, edit: _ } => *document as usize,
-        ScriptStep::Look { document } => *document as usize,
-        ScriptStep::Query {
-            document,
-            queries: _,
-        } => *document as usize,
-        ScriptStep::Tree { document } => *document as usize,
-        ScriptStep::Await {
-            document,
-            version: _,
-        } => *document as usize,
-    }
 }

@@ -1,4 +1,5 @@
 mod AskLemmas
+mod BeginLemmas
 mod DoesLemmas
 mod EndLemmas
 mod JournalLemmas

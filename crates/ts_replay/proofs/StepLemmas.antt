@@ -1,17 +1,9 @@
 -- What the code of a step does, as rules.
-use Rattle.std.proofs.Common.{◌≡◌, ◌∙◌, sym, ap, refl, subst, ℕ, suc, ◌+◌, ◌-◌, ◌<◌, ◌≤◌, ◌⊎◌, inl, inr, List, [], ◌∷◌, ◌++◌, length, arith}
+use Rattle.std.proofs.Common.{◌≡◌, ◌∙◌, sym, ap, refl, subst, ℕ, suc, ◌+◌, ◌-◌, ◌<◌, ◌≤◌, List, [], ◌∷◌, ◌++◌, length, arith}
 use Rattle.ts_base.specs.Bytes.{Bytes}
-use Rattle.ts_core.specs.declared.flat.FlatGrammar.{FlatGrammar}
-use Rattle.spec_trees.specs.Trees.{bare}
-use Rattle.ts_glr.specs.Outcomes.{value_of_outcome}
-use Rattle.ts_glr.specs.declared.outcome.Outcome.{Outcome}
-use Rattle.ts_glr.specs.declared.outcome.Outcome.TheVariants.{Stuck, Deep}
-use Rattle.spec_runs.specs.Outcomes.{stuck_outcome, deep_outcome, Fresh}
 use Rattle.ts_shelf.specs.declared.journal.Entry.{Entry}
 use Rattle.ts_shelf.specs.declared.shelf.Offered.TheVariants as offered
-use Rattle.ts_text.specs.Edit.{InRange, IsOver}
 use Rattle.ts_text.specs.declared.edit.Edit.{Edit as TextEdit}
-use Rattle.spec_output.specs.declared.outcome.ShownOutcome.{ShownOutcome}
 use Rattle.ts_docs.specs.declared.parsed.ParsedText.{ParsedText}
 use Rattle.ts_docs.specs.declared.parsed.Drafted.{Drafted}
 use Rattle.ts_docs.specs.declared.parsed.Pages.{Pages}
@@ -26,8 +18,10 @@ use Rattle.ts_replies.specs.declared.reply.ShownResult.{ShownResult}
 use Rattle.ts_replies.specs.declared.reply.Reply.{Reply}
 use Rattle.ts_replies.specs.declared.reply.Reply.TheVariants as reply
 use Rattle.spec_history.specs.Replies.{most_looks}
-use Rattle.spec_history.specs.Legal.{CanEdit, IsShown, HasTree}
-use Rattle.ts_replay.specs.Steps.{Place, place, after_looks, with_entry, DoesStep, publishes, is_behind, out_of_range, too_large, looks, waits, gives_up, shows, has_no_memory, Does, asks_nothing, finds, has_no_tree, TellsNoTree, tells_outcome, tells_nothing}
+use Rattle.spec_history.specs.Legal.{CanEdit, HasTree}
+use Rattle.ts_replay.specs.Beginnings as begins
+use Rattle.ts_replay.specs.Beginnings.{TellsHeld}
+use Rattle.ts_replay.specs.Steps.{Place, place, after_looks, with_entry, DoesStep, publishes, is_behind, out_of_range, too_large, looks, waits, gives_up, shows, has_no_memory, Does, asks_nothing, finds, has_no_tree}
 
 same_place : (t u : ℕ) (b c : Pages) (h i : ParsedText) → t ≡ u → b ≡ c → h ≡ i → place t b h ≡ place u c i
 same_place t u b c h i x y z = cc
@@ -113,35 +107,7 @@ module _ (client number : ℕ) where
       whole : (b : Pages) → pages b.opening b.entries b.room ≡ b
       whole b = refl
 
-  pub not_in_range : (p : Place) (at version : ℕ) (edit : TextEdit) → version ≡ p.held.number → (InRange p.held.text edit → ⊥)
-      → DoesStep client number p (step.Edit at edit) (reply.Range version) p
-  not_in_range p at version edit v out = subst (λ (n : ℕ). DoesStep client number p (step.Edit at edit) (reply.Range n) p) (sym v) (out_of_range at edit out)
-
-  pub over_size : (p : Place) (at version bytes : ℕ) (edit : TextEdit) → version ≡ p.held.number → IsOver p.held.text edit bytes
-      → DoesStep client number p (step.Edit at edit) (reply.Size bytes version) p
-  over_size p at version bytes edit v over = subst (λ (n : ℕ). DoesStep client number p (step.Edit at edit) (reply.Size bytes n) p) (sym v) (too_large at edit bytes over)
-
-  pub shown_tree : (p : Place) (at version : ℕ) (held : ParsedText) (g : FlatGrammar) (outcome : ShownOutcome) → p.held ≡ held → version ≡ held.number
-      → held.table.grammar ≡ g → IsShown g held.text outcome → DoesStep client number p (step.Tree at) (reply.Tree outcome version) p
-  shown_tree p at version held g outcome same v is shown =
-      subst (λ (n : ℕ). DoesStep client number p (step.Tree at) (reply.Tree outcome n) p) (ap (λ (x : ParsedText). x.number) same ∙ sym v)
-      (shows at outcome (subst (λ (x : ParsedText). IsShown x.table.grammar x.text outcome) (sym same) (subst (λ (y : FlatGrammar). IsShown y held.text outcome) (sym is) shown)))
-
-  pub no_memory_there : (p : Place) (s : ScriptStep) (version : ℕ) (held : ParsedText) → p.held ≡ held → version ≡ held.number → DoesStep client number p s (reply.Memory version) p
-  no_memory_there p s version held same v = subst (λ (n : ℕ). DoesStep client number p s (reply.Memory n) p) (ap (λ (x : ParsedText). x.number) same ∙ sym v) (has_no_memory s)
-
--- ---- queries
-
--- where the outcome is another there is no tree
-none_where_stuck : (g : FlatGrammar) (text : Bytes) (stop : ℕ) → Fresh g text (stuck_outcome stop) → HasTree g text → ⊥
-none_where_stuck g text stop last has = last.none (bare has.0) has.1.accepted
-
-none_where_deep : (g : FlatGrammar) (text : Bytes) → Fresh g text deep_outcome → HasTree g text → ⊥
-none_where_deep g text deep has = has.1.shallow deep
-
-pub no_tree : (g : FlatGrammar) (text : Bytes) (o : Outcome) → Fresh g text (value_of_outcome o) → ((stop : ℕ) × (o ≡ Stuck stop)) ⊎ (o ≡ Deep) → HasTree g text → ⊥
-no_tree g text o fresh (inl w) = none_where_stuck g text w.0 (subst (λ (x : Outcome). Fresh g text (value_of_outcome x)) w.1 fresh)
-no_tree g text o fresh (inr w) = none_where_deep g text (subst (λ (x : Outcome). Fresh g text (value_of_outcome x)) w fresh)
+-- ---- what takes no turn
 
 module _ {Finds : Bytes → List ℕ → List ShownResult → Type 0} (client number : ℕ) where
   same_version : (p : Place) (s : ScriptStep) (answer : ℕ → Reply) (version : ℕ) (held : ParsedText) → p.held ≡ held → version ≡ held.number
@@ -158,8 +124,19 @@ module _ {Finds : Bytes → List ℕ → List ShownResult → Type 0} (client nu
       → Does Finds client number p s (reply.Memory version) p
   nothing_found p s version held same v = same_version p s reply.Memory version held same v (asks_nothing s (reply.Memory p.held.number) p (has_no_memory s))
 
-  pub asked_in_vain : (p : Place) (at : ℕ) (queries : List ℕ) (held : ParsedText) (r : Reply) → p.held ≡ held
-      → TellsNoTree held r → Does Finds client number p (step.Query at queries) r p
-  asked_in_vain p at queries held _ same (tells_outcome outcome none shown) = same_version p (step.Query at queries) (reply.Absent outcome) held.number held same refl
-      (has_no_tree at queries outcome (subst (λ (x : ParsedText). HasTree x.table.grammar x.text → ⊥) (sym same) none) (subst (λ (x : ParsedText). IsShown x.table.grammar x.text outcome) (sym same) shown))
-  asked_in_vain p at queries held _ same tells_nothing = nothing_found p (step.Query at queries) held.number held same refl
+  -- a reply that took no turn
+  told_held : (p : Place) (s : ScriptStep) (r : Reply) → TellsHeld p.held p.held.number s r → Does Finds client number p s r p
+  told_held p _ _ (begins.out_of_range at edit out) = asks_nothing (step.Edit at edit) (reply.Range p.held.number) p (out_of_range at edit out)
+  told_held p _ _ (begins.too_large at edit bytes over) = asks_nothing (step.Edit at edit) (reply.Size bytes p.held.number) p (too_large at edit bytes over)
+  told_held p _ _ (begins.shows at outcome shown) = asks_nothing (step.Tree at) (reply.Tree outcome p.held.number) p (shows at outcome shown)
+  told_held p _ _ (begins.has_no_tree at queries outcome none shown) = has_no_tree at queries outcome none shown
+  told_held p _ _ (begins.has_no_memory s) = asks_nothing s (reply.Memory p.held.number) p (has_no_memory s)
+
+  pub told_there : (p : Place) (s : ScriptStep) (r : Reply) (held : ParsedText) (version : ℕ) → held ≡ p.held → version ≡ held.number
+      → TellsHeld held version s r → Does Finds client number p s r p
+  told_there p s r held version same v tells = told_held p s r
+      (subst (λ (n : ℕ). TellsHeld p.held n s r) (v ∙ ap (λ (x : ParsedText). x.number) same) (subst (λ (x : ParsedText). TellsHeld x version s r) same tells))
+
+  -- what a step of another kind does
+  pub does_step : (p : Place) (s x : ScriptStep) (r : Reply) (q : Place) → s ≡ x → DoesStep client number p x r q → Does Finds client number p s r q
+  does_step p s x r q is does = subst (λ (y : ScriptStep). Does Finds client number p y r q) (sym is) (asks_nothing x r q does)

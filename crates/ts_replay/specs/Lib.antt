@@ -1,3 +1,4 @@
+pub mod Beginnings
 pub mod Replays
 pub mod Running
 pub mod Runs

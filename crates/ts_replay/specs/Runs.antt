@@ -1,4 +1,4 @@
--- Runs that may not be over. It serves private clauses and proofs alone.
+-- Runs that may not be over, and what is left of them.
 use Rattle.std.specs.Prelude.{◌≡◌, ℕ, suc, ◌+◌, ◌<◌, ◌≤◌, ◌==◌, if◌then◌else◌, List, [], ◌∷◌, ◌++◌, length, drop, slice_get, slice_set, unwrap_or, Some}
 use Rattle.ts_base.specs.Bytes.{Bytes}
 use Rattle.ts_shelf.specs.Entries.{most_turns}

@@ -92,13 +92,6 @@ pub data Does (Finds : Bytes → List ℕ → List ShownResult → Type 0) (clie
       → Does Finds client number before (step.Query document queries)
       (reply.Absent outcome before.held.number) before
 
--- the reply tells that the version has no tree, and its outcome, or that there is no memory
-pub data TellsNoTree (held : ParsedText) : Reply → Type 0 where
-  tells_outcome : (outcome : ShownOutcome) → (HasTree held.table.grammar held.text → ⊥)
-      → IsShown held.table.grammar held.text outcome
-      → TellsNoTree held (reply.Absent outcome held.number)
-  tells_nothing : TellsNoTree held (reply.Memory held.number)
-
 -- what is known of a place before each step
 pub record MayStep (p : Place) : Type 0 where
   -- the turns of the entries rise, and are over

@@ -14,7 +14,7 @@ use ts_print::{fresh_trees_lie_in_the_text, outcome_shown};
 /// # Errors
 ///
 /// `AllocError` where memory runs out.
-pub fn shown(
+pub(crate) fn shown(
     alloc: Global,
     grammar: &FlatGrammar,
     version: &Version,

@@ -1,14 +1,13 @@
 //! A script and the texts of its documents in; the journals and the replies of its steps in an
 //! order out.
-ghost use Rattle.std.specs.Prelude.{◌≡◌, ◌<◌, ◌≤◌, ◌^◌, [], length, IfOk};
+ghost use Rattle.std.specs.Prelude.{◌≡◌, ◌<◌, ◌^◌, [], length, IfOk};
 ghost use Rattle.ts_lexer.specs.Lexers.{IsLexerOf};
 ghost use Rattle.spec_history.specs.Legal.{Legal};
 ghost use Rattle.spec_history.specs.Orders.{InOrder};
 ghost use Rattle.ts_replay.specs.Replays.{MayReplay, AreBooks, history_of};
-ghost use Rattle.ts_replay.specs.Runs.{weight_of, weight_left, edits_on};
 ghost use Rattle.ts_replay.specs.Running.{books_of, replies_of, IsFresh, AreOpened, first_versions, AreClientsBegun};
-ghost use Rattle.ts_script.specs.Rules.{most_script_steps};
 
+use crate::counting::edits_of;
 use crate::document::{Client, Document};
 use crate::running::run;
 use spec_history::Finder;
@@ -124,52 +123,6 @@ fn document(
         book: Book::new(alloc, version, room)?,
         turn: 0,
     })
-}
-
-/// How many edits of a document the clients make.
-fn edits_of(plan: &Plan, document: u32) -> u32
-    requires { MayReplay plan.now }
-    ensures { result ≡ weight_left (edits_on document) plan.now.clients [] }
-{
-    let mut edits = 0;
-    for steps in plan.clients.as_slice() {
-        edits += edits_in(steps.as_slice(), document);
-    }
-    edits
-}
-
-/// How many of the steps are edits of a document.
-fn edits_in(steps: &[ScriptStep], document: u32) -> u32
-    requires { length steps.now ≤ most_script_steps }
-    ensures { result ≡ weight_of (edits_on document) steps.now }
-{
-    let mut edits = 0;
-    for step in steps {
-        edits += edit_of(step, document);
-    }
-    edits
-}
-
-/// One for an edit of a document.
-fn edit_of(step: &ScriptStep, document: u32) -> u32
-    ensures { result ≡ edits_on document step.now }
-{
-    match step {
-        ScriptStep::Edit {
-            document: own,
-            edit: _,
-        } => u32::from(*own == document),
-        ScriptStep::Look { document: _ }
-        | ScriptStep::Query {
-            document: _,
-            queries: _,
-        }
-        | ScriptStep::Tree { document: _ }
-        | ScriptStep::Await {
-            document: _,
-            version: _,
-        } => 0,
-    }
 }
 
 /// The clients before all steps.

@@ -4,15 +4,15 @@ ghost use Rattle.std.specs.Prelude.{◌≡◌, ℕ, ◌+◌, ◌<◌, ◌↔◌,
 ghost use Rattle.ts_base.specs.Bytes.{Bytes};
 ghost use Rattle.ts_lexer.specs.Lexers.{IsLexerOf};
 ghost use Rattle.ts_script.specs.declared.plan.Plan.{Plan as AnyPlan};
-ghost use Rattle.spec_history.specs.Replies as histories;
 ghost use Rattle.ts_replay.specs.Running.{CanRun, IsRunAt, HasNext, steps_left, AreDone, SameOthers, MayTakeStep, IsStepTaken};
 
+use crate::begun::Asker;
+use crate::counting::document_of;
 use crate::document::{Client, Document};
-use crate::stepping::{Asker, answer};
+use crate::stepping::answer;
 use spec_history::Finder;
 use std::alloc::Global;
 use ts_lexer::Lexer;
-use ts_script::ScriptStep;
 use ts_table::Table;
 
 /// Runs the steps in the order: each number takes the next step of its client, and is passed over
@@ -245,24 +245,5 @@ fn step_of<F: Finder>(
     );
     if client.replies.push(reply).is_err() {
         unreachable!();
-    }
-}
-
-/// The document of a step.
-fn document_of(step: &ScriptStep) -> usize
-    ensures { result ≡ histories.document_of step.now }
-{
-    match step {
-        ScriptStep::Edit { document, edit: _ } => *document as usize,
-        ScriptStep::Look { document } => *document as usize,
-        ScriptStep::Query {
-            document,
-            queries: _,
-        } => *document as usize,
-        ScriptStep::Tree { document } => *document as usize,
-        ScriptStep::Await {
-            document,
-            version: _,
-        } => *document as usize,
     }
 }

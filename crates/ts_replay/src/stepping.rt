@@ -8,34 +8,26 @@ ghost use Rattle.ts_docs.specs.Versions.{Drafts, IsOfTable};
 ghost use Rattle.ts_lexer.specs.Lexers.{IsLexerOf};
 ghost use Rattle.ts_script.specs.declared.plan.ScriptStep.TheVariants as script_step;
 ghost use Rattle.spec_runs.specs.Outcomes.{tree_outcome, Fresh};
-ghost use Rattle.spec_history.specs.Legal.{CanEdit, HasTree};
+ghost use Rattle.spec_history.specs.Legal.{CanEdit};
 ghost use Rattle.ts_replay.specs.Replays.{AsksAmong};
-ghost use Rattle.ts_replay.specs.Steps.{Place, place, MayStep, NeedsRoom, DoesStep, Does, TellsNoTree};
+ghost use Rattle.ts_replay.specs.Steps.{Place, place, MayStep, NeedsRoom, DoesStep, Does};
 
+use crate::beginning::begin;
+use crate::begun::{Asker, Begun};
 use crate::document::Document;
-use crate::outcome::shown;
 use spec_history::Finder;
 use std::alloc::{AllocError, Global};
 use ts_base::Shared;
-use ts_docs::{Draft, Event, Refused, Told, Version, prepare, step};
-use ts_glr::Outcome;
+use ts_docs::{Draft, Event, Told, Version, step};
 use ts_lexer::Lexer;
 use ts_node::Node;
 use ts_replies::Reply;
 use ts_script::ScriptStep;
 use ts_shelf::{Offered, Seen};
 use ts_table::Table;
-use ts_text::Edit;
 
 /// How many looks an await makes at most.
 const MOST_LOOKS: u64 = 10_000_000;
-
-/// The step of this number of a client.
-#[derive(Clone, Copy, Debug, PartialEq, Eq)]
-pub(crate) struct Asker {
-    pub(crate) client: u32,
-    pub(crate) number: u32,
-}
 
 /// Does a step. Out of memory is its reply, and then nothing is changed.
 pub(crate) fn answer<F: Finder>(
@@ -59,64 +51,28 @@ pub(crate) fn answer<F: Finder>(
         (place document.old.turn document.old.book held.old) step.now result
         (place document.new.turn document.new.book held.new) }
 {
-    match step {
-        ScriptStep::Edit { document: _, edit } => change(
-            alloc, table, lexer, document, held, asker, edit,
-        ),
-        ScriptStep::Look { document: _ } => look(document, held),
-        ScriptStep::Query {
-            document: _,
-            queries,
-        } => query(alloc, table, finder, held.get(), queries.as_slice()),
-        ScriptStep::Tree { document: _ } => tree(alloc, table, held.get()),
-        ScriptStep::Await {
-            document: _,
-            version,
-        } => wait(document, held, *version),
+    let base = held.get();
+    match begin(alloc, table, lexer, base, base.number(), asker, step) {
+        Begun::Told(reply) => reply,
+        Begun::Offer { draft, made } => offer(document, held, draft, made),
+        Begun::Look => look(document, held),
+        Begun::Await(wanted) => wait(document, held, wanted),
+        Begun::Ask { root, queries } => found(alloc, finder, base, root, queries),
     }
 }
 
-/// Changes the held version, and offers what comes of it.
-fn change(
-    alloc: Global,
-    table: &Table,
-    lexer: &mut Lexer,
+/// Offers a draft over the held version, at the next turn. Where it is published, its version is
+/// held then.
+fn offer(
     document: &mut Document,
     held: &mut Shared<Version>,
-    asker: Asker,
-    edit: &Edit,
+    draft: Draft,
+    made: Shared<Version>,
 ) -> Reply
-    requires lexer { IsLexerOf lexer.old table.now }
-    requires table { held.old.table ≡ table.now }
-    requires place { MayStep (place document.old.turn document.old.book held.old) }
-    requires room { 0 < document.old.book.room }
-    ensures lexer { IsLexerOf lexer.new table.now }
-    ensures does { (number : ℕ) → DoesStep asker.client asker.number
-        (place document.old.turn document.old.book held.old) (script_step.Edit number edit.now)
-        result (place document.new.turn document.new.book held.new) }
-{
-    let version = held.get().number();
-    match prepare(
-        alloc,
-        table,
-        lexer,
-        held.get(),
-        asker.client,
-        asker.number,
-        edit,
-    ) {
-        Ok(draft) => offer(document, held, draft),
-        Err(Refused::Range) => Reply::Range { version },
-        Err(Refused::Size(size)) => Reply::Size { size, version },
-        Err(Refused::Memory) => Reply::Memory { version },
-    }
-}
-
-/// Offers a draft over the held version, at the next turn.
-fn offer(document: &mut Document, held: &mut Shared<Version>, draft: Draft) -> Reply
     requires place { MayStep (place document.old.turn document.old.book held.old) }
     requires room { 0 < document.old.book.room }
     requires table { IsOfTable document.old.book.opening draft }
+    requires made { made ≡ draft.version }
     ensures does { (client number at : ℕ) (edit : AnyEdit)
         → Drafts held.old client number edit draft → CanEdit held.old.text edit
         → DoesStep client number (place document.old.turn document.old.book held.old)
@@ -124,9 +80,6 @@ fn offer(document: &mut Document, held: &mut Shared<Version>, draft: Draft) -> R
         (place document.new.turn document.new.book held.new) }
 {
     let base = held.get().number();
-    let Ok(made) = draft.version().try_clone() else {
-        return Reply::Memory { version: base };
-    };
     match step(
         &mut document.book,
         document.turn,
@@ -231,41 +184,6 @@ fn see(document: &mut Document) -> Result<Seen<Shared<Version>>, AllocError>
     }
 }
 
-/// What the held version comes to.
-fn tree(alloc: Global, table: &Table, held: &Version) -> Reply
-    requires { held.now.table ≡ table.now }
-    ensures does { (client number at : ℕ) (before : Place) → before.held ≡ held.now
-        → DoesStep client number before (script_step.Tree at) result before }
-{
-    let version = held.number();
-    match shown(alloc, table.grammar(), held) {
-        Ok(outcome) => Reply::Tree { outcome, version },
-        Err(_) => Reply::Memory { version },
-    }
-}
-
-/// What queries find in the held version.
-fn query<F: Finder>(
-    alloc: Global,
-    table: &Table,
-    finder: &F,
-    held: &Version,
-    queries: &[u32],
-) -> Reply
-    requires table { held.now.table ≡ table.now }
-    requires form { F.form finder.now ≡ table.now.grammar }
-    requires there { All (λ (number : ℕ). number < F.count finder.now) queries.now }
-    ensures does { (client number at : ℕ) (before : Place) → before.held ≡ held.now
-        → Does (F.finds finder.now) client number before (script_step.Query at queries.now) result
-        before }
-{
-    held.stands();
-    match held.outcome() {
-        Outcome::Accepted(root) => found(alloc, finder, held, root, queries),
-        Outcome::Stuck(_) | Outcome::Deep => absent(alloc, table, held),
-    }
-}
-
 /// What queries find in the tree of the held version.
 fn found<F: Finder>(
     alloc: Global,
@@ -284,19 +202,6 @@ fn found<F: Finder>(
     let version = held.number();
     match finder.find(alloc, held.text(), root, queries) {
         Ok(results) => Reply::Results { results, version },
-        Err(_) => Reply::Memory { version },
-    }
-}
-
-/// That the held version has no tree in which queries could be asked, with what it comes to.
-fn absent(alloc: Global, table: &Table, held: &Version) -> Reply
-    requires table { held.now.table ≡ table.now }
-    requires none { HasTree held.now.table.grammar held.now.text → ⊥ }
-    ensures { TellsNoTree held.now result }
-{
-    let version = held.number();
-    match shown(alloc, table.grammar(), held) {
-        Ok(outcome) => Reply::Absent { outcome, version },
         Err(_) => Reply::Memory { version },
     }
 }

@@ -10,7 +10,6 @@ ghost use Rattle.ts_workers.specs.Fronts.{AreFronts, versions_of, AllMayLend, Le
 ghost use Rattle.ts_workers.specs.Openings.{AreLexersOf};
 ghost use Rattle.ts_workers.specs.Workers.{AreHired};
 
-use crate::counting::edits_in;
 use crate::front::Front;
 use crate::parsing::lexer_of;
 use crate::worker::Worker;
@@ -18,6 +17,7 @@ use std::alloc::{AllocError, Global};
 use ts_client::{Client, Desk};
 use ts_docs::Book;
 use ts_lexer::Lexer;
+use ts_replay::edits_in;
 use ts_script::{Plan, ScriptStep};
 use ts_shelf::Shelf;
 use ts_table::Table;

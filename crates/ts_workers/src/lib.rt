@@ -4,7 +4,6 @@
 #![tactic(auto)]
 
 mod closing;
-mod counting;
 mod front;
 mod hiring;
 mod joining;

@@ -8,7 +8,6 @@ ghost use Rattle.ts_table.specs.declared.view.ParseTable.{ParseTable as AnyTable
 ghost use Rattle.ts_workers.specs.Fronts.{IsFront, IsLent, AreFronts};
 ghost use Rattle.ts_workers.specs.Openings.{AreLexersOf};
 
-use crate::counting::edits_of;
 use crate::front::Front;
 use crate::parsed::Parsed;
 use crate::parsing::parse_all;
@@ -16,6 +15,7 @@ use std::alloc::{AllocError, Global};
 use std::thread::Threads;
 use ts_docs::{Book, Version};
 use ts_lexer::Lexer;
+use ts_replay::edits_of;
 use ts_script::Plan;
 use ts_shelf::Shelf;
 use ts_table::Table;

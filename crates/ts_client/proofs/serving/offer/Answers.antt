@@ -10,24 +10,18 @@ use Rattle.spec_history.specs.Legal.{CanEdit}
 use Rattle.ts_script.specs.declared.plan.ScriptStep.TheVariants as step
 use Rattle.ts_replies.specs.declared.reply.Reply.{Reply}
 use Rattle.ts_client.specs.Steps.{standing_at, ServesStep, StopsEarly, has_no_memory}
-use Rattle.ts_client.proofs.LookLemmas.{none_idle, same_idle, turned_same, unturned_same}
-use Rattle.ts_client.proofs.DeskLemmas.{same_self, may_shown, may_kept, may_published, if_memory, if_spent, stops_at, offer_publishes, offer_newer}
+use Rattle.ts_client.proofs.LookLemmas.{none_idle, turned_same, unturned_same}
+use Rattle.ts_client.proofs.DeskLemmas.{may_shown, may_kept, may_published, if_memory, if_spent, stops_at, offer_publishes, offer_newer}
 use Rattle.ts_client.proofs.serving.offer.Goals as goal
 
 pub offer-requires-clause-fits : goal.offer-requires-clause-fits
 offer-requires-clause-fits g c = λ opening is. c.requires.may.2 ∙ sym (c.requires.may.1.opened opening is)
 
-pub returns-in_default-clause-same : goal.returns-in_default-clause-same
-returns-in_default-clause-same g c = same_self c.args.desk.now.pass.knows
-
-pub returns-in_default-clause-serves : goal.returns-in_default-clause-serves
-returns-in_default-clause-serves g c = λ client number at edit drafts can. has_no_memory (step.Edit at edit) [] c.args.desk.now.pass.knows (same_idle c.args.desk.now.pass.knows) (omega arith)
-
 pub returns-in-Ok-Published-clause-may : goal.returns-in-Ok-Published-clause-may
 returns-in-Ok-Published-clause-may g c = λ table may of_table.
     let p = subst (λ (o : Offered ParsedText). AnswersOffer (λ (d : Drafted). d.version) c.args.desk.now.pass.knows c.offer.new.pass.knows c.args.desk.now.number c.args.draft o) c.in-Ok-Published.field-0-is c.in-Ok-Published.ensures.answered in
-    may_published table c.args.shelf.now c.args.desk.now c.offer.new.pass c.args.draft c.in-Ok-Published.turn c.in-Ok-Published.number c.in-Ok.made
-    c.offer.ensures.shelf c.offer.ensures.pass (turned_same _ _ _ _ _ p.turned) p (c.in-Ok.ensures ∙ c.version.ensures) may of_table
+    may_published table c.args.shelf.now c.args.desk.now c.offer.new.pass c.args.draft c.in-Ok-Published.turn c.in-Ok-Published.number c.args.made
+    c.offer.ensures.shelf c.offer.ensures.pass (turned_same _ _ _ _ _ p.turned) p c.requires.made may of_table
 
 pub returns-in-Ok-Published-clause-same : goal.returns-in-Ok-Published-clause-same
 returns-in-Ok-Published-clause-same g c =
@@ -42,8 +36,8 @@ returns-in-Ok-Published-clause-offers g c =
 pub returns-in-Ok-Published-clause-serves : goal.returns-in-Ok-Published-clause-serves
 returns-in-Ok-Published-clause-serves g c = λ client number at edit drafts can.
     let p = subst (λ (o : Offered ParsedText). AnswersOffer (λ (d : Drafted). d.version) c.args.desk.now.pass.knows c.offer.new.pass.knows c.args.desk.now.number c.args.draft o) c.in-Ok-Published.field-0-is c.in-Ok-Published.ensures.answered in
-    offer_publishes client number at edit (standing_at c.args.desk.now) c.offer.new.pass.knows c.args.draft c.in-Ok-Published.turn c.in-Ok-Published.number c.in-Ok.made
-    (c.in-Ok.ensures ∙ c.version.ensures) p drafts can
+    offer_publishes client number at edit (standing_at c.args.desk.now) c.offer.new.pass.knows c.args.draft c.in-Ok-Published.turn c.in-Ok-Published.number c.args.made
+    c.requires.made p drafts can
 
 pub returns-in-Ok-Newer-clause-may : goal.returns-in-Ok-Newer-clause-may
 returns-in-Ok-Newer-clause-may g c = λ table may of_table.

@@ -1,29 +1,64 @@
-use Rattle.std.proofs.Common.{sym, subst}
+use Rattle.std.proofs.Common.{◌∙◌, sym, ap, subst}
+use Rattle.ts_table.specs.declared.view.ParseTable.{ParseTable}
+use Rattle.ts_docs.specs.declared.parsed.ParsedText.{ParsedText}
+use Rattle.ts_docs.specs.Versions.{Drafts}
 use Rattle.ts_script.specs.declared.plan.ScriptStep.{ScriptStep}
 use Rattle.ts_script.specs.declared.plan.ScriptStep.TheVariants as step
-use Rattle.ts_replay.specs.Steps.{place, Does, asks_nothing}
+use Rattle.spec_history.specs.Legal.{CanEdit}
+use Rattle.ts_replay.specs.Replays.{AsksAmong}
+use Rattle.ts_replay.specs.Steps.{place, NeedsRoom, Does}
+use Rattle.ts_replay.proofs.StepLemmas.{told_there, does_step}
 use Rattle.ts_replay.proofs.stepping.answer.Goals as goal
 
-pub returns-in-Edit-clause-does : goal.returns-in-Edit-clause-does
-returns-in-Edit-clause-does g c =
-    subst (λ (s : ScriptStep). Does (g.F.Finder.finds c.args.finder.now) c.args.asker.client c.args.asker.number (place c.args.document.now.turn c.args.document.now.book c.args.held.now) s c.change.result (place c.change.new.document.turn c.change.new.document.book c.change.new.held))
-    (sym c.in-Edit.is)
-    (asks_nothing (step.Edit c.in-Edit.document c.in-Edit.edit) c.change.result (place c.change.new.document.turn c.change.new.document.book c.change.new.held) (c.change.ensures.does c.in-Edit.document))
+pub returns-in-Told-clause-does : goal.returns-in-Told-clause-does
+returns-in-Told-clause-does g c =
+    told_there c.args.asker.client c.args.asker.number (place c.args.document.now.turn c.args.document.now.book c.args.held.now) c.args.step.now c.in-Told.reply
+    c.get-base.result.now c.number.result c.get-base.ensures c.number.ensures c.in-Told.ensures.begins
+
+pub offer-requires-clause-room : goal.offer-requires-clause-room
+offer-requires-clause-room g c = subst (λ (s : ScriptStep). NeedsRoom s c.args.document.now.book.room) c.in-Offer.ensures.begins.step_is c.requires.room
+
+pub offer-requires-clause-table : goal.offer-requires-clause-table
+offer-requires-clause-table g c = c.in-Offer.ensures.begins.drafts.table_is ∙ ap (λ (v : ParsedText). v.table) c.get-base.ensures ∙ sym c.requires.place.one_table
+
+pub offer-requires-clause-made : goal.offer-requires-clause-made
+offer-requires-clause-made g c = c.in-Offer.ensures.begins.made_is
+
+pub returns-in-Offer-clause-does : goal.returns-in-Offer-clause-does
+returns-in-Offer-clause-does g c =
+    let b = c.in-Offer.ensures.begins in
+    does_step c.args.asker.client c.args.asker.number (place c.args.document.now.turn c.args.document.now.book c.args.held.now) c.args.step.now (step.Edit b.document b.edit) c.offer.result
+    (place c.offer.new.document.turn c.offer.new.document.book c.offer.new.held) b.step_is
+    (c.offer.ensures.does c.args.asker.client c.args.asker.number b.document b.edit
+    (subst (λ (v : ParsedText). Drafts v c.args.asker.client c.args.asker.number b.edit c.in-Offer.draft) c.get-base.ensures b.drafts)
+    (subst (λ (v : ParsedText). CanEdit v.text b.edit) c.get-base.ensures b.can))
 
 pub returns-in-Look-clause-does : goal.returns-in-Look-clause-does
 returns-in-Look-clause-does g c =
-    subst (λ (s : ScriptStep). Does (g.F.Finder.finds c.args.finder.now) c.args.asker.client c.args.asker.number (place c.args.document.now.turn c.args.document.now.book c.args.held.now) s c.look.result (place c.look.new.document.turn c.look.new.document.book c.look.new.held))
-    (sym c.in-Look.is)
-    (asks_nothing (step.Look c.in-Look.document) c.look.result (place c.look.new.document.turn c.look.new.document.book c.look.new.held) (c.look.ensures.does c.args.asker.client c.args.asker.number c.in-Look.document))
-
-pub returns-in-Tree-clause-does : goal.returns-in-Tree-clause-does
-returns-in-Tree-clause-does g c =
-    subst (λ (s : ScriptStep). Does (g.F.Finder.finds c.args.finder.now) c.args.asker.client c.args.asker.number (place c.args.document.now.turn c.args.document.now.book c.args.held.now) s c.tree.result (place c.args.document.now.turn c.args.document.now.book c.args.held.now))
-    (sym c.in-Tree.is)
-    (asks_nothing (step.Tree c.in-Tree.document) c.tree.result (place c.args.document.now.turn c.args.document.now.book c.args.held.now) (c.tree.ensures.does c.args.asker.client c.args.asker.number c.in-Tree.document (place c.args.document.now.turn c.args.document.now.book c.args.held.now) (sym c.get-in-Tree.ensures)))
+    let b = c.in-Look.ensures.begins in
+    does_step c.args.asker.client c.args.asker.number (place c.args.document.now.turn c.args.document.now.book c.args.held.now) c.args.step.now (step.Look b.0) c.look.result
+    (place c.look.new.document.turn c.look.new.document.book c.look.new.held) b.1
+    (c.look.ensures.does c.args.asker.client c.args.asker.number b.0)
 
 pub returns-in-Await-clause-does : goal.returns-in-Await-clause-does
 returns-in-Await-clause-does g c =
-    subst (λ (s : ScriptStep). Does (g.F.Finder.finds c.args.finder.now) c.args.asker.client c.args.asker.number (place c.args.document.now.turn c.args.document.now.book c.args.held.now) s c.wait.result (place c.wait.new.document.turn c.wait.new.document.book c.wait.new.held))
-    (sym c.in-Await.is)
-    (asks_nothing (step.Await c.in-Await.document c.in-Await.version) c.wait.result (place c.wait.new.document.turn c.wait.new.document.book c.wait.new.held) (c.wait.ensures.does c.args.asker.client c.args.asker.number c.in-Await.document))
+    let b = c.in-Await.ensures.begins in
+    does_step c.args.asker.client c.args.asker.number (place c.args.document.now.turn c.args.document.now.book c.args.held.now) c.args.step.now (step.Await b.0 c.in-Await.wanted) c.wait.result
+    (place c.wait.new.document.turn c.wait.new.document.book c.wait.new.held) b.1
+    (c.wait.ensures.does c.args.asker.client c.args.asker.number b.0)
+
+pub found-requires-clause-form : goal.found-requires-clause-form
+found-requires-clause-form g c = c.requires.form ∙ sym (ap (λ (t : ParseTable). t.grammar) (ap (λ (v : ParsedText). v.table) c.get-base.ensures ∙ c.requires.table))
+
+pub found-requires-clause-fresh : goal.found-requires-clause-fresh
+found-requires-clause-fresh g c = c.in-Ask.ensures.begins.fresh
+
+pub found-requires-clause-there : goal.found-requires-clause-there
+found-requires-clause-there g c = subst (AsksAmong (g.F.Finder.count c.args.finder.now)) c.in-Ask.ensures.begins.step_is c.requires.asks
+
+pub returns-in-Ask-clause-does : goal.returns-in-Ask-clause-does
+returns-in-Ask-clause-does g c =
+    let p = place c.args.document.now.turn c.args.document.now.book c.args.held.now in
+    let b = c.in-Ask.ensures.begins in
+    subst (λ (s : ScriptStep). Does (g.F.Finder.finds c.args.finder.now) c.args.asker.client c.args.asker.number p s c.found.result p) (sym b.step_is)
+    (c.found.ensures.does c.args.asker.client c.args.asker.number b.document p (sym c.get-base.ensures))

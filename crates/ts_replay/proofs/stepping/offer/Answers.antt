@@ -9,21 +9,14 @@ use Rattle.ts_script.specs.declared.plan.ScriptStep.TheVariants as step
 use Rattle.ts_replay.proofs.StepLemmas.{published, overtaken, no_memory}
 use Rattle.ts_replay.proofs.stepping.offer.Goals as goal
 
-pub returns-in_default : goal.returns-in_default
-returns-in_default c = record {
-  does = λ client number at edit drafts can. no_memory client number (place c.args.document.now.turn c.args.document.now.book c.args.held.now) (step.Edit at edit)
-      c.number-base.result c.args.document.now.turn c.args.document.now.book c.args.held.now
-      (c.number-base.ensures ∙ ap (λ (v : ParsedText). v.number) c.get.ensures) refl refl refl;
-}
-
 pub returns-in-Ok-Offered-Published : goal.returns-in-Ok-Offered-Published
 returns-in-Ok-Offered-Published c = record {
   does = λ client number at edit drafts can.
       let turned = subst (λ (t : Told). IsBookTurn c.args.document.now.turn c.args.document.now.book (event.Offer c.number-base.result c.args.draft) t c.step.new.book)
       (c.in-Ok-Offered-Published.field-0-is ∙ ap told.Offered c.in-Ok-Offered-Published.field-0-0-is) c.in-Ok-Offered-Published.ensures.step in
       published client number (place c.args.document.now.turn c.args.document.now.book c.args.held.now) at
-      c.number-base.result c.in-Ok-Offered-Published.turn c.in-Ok-Offered-Published.number edit c.args.draft c.step.new.book c.in-Ok.made
-      (c.number-base.ensures ∙ ap (λ (v : ParsedText). v.number) c.get.ensures) (c.in-Ok.ensures ∙ c.version.ensures) turned drafts can;
+      c.number-base.result c.in-Ok-Offered-Published.turn c.in-Ok-Offered-Published.number edit c.args.draft c.step.new.book c.args.made
+      (c.number-base.ensures ∙ ap (λ (v : ParsedText). v.number) c.get.ensures) c.requires.made turned drafts can;
 }
 
 pub returns-in-Ok-Offered-Newer : goal.returns-in-Ok-Offered-Newer

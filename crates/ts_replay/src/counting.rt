@@ -1,13 +1,33 @@
-//! A script in; how many edits of a document are in it out.
+//! A script in; on which documents its steps are, and how many edits of a document it has.
 ghost use Rattle.std.specs.Prelude.{◌≡◌, ◌≤◌, [], length};
+ghost use Rattle.ts_script.specs.Rules.{most_script_steps};
+ghost use Rattle.spec_history.specs.Replies as histories;
 ghost use Rattle.ts_replay.specs.Replays.{MayReplay};
 ghost use Rattle.ts_replay.specs.Runs.{weight_of, weight_left, edits_on};
-ghost use Rattle.ts_script.specs.Rules.{most_script_steps};
 
 use ts_script::{Plan, ScriptStep};
 
+/// The document of a step.
+pub fn document_of(step: &ScriptStep) -> usize
+    ensures { result ≡ histories.document_of step.now }
+{
+    match step {
+        ScriptStep::Edit { document, edit: _ } => *document as usize,
+        ScriptStep::Look { document } => *document as usize,
+        ScriptStep::Query {
+            document,
+            queries: _,
+        } => *document as usize,
+        ScriptStep::Tree { document } => *document as usize,
+        ScriptStep::Await {
+            document,
+            version: _,
+        } => *document as usize,
+    }
+}
+
 /// How many edits of a document the clients make.
-pub(crate) fn edits_of(plan: &Plan, document: u32) -> u32
+pub fn edits_of(plan: &Plan, document: u32) -> u32
     requires { MayReplay plan.now }
     ensures { result ≡ weight_left (edits_on document) plan.now.clients [] }
 {
@@ -19,7 +39,7 @@ pub(crate) fn edits_of(plan: &Plan, document: u32) -> u32
 }
 
 /// How many of the steps are edits of a document.
-pub(crate) fn edits_in(steps: &[ScriptStep], document: u32) -> u32
+pub fn edits_in(steps: &[ScriptStep], document: u32) -> u32
     requires { length steps.now ≤ most_script_steps }
     ensures { result ≡ weight_of (edits_on document) steps.now }
 {

@@ -4,7 +4,7 @@ use Rattle.ts_script.specs.Rules.{most_script_steps}
 use Rattle.ts_script.specs.declared.plan.ScriptStep.{ScriptStep}
 use Rattle.ts_replay.specs.Runs.{weight_of, weight_left, edits_on}
 use Rattle.ts_replay.proofs.StartLemmas.{edits_left, edits_weigh}
-use Rattle.ts_replay.proofs.replaying.edits_of.Goals as goal
+use Rattle.ts_replay.proofs.counting.edits_of.Goals as goal
 
 pub overflow_add-edits : goal.overflow_add-edits
 overflow_add-edits c =

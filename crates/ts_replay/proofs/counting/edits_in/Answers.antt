@@ -1,7 +1,7 @@
 use Rattle.std.proofs.Common.{◌≤◌, arith, length}
 use Rattle.ts_replay.specs.Runs.{weight_of, edits_on}
-use Rattle.ts_workers.proofs.CountLemmas.{edit_weighs, edits_weigh}
-use Rattle.ts_workers.proofs.counting.edits_in.Goals as goal
+use Rattle.ts_replay.proofs.StartLemmas.{edit_weighs, edits_weigh}
+use Rattle.ts_replay.proofs.counting.edits_in.Goals as goal
 
 pub overflow_add-edits : goal.overflow_add-edits
 overflow_add-edits c =
