@@ -1,10 +1,16 @@
 -- Embeddings depend only on what the items take.
-use Rattle.std.proofs.Common.{refl, ℕ, zero, suc, ◌+◌, ◌-◌, ◌<◌, ◌≤◌, List, [], ◌∷◌, ◌++◌, Option, Some, None, Bool, true, false, arith}
+use Rattle.std.proofs.Common.{◌≡◌, refl, ℕ, zero, suc, ◌+◌, ◌-◌, ◌<◌, ◌≤◌, List, [], ◌∷◌, ◌++◌, Option, Some, None, Bool, true, false, arith}
 use Rattle.spec_matches.specs.declared.placing.Slot.{Slot}
 use Rattle.spec_matches.specs.declared.placing.Run.{Run}
 use Rattle.spec_matches.specs.declared.found.Capture.{Capture}
 use Rattle.spec_matches.specs.declared.placing.Placing.{Placing}
 use Rattle.spec_matches.specs.Embedding.{offset, IsItemRun, Embeds, Along, GivesCaptures, IsWayFrom}
+use Rattle.ts_search.specs.Adding.{IsLike}
+use Rattle.ts_search.specs.Sets.{SameMembers, SameWay}
+use Rattle.ts_search.proofs.SetLemmas.{same_append, same_itself, same_of, same_through}
+
+both : (c a b d e : List Capture) → c ≡ a ++ b → SameMembers a d → SameMembers b e → SameMembers c (d ++ e)
+both c a b d e is s t = same_through c (a ++ b) (d ++ e) (same_of c (a ++ b) is) (same_append a d b e s t)
 
 -- where one takes anything the other takes something
 module _ (t u : ℕ → ℕ → ℕ → List Capture → Type 0) (any : (k o p : ℕ) (c : List Capture) → t k o p c → (d : List Capture) × u k o p d) where
@@ -23,17 +29,23 @@ module _ (t u : ℕ → ℕ → ℕ → List Capture → Type 0) (any : (k o p :
   embeds_to named closed (i ∷ is) k lo b (None ∷ rs) e = (e.0, embeds_to named closed is (k + 1) lo false rs e.1)
   embeds_to named closed (i ∷ is) k lo b (Some r ∷ rs) e = (record { fits = fits_to _ k i r e.0.fits; after = e.0.after; anchored = e.0.anchored }, embeds_to named closed is (k + 1) r.past true rs e.1)
 
--- what one takes the other takes
-module _ (t u : ℕ → ℕ → ℕ → List Capture → Type 0) (to : (k o p : ℕ) (c : List Capture) → t k o p c → u k o p c) where
-  along_to : (k : ℕ) (i : Slot) (first n p : ℕ) (c : List Capture) → Along t k i first n p c → Along u k i first n p c
-  along_to k i first zero p c e = e
-  along_to k i first (suc n) p c e = (e.0, e.1, e.2, to k (offset i first p) p e.0 e.3, along_to k i first n (p + 1) e.1 e.4)
+-- what one takes the other takes, with the same captures
+module _ (t u : ℕ → ℕ → ℕ → List Capture → Type 0) (to : (k o p : ℕ) (c : List Capture) → t k o p c → IsLike SameMembers (u k o p) c) where
+  along_to : (k : ℕ) (i : Slot) (first n p : ℕ) (c : List Capture) → Along t k i first n p c → IsLike SameMembers (Along u k i first n p) c
+  along_to k i first zero p c e = (c, e, same_itself c)
+  along_to k i first (suc n) p c e =
+      let one = to k (offset i first p) p e.0 e.3 in
+      let rest = along_to k i first n (p + 1) e.1 e.4 in
+      (one.0 ++ rest.0, (one.0, rest.0, refl, one.1, rest.1), both c e.0 e.1 one.0 rest.0 e.2 one.2 rest.2)
 
-  pub gives_to : (is : List Slot) (k : ℕ) (rs : List (Option Run)) (c : List Capture) → GivesCaptures t is k rs c → GivesCaptures u is k rs c
-  gives_to [] k rs c e = e
-  gives_to (i ∷ is) k [] c e = e
-  gives_to (i ∷ is) k (None ∷ rs) c e = gives_to is (k + 1) rs c e
-  gives_to (i ∷ is) k (Some r ∷ rs) c e = (e.0, e.1, e.2, along_to k i r.first _ r.first e.0 e.3, gives_to is (k + 1) rs e.1 e.4)
+  pub gives_to : (is : List Slot) (k : ℕ) (rs : List (Option Run)) (c : List Capture) → GivesCaptures t is k rs c → IsLike SameMembers (GivesCaptures u is k rs) c
+  gives_to [] k rs c e = (c, e, same_itself c)
+  gives_to (i ∷ is) k [] c e = (c, e, same_itself c)
+  gives_to (i ∷ is) k (None ∷ rs) c e = let rest = gives_to is (k + 1) rs c e in (rest.0, rest.1, rest.2)
+  gives_to (i ∷ is) k (Some r ∷ rs) c e =
+      let one = along_to k i r.first (r.past - r.first) r.first e.0 e.3 in
+      let rest = gives_to is (k + 1) rs e.1 e.4 in
+      (one.0 ++ rest.0, (one.0, rest.0, refl, one.1, rest.1), both c e.0 e.1 one.0 rest.0 e.2 one.2 rest.2)
 
 -- each embedding gives some captures
 module _ (t : ℕ → ℕ → ℕ → List Capture → Type 0) where
@@ -55,17 +67,23 @@ module _ (t : ℕ → ℕ → ℕ → List Capture → Type 0) where
       (one.0 ++ rest.0, (one.0, rest.0, refl, one.1, rest.1))
 
 module _ (t u : ℕ → ℕ → ℕ → List Capture → Type 0) (back : (k o p : ℕ) (c : List Capture) → u k o p c → (d : List Capture) × t k o p d) where
-  pub way_to : ((k o p : ℕ) (c : List Capture) → t k o p c → u k o p c) → (named : List Bool) (closed : Bool) (is : List Slot) (f : Placing) → IsWayFrom t named closed is 0 0 true f → IsWayFrom u named closed is 0 0 true f
-  way_to to named closed is f w = record {
-    runs = w.runs;
-    full = record {
-      embeds = embeds_to t u (λ k o p c h. (c, to k o p c h)) named closed is 0 0 true w.runs w.full.embeds;
-      widest = λ ws more e. w.full.widest ws more (embeds_to u t back named closed is 0 0 true ws e);
-    };
-    gives = gives_to t u to is 0 w.runs f.captures w.gives;
-    first = w.first;
-    near = w.near;
-  }
+  pub way_to : ((k o p : ℕ) (c : List Capture) → t k o p c → IsLike SameMembers (u k o p) c) → (named : List Bool) (closed : Bool) (is : List Slot) (f : Placing) → IsWayFrom t named closed is 0 0 true f
+      → IsLike SameWay (IsWayFrom u named closed is 0 0 true) f
+  way_to to named closed is f w =
+      let gives = gives_to t u to is 0 w.runs f.captures w.gives in (
+        record { first = f.first; near = f.near; captures = gives.0 },
+        record {
+          runs = w.runs;
+          full = record {
+            embeds = embeds_to t u (λ k o p c h. let x = to k o p c h in (x.0, x.1)) named closed is 0 0 true w.runs w.full.embeds;
+            widest = λ ws more e. w.full.widest ws more (embeds_to u t back named closed is 0 0 true ws e);
+          };
+          gives = gives.1;
+          first = w.first;
+          near = w.near;
+        },
+        record { first = refl; near = refl; captures = gives.2 },
+      )
 
   -- where there is a way there is one in what the other takes
   pub way_any : ((k o p : ℕ) (c : List Capture) → t k o p c → (d : List Capture) × u k o p d) → (named : List Bool) (closed : Bool) (is : List Slot) (f : Placing) → IsWayFrom t named closed is 0 0 true f

@@ -21,6 +21,7 @@ pub mod PlaceLemmas
 pub mod ReachLemmas
 pub mod RowLemmas
 pub mod RunLemmas
+pub mod SetLemmas
 pub mod ShallowLemmas
 pub mod ShapeLemmas
 pub mod SingleLemmas

@@ -1,10 +1,11 @@
 -- Matches that are added to a set, but for what was left out.
-use Rattle.std.proofs.Common.{◌≡◌, sym, subst, ℕ, ◌+◌, ◌<◌, ◌≤◌, ◌⊎◌, inl, inr, ⊎_elim, List, [], ◌∷◌, ◌++◌, length, take, get_or, Bool, true, false}
+use Rattle.std.proofs.Common.{◌≡◌, ◌∙◌, sym, subst, ℕ, ◌+◌, ◌<◌, ◌≤◌, ◌⊎◌, inl, inr, ⊎_elim, List, [], ◌∷◌, ◌++◌, length, take, get_or, Bool, true, false}
 use Rattle.std.specs.BTreeSet.{BTreeSet}
 use Rattle.std.proofs.lemmas.List.{take_all, take_more}
 use Rattle.std.proofs.lemmas.List.Elements.{Contains-append_left, Contains-push, Contains-push_cases}
 use Rattle.ts_query_syntax.specs.declared.read_query.Item.{Item}
 use Rattle.ts_query_syntax.specs.declared.read_query.Pattern.{Pattern}
+use Rattle.spec_matches.specs.declared.found.Capture.{Capture}
 use Rattle.spec_matches.specs.declared.found.Capture.{Capture}
 use Rattle.spec_matches.specs.declared.found.Match.{Match}
 use Rattle.spec_matches.specs.declared.placing.Placing.{Placing}
@@ -12,6 +13,7 @@ use Rattle.spec_matches.specs.declared.scene.Scene.{Scene}
 use Rattle.spec_matches.specs.Taking.{Embedded}
 use Rattle.ts_search.specs.Adding.{OfSome, Yields}
 use Rattle.ts_search.specs.Gathering.{Gathers, GathersSome, Hits, HitsIn, IsFull}
+use Rattle.ts_search.specs.Sets.{SameMembers, SameWay}
 use Rattle.ts_search.specs.Single.{HitAt, HitsAt}
 use Rattle.ts_search.specs.Ways.{ItemTakes}
 use Rattle.ts_search.proofs.GainLemmas.{not_both}
@@ -85,12 +87,32 @@ module _ {Y : Type 0} (S : Y → Match → Type 0) where
   pub some_hits_all : (ys : List Y) (n : ℕ) (u v : Bool) (a b : BTreeSet Match) → length ys ≤ n → GathersSome (OfSome S (take n ys)) u v a b → GathersSome (OfSome S ys) u v a b
   some_hits_all ys n u v a b past h = subst (λ (l : List Y). GathersSome (OfSome S l) u v a b) (take_all n ys past) h
 
-pub taken_hits : (scene : Scene) (kept : Match → Type 0) (k : ℕ) (i : Item) (n : ℕ) (u v : Bool) (ways : List (List Capture)) (a b : BTreeSet Match) → Yields (ItemTakes scene i 0 n) u v ways
+hit_like : (kept : Match → Type 0) (k n : ℕ) (c d : List Capture) → SameMembers c d → (m : Match) → HitAt kept k n c m → HitAt kept k n d m
+hit_like kept k n c d s m h = record { pattern = h.pattern; root = h.root; members = λ x. ((λ w. (s x).0 ((h.members x).0 w)), (λ w. (h.members x).1 ((s x).1 w))); order = h.order; keeps = h.keeps }
+
+pub taken_hits : (scene : Scene) (kept : Match → Type 0) (k : ℕ) (i : Item) (n : ℕ) (u v : Bool) (ways : List (List Capture)) (a b : BTreeSet Match) → Yields SameMembers (ItemTakes scene i 0 n) u v ways
     → Gathers (OfSome (HitAt kept k n) ways) a b → GathersSome (HitsAt scene kept k i n) u v a b
 taken_hits scene kept k i n u v ways a b are adds =
-    some_of (OfSome (HitAt kept k n) ways) (HitsAt scene kept k i n) u v a b adds are.finds.earlier (λ m h. (h.0, are.part.only h.0 h.1, h.2)) (λ e m h. (h.0, are.finds.all e h.0 h.1, h.2))
+    some_of (OfSome (HitAt kept k n) ways) (HitsAt scene kept k i n) u v a b adds are.earlier
+    (λ m h. let d = are.part.only h.0 h.1 in (d.0, d.1, hit_like kept k n h.0 d.0 d.2 m h.2))
+    (λ e m h. let d = are.all e h.0 h.1 in (d.0, d.1, hit_like kept k n h.0 d.0 d.2 m h.2))
+
+way_hit_like : (kept : Match → Type 0) (k : ℕ) (siblings : List ℕ) (f g : Placing) → SameWay f g → (m : Match) → Hits kept k siblings f m → Hits kept k siblings g m
+way_hit_like kept k siblings f g s m h = record {
+  pattern = h.pattern;
+  comes = record {
+    place = h.comes.place;
+    first = sym s.first ∙ h.comes.first;
+    root = h.comes.root;
+    members = λ x. ((λ w. (s.captures x).0 ((h.comes.members x).0 w)), (λ w. (h.comes.members x).1 ((s.captures x).1 w)));
+    order = h.comes.order;
+  };
+  keeps = h.keeps;
+}
 
 pub hits_in : (scene : Scene) (kept : Match → Type 0) (k : ℕ) (pattern : Pattern) (siblings : List ℕ) (u v : Bool) (found : List Placing) (a b : BTreeSet Match)
-    → Yields (Embedded scene pattern.items pattern.closed siblings) u v found → Gathers (OfSome (Hits kept k siblings) found) a b → GathersSome (HitsIn scene kept k pattern siblings) u v a b
+    → Yields SameWay (Embedded scene pattern.items pattern.closed siblings) u v found → Gathers (OfSome (Hits kept k siblings) found) a b → GathersSome (HitsIn scene kept k pattern siblings) u v a b
 hits_in scene kept k pattern siblings u v found a b are adds =
-    some_of (OfSome (Hits kept k siblings) found) (HitsIn scene kept k pattern siblings) u v a b adds are.finds.earlier (λ m h. (h.0, are.part.only h.0 h.1, h.2)) (λ e m h. (h.0, are.finds.all e h.0 h.1, h.2))
+    some_of (OfSome (Hits kept k siblings) found) (HitsIn scene kept k pattern siblings) u v a b adds are.earlier
+    (λ m h. let g = are.part.only h.0 h.1 in (g.0, g.1, way_hit_like kept k siblings h.0 g.0 g.2 m h.2))
+    (λ e m h. let g = are.all e h.0 h.1 in (g.0, g.1, way_hit_like kept k siblings h.0 g.0 g.2 m h.2))

@@ -12,13 +12,15 @@ use Rattle.spec_matches.specs.declared.scene.Scene.{Scene}
 use Rattle.spec_matches.specs.Siblings.{named_at, nameds}
 use Rattle.spec_matches.specs.Embedding.{Unnamed, first_sibling_taken, near_of}
 use Rattle.spec_matches.specs.Taking.{Embedded}
-use Rattle.ts_search.specs.Adding.{Adds, Yields}
+use Rattle.ts_search.specs.Adding.{Adds, IsLike, Yields}
 use Rattle.ts_search.specs.Lone.{FirstTakes, IsClosedStart, IsLone, IsOnce, IsTiedEnd, WholeOf}
+use Rattle.ts_search.specs.Sets.{SameMembers, SameWay}
 use Rattle.ts_search.specs.Ways.{TakenOf, slot_of}
 use Rattle.ts_search.proofs.AddLemmas.{in_one, one_in}
 use Rattle.ts_search.proofs.PlaceLemmas.{cases_lt_or_eq, in_map, of_map, same_at}
+use Rattle.ts_search.proofs.SetLemmas.{same_itself}
 use Rattle.ts_search.proofs.SingleLemmas.{lone_way}
-use Rattle.ts_search.proofs.YieldLemmas.{yields_both, yields_exact, yields_nothing, yields_same}
+use Rattle.ts_search.proofs.YieldLemmas.{like_each, like_to, yields_both, yields_exact, yields_nothing, yields_same}
 
 not_both : (b : Bool) → b ≡ false → b ≡ true → ⊥
 not_both b f t = let e : false ≡ true = sym f ∙ t in cc
@@ -88,16 +90,16 @@ some_in [] h = absurd (omega (arith, h))
 some_in (x ∷ xs) h = (x, (0, omega arith, refl))
 
 module _ (scene : Scene) (is : List Item) (siblings : List ℕ) (from : ℕ) where
-  pub first_none : (w : Bool) (a : List (List Capture)) → a ≡ [] → Yields (FirstTakes scene is siblings from from) w w a
-  first_none w a e = yields_nothing (FirstTakes scene is siblings from from) w a e (λ c h. let l = h.low in let b = h.high in omega arith)
+  pub first_none : (w : Bool) (a : List (List Capture)) → a ≡ [] → Yields SameMembers (FirstTakes scene is siblings from from) w w a
+  first_none w a e = yields_nothing SameMembers (FirstTakes scene is siblings from from) w a e (λ c h. let l = h.low in let b = h.high in omega arith)
 
   wider : (k to : ℕ) → k ≤ to → (c : List Capture) → FirstTakes scene is siblings from k c → FirstTakes scene is siblings from to c
   wider k to le c h = record { place = h.place; low = h.low; high = (let b = h.high in omega arith); taken = h.taken }
 
-  pub first_more : (k n : ℕ) (u v x w : Bool) (a more b : List (List Capture)) → from ≤ k → slice_get siblings k ≡ Some n → x ≡ v → Yields (FirstTakes scene is siblings from k) u v a → Yields (TakenOf scene is 0 0 n) x w more → Adds (Contains more) a b
-      → Yields (FirstTakes scene is siblings from (k + 1)) u w b
+  pub first_more : (k n : ℕ) (u v x w : Bool) (a more b : List (List Capture)) → from ≤ k → slice_get siblings k ≡ Some n → x ≡ v → Yields SameMembers (FirstTakes scene is siblings from k) u v a → Yields SameMembers (TakenOf scene is 0 0 n) x w more → Adds (Contains more) a b
+      → Yields SameMembers (FirstTakes scene is siblings from (k + 1)) u w b
   first_more k n u v x w a more b low at same before one adds =
-      yields_both (FirstTakes scene is siblings from k) (TakenOf scene is 0 0 n) (FirstTakes scene is siblings from (k + 1)) u v w a more b before (subst (λ (t : Bool). Yields (TakenOf scene is 0 0 n) t w more) same one) adds
+      yields_both SameMembers (FirstTakes scene is siblings from k) (TakenOf scene is 0 0 n) (FirstTakes scene is siblings from (k + 1)) u v w a more b before (subst (λ (t : Bool). Yields SameMembers (TakenOf scene is 0 0 n) t w more) same one) adds
       (λ c h. wider k (k + 1) (omega arith) c h)
       (λ c h. record { place = k; low = low; high = omega arith; taken = (n, at, h) })
       (λ c h. ⊎_elim (λ lt. inl (record { place = h.place; low = h.low; high = lt; taken = h.taken })) (λ e. inr (here c h e)) (cases_lt_or_eq h.place k h.high))
@@ -108,18 +110,18 @@ module _ (scene : Scene) (is : List Item) (siblings : List ℕ) (from : ℕ) whe
           subst (λ (j : ℕ). TakenOf scene is 0 0 j c) m h.taken.2
 
   -- some were left out, and one at least is there
-  pub first_cut : (k to : ℕ) (u v now : Bool) (a : List (List Capture)) → k ≤ to → now ≡ true → 0 < length a → Yields (FirstTakes scene is siblings from k) u v a → Yields (FirstTakes scene is siblings from to) u now a
+  pub first_cut : (k to : ℕ) (u v now : Bool) (a : List (List Capture)) → k ≤ to → now ≡ true → 0 < length a → Yields SameMembers (FirstTakes scene is siblings from k) u v a → Yields SameMembers (FirstTakes scene is siblings from to) u now a
   first_cut k to u v now a le cut some yields = record {
-    part = record { only = λ c h. wider k to le c (yields.part.only c h); any = λ c h. some_in a some };
-    finds = record {
-      only = λ c h. wider k to le c (yields.part.only c h);
-      earlier = λ e. absurd (not_both now e cut);
-      all = λ e c h. absurd (not_both now e cut);
+    part = record {
+      only = λ c h. like_to SameMembers (FirstTakes scene is siblings from k) (FirstTakes scene is siblings from to) (wider k to le) c (yields.part.only c h);
+      any = λ c h. some_in a some;
     };
+    earlier = λ e. absurd (not_both now e cut);
+    all = λ e c h. absurd (not_both now e cut);
   }
 
-  pub first_all : (k to : ℕ) (u v : Bool) (a : List (List Capture)) → to ≤ k → (k ≡ from) ⊎ (k ≤ to) → Yields (FirstTakes scene is siblings from k) u v a → Yields (FirstTakes scene is siblings from to) u v a
-  first_all k to u v a past inside yields = yields_same (FirstTakes scene is siblings from k) (FirstTakes scene is siblings from to) u v a yields (less inside) (λ c h. wider to k past c h)
+  pub first_all : (k to : ℕ) (u v : Bool) (a : List (List Capture)) → to ≤ k → (k ≡ from) ⊎ (k ≤ to) → Yields SameMembers (FirstTakes scene is siblings from k) u v a → Yields SameMembers (FirstTakes scene is siblings from to) u v a
+  first_all k to u v a past inside yields = yields_same SameMembers (FirstTakes scene is siblings from k) (FirstTakes scene is siblings from to) u v a yields (less inside) (λ c h. wider to k past c h)
     where
       less : (k ≡ from) ⊎ (k ≤ to) → (c : List Capture) → FirstTakes scene is siblings from k c → FirstTakes scene is siblings from to c
       less (inl e) c h = let l = h.low in let b = h.high in absurd (omega arith)
@@ -129,8 +131,8 @@ module _ (scene : Scene) (is : List Item) (siblings : List ℕ) (from : ℕ) whe
 
 module _ (scene : Scene) (closed : Bool) (siblings : List ℕ) (u v : Bool) (ways : List (List Capture)) where
   lone_at : (i : Item) → IsOnce i → (tied : Bool) → (slot_of i).tied ≡ tied → (from to : ℕ) → IsClosedStart scene.nodes siblings closed from → IsTiedEnd scene.nodes siblings tied to
-      → Yields (FirstTakes scene (i ∷ []) siblings from to) u v ways → Yields (WholeOf scene (i ∷ []) closed siblings) u v ways
-  lone_at i once tied behind from to starts ends yields = yields_same (FirstTakes scene (i ∷ []) siblings from to) (WholeOf scene (i ∷ []) closed siblings) u v ways yields forth back
+      → Yields SameMembers (FirstTakes scene (i ∷ []) siblings from to) u v ways → Yields SameMembers (WholeOf scene (i ∷ []) closed siblings) u v ways
+  lone_at i once tied behind from to starts ends yields = yields_same SameMembers (FirstTakes scene (i ∷ []) siblings from to) (WholeOf scene (i ∷ []) closed siblings) u v ways yields forth back
     where
       many : length (nameds scene.nodes siblings) ≡ length siblings
       many = length-map siblings (named_at scene.nodes)
@@ -161,32 +163,33 @@ module _ (scene : Scene) (closed : Bool) (siblings : List ℕ) (u v : Bool) (way
           }
 
   pub lone_are : (is : List Item) (tied : Bool) (from to : ℕ) → IsLone is tied → IsClosedStart scene.nodes siblings closed from → IsTiedEnd scene.nodes siblings tied to
-      → Yields (FirstTakes scene is siblings from to) u v ways → Yields (WholeOf scene is closed siblings) u v ways
+      → Yields SameMembers (FirstTakes scene is siblings from to) u v ways → Yields SameMembers (WholeOf scene is closed siblings) u v ways
   lone_are is tied from to lone starts ends =
-      subst (λ (l : List Item). Yields (FirstTakes scene l siblings from to) u v ways → Yields (WholeOf scene l closed siblings) u v ways) (sym lone.is_it)
+      subst (λ (l : List Item). Yields SameMembers (FirstTakes scene l siblings from to) u v ways → Yields SameMembers (WholeOf scene l closed siblings) u v ways) (sym lone.is_it)
       (lone_at lone.item lone.once tied lone.behind from to starts ends)
 
 -- ---- no item
 
 module _ (scene : Scene) (closed : Bool) (siblings : List ℕ) (w : Bool) where
-  free_at : closed ≡ false → (c : List Capture) → Contains ([] ∷ []) c ↔ WholeOf scene [] closed siblings c
+  pub free_at : closed ≡ false → (c : List Capture) → Contains ([] ∷ []) c ↔ WholeOf scene [] closed siblings c
   free_at loose c = (
     (λ h. record { runs = []; full = record { embeds = λ t b. absurd (not_both closed loose t); widest = λ ws h e. h }; gives = one_in [] c h }),
     (λ h. in_one [] c h.gives),
   )
 
-  pub free_are : (is : List Item) (ways : List (List Capture)) → is ≡ [] → closed ≡ false → ways ≡ [] ∷ [] → Yields (WholeOf scene is closed siblings) w w ways
+  pub free_are : (is : List Item) (ways : List (List Capture)) → is ≡ [] → closed ≡ false → ways ≡ [] ∷ [] → Yields SameMembers (WholeOf scene is closed siblings) w w ways
   free_are is ways none loose are =
-      subst (λ (l : List Item). Yields (WholeOf scene l closed siblings) w w ways) (sym none)
-      (subst (λ (l : List (List Capture)). Yields (WholeOf scene [] closed siblings) w w l) (sym are) (yields_exact (WholeOf scene [] closed siblings) w ([] ∷ []) (free_at loose)))
+      subst (λ (l : List Item). Yields SameMembers (WholeOf scene l closed siblings) w w ways) (sym none)
+      (subst (λ (l : List (List Capture)). Yields SameMembers (WholeOf scene [] closed siblings) w w l) (sym are) (yields_exact SameMembers (WholeOf scene [] closed siblings) w ([] ∷ []) (like_each SameMembers same_itself (WholeOf scene [] closed siblings) ([] ∷ []) (free_at loose))))
 
 -- ---- ways with places
 
 module _ (scene : Scene) (is : List Item) (closed : Bool) (siblings : List ℕ) where
-  pub whole_are : (u v : Bool) (found : List Placing) (ways : List (List Capture)) → Yields (Embedded scene is closed siblings) u v found → ways ≡ map (λ (f : Placing). f.captures) found → Yields (WholeOf scene is closed siblings) u v ways
+  pub whole_are : (u v : Bool) (found : List Placing) (ways : List (List Capture)) → Yields SameWay (Embedded scene is closed siblings) u v found → ways ≡ map (λ (f : Placing). f.captures) found → Yields SameMembers (WholeOf scene is closed siblings) u v ways
   whole_are u v found ways are e = record {
     part = record { only = only; any = λ c h. let g = are.part.any (placed c h) (embeds c h) in (g.0.captures, in_of g.0 g.1) };
-    finds = record { only = only; earlier = are.finds.earlier; all = λ t c h. in_of (placed c h) (are.finds.all t (placed c h) (embeds c h)) };
+    earlier = are.earlier;
+    all = λ t c h. let g = are.all t (placed c h) (embeds c h) in (g.0.captures, in_of g.0 g.1, g.2.captures);
   }
     where
       placed : (c : List Capture) → WholeOf scene is closed siblings c → Placing
@@ -198,8 +201,8 @@ module _ (scene : Scene) (is : List Item) (closed : Bool) (siblings : List ℕ) 
       in_of : (f : Placing) → Contains found f → Contains ways f.captures
       in_of f h = subst (λ (l : List (List Capture)). Contains l f.captures) (sym e) (in_map (λ (g : Placing). g.captures) found f h)
 
-      only : (c : List Capture) → Contains ways c → WholeOf scene is closed siblings c
+      only : (c : List Capture) → Contains ways c → IsLike SameMembers (WholeOf scene is closed siblings) c
       only c h =
           let f = of_map (λ (g : Placing). g.captures) found (record { first = None; near = true; captures = [] }) c (subst (λ (l : List (List Capture)). Contains l c) e h) in
-          let w = are.part.only f.0 f.1 in
-          subst (WholeOf scene is closed siblings) f.2 (record { runs = w.runs; full = w.full; gives = w.gives })
+          let g = are.part.only f.0 f.1 in
+          (g.0.captures, record { runs = g.1.runs; full = g.1.full; gives = g.1.gives }, subst (λ (d : List Capture). SameMembers d g.0.captures) f.2 g.2.captures)

@@ -1,6 +1,5 @@
 -- Lists that agree in pairs, and tables.
-use Rattle.std.proofs.Common.{◌≡◌, ◌∙◌, sym, ap, refl, subst, ℕ, zero, suc, ◌+◌, ◌<◌, ◌≤◌, ◌⊎◌, inl, inr, ⊎_elim, List, [], ◌∷◌, ◌++◌, map, length, take, get_or, Some, Bool, slice_get, true, arith}
-use Rattle.std.specs.List.{Contains}
+use Rattle.std.proofs.Common.{◌≡◌, ◌∙◌, sym, ap, refl, subst, ℕ, zero, suc, ◌+◌, ◌<◌, ◌≤◌, ◌⊎◌, inl, inr, ⊎_elim, List, [], ◌∷◌, ◌++◌, map, length, take, get_or, Some, Bool, slice_get, true, false, arith}
 use Rattle.std.proofs.lemmas.List.{take_all, take_more, length-append}
 use Rattle.std.proofs.lemmas.Option.{slice_get-get_or}
 use Rattle.ts_query_syntax.specs.declared.read_query.Item.{Item}
@@ -12,12 +11,14 @@ use Rattle.spec_matches.specs.Siblings.{nameds}
 use Rattle.spec_matches.specs.Embedding.{IsWayFrom}
 use Rattle.spec_matches.specs.Taking.{On, Embedded, shapes_of, slots_of}
 use Rattle.ts_search.specs.Table.{Takes}
-use Rattle.ts_search.specs.Adding.{Holds, Yields}
+use Rattle.ts_search.specs.Adding.{Holds, IsLike, Yields}
+use Rattle.ts_search.specs.Sets.{SameMembers, SameWay}
 use Rattle.ts_search.specs.Ways.{Pairs, Numbered, AreWays, IsRow, AreRowsOf, IsTable, SomeWays, SomeRow, SomeRows, SomeTable, HasRow, HasRows, HasTable, ItemTakes, TakenOf, slot_of, size_of}
 use Rattle.ts_search.proofs.ShapeLemmas.{taken_at, slots_are, within_round}
 use Rattle.ts_search.proofs.CarryLemmas.{way_any, way_to}
 use Rattle.ts_search.proofs.TakeLemmas.{take_push}
-use Rattle.ts_search.proofs.YieldLemmas.{holds_exact, holds_more, holds_same, yields_all}
+use Rattle.ts_search.proofs.SetLemmas.{way_through}
+use Rattle.ts_search.proofs.YieldLemmas.{holds_exact, holds_more, holds_same, yields_all, yields_like}
 
 module _ {X Y : Type 0} (P : X → Y → Type 0) where
   push : (xs : List X) (ys : List Y) (x : X) (y : Y) → Pairs P xs ys → P x y → Pairs P (xs ++ x ∷ []) (ys ++ y ∷ [])
@@ -104,12 +105,12 @@ pub row_none : (scene : Scene) (i : Item) (o : ℕ) (w : Bool) (row : List (List
 row_none scene i o w row e = holds_exact (SomeRow scene i o [] row) (IsRow scene i o [] row) w (subst (SomeRow scene i o []) (sym e) tt) (subst (IsRow scene i o []) (sym e) tt)
 
 pub row_more : (scene : Scene) (i : Item) (o : ℕ) (siblings : List ℕ) (n : ℕ) (u v w : Bool) (row : List (List (List Capture))) (ways : List (List Capture)) → n < length siblings
-    → HasRow scene i o (take n siblings) u v row → Yields (ItemTakes scene i o (get_or siblings n 0)) v w ways → HasRow scene i o (take (n + 1) siblings) u w (row ++ ways ∷ [])
+    → HasRow scene i o (take n siblings) u v row → Yields SameMembers (ItemTakes scene i o (get_or siblings n 0)) v w ways → HasRow scene i o (take (n + 1) siblings) u w (row ++ ways ∷ [])
 row_more scene i o siblings n u v w row ways below before one =
     holds_more (SomeRow scene i o (take n siblings) row) (IsRow scene i o (take n siblings) row) (SomeRow scene i o (take (n + 1) siblings) (row ++ ways ∷ [])) (IsRow scene i o (take (n + 1) siblings) (row ++ ways ∷ [])) u v w before
-    one.finds.earlier
+    one.earlier
     (λ h. pairs_more_at (SomeWays scene i o) siblings n 0 row ways below h one.part)
-    (λ e h. pairs_more_at (AreWays scene i o) siblings n 0 row ways below h (yields_all (ItemTakes scene i o (get_or siblings n 0)) v w ways one e))
+    (λ e h. pairs_more_at (AreWays scene i o) siblings n 0 row ways below h (yields_all SameMembers (ItemTakes scene i o (get_or siblings n 0)) v w ways one e))
 
 pub row_all : (scene : Scene) (i : Item) (o : ℕ) (siblings : List ℕ) (n : ℕ) (u v : Bool) (row : List (List (List Capture))) → length siblings ≤ n → HasRow scene i o (take n siblings) u v row → HasRow scene i o siblings u v row
 row_all scene i o siblings n u v row past h = subst (λ (l : List ℕ). HasRow scene i o l u v row) (take_all n siblings past) h
@@ -159,12 +160,13 @@ table_all scene siblings is n u v table past h = subst (λ (l : List Item). HasT
 
 module _ (scene : Scene) (is : List Item) (siblings : List ℕ) (table : Table) where
   module _ (h : SomeTable scene siblings is table) where
-    to : (k o p : ℕ) (c : List Capture) → Takes table k o p c → On (TakenOf scene is) siblings k o p c
+    to : (k o p : ℕ) (c : List Capture) → Takes table k o p c → IsLike SameMembers (On (TakenOf scene is) siblings k o p) c
     to k o p c t =
         let i = left (SomeRows scene siblings) is table k t.rows h t.are_rows in
         let row = i.2.each o t.row t.is_row in
         let n = left (SomeWays scene i.0 o) siblings t.row p t.ways row t.are_ways in
-        (n.0, n.1, (taken_at scene is k o n.0 c).1 (i.0, i.1, n.2.only c t.one))
+        let d = n.2.only c t.one in
+        (d.0, (n.0, n.1, (taken_at scene is k o n.0 d.0).1 (i.0, i.1, d.1)), d.2)
 
     any : (k o p : ℕ) (c : List Capture) → On (TakenOf scene is) siblings k o p c → (d : List Capture) × Takes table k o p d
     any k o p c (n, there, w) =
@@ -175,33 +177,28 @@ module _ (scene : Scene) (is : List Item) (siblings : List ℕ) (table : Table) 
         let d = ways.2.any c i.2 in
         (d.0, record { rows = rows.0; are_rows = rows.1; row = row.0; is_row = row.1; ways = ways.0; are_ways = ways.1; one = d.1 })
 
-  from : IsTable scene siblings is table → (k o p : ℕ) (c : List Capture) → On (TakenOf scene is) siblings k o p c → Takes table k o p c
+  from : IsTable scene siblings is table → (k o p : ℕ) (c : List Capture) → On (TakenOf scene is) siblings k o p c → IsLike SameMembers (Takes table k o p) c
   from h k o p c (n, there, w) =
       let i = (taken_at scene is k o n c).0 w in
       let rows = right (AreRowsOf scene siblings) is table k i.0 h i.1 in
       let row = at (λ o row. IsRow scene i.0 o siblings row) (size_of i.0) rows.0 o [] rows.2 (within_round scene i.0 o n c i.2) in
       let ways = right (AreWays scene i.0 o) siblings row.0 p n row.2 there in
-      record { rows = rows.0; are_rows = rows.1; row = row.0; is_row = row.1; ways = ways.0; are_ways = ways.1; one = (ways.2 c).1 i.2 }
+      let d = ways.2.all c i.2 in
+      (d.0, record { rows = rows.0; are_rows = rows.1; row = row.0; is_row = row.1; ways = ways.0; are_ways = ways.1; one = d.1 }, d.2)
 
   abbrev Taken : ℕ → ℕ → ℕ → List Capture → Type 0
   Taken = On (TakenOf scene is) siblings
 
   pub fully_are : (u v x : Bool) → HasTable scene siblings is u v table → (closed : Bool) (named : List Bool) (slots : List Slot) (found : List Placing) → named ≡ nameds scene.nodes siblings → slots ≡ map slot_of is
-      → Yields (IsWayFrom (Takes table) named closed slots 0 0 true) v x found → Yields (Embedded scene is closed siblings) u x found
-  fully_are u v x has closed named slots found en er yields = record {
-    part = record { only = only; any = λ f w. let g = way_any Taken (Takes table) back (any has.holds) named closed slots f (in_of f w) in yields.part.any g.0 g.1 };
-    finds = record {
-      only = only;
-      earlier = λ e. has.earlier (yields.finds.earlier e);
-      all = λ e f w. yields.finds.all e f (way_to Taken (Takes table) back (from (has.all (yields.finds.earlier e))) named closed slots f (in_of f w));
-    };
-  }
+      → Yields SameWay (IsWayFrom (Takes table) named closed slots 0 0 true) v x found → Yields SameWay (Embedded scene is closed siblings) u x found
+  fully_are u v x has closed named slots found en er yields =
+      yields_like SameWay way_through (IsWayFrom (Takes table) named closed slots 0 0 true) (Embedded scene is closed siblings) u v x found yields has.earlier to_scene any_there of_scene
     where
       same : slots_of (shapes_of is) ≡ slots
       same = slots_are is ∙ sym er
 
       back : (k o p : ℕ) (c : List Capture) → Takes table k o p c → (d : List Capture) × Taken k o p d
-      back k o p c t = (c, to has.holds k o p c t)
+      back k o p c t = let x = to has.holds k o p c t in (x.0, x.1)
 
       in_of : (f : Placing) → Embedded scene is closed siblings f → IsWayFrom Taken named closed slots 0 0 true f
       in_of f w = subst (λ (b : List Bool). IsWayFrom Taken b closed slots 0 0 true f) (sym en) (subst (λ (l : List Slot). IsWayFrom Taken (nameds scene.nodes siblings) closed l 0 0 true f) same w)
@@ -209,5 +206,11 @@ module _ (scene : Scene) (is : List Item) (siblings : List ℕ) (table : Table) 
       of_in : (f : Placing) → IsWayFrom Taken named closed slots 0 0 true f → Embedded scene is closed siblings f
       of_in f w = subst (λ (l : List Slot). IsWayFrom Taken (nameds scene.nodes siblings) closed l 0 0 true f) (sym same) (subst (λ (b : List Bool). IsWayFrom Taken b closed slots 0 0 true f) en w)
 
-      only : (f : Placing) → Contains found f → Embedded scene is closed siblings f
-      only f h = of_in f (way_to (Takes table) Taken (any has.holds) (to has.holds) named closed slots f (yields.part.only f h))
+      to_scene : (f : Placing) → IsWayFrom (Takes table) named closed slots 0 0 true f → IsLike SameWay (Embedded scene is closed siblings) f
+      to_scene f w = let x = way_to (Takes table) Taken (any has.holds) (to has.holds) named closed slots f w in (x.0, of_in x.0 x.1, x.2)
+
+      any_there : (f : Placing) → Embedded scene is closed siblings f → (g : Placing) × IsWayFrom (Takes table) named closed slots 0 0 true g
+      any_there f w = way_any Taken (Takes table) back (any has.holds) named closed slots f (in_of f w)
+
+      of_scene : v ≡ false → (f : Placing) → Embedded scene is closed siblings f → IsLike SameWay (IsWayFrom (Takes table) named closed slots 0 0 true) f
+      of_scene e f w = way_to Taken (Takes table) back (from (has.all e)) named closed slots f (in_of f w)

@@ -12,15 +12,23 @@ use Rattle.spec_matches.specs.declared.found.Capture.{Capture}
 use Rattle.spec_matches.specs.declared.scene.Scene.{Scene}
 use Rattle.spec_matches.specs.Taking.{IsField, captured}
 use Rattle.ts_search.specs.Looks.{AsksLook, IsShallow, Looks}
+use Rattle.ts_search.specs.Adding.{AreLike, IsLike}
+use Rattle.ts_search.specs.Lone.{WholeOf}
+use Rattle.ts_search.specs.Sets.{SameMembers}
 use Rattle.ts_search.specs.Ways.{InsideOf, PassesOf, PlainOf, parts_of}
 use Rattle.ts_search.proofs.AddLemmas.{in_one, one_in}
 use Rattle.ts_search.proofs.ChildLemmas.{children_of}
-use Rattle.ts_search.proofs.LoneLemmas.{free_are}
+use Rattle.ts_search.proofs.LoneLemmas.{free_at}
 use Rattle.ts_search.proofs.PlaceLemmas.{none_in_nil, same_at}
+use Rattle.ts_search.proofs.SetLemmas.{same_back}
 
 module _ (scene : Scene) (i : Item) (n : ℕ) (node : VisibleNode) (at : slice_get scene.nodes n ≡ Some node) (shallow : IsShallow i) where
+  free : (children : List ℕ) (c : List Capture) → Contains ([] ∷ []) c ↔ WholeOf scene (parts_of i) (out-Item i).closed children c
+  free children c =
+      subst (λ (l : List Item). Contains ([] ∷ []) c ↔ WholeOf scene l (out-Item i).closed children c) (sym shallow.parts) (free_at scene (out-Item i).closed children false shallow.unclosed c)
+
   none_inside : (c : List Capture) → InsideOf scene i n c → c ≡ []
-  none_inside c h = one_in [] c ((free_are scene (out-Item i).closed h.children false (parts_of i) ([] ∷ []) shallow.parts shallow.unclosed refl).finds.all refl c h.fully)
+  none_inside c h = one_in [] c ((free h.children c).1 h.fully)
 
   inside : (c : List Capture) → c ≡ [] → InsideOf scene i n c
   inside c e =
@@ -29,7 +37,7 @@ module _ (scene : Scene) (i : Item) (n : ℕ) (node : VisibleNode) (at : slice_g
         children = kids.0;
         are_children = kids.1;
         none_has = λ m field other in_it there without has. none_in_nil field (subst (λ (l : List ℕ). Contains l field) shallow.without without);
-        fully = (free_are scene (out-Item i).closed kids.0 false (parts_of i) ([] ∷ []) shallow.parts shallow.unclosed refl).part.only c (in_one [] c e);
+        fully = (free kids.0 c).0 (in_one [] c e);
       }
 
   -- what it asks of a node is the look
@@ -43,27 +51,27 @@ module _ (scene : Scene) (i : Item) (n : ℕ) (node : VisibleNode) (at : slice_g
   there : (c : List Capture) (h : PlainOf scene i n c) → Looks scene.kinds (out-Item i).test node × (h.inner ≡ [])
   there c h = (passes (out-Item i).test shallow.test h.inner).0 (subst (λ (m : VisibleNode). PassesOf scene i (out-Item i).test n m h.inner) (same_at scene.nodes n h.node node h.is_node at) h.passes)
 
-  pub shallow_one : Looks scene.kinds (out-Item i).test node → IsField (out-Item i).field node → (own : List Capture) (ways : List (List Capture)) → own ≡ captured (out-Item i).captures n node → ways ≡ own ∷ []
-      → (c : List Capture) → Contains ways c ↔ PlainOf scene i n c
-  shallow_one look field own ways is are c = (to, from)
+  pub shallow_one : Looks scene.kinds (out-Item i).test node → IsField (out-Item i).field node → (own : List Capture) (ways : List (List Capture)) → SameMembers own (captured (out-Item i).captures n node) → ways ≡ own ∷ []
+      → AreLike SameMembers (PlainOf scene i n) ways
+  shallow_one look field own ways same are = record { only = only; all = all }
     where
-      to : Contains ways c → PlainOf scene i n c
-      to h = record {
-        node = node;
-        is_node = at;
-        field = field;
-        inner = [];
-        captures = one_in own c (subst (λ (l : List (List Capture)). Contains l c) are h) ∙ is ∙ sym (append-nil (captured (out-Item i).captures n node));
-        passes = (passes (out-Item i).test shallow.test []).1 (look, refl);
-      }
+      told : List Capture
+      told = captured (out-Item i).captures n node
 
-      from : PlainOf scene i n c → Contains ways c
-      from h = subst (λ (l : List (List Capture)). Contains l c) (sym are) (in_one own c (
-          subst (λ (m : VisibleNode). c ≡ captured (out-Item i).captures n m ++ h.inner) (same_at scene.nodes n h.node node h.is_node at) h.captures
-          ∙ ap (λ (l : List Capture). captured (out-Item i).captures n node ++ l) (there c h).1
-          ∙ append-nil (captured (out-Item i).captures n node)
-          ∙ sym is
-          ))
+      only : (c : List Capture) → Contains ways c → IsLike SameMembers (PlainOf scene i n) c
+      only c h = (
+        told,
+        record { node = node; is_node = at; field = field; inner = []; captures = sym (append-nil told); passes = (passes (out-Item i).test shallow.test []).1 (look, refl) },
+        subst (λ (d : List Capture). SameMembers d told) (sym (one_in own c (subst (λ (l : List (List Capture)). Contains l c) are h))) same,
+      )
 
-  pub shallow_none : (Looks scene.kinds (out-Item i).test node → ⊥) → (ways : List (List Capture)) → ways ≡ [] → (c : List Capture) → Contains ways c ↔ PlainOf scene i n c
-  shallow_none fails ways none c = ((λ h. absurd (none_in_nil c (subst (λ (l : List (List Capture)). Contains l c) none h))), (λ h. absurd (fails (there c h).0)))
+      all : (c : List Capture) → PlainOf scene i n c → IsLike SameMembers (Contains ways) c
+      all c h =
+          let e : c ≡ told = subst (λ (m : VisibleNode). c ≡ captured (out-Item i).captures n m ++ h.inner) (same_at scene.nodes n h.node node h.is_node at) h.captures ∙ ap (λ (l : List Capture). told ++ l) (there c h).1 ∙ append-nil told in
+          (own, subst (λ (l : List (List Capture)). Contains l own) (sym are) (in_one own own refl), subst (λ (d : List Capture). SameMembers d own) (sym e) (same_back own told same))
+
+  pub shallow_none : (Looks scene.kinds (out-Item i).test node → ⊥) → (ways : List (List Capture)) → ways ≡ [] → AreLike SameMembers (PlainOf scene i n) ways
+  shallow_none fails ways none = record {
+    only = λ c h. absurd (none_in_nil c (subst (λ (l : List (List Capture)). Contains l c) none h));
+    all = λ c h. absurd (fails (there c h).0);
+  }

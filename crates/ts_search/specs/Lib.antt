@@ -6,6 +6,7 @@ pub mod Lone
 pub mod Looks
 pub mod Memory
 pub mod Rows
+pub mod Sets
 pub mod Single
 pub mod Steps
 pub mod Table

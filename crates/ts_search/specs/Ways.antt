@@ -1,5 +1,5 @@
 -- What an item takes, told of the item itself.
-use Rattle.std.specs.Prelude.{◌≡◌, ◌↔◌, ℕ, Bool, List, [], ◌∷◌, length, Some, slice_get}
+use Rattle.std.specs.Prelude.{◌≡◌, ℕ, Bool, List, [], ◌∷◌, length, Some, slice_get}
 use Rattle.std.specs.List.{Contains}
 use Rattle.spec_trees.specs.declared.visible.VisibleNode.{VisibleNode}
 use Rattle.ts_query_syntax.specs.declared.read_query.Test.{Test}
@@ -9,7 +9,8 @@ use Rattle.ts_query_syntax.specs.declared.read_query.Item.TheViews.{out-Item}
 use Rattle.spec_matches.specs.declared.found.Capture.{Capture}
 use Rattle.spec_matches.specs.declared.placing.Slot.{Slot}
 use Rattle.spec_matches.specs.declared.scene.Scene.{Scene}
-use Rattle.ts_search.specs.Adding.{Holds, Partly}
+use Rattle.ts_search.specs.Adding.{AreLike, Holds, Partly}
+use Rattle.ts_search.specs.Sets.{SameMembers}
 use Rattle.spec_matches.specs.Taking.{Head, head_by, shape_of, shapes_of, slots_of, TakenByItems, Inside, PassesTest, Plainly}
 
 -- an item but for its parts
@@ -81,9 +82,9 @@ pub record Numbered {Y : Type 0} (P : ℕ → Y → Type 0) (count : ℕ) (ys : 
   pub many : length ys ≡ count
   pub each : (k : ℕ) (y : Y) → slice_get ys k ≡ Some y → P k y
 
--- the ways of an item at a node
+-- the ways of an item at a node, each list of captures as a set
 abbrev pub AreWays : Scene → Item → ℕ → ℕ → List (List Capture) → Type 0
-AreWays scene i o n ways = (c : List Capture) → Contains ways c ↔ ItemTakes scene i o n c
+AreWays scene i o n ways = AreLike SameMembers (ItemTakes scene i o n) ways
 
 -- .. at each of some siblings
 abbrev pub IsRow : Scene → Item → ℕ → List ℕ → List (List (List Capture)) → Type 0
@@ -99,7 +100,7 @@ IsTable scene siblings is table = Pairs (AreRowsOf scene siblings) is table
 
 -- the same of some of the ways, of one at least where there are any
 abbrev pub SomeWays : Scene → Item → ℕ → ℕ → List (List Capture) → Type 0
-SomeWays scene i o n ways = Partly (ItemTakes scene i o n) ways
+SomeWays scene i o n ways = Partly SameMembers (ItemTakes scene i o n) ways
 
 -- some of the ways of an item at each of some siblings, for one place in its round
 abbrev pub SomeRow : Scene → Item → ℕ → List ℕ → List (List (List Capture)) → Type 0

@@ -1,32 +1,17 @@
-//! Matches that are gathered: captures and matches go in, and a set of matches comes out, which
-//! takes one more than there may be, and no more.
+//! Matches that are gathered: matches go in, and a set of them comes out, which takes one more than
+//! there may be, and no more.
 ghost use Rattle.std.specs.Prelude.{◌≡◌, ◌↔◌, IfOk, OnOk, IsTrue};
-ghost use Rattle.std.specs.List.{Contains};
 ghost use Rattle.std.specs.List.Sorted.{IsStrictlySortedBy};
-ghost use Rattle.spec_matches.specs.declared.found.Capture.{Capture as Mark};
-ghost use Rattle.spec_matches.specs.Matches.{capture_cmp, match_cmp};
+ghost use Rattle.spec_matches.specs.Matches.{match_cmp};
 ghost use Rattle.ts_search.specs.Gathering.{Gathers, IsFull};
 
 use crate::keep::Keep;
-use spec_matches::{Capture, Match, one_order};
+use spec_matches::{Match, one_order};
 use std::alloc::{AllocError, Global};
 use std::collections::BTreeSet;
-use ts_base::List;
 
 /// How many matches there may be.
 pub(crate) const MOST: usize = 100_000;
-
-/// Captures in order, each once. Nothing is copied.
-pub(crate) fn in_order(captures: List<Capture>) -> List<Capture>
-    ensures members { (c : Mark) → Contains result c ↔ Contains captures c }
-    ensures order { IsStrictlySortedBy capture_cmp result }
-{
-    one_order();
-    let mut items = captures.into_vec();
-    items.sort_unstable();
-    items.dedup();
-    List::from_vec(items)
-}
 
 /// Whether there are more matches than there may be.
 pub(crate) fn is_full(found: &BTreeSet<Match>) -> bool

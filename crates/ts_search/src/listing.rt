@@ -10,11 +10,12 @@ ghost use Rattle.ts_search.specs.Single.{IsAlone};
 ghost use Rattle.ts_search.specs.Visits.{HitsAtNode, HitsBy, HitsOfGroup, HitsOfNumber};
 
 use crate::first::may_match;
-use crate::gathering::{MOST, in_order, is_full, listed, put_kept};
+use crate::gathering::{MOST, is_full, listed, put_kept};
 use crate::group::{Group, Root};
 use crate::index::groups_of;
 use crate::keep::Keep;
 use crate::limit::Limit;
+use crate::once::in_order;
 use crate::row::Row;
 use crate::sight::Sight;
 use crate::single::{add_single, single};

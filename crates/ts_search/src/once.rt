@@ -1,15 +1,18 @@
-//! Captures of ways, each once: ways or lists of captures go in, and each list of captures comes
-//! out once.
+//! Captures of ways, each once: ways or lists of captures go in, and each list of captures, or each
+//! set of them, comes out once.
 ghost use Rattle.std.specs.Prelude.{◌≡◌, ◌↔◌, IfOk, OnOk, map, List as Values};
 ghost use Rattle.std.specs.List.{Contains};
+ghost use Rattle.std.specs.List.Sorted.{IsStrictlySortedBy};
 ghost use Rattle.spec_matches.specs.declared.found.Capture.{Capture as Mark};
 ghost use Rattle.spec_matches.specs.declared.placing.Placing.{Placing as Way};
-ghost use Rattle.ts_search.specs.Adding.{Adds, OfSome};
+ghost use Rattle.spec_matches.specs.Matches.{capture_cmp};
+ghost use Rattle.ts_search.specs.Adding.{Adds, AreLike, OfSome};
 ghost use Rattle.ts_search.specs.Memory.{IsBare};
+ghost use Rattle.ts_search.specs.Sets.{SameMembers};
 ghost use Rattle.ts_search.specs.Steps.{Shown};
 
 use crate::products::joined;
-use spec_matches::{Capture, Placing};
+use spec_matches::{Capture, Placing, one_order};
 use std::alloc::{AllocError, Global};
 use ts_base::List;
 
@@ -21,6 +24,32 @@ pub(crate) fn once_each(lists: Vec<List<Capture>>) -> Vec<List<Capture>>
     lists.sort_unstable();
     lists.dedup();
     lists
+}
+
+/// Captures in order, each once. Nothing is copied.
+pub(crate) fn in_order(captures: List<Capture>) -> List<Capture>
+    ensures members { (c : Mark) → Contains result c ↔ Contains captures c }
+    ensures order { IsStrictlySortedBy capture_cmp result }
+{
+    one_order();
+    let mut items = captures.into_vec();
+    items.sort_unstable();
+    items.dedup();
+    List::from_vec(items)
+}
+
+/// Each of some lists in order, those with the same members once.
+pub(crate) fn sets(
+    alloc: Global,
+    lists: Vec<List<Capture>>,
+) -> Result<Vec<List<Capture>>, AllocError>
+    ensures { IfOk result (λ kept. AreLike SameMembers (Contains lists.items) kept.items) }
+{
+    let mut out = Vec::with_capacity(alloc, lists.len())?;
+    for list in lists {
+        out.push(in_order(list))?;
+    }
+    Ok(once_each(out))
 }
 
 /// The captures of embeddings.

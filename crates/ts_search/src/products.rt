@@ -59,15 +59,15 @@ fn add_front(
 /// A list before each of the others.
 pub(crate) fn led(
     alloc: Global,
-    front: Vec<Capture>,
+    front: List<Capture>,
     backs: Vec<List<Capture>>,
 ) -> Result<Vec<List<Capture>>, AllocError>
-    ensures { IfOk result (λ all. Adds (Before backs.items front.items) [] all.items) }
+    ensures { IfOk result (λ all. Adds (Before backs.items front) [] all.items) }
 {
     if has_only_empty(backs.as_slice()) {
         let mut one = backs;
         one.clear();
-        one.push(List::from_vec(front))?;
+        one.push(front)?;
         return Ok(one);
     }
     let mut all = Vec::new(alloc);

@@ -4,9 +4,10 @@ ghost use Rattle.ts_search.specs.Adding.{OfSome};
 ghost use Rattle.ts_search.specs.Gathering.{Gathers, GathersSome};
 ghost use Rattle.ts_search.specs.Single.{HitAt, HitsAt, IsAlone, IsSingle};
 
-use crate::gathering::{in_order, put_kept};
+use crate::gathering::put_kept;
 use crate::keep::Keep;
 use crate::limit::Limit;
+use crate::once::in_order;
 use crate::sight::Sight;
 use crate::taking::{is_once, item_ways};
 use spec_matches::{Capture, Match, one_order};

@@ -8,16 +8,18 @@ ghost use Rattle.spec_matches.specs.declared.found.Capture.{Capture as Mark};
 ghost use Rattle.spec_matches.specs.declared.placing.Placing.{Placing as Way};
 ghost use Rattle.spec_matches.specs.Taking.{Embedded, IsField, NoneHas};
 ghost use Rattle.spec_matches.specs.Taking as of_spec;
-ghost use Rattle.ts_search.specs.Adding.{Adds, Yields};
+ghost use Rattle.ts_search.specs.Adding.{Adds, AreLike, Yields};
 ghost use Rattle.ts_search.specs.Lone.{FirstTakes, IsLone, IsOnce, WholeOf};
 ghost use Rattle.ts_search.specs.Memory.{WaysOf};
 ghost use Rattle.ts_search.specs.Rows.{seen_row};
+ghost use Rattle.ts_search.specs.Sets.{SameMembers, SameWay};
+ghost use Rattle.ts_search.specs.Steps.{Before};
 ghost use Rattle.ts_search.specs.Looks.{AsksLook, IsShallow, Looks};
 ghost use Rattle.ts_search.specs.Ways.{AnyTakes, HasOne, HasRow, HasRows, HasTable, InsideOf, ItemTakes, PassesOf, PlainOf, TakenOf, size_of, slot_of};
 
 use crate::anchors::{closed_start, tied_end};
 use crate::limit::{Limit, stops};
-use crate::once::{captures_of, once_each};
+use crate::once::{captures_of, in_order, once_each, sets};
 use crate::products::led;
 use crate::row::Row;
 use crate::search::embeddings;
@@ -151,7 +153,7 @@ fn none_has(sight: &Sight, without: &[u16], numbers: &[u32]) -> bool
     true
 }
 
-/// A node under each of these captures.
+/// A node under each of these captures, as the query has them.
 fn captured(alloc: Global, names: &[u16], n: u32, row: Row) -> Result<Vec<Capture>, AllocError>
     ensures { IfOk result (λ all. all.items ≡ of_spec.captured names.now n (seen_row row.entry)) }
 {
@@ -165,6 +167,15 @@ fn captured(alloc: Global, names: &[u16], n: u32, row: Row) -> Result<Vec<Captur
         })?;
     }
     Ok(all)
+}
+
+/// A node under each of these captures, in order and each once.
+fn own_captures(alloc: Global, names: &[u16], n: u32, row: Row) -> Result<List<Capture>, AllocError>
+    ensures { IfOk result (λ own.
+        SameMembers own (of_spec.captured names.now n (seen_row row.entry))) }
+{
+    let all = captured(alloc, names, n, row)?;
+    Ok(in_order(List::from_vec(all)))
 }
 
 /// The list that has the empty list alone.
@@ -258,11 +269,11 @@ fn is_shallow(item: &Item) -> bool
 }
 
 /// The list that has this list alone.
-fn only(alloc: Global, captures: Vec<Capture>) -> Result<Vec<List<Capture>>, AllocError>
-    ensures { IfOk result (λ ways. ways.items ≡ captures.items ∷ []) }
+fn only(alloc: Global, captures: List<Capture>) -> Result<Vec<List<Capture>>, AllocError>
+    ensures { IfOk result (λ ways. ways.items ≡ captures ∷ []) }
 {
     let mut ways = Vec::with_capacity(alloc, 1)?;
-    ways.push(List::from_vec(captures))?;
+    ways.push(captures)?;
     Ok(ways)
 }
 
@@ -278,15 +289,40 @@ fn shallow_ways(
     requires node { slice_get sight.now.nodes n ≡ Some (seen_row row) }
     requires shallow { IsShallow item.now }
     requires field { IsField (out-Item item.now).field (seen_row row) }
-    ensures { IfOk result (λ ways. (c : Values Mark)
-        → Contains ways.items c ↔ PlainOf sight.now item.now n c) }
+    ensures { IfOk result (λ ways. AreLike SameMembers (PlainOf sight.now item.now n) ways.items) }
 {
     if looks(sight, item.test, row) {
-        let own = captured(alloc, item.captures.as_slice(), n, row)?;
+        let own = own_captures(alloc, item.captures.as_slice(), n, row)?;
         let ways = only(alloc, own)?;
         return Ok(ways);
     }
     Ok(Vec::new(alloc))
+}
+
+/// Whether an item takes what one of its branches takes.
+fn is_choice(test: Test) -> bool {
+    match test {
+        Test::Choice => true,
+        Test::Any | Test::Named | Test::Kind(_) | Test::Round => false,
+    }
+}
+
+/// A node's own captures, and then those inside it in each way. What a branch captures may be of
+/// the same node, so its ways are put in order anew.
+fn with_own(
+    alloc: Global,
+    test: Test,
+    own: List<Capture>,
+    inner: Vec<List<Capture>>,
+) -> Result<Vec<List<Capture>>, AllocError>
+    ensures { IfOk result (λ ways. AreLike SameMembers (Before inner.items own) ways.items) }
+{
+    let ways = led(alloc, own, inner)?;
+    if is_choice(test) {
+        let kept = sets(alloc, ways)?;
+        return Ok(kept);
+    }
+    Ok(ways)
 }
 
 /// Whether there is no embedding.
@@ -325,7 +361,7 @@ fn embedded(
     slots: &[Slot],
 ) -> Result<Vec<Placing>, AllocError>
     requires few { length slots.now < 2 ^ 64 }
-    ensures { IfOk result (λ found. Yields (WaysOf siblings.now slots.now 0 0 true)
+    ensures { IfOk result (λ found. Yields SameWay (WaysOf siblings.now slots.now 0 0 true)
         limit.old.cut limit.new.cut found.items) }
 {
     let mut own = Limit {
@@ -354,7 +390,7 @@ pub(crate) fn item_ways(
     at: usize,
     n: u32,
 ) -> Result<Vec<List<Capture>>, AllocError>
-    ensures { IfOk result (λ ways. Yields (ItemTakes sight.now item.now at n)
+    ensures { IfOk result (λ ways. Yields SameMembers (ItemTakes sight.now item.now at n)
         limit.old.cut limit.new.cut ways.items) }
 {
     if is_round(item.test) {
@@ -378,7 +414,7 @@ fn part_ways(
     at: usize,
     n: u32,
 ) -> Result<Vec<List<Capture>>, AllocError>
-    ensures { IfOk result (λ ways. Yields (TakenOf sight.now parts.now at 0 n)
+    ensures { IfOk result (λ ways. Yields SameMembers (TakenOf sight.now parts.now at 0 n)
         limit.old.cut limit.new.cut ways.items) }
 {
     if at >= parts.len() {
@@ -397,7 +433,7 @@ fn plain_ways(
     item: &Item,
     n: u32,
 ) -> Result<Vec<List<Capture>>, AllocError>
-    ensures { IfOk result (λ ways. Yields (PlainOf sight.now item.now n)
+    ensures { IfOk result (λ ways. Yields SameMembers (PlainOf sight.now item.now n)
         limit.old.cut limit.new.cut ways.items) }
 {
     let Some(row) = sight.row(n) else {
@@ -417,8 +453,8 @@ fn plain_ways(
     if has_no_captures(item) {
         return Ok(inner);
     }
-    let own = captured(alloc, item.captures.as_slice(), n, row)?;
-    let ways = led(alloc, own, inner)?;
+    let own = own_captures(alloc, item.captures.as_slice(), n, row)?;
+    let ways = with_own(alloc, item.test, own, inner)?;
     Ok(ways)
 }
 
@@ -433,7 +469,7 @@ fn passing(
     row: Row,
 ) -> Result<Vec<List<Capture>>, AllocError>
     requires { slice_get sight.now.nodes n ≡ Some (seen_row row) }
-    ensures { IfOk result (λ ways. Yields
+    ensures { IfOk result (λ ways. Yields SameMembers
         (PassesOf sight.now item.now (out-Item item.now).test n (seen_row row.entry))
         limit.old.cut limit.new.cut ways.items) }
 {
@@ -474,7 +510,7 @@ fn inside(
     n: u32,
 ) -> Result<Vec<List<Capture>>, AllocError>
     requires { n < length sight.now.nodes }
-    ensures { IfOk result (λ ways. Yields (InsideOf sight.now item.now n)
+    ensures { IfOk result (λ ways. Yields SameMembers (InsideOf sight.now item.now n)
         limit.old.cut limit.new.cut ways.items) }
 {
     let children = sight.children(alloc, n)?;
@@ -503,7 +539,8 @@ fn whole(
     closed: bool,
     siblings: &[u32],
 ) -> Result<Vec<List<Capture>>, AllocError>
-    ensures { IfOk result (λ ways. Yields (WholeOf sight.now items.now closed siblings.now)
+    ensures { IfOk result (λ ways. Yields SameMembers
+        (WholeOf sight.now items.now closed siblings.now)
         limit.old.cut limit.new.cut ways.items) }
 {
     if are_free(items, closed) {
@@ -543,7 +580,8 @@ fn first_ways(
     to: usize,
 ) -> Result<Vec<List<Capture>>, AllocError>
     requires { to ≤ length siblings.now }
-    ensures { IfOk result (λ ways. Yields (FirstTakes sight.now items.now siblings.now from to)
+    ensures { IfOk result (λ ways. Yields SameMembers
+        (FirstTakes sight.now items.now siblings.now from to)
         limit.old.cut limit.new.cut ways.items) }
 {
     let mut out = Vec::new(alloc);
@@ -567,7 +605,7 @@ fn choices(
     branches: &[Item],
     n: u32,
 ) -> Result<Vec<List<Capture>>, AllocError>
-    ensures { IfOk result (λ ways. Yields (AnyTakes sight.now branches.now n)
+    ensures { IfOk result (λ ways. Yields SameMembers (AnyTakes sight.now branches.now n)
         limit.old.cut limit.new.cut ways.items) }
 {
     let mut out = Vec::new(alloc);
@@ -660,7 +698,8 @@ pub(crate) fn fully(
     closed: bool,
     siblings: &[u32],
 ) -> Result<Vec<Placing>, AllocError>
-    ensures { IfOk result (λ found. Yields (Embedded sight.now items.now closed siblings.now)
+    ensures { IfOk result (λ found. Yields SameWay
+        (Embedded sight.now items.now closed siblings.now)
         limit.old.cut limit.new.cut found.items) }
 {
     let cut = limit.cut;

@@ -1,14 +1,15 @@
-use Rattle.std.proofs.Common.{arith, List, [], refl, ap, ◌∙◌, ℕ, inl, inr}
+use Rattle.std.proofs.Common.{arith, List, [], refl, inl, inr}
 use Rattle.std.proofs.lemmas.Option.{slice_get-get_or, slice_get_read}
 use Rattle.spec_matches.specs.declared.found.Capture.{Capture}
 use Rattle.ts_query_syntax.specs.declared.read_query.Item.{Item}
-use Rattle.spec_matches.specs.Taking.{Embedded, captured}
+use Rattle.spec_matches.specs.Taking.{Embedded}
 use Rattle.ts_search.specs.Rows.{seen_row}
+use Rattle.ts_search.specs.Sets.{SameMembers, SameWay}
 use Rattle.ts_search.specs.Ways.{AnyTakes, InsideOf, ItemTakes, PlainOf}
 use Rattle.ts_search.proofs.AddLemmas.{one_in, in_one}
 use Rattle.ts_search.proofs.LoneLemmas.{first_all, first_cut, first_more, first_none, free_are, lone_are, whole_are}
 use Rattle.ts_search.proofs.PairLemmas.{fully_are, row_all, row_more, row_none, rows_all, rows_more, rows_none, table_all, table_more, table_none}
-use Rattle.ts_search.proofs.PassLemmas.{bare_are, before_of, choices_are, inside_are, no_field, no_inner, no_node, not_inside, part_are, part_past, passes_any, passes_choice, passes_kind, passes_named, plain_are, ways_past, ways_plain, ways_round}
+use Rattle.ts_search.proofs.PassLemmas.{bare_are, choices_are, inside_are, no_field, no_inner, no_node, not_inside, part_are, part_past, passes_any, passes_choice, passes_kind, passes_named, plain_are, ways_past, ways_plain, ways_round}
 use Rattle.ts_search.proofs.YieldLemmas.{yield_all, yield_empty, yield_more, yields_each, yields_empty, yields_exact}
 use Rattle.ts_search.proofs.taking.+taking.Goals as goal
 
@@ -37,7 +38,7 @@ pub plain_ways-shallow_ways-requires-clause-field : goal.plain_ways-shallow_ways
 plain_ways-shallow_ways-requires-clause-field t c = c.has_field.ensures.0 c.if-not-has_field.false
 
 pub plain_ways-returns-then-is_shallow : goal.plain_ways-returns-then-is_shallow
-plain_ways-returns-then-is_shallow t c = yields_exact (PlainOf c.args.sight.now c.args.item.now c.args.n) _ c.in_ok-taken.taken.items c.in_ok-taken.ensures
+plain_ways-returns-then-is_shallow t c = yields_exact SameMembers (PlainOf c.args.sight.now c.args.item.now c.args.n) _ c.in_ok-taken.taken.items c.in_ok-taken.ensures
 
 pub plain_ways-returns-then-is_none : goal.plain_ways-returns-then-is_none
 plain_ways-returns-then-is_none t c = no_inner c.args.sight.now c.args.item.now c.args.n (seen_row c.in-Some.row) _ _ c.in_ok-inner.inner.items c.in-Some.ensures c.in_ok-inner.ensures ((rw c.as_slice.ensures.value at c.is_none.ensures).0 c.if-is_none.true)
@@ -47,8 +48,9 @@ plain_ways-returns-then-has_no_captures t c =
     bare_are c.args.sight.now c.args.item.now c.args.n (seen_row c.in-Some.row) _ _ c.in_ok-inner.inner.items c.in-Some.ensures c.in_ok-inner.ensures (c.has_no_captures.ensures c.if-has_no_captures.true) (c.has_field.ensures.0 c.if-not-has_field.false)
 
 pub plain_ways-returns : goal.plain_ways-returns
-plain_ways-returns t c = plain_are c.args.sight.now c.args.item.now c.args.n (seen_row c.in-Some.row) _ _ c.in_ok-inner.inner.items c.in-Some.ensures c.in_ok-inner.ensures c.in_ok-ways.ways.items (c.has_field.ensures.0 c.if-not-has_field.false)
-    (before_of _ _ _ _ _ _ refl (c.in_ok-own.ensures ∙ ap (λ (l : List ℕ). captured l c.args.n (seen_row c.in-Some.row)) c.as_slice-2.ensures) refl c.in_ok-ways.ensures)
+plain_ways-returns t c =
+    plain_are c.args.sight.now c.args.item.now c.args.n (seen_row c.in-Some.row) _ _ c.in_ok-inner.inner.items c.in-Some.ensures c.in_ok-inner.ensures c.in_ok-own.own c.in_ok-ways.ways.items (c.has_field.ensures.0 c.if-not-has_field.false)
+    (rw c.as_slice-2.ensures at c.in_ok-own.ensures) c.in_ok-ways.ensures
 
 pub passing-returns-in_ok-ways-in-Any : goal.passing-returns-in_ok-ways-in-Any
 passing-returns-in_ok-ways-in-Any t c = passes_any c.args.sight.now c.args.item.now c.args.n (seen_row c.args.row) _ c.in_ok-ways-in-Any.ways.items c.in-Any.is
@@ -70,7 +72,7 @@ inside-returns-then-not-none_has t c =
 
 pub inside-returns : goal.inside-returns
 inside-returns t c =
-    yields_each (InsideOf c.args.sight.now c.args.item.now c.args.n) _ _ c.in_ok-ways.ways.items c.once_each.result.items
+    yields_each SameMembers (InsideOf c.args.sight.now c.args.item.now c.args.n) _ _ c.in_ok-ways.ways.items c.once_each.result.items
     (inside_are c.args.sight.now c.args.item.now c.args.n c.in_ok-children.children.items c.in_ok-children.ensures _ _ c.in_ok-ways.ways.items
     ((rw c.as_slice.ensures at (rw c.as_slice-2.ensures.value at c.none_has.ensures)).0 c.if-not-none_has.false)
     (rw c.as_slice-3.ensures at (rw c.as_slice-4.ensures.value at c.in_ok-ways.ensures)))
@@ -114,17 +116,17 @@ pub first_ways-returns : goal.first_ways-returns
 first_ways-returns t c = first_all c.args.sight.now c.args.items.now c.args.siblings.now c.args.from c.loop-place.place c.args.to _ _ c.loop-place.out.items (omega (arith, c.loop-place-test.false)) c.loop-place.invariant.inside c.loop-place.invariant.yields
 
 pub choices-loop-branch-init : goal.choices-loop-branch-init
-choices-loop-branch-init t c = yield_empty (λ (i : Item) (cs : List Capture). ItemTakes c.args.sight.now i 0 c.args.n cs) _ c.new-out.result.items c.new-out.ensures.items
+choices-loop-branch-init t c = yield_empty SameMembers (λ (i : Item) (cs : List Capture). ItemTakes c.args.sight.now i 0 c.args.n cs) _ c.new-out.result.items c.new-out.ensures.items
 
 pub choices-loop-branch-preserved : goal.choices-loop-branch-preserved
 choices-loop-branch-preserved t c =
-    yield_more (λ (i : Item) (cs : List Capture). ItemTakes c.args.sight.now i 0 c.args.n cs) c.args.branches.now c.loop-branch.branch-index c.branch-item.result _ _ _ _ c.in_ok-more.more.items _ c.loop-branch-test.true c.branch-item.is c.loop-branch.invariant
+    yield_more SameMembers (λ (i : Item) (cs : List Capture). ItemTakes c.args.sight.now i 0 c.args.n cs) c.args.branches.now c.loop-branch.branch-index c.branch-item.result _ _ _ _ c.in_ok-more.more.items _ c.loop-branch-test.true c.branch-item.is c.loop-branch.invariant
     c.in_ok-more.ensures c.in_ok-add_all.ensures
 
 pub choices-returns : goal.choices-returns
 choices-returns t c =
-    yields_each (AnyTakes c.args.sight.now c.args.branches.now c.args.n) _ _ c.loop-branch.out.items c.once_each.result.items
-    (choices_are c.args.sight.now c.args.branches.now c.args.n _ _ c.loop-branch.out.items (yield_all (λ (i : Item) (cs : List Capture). ItemTakes c.args.sight.now i 0 c.args.n cs) c.args.branches.now c.loop-branch.branch-index _ _ _ c.loop-branch-test.false
+    yields_each SameMembers (AnyTakes c.args.sight.now c.args.branches.now c.args.n) _ _ c.loop-branch.out.items c.once_each.result.items
+    (choices_are c.args.sight.now c.args.branches.now c.args.n _ _ c.loop-branch.out.items (yield_all SameMembers (λ (i : Item) (cs : List Capture). ItemTakes c.args.sight.now i 0 c.args.n cs) c.args.branches.now c.loop-branch.branch-index _ _ _ c.loop-branch-test.false
     c.loop-branch.invariant))
     c.once_each.ensures
 
@@ -160,7 +162,7 @@ table-returns t c = rw c.from_vec.ensures (table_all c.args.sight.now c.args.sib
 
 pub fully-returns-then-are_none : goal.fully-returns-then-are_none
 fully-returns-then-are_none t c =
-    yields_empty (Embedded c.args.sight.now c.args.items.now c.args.closed c.args.siblings.now) _ _ _ c.in_ok-found.found.items
+    yields_empty SameWay (Embedded c.args.sight.now c.args.items.now c.args.closed c.args.siblings.now) _ _ _ c.in_ok-found.found.items
     (fully_are c.args.sight.now c.args.items.now c.args.siblings.now c.in_ok-table.table _ _ _ c.in_ok-table.ensures c.args.closed c.in_ok-named.named c.in_ok-slots.slots.items c.in_ok-found.found.items c.in_ok-named.ensures
     c.in_ok-slots.ensures (rw c.as_slice.ensures.value at c.in_ok-found.ensures))
     ((rw c.as_slice-2.ensures.value at c.are_none.ensures).0 c.if-are_none.true)
