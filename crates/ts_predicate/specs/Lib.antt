@@ -1,4 +1,5 @@
 pub mod Predicates
 pub mod Asking
+pub mod HostAnswers
 pub mod Judges
 pub mod Rules

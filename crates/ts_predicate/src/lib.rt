@@ -3,10 +3,14 @@
 #![tactic(auto)]
 
 mod asking;
+mod closure;
 mod hosts;
 mod judge;
 mod judging;
 mod predicates;
+#[cfg(test)]
+mod tests;
 
+pub use closure::{HostCall, HostClosure, HostRule};
 pub use hosts::Hosts;
 pub use predicates::Predicates;
