@@ -1,11 +1,14 @@
 -- Embeddings depend only on what the items take.
-use Rattle.std.proofs.Common.{◌≡◌, refl, ℕ, zero, suc, ◌+◌, ◌-◌, ◌<◌, ◌≤◌, List, [], ◌∷◌, ◌++◌, Option, Some, None, Bool, true, false, arith}
+use Rattle.std.proofs.Common.{◌≡◌, ◌∙◌, sym, ap, refl, ℕ, zero, suc, ◌+◌, ◌-◌, ◌<◌, ◌≤◌, List, [], ◌∷◌, ◌++◌, Option, Some, None, Bool, true, false, arith}
 use Rattle.spec_matches.specs.declared.placing.Slot.{Slot}
 use Rattle.spec_matches.specs.declared.placing.Run.{Run}
 use Rattle.spec_matches.specs.declared.found.Capture.{Capture}
 use Rattle.spec_matches.specs.declared.placing.Placing.{Placing}
 use Rattle.spec_matches.specs.Embedding.{offset, IsItemRun, Embeds, Along, GivesCaptures, IsWayFrom}
+use Rattle.ts_search.specs.declared.stand.Wanted.{Wanted}
+use Rattle.ts_search.specs.declared.stand.Wanted.TheVariants.{All, Captures, Here}
 use Rattle.ts_search.specs.Adding.{IsLike}
+use Rattle.ts_search.specs.Memory.{Told}
 use Rattle.ts_search.specs.Sets.{SameMembers, SameWay}
 use Rattle.ts_search.proofs.SetLemmas.{same_append, same_itself, same_of, same_through}
 
@@ -87,7 +90,7 @@ module _ (t u : ℕ → ℕ → ℕ → List Capture → Type 0) (back : (k o p 
 
   -- where there is a way there is one in what the other takes
   pub way_any : ((k o p : ℕ) (c : List Capture) → t k o p c → (d : List Capture) × u k o p d) → (named : List Bool) (closed : Bool) (is : List Slot) (f : Placing) → IsWayFrom t named closed is 0 0 true f
-      → (g : Placing) × IsWayFrom u named closed is 0 0 true g
+      → (g : Placing) × IsWayFrom u named closed is 0 0 true g × (g.first ≡ f.first)
   way_any any named closed is f w =
       let embeds = embeds_to t u any named closed is 0 0 true w.runs w.full.embeds in
       let c = gives_any u named closed is 0 0 true w.runs embeds in
@@ -100,4 +103,26 @@ module _ (t u : ℕ → ℕ → ℕ → List Capture → Type 0) (back : (k o p 
           first = w.first;
           near = w.near;
         },
+        refl,
       )
+
+-- ---- ways as they are asked for
+
+pub told_like : (wanted : Wanted) (lo : ℕ) (V W : Placing → Type 0) → ((f : Placing) → V f → IsLike SameWay W f) → (f : Placing) → Told wanted lo V f → IsLike SameWay (Told wanted lo W) f
+told_like All lo V W to f h = let x = to f h in (x.0, x.1, x.2)
+told_like Here lo V W to f h = let x = to f h.0 in (x.0, (x.1, sym x.2.first ∙ h.1), x.2)
+told_like Captures lo V W to f (g, way, bare) =
+    let x = to g way in (
+      record { first = None; near = false; captures = x.0.captures },
+      (x.0, x.1, refl),
+      record {
+        first = ap (λ (p : Placing). p.first) bare;
+        near = ap (λ (p : Placing). p.near) bare;
+        captures = same_through f.captures g.captures x.0.captures (same_of f.captures g.captures (ap (λ (p : Placing). p.captures) bare)) x.2.captures;
+      },
+    )
+
+pub told_any : (wanted : Wanted) (lo : ℕ) (V W : Placing → Type 0) → ((f : Placing) → V f → (g : Placing) × W g × (g.first ≡ f.first)) → (f : Placing) → Told wanted lo V f → (g : Placing) × Told wanted lo W g
+told_any All lo V W any f h = let x = any f h in (x.0, x.1)
+told_any Here lo V W any f h = let x = any f h.0 in (x.0, (x.1, x.2 ∙ h.1))
+told_any Captures lo V W any f (g, way, bare) = let x = any g way in (record { first = None; near = false; captures = x.0.captures }, (x.0, x.1, refl))

@@ -17,6 +17,7 @@ pub mod OnceLemmas
 pub mod OrderLemmas
 pub mod PairLemmas
 pub mod PassLemmas
+pub mod PassingLemmas
 pub mod PlaceLemmas
 pub mod ReachLemmas
 pub mod RowLemmas
@@ -24,6 +25,7 @@ pub mod RunLemmas
 pub mod SetLemmas
 pub mod ShallowLemmas
 pub mod ShapeLemmas
+pub mod SilentLemmas
 pub mod SingleLemmas
 pub mod TakeLemmas
 pub mod VisitLemmas

@@ -13,6 +13,8 @@ use Rattle.spec_matches.specs.declared.scene.Scene.{Scene}
 use Rattle.spec_matches.specs.Taking.{Embedded}
 use Rattle.ts_search.specs.Adding.{OfSome, Yields}
 use Rattle.ts_search.specs.Gathering.{Gathers, GathersSome, Hits, HitsIn, IsFull}
+use Rattle.ts_search.specs.declared.stand.Wanted.TheVariants.{All}
+use Rattle.ts_search.specs.Memory.{Told}
 use Rattle.ts_search.specs.Sets.{SameMembers, SameWay}
 use Rattle.ts_search.specs.Single.{HitAt, HitsAt}
 use Rattle.ts_search.specs.Ways.{ItemTakes}
@@ -111,7 +113,7 @@ way_hit_like kept k siblings f g s m h = record {
 }
 
 pub hits_in : (scene : Scene) (kept : Match → Type 0) (k : ℕ) (pattern : Pattern) (siblings : List ℕ) (u v : Bool) (found : List Placing) (a b : BTreeSet Match)
-    → Yields SameWay (Embedded scene pattern.items pattern.closed siblings) u v found → Gathers (OfSome (Hits kept k siblings) found) a b → GathersSome (HitsIn scene kept k pattern siblings) u v a b
+    → Yields SameWay (Told All 0 (Embedded scene pattern.items pattern.closed siblings)) u v found → Gathers (OfSome (Hits kept k siblings) found) a b → GathersSome (HitsIn scene kept k pattern siblings) u v a b
 hits_in scene kept k pattern siblings u v found a b are adds =
     some_of (OfSome (Hits kept k siblings) found) (HitsIn scene kept k pattern siblings) u v a b adds are.earlier
     (λ m h. let g = are.part.only h.0 h.1 in (g.0, g.1, way_hit_like kept k siblings h.0 g.0 g.2 m h.2))

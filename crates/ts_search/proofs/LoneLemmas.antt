@@ -12,13 +12,15 @@ use Rattle.spec_matches.specs.declared.scene.Scene.{Scene}
 use Rattle.spec_matches.specs.Siblings.{named_at, nameds}
 use Rattle.spec_matches.specs.Embedding.{Unnamed, first_sibling_taken, near_of}
 use Rattle.spec_matches.specs.Taking.{Embedded}
+use Rattle.ts_search.specs.declared.stand.Wanted.TheVariants.{Captures}
 use Rattle.ts_search.specs.Adding.{Adds, IsLike, Yields}
 use Rattle.ts_search.specs.Lone.{FirstTakes, IsClosedStart, IsLone, IsOnce, IsTiedEnd, WholeOf}
+use Rattle.ts_search.specs.Memory.{Told}
 use Rattle.ts_search.specs.Sets.{SameMembers, SameWay}
 use Rattle.ts_search.specs.Ways.{TakenOf, slot_of}
 use Rattle.ts_search.proofs.AddLemmas.{in_one, one_in}
 use Rattle.ts_search.proofs.PlaceLemmas.{cases_lt_or_eq, in_map, of_map, same_at}
-use Rattle.ts_search.proofs.SetLemmas.{same_itself}
+use Rattle.ts_search.proofs.SetLemmas.{same_itself, same_of, same_through}
 use Rattle.ts_search.proofs.SingleLemmas.{lone_way}
 use Rattle.ts_search.proofs.YieldLemmas.{like_each, like_to, yields_both, yields_exact, yields_nothing, yields_same}
 
@@ -185,18 +187,19 @@ module _ (scene : Scene) (closed : Bool) (siblings : List ℕ) (w : Bool) where
 -- ---- ways with places
 
 module _ (scene : Scene) (is : List Item) (closed : Bool) (siblings : List ℕ) where
-  pub whole_are : (u v : Bool) (found : List Placing) (ways : List (List Capture)) → Yields SameWay (Embedded scene is closed siblings) u v found → ways ≡ map (λ (f : Placing). f.captures) found → Yields SameMembers (WholeOf scene is closed siblings) u v ways
+  pub whole_are : (u v : Bool) (found : List Placing) (ways : List (List Capture)) → Yields SameWay (Told Captures 0 (Embedded scene is closed siblings)) u v found → ways ≡ map (λ (f : Placing). f.captures) found
+      → Yields SameMembers (WholeOf scene is closed siblings) u v ways
   whole_are u v found ways are e = record {
-    part = record { only = only; any = λ c h. let g = are.part.any (placed c h) (embeds c h) in (g.0.captures, in_of g.0 g.1) };
+    part = record { only = only; any = λ c h. let g = are.part.any (bare c) (embeds c h) in (g.0.captures, in_of g.0 g.1) };
     earlier = are.earlier;
-    all = λ t c h. let g = are.all t (placed c h) (embeds c h) in (g.0.captures, in_of g.0 g.1, g.2.captures);
+    all = λ t c h. let g = are.all t (bare c) (embeds c h) in (g.0.captures, in_of g.0 g.1, g.2.captures);
   }
     where
-      placed : (c : List Capture) → WholeOf scene is closed siblings c → Placing
-      placed c h = record { first = first_sibling_taken h.runs; near = near_of h.runs; captures = c }
+      bare : List Capture → Placing
+      bare c = record { first = None; near = false; captures = c }
 
-      embeds : (c : List Capture) (h : WholeOf scene is closed siblings c) → Embedded scene is closed siblings (placed c h)
-      embeds c h = record { runs = h.runs; full = h.full; gives = h.gives; first = refl; near = refl }
+      embeds : (c : List Capture) (h : WholeOf scene is closed siblings c) → Told Captures 0 (Embedded scene is closed siblings) (bare c)
+      embeds c h = (record { first = first_sibling_taken h.runs; near = near_of h.runs; captures = c }, record { runs = h.runs; full = h.full; gives = h.gives; first = refl; near = refl }, refl)
 
       in_of : (f : Placing) → Contains found f → Contains ways f.captures
       in_of f h = subst (λ (l : List (List Capture)). Contains l f.captures) (sym e) (in_map (λ (g : Placing). g.captures) found f h)
@@ -205,4 +208,6 @@ module _ (scene : Scene) (is : List Item) (closed : Bool) (siblings : List ℕ) 
       only c h =
           let f = of_map (λ (g : Placing). g.captures) found (record { first = None; near = true; captures = [] }) c (subst (λ (l : List (List Capture)). Contains l c) e h) in
           let g = are.part.only f.0 f.1 in
-          (g.0.captures, record { runs = g.1.runs; full = g.1.full; gives = g.1.gives }, subst (λ (d : List Capture). SameMembers d g.0.captures) f.2 g.2.captures)
+          let w = g.1 in
+          let same : SameMembers f.0.captures w.0.captures = same_through f.0.captures g.0.captures w.0.captures g.2.captures (same_of g.0.captures w.0.captures (ap (λ (p : Placing). p.captures) w.2)) in
+          (w.0.captures, record { runs = w.1.runs; full = w.1.full; gives = w.1.gives }, subst (λ (d : List Capture). SameMembers d w.0.captures) f.2 same)

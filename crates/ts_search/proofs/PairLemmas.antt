@@ -10,12 +10,15 @@ use Rattle.spec_matches.specs.declared.scene.Scene.{Scene}
 use Rattle.spec_matches.specs.Siblings.{nameds}
 use Rattle.spec_matches.specs.Embedding.{IsWayFrom}
 use Rattle.spec_matches.specs.Taking.{On, Embedded, shapes_of, slots_of}
+use Rattle.ts_search.specs.declared.stand.Siblings.{Siblings}
+use Rattle.ts_search.specs.declared.stand.Wanted.{Wanted}
+use Rattle.ts_search.specs.Memory.{Told, WaysOf}
 use Rattle.ts_search.specs.Table.{Takes}
 use Rattle.ts_search.specs.Adding.{Holds, IsLike, Yields}
 use Rattle.ts_search.specs.Sets.{SameMembers, SameWay}
 use Rattle.ts_search.specs.Ways.{Pairs, Numbered, AreWays, IsRow, AreRowsOf, IsTable, SomeWays, SomeRow, SomeRows, SomeTable, HasRow, HasRows, HasTable, ItemTakes, TakenOf, slot_of, size_of}
 use Rattle.ts_search.proofs.ShapeLemmas.{taken_at, slots_are, within_round}
-use Rattle.ts_search.proofs.CarryLemmas.{way_any, way_to}
+use Rattle.ts_search.proofs.CarryLemmas.{told_any, told_like, way_any, way_to}
 use Rattle.ts_search.proofs.TakeLemmas.{take_push}
 use Rattle.ts_search.proofs.SetLemmas.{way_through}
 use Rattle.ts_search.proofs.YieldLemmas.{holds_exact, holds_more, holds_same, yields_all, yields_like}
@@ -61,7 +64,7 @@ module _ {X Y : Type 0} (P : X → Y → Type 0) where
 
 -- lists that agree with numbers
 module _ {Y : Type 0} (P : ℕ → Y → Type 0) where
-  last : (ys : List Y) (y z : Y) (k : ℕ) → slice_get (ys ++ y ∷ []) k ≡ Some z → (slice_get ys k ≡ Some z) ⊎ ((k ≡ length ys) × (y ≡ z))
+  pub last : (ys : List Y) (y z : Y) (k : ℕ) → slice_get (ys ++ y ∷ []) k ≡ Some z → (slice_get ys k ≡ Some z) ⊎ ((k ≡ length ys) × (y ≡ z))
   last [] y z zero e = inr (refl, some e)
     where
       some : Some y ≡ Some z → y ≡ z
@@ -189,11 +192,20 @@ module _ (scene : Scene) (is : List Item) (siblings : List ℕ) (table : Table) 
   abbrev Taken : ℕ → ℕ → ℕ → List Capture → Type 0
   Taken = On (TakenOf scene is) siblings
 
-  pub fully_are : (u v x : Bool) → HasTable scene siblings is u v table → (closed : Bool) (named : List Bool) (slots : List Slot) (found : List Placing) → named ≡ nameds scene.nodes siblings → slots ≡ map slot_of is
-      → Yields SameWay (IsWayFrom (Takes table) named closed slots 0 0 true) v x found → Yields SameWay (Embedded scene is closed siblings) u x found
-  fully_are u v x has closed named slots found en er yields =
-      yields_like SameWay way_through (IsWayFrom (Takes table) named closed slots 0 0 true) (Embedded scene is closed siblings) u v x found yields has.earlier to_scene any_there of_scene
+  pub fully_are : (wanted : Wanted) (u v x : Bool) → HasTable scene siblings is u v table → (s : Siblings) → s.table ≡ table → (closed : Bool) → s.closed ≡ closed → (named : List Bool) → s.named ≡ named → (slots : List Slot) (found : List Placing)
+      → named ≡ nameds scene.nodes siblings → slots ≡ map slot_of is → Yields SameWay (Told wanted 0 (WaysOf s slots 0 0 true)) v x found → Yields SameWay (Told wanted 0 (Embedded scene is closed siblings)) u x found
+  fully_are wanted u v x has s et closed ec named ens slots found en er yields =
+      yields_like SameWay way_through (Told wanted 0 (IsWayFrom (Takes table) named closed slots 0 0 true)) (Told wanted 0 (Embedded scene is closed siblings)) u v x found told has.earlier
+      (told_like wanted 0 (IsWayFrom (Takes table) named closed slots 0 0 true) (Embedded scene is closed siblings) to_scene)
+      (told_any wanted 0 (Embedded scene is closed siblings) (IsWayFrom (Takes table) named closed slots 0 0 true) any_there)
+      (λ e. told_like wanted 0 (Embedded scene is closed siblings) (IsWayFrom (Takes table) named closed slots 0 0 true) (of_scene e))
     where
+      told : Yields SameWay (Told wanted 0 (IsWayFrom (Takes table) named closed slots 0 0 true)) v x found
+      told =
+          subst (λ (l : Table). Yields SameWay (Told wanted 0 (IsWayFrom (Takes l) named closed slots 0 0 true)) v x found) et
+          (subst (λ (b : Bool). Yields SameWay (Told wanted 0 (IsWayFrom (Takes s.table) named b slots 0 0 true)) v x found) ec
+          (subst (λ (l : List Bool). Yields SameWay (Told wanted 0 (IsWayFrom (Takes s.table) l s.closed slots 0 0 true)) v x found) ens yields))
+
       same : slots_of (shapes_of is) ≡ slots
       same = slots_are is ∙ sym er
 
@@ -209,7 +221,7 @@ module _ (scene : Scene) (is : List Item) (siblings : List ℕ) (table : Table) 
       to_scene : (f : Placing) → IsWayFrom (Takes table) named closed slots 0 0 true f → IsLike SameWay (Embedded scene is closed siblings) f
       to_scene f w = let x = way_to (Takes table) Taken (any has.holds) (to has.holds) named closed slots f w in (x.0, of_in x.0 x.1, x.2)
 
-      any_there : (f : Placing) → Embedded scene is closed siblings f → (g : Placing) × IsWayFrom (Takes table) named closed slots 0 0 true g
+      any_there : (f : Placing) → Embedded scene is closed siblings f → (g : Placing) × IsWayFrom (Takes table) named closed slots 0 0 true g × (g.first ≡ f.first)
       any_there f w = way_any Taken (Takes table) back (any has.holds) named closed slots f (in_of f w)
 
       of_scene : v ≡ false → (f : Placing) → Embedded scene is closed siblings f → IsLike SameWay (IsWayFrom (Takes table) named closed slots 0 0 true) f

@@ -30,7 +30,7 @@ use Rattle.ts_search.proofs.LimitLemmas.{some_same}
 not_both : (b : Bool) → b ≡ false → b ≡ true → ⊥
 not_both b f t = let e : false ≡ true = sym f ∙ t in cc
 
-mod_one : (n : ℕ) → n % (0 + 1) ≡ 0
+pub mod_one : (n : ℕ) → n % (0 + 1) ≡ 0
 mod_one n = let h : n % (0 + 1) < 0 + 1 = mod-lt n (omega arith) in omega arith
 
 -- a slot that takes one sibling
@@ -44,11 +44,11 @@ module _ (s : Slot) (o : IsOne s) where
   not_quantified (inl h) = not_both s.optional o.one h
   not_quantified (inr h) = not_both s.many o.few h
 
-  width : (d : ℕ) → Rounds s d → d ≡ 1
+  pub width : (d : ℕ) → Rounds s d → d ≡ 1
   width d (whole, inl many) = absurd (not_both s.many o.few many)
   width d (whole, inr e) = e ∙ ap (λ (n : ℕ). n + 1) o.alone
 
-  place : (first p : ℕ) → offset s first p ≡ 0
+  pub place : (first p : ℕ) → offset s first p ≡ 0
   place first p = ap (λ (n : ℕ). (p - first) % (n + 1)) o.alone ∙ mod_one (p - first)
 
   module _ (takes : ℕ → ℕ → ℕ → List Capture → Type 0) (named : List Bool) (closed : Bool) where

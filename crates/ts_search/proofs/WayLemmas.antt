@@ -146,7 +146,7 @@ module _ (s : Siblings) (is : List Slot) (at : Stand) where
   Ahead r tails c = (t : Placing) × Contains tails t × (CanWiden s is at r t → ⊥) × (u : List Capture) × Along T at.number at.slot r.first (r.past - r.first) r.first u × (c ≡ u ++ t.captures)
 
   module _ (r : Run) (wanted : Wanted) (suits : Suits s at r.past wanted) (tails : List Placing) (placed : Placed T s.named at.slot at.number at.lo at.beside r) where
-    ahead_of : (g : Placing) (w : WayAfter r.past true g) → (CanWiden s is at r g → ⊥) → (u c : List Capture) → Along T at.number at.slot r.first (r.past - r.first) r.first u → c ≡ u ++ g.captures → HeadTaken s is at r c
+    pub ahead_of : (g : Placing) (w : WayAfter r.past true g) → (CanWiden s is at r g → ⊥) → (u c : List Capture) → Along T at.number at.slot r.first (r.past - r.first) r.first u → c ≡ u ++ g.captures → HeadTaken s is at r c
     ahead_of g w free u c along e = record {
       rest = w.runs;
       full = record {

@@ -33,8 +33,16 @@ Told All lo W f = W f
 Told Here lo W f = W f × (f.first ≡ Some lo)
 Told Captures lo W f = (g : Placing) × W g × IsBare g f
 
+-- ways are kept for a key
+abbrev pub IsThere : (Key → Option (List Placing)) → Key → Type 0
+IsThere look key = (v : List Placing) × (look key ≡ Some v)
+
+-- the ways that a key asks for
+abbrev pub TellsOf : Siblings → List Slot → Key → Placing → Type 0
+TellsOf s all key =
+    Told key.wanted key.lo (WaysOf s (drop key.number all) key.number key.lo key.beside)
+
 -- each list that is kept has ways that its key asks for, and all of them but for what was left out
 abbrev pub IsMemo : Siblings → List Slot → Bool → (Key → Option (List Placing)) → Type 0
 IsMemo s all cut look = (key : Key) (v : List Placing) → look key ≡ Some v
-    → FindsMost (Told key.wanted key.lo
-    (WaysOf s (drop key.number all) key.number key.lo key.beside)) cut cut v
+    → FindsMost (TellsOf s all key) cut cut v

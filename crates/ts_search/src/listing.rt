@@ -19,6 +19,7 @@ use crate::once::in_order;
 use crate::row::Row;
 use crate::sight::Sight;
 use crate::single::{add_single, single};
+use crate::stand::Wanted;
 use crate::taking::{fully, may_take};
 use spec_matches::{Match, Placing, one_order};
 use std::alloc::{AllocError, Global};
@@ -126,6 +127,7 @@ fn add_embedded<K: Keep>(
         pattern.items.as_slice(),
         pattern.closed,
         siblings,
+        Wanted::All,
     )?;
     add_matches(alloc, out, keep, number, siblings, found)?;
     Ok(())

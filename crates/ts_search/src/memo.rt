@@ -1,65 +1,41 @@
-//! What is kept while a search goes on: a key and some ways go in, and for a key a copy of the ways
-//! that are kept for it comes out.
-ghost use Rattle.std.specs.Prelude.{◌≡◌, ℕ, IfOk, IfSome, OnOk, Some};
+//! What is kept while a search goes on: a key and some ways go in, and for a key the ways that are
+//! kept for it are lent.
+ghost use Rattle.std.specs.Prelude.{◌≡◌, OnOk, Some, IsTrue};
 ghost use Rattle.std.specs.HashMap.{get, Updates};
-ghost use Rattle.ts_search.specs.Memory.{key_eq};
+ghost use Rattle.ts_search.specs.Memory.{IsThere, key_eq};
 
-use crate::products::joined;
 use crate::stand::Key;
 use spec_matches::Placing;
-use std::alloc::{AllocError, Global};
+use std::alloc::AllocError;
 use std::collections::HashMap;
 use ts_base::List;
 
-/// A copy of a way.
-fn copied(alloc: Global, found: &Placing) -> Result<Placing, AllocError>
-    ensures { IfOk result (λ f. f ≡ found.now) }
+/// Whether ways are kept for a key.
+pub(crate) fn is_kept(memo: &HashMap<Key, List<Placing>>, key: Key) -> bool
+    ensures { IsTrue result → IsThere (get key_eq memo.now) key }
 {
-    let captures = joined(alloc, &[], found.captures.as_slice())?;
-    Ok(Placing {
-        first: found.first,
-        near: found.near,
-        captures,
-    })
+    memo.get(&key).is_some()
 }
 
-/// A copy of some ways.
-fn all_copied(alloc: Global, found: &[Placing]) -> Result<Vec<Placing>, AllocError>
-    ensures { IfOk result (λ v. v.items ≡ found.now) }
-{
-    let mut out = Vec::new(alloc);
-    for one in found {
-        let copy = copied(alloc, one)?;
-        out.push(copy)?;
-    }
-    Ok(out)
-}
-
-/// A copy of the ways that are kept for a key, if there are any.
-pub(crate) fn recall(
-    alloc: Global,
-    memo: &HashMap<Key, List<Placing>>,
-    key: Key,
-) -> Result<Option<Vec<Placing>>, AllocError>
-    ensures { IfOk result (λ o. IfSome o (λ v. get key_eq memo.now key ≡ Some v.items)) }
+/// The ways that are kept for a key.
+pub(crate) fn kept(memo: &HashMap<Key, List<Placing>>, key: Key) -> &[Placing]
+    requires { IsThere (get key_eq memo.now) key }
+    ensures { get key_eq memo.now key ≡ Some result.now }
 {
     let Some(found) = memo.get(&key) else {
-        return Ok(None);
+        unreachable!()
     };
-    let all = all_copied(alloc, found.as_slice())?;
-    Ok(Some(all))
+    found.as_slice()
 }
 
-/// Keeps a copy of some ways for a key.
+/// Keeps some ways for a key.
 pub(crate) fn remember(
-    alloc: Global,
     memo: &mut HashMap<Key, List<Placing>>,
     key: Key,
-    found: &[Placing],
+    found: Vec<Placing>,
 ) -> Result<(), AllocError>
-    ensures { OnOk result (Updates key_eq memo.old memo.new key (Some found.now)) }
+    ensures { OnOk result (Updates key_eq memo.old memo.new key (Some found.items)) }
 {
-    let all = all_copied(alloc, found)?;
-    memo.insert(key, List::from_vec(all))?;
+    memo.insert(key, List::from_vec(found))?;
     Ok(())
 }

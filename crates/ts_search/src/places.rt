@@ -291,7 +291,9 @@ pub(crate) fn begins(siblings: &Siblings, at: Stand, first: usize) -> bool
 
 /// The first place from `at.lo` on where a run of the item may begin.
 pub(crate) fn first_taken(siblings: &Siblings, at: Stand) -> usize
-    ensures { NoneTaken siblings.now at result }
+    ensures none { NoneTaken siblings.now at result }
+    ensures taken { result < length siblings.now.named
+        → (at.lo ≤ result) × TakesAt siblings.now at result }
 {
     let count = siblings.named.len();
     for place in at.lo..count {

@@ -6,14 +6,15 @@ ghost use Rattle.ts_search.specs.Adding.{Adds, FindsMost, Gains, OfSome};
 ghost use Rattle.spec_matches.specs.Embedding.{Rounds, Placed, Unnamed, IsWayFrom};
 ghost use Rattle.ts_search.specs.Table.{Takes};
 ghost use Rattle.std.specs.HashMap.{get};
-ghost use Rattle.ts_search.specs.Memory.{IsMemo, key_eq, Begun, Told, WaysOf};
+ghost use Rattle.ts_search.specs.Memory.{Begun, IsMemo, IsThere, Told, WaysOf, key_eq};
 ghost use Rattle.ts_search.specs.declared.stand.Wanted.TheVariants as asked;
 ghost use Rattle.ts_search.specs.Steps.{AnyStays, HeadFrom, HeadNone, HeadTaken, NoneBefore, NoneTaken, RunBefore, TakenFrom};
 ghost use Rattle.spec_matches.specs.declared.placing.Placing.{Placing as Way};
 
 use crate::limit::{Limit, stops};
-use crate::memo::{recall, remember};
+use crate::memo::{is_kept, kept, remember};
 use crate::once::{add_placed, bare, once_each};
+use crate::passing::{from_number, settled};
 use crate::places::{
     are_rounds, begins, begins_late, first_taken, grows, is_anchored, is_unnamed, reach,
     wanted_after, widens,
@@ -144,7 +145,8 @@ fn add_at(
 ) -> Result<(), AllocError>
     requires place { Placed (Takes siblings.now.table) siblings.now.named
         at.slot at.number at.lo at.beside run }
-    requires few { at.number + 1 + length rest.now < 2 ^ 64 }
+    requires inside { at.number < length all.now }
+    requires few { length all.now < 2 ^ 64 }
     requires rest { rest.now ≡ drop (at.number + 1) all.now }
     requires memo { IsMemo siblings.now all.now limit.now.cut (get key_eq memo.now) }
     ensures adds { OnOk result (Gains (HeadTaken siblings.now rest.now at run)
@@ -152,19 +154,18 @@ fn add_at(
     ensures memo { OnOk result (IsMemo siblings.now all.now limit.new.cut (get key_eq memo.new)) }
 {
     let wanted = wanted_after(siblings, at, run.past);
-    let tails = ways(
-        alloc,
-        limit,
-        memo,
-        siblings,
-        all,
-        rest,
-        at.number + 1,
-        run.past,
-        true,
+    let asked = Key {
+        number: at.number + 1,
+        lo: run.past,
+        beside: true,
         wanted,
-    )?;
-    if !any_stays(siblings, rest, at, run, tails.as_slice()) {
+    };
+    let Some(key) = settled(siblings, all, asked) else {
+        return Ok(());
+    };
+    fill(alloc, limit, memo, siblings, all, key)?;
+    let tails = kept(memo, key);
+    if !any_stays(siblings, rest, at, run, tails) {
         return Ok(());
     }
     let fronts = along(
@@ -184,7 +185,7 @@ fn add_at(
         at,
         run,
         fronts.as_slice(),
-        tails.as_slice(),
+        tails,
     )?;
     Ok(())
 }
@@ -206,7 +207,8 @@ fn add_last(
         → Placed (Takes siblings.now.table) siblings.now.named
         at.slot at.number at.lo at.beside run }
     requires some { run.first < run.past }
-    requires few { at.number + 1 + length rest.now < 2 ^ 64 }
+    requires inside { at.number < length all.now }
+    requires few { length all.now < 2 ^ 64 }
     requires rest { rest.now ≡ drop (at.number + 1) all.now }
     requires memo { IsMemo siblings.now all.now limit.now.cut (get key_eq memo.now) }
     ensures adds { OnOk result (Gains (HeadTaken siblings.now rest.now at run)
@@ -236,7 +238,8 @@ fn runs_from(
     requires after { at.lo ≤ first }
     requires anchored { at.slot.tied ≡ true → at.beside ≡ true
         → Unnamed siblings.now.named at.lo first }
-    requires few { at.number + 1 + length rest.now < 2 ^ 64 }
+    requires inside { at.number < length all.now }
+    requires few { length all.now < 2 ^ 64 }
     requires rest { rest.now ≡ drop (at.number + 1) all.now }
     requires memo { IsMemo siblings.now all.now limit.now.cut (get key_eq memo.now) }
     ensures all { IfOk result (λ captures. FindsMost (TakenFrom siblings.now rest.now at first)
@@ -281,7 +284,8 @@ fn add_first(
     first: usize,
 ) -> Result<(), AllocError>
     requires after { at.lo ≤ first }
-    requires few { at.number + 1 + length rest.now < 2 ^ 64 }
+    requires inside { at.number < length all.now }
+    requires few { length all.now < 2 ^ 64 }
     requires rest { rest.now ≡ drop (at.number + 1) all.now }
     requires memo { IsMemo siblings.now all.now limit.now.cut (get key_eq memo.now) }
     ensures adds { OnOk result (Gains (HeadFrom siblings.now rest.now at first)
@@ -316,7 +320,8 @@ fn add_nothing(
     at: Stand,
     here: bool,
 ) -> Result<(), AllocError>
-    requires few { at.number + 1 + length rest.now < 2 ^ 64 }
+    requires inside { at.number < length all.now }
+    requires few { length all.now < 2 ^ 64 }
     requires rest { rest.now ≡ drop (at.number + 1) all.now }
     requires memo { IsMemo siblings.now all.now limit.now.cut (get key_eq memo.now) }
     ensures adds { OnOk result (Gains (HeadNone siblings.now rest.now at here)
@@ -326,19 +331,16 @@ fn add_nothing(
     if !at.slot.optional {
         return Ok(());
     }
-    let tails = ways(
-        alloc,
-        limit,
-        memo,
-        siblings,
-        all,
-        rest,
-        at.number + 1,
-        at.lo,
-        false,
-        begun(here),
-    )?;
-    add_nones(alloc, out, siblings, rest, at, tails.as_slice())?;
+    let wanted = begun(here);
+    let key = Key {
+        number: at.number + 1,
+        lo: at.lo,
+        beside: false,
+        wanted,
+    };
+    fill(alloc, limit, memo, siblings, all, key)?;
+    let tails = kept(memo, key);
+    add_nones(alloc, out, siblings, rest, at, tails)?;
     Ok(())
 }
 
@@ -443,7 +445,7 @@ fn made(
     beside: bool,
     here: bool,
 ) -> Result<Vec<Placing>, AllocError>
-    requires few { number + length slots.now < 2 ^ 64 }
+    requires few { length all.now < 2 ^ 64 }
     requires slots { slots.now ≡ drop number all.now }
     requires memo { IsMemo siblings.now all.now limit.now.cut (get key_eq memo.now) }
     ensures ways { IfOk result (λ v. FindsMost
@@ -487,7 +489,7 @@ fn told(
     beside: bool,
     wanted: Wanted,
 ) -> Result<Vec<Placing>, AllocError>
-    requires few { number + length slots.now < 2 ^ 64 }
+    requires few { length all.now < 2 ^ 64 }
     requires slots { slots.now ≡ drop number all.now }
     requires memo { IsMemo siblings.now all.now limit.now.cut (get key_eq memo.now) }
     ensures ways { IfOk result (λ v. FindsMost
@@ -518,47 +520,36 @@ fn told(
     }
 }
 
-/// The ways to embed the items from a number on in the siblings from `lo` on, as they are asked
-/// for, each made once.
+/// Makes the ways that a key asks for, where they are not kept.
 #[cycle(ways)]
-fn ways(
+fn fill(
     alloc: Global,
     limit: &mut Limit,
     memo: &mut HashMap<Key, List<Placing>>,
     siblings: &Siblings,
     all: &[Slot],
-    slots: &[Slot],
-    number: usize,
-    lo: usize,
-    beside: bool,
-    wanted: Wanted,
-) -> Result<Vec<Placing>, AllocError>
-    requires few { number + length slots.now < 2 ^ 64 }
-    requires slots { slots.now ≡ drop number all.now }
+    key: Key,
+) -> Result<(), AllocError>
+    requires inside { key.number ≤ length all.now }
+    requires few { length all.now < 2 ^ 64 }
     requires memo { IsMemo siblings.now all.now limit.now.cut (get key_eq memo.now) }
-    ensures ways { IfOk result (λ v. FindsMost
-        (Told wanted lo (WaysOf siblings.now slots.now number lo beside))
-        limit.old.cut limit.new.cut v.items) }
+    ensures there { OnOk result (IsThere (get key_eq memo.new) key) }
+    ensures earlier { OnOk result (limit.new.cut ≡ false → limit.old.cut ≡ false) }
     ensures memo { OnOk result (IsMemo siblings.now all.now limit.new.cut (get key_eq memo.new)) }
 {
-    let key = Key {
-        number,
-        lo,
-        beside,
-        wanted,
-    };
-    if let Some(found) = recall(alloc, memo, key)? {
-        return Ok(found);
+    if is_kept(memo, key) {
+        return Ok(());
     }
+    let slots = from_number(all, key.number);
     let found = told(
-        alloc, limit, memo, siblings, all, slots, number, lo, beside, wanted,
+        alloc, limit, memo, siblings, all, slots, key.number, key.lo, key.beside, key.wanted,
     )?;
-    remember(alloc, memo, key, found.as_slice())?;
-    Ok(found)
+    remember(memo, key, found)?;
+    Ok(())
 }
 
-/// The full embeddings of items in a list of siblings: for each the place of the first sibling
-/// taken, and all captures in the order of the siblings.
+/// The full embeddings of items in a list of siblings, as they are asked for: for each the place of
+/// the first sibling taken, and all captures in the order of the siblings.
 ///
 /// # Errors
 ///
@@ -567,24 +558,26 @@ pub(crate) fn embeddings(
     alloc: Global,
     limit: &mut Limit,
     siblings: &Siblings,
-    slots: &[Slot],
+    all: &[Slot],
+    wanted: Wanted,
 ) -> Result<Vec<Placing>, AllocError>
-    requires few { length slots.now < 2 ^ 64 }
-    ensures { IfOk result (λ v. FindsMost (WaysOf siblings.now slots.now 0 0 true)
+    requires few { length all.now < 2 ^ 64 }
+    ensures { IfOk result (λ v. FindsMost (Told wanted 0 (WaysOf siblings.now all.now 0 0 true))
         limit.old.cut limit.new.cut v.items) }
 {
+    let asked = Key {
+        number: 0,
+        lo: 0,
+        beside: true,
+        wanted,
+    };
+    let Some(key) = settled(siblings, all, asked) else {
+        return Ok(Vec::new(alloc));
+    };
     let mut memo = HashMap::new(alloc);
-    let found = ways(
-        alloc,
-        limit,
-        &mut memo,
-        siblings,
-        slots,
-        slots,
-        0,
-        0,
-        true,
-        Wanted::All,
+    let slots = from_number(all, key.number);
+    let found = told(
+        alloc, limit, &mut memo, siblings, all, slots, key.number, key.lo, key.beside, key.wanted,
     )?;
     Ok(found)
 }

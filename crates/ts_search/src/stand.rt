@@ -1,4 +1,7 @@
 //! Where a search stands, and what it searches.
+ghost use Rattle.std.specs.Prelude.{◌≡◌, Some, slice_get, true};
+ghost use Rattle.std.proofs.Props.{props};
+ghost use Rattle.ts_search.specs.Table.{AreSilent};
 
 use spec_matches::{Capture, Slot};
 use ts_base::List;
@@ -14,13 +17,15 @@ pub(crate) struct Stand {
 }
 
 /// A list of siblings as the items see it: for each item, place in its round, and sibling the
-/// captures of each way in which the item takes it; for each sibling whether it is named; and
-/// whether an anchor stands after the last item.
+/// captures of each way in which the item takes it; for each sibling whether it is named; whether
+/// an anchor stands after the last item; and for each item whether nothing is captured by it.
 #[derive(Debug, Drop)]
 pub(crate) struct Siblings {
     pub table: List<List<List<List<List<Capture>>>>>,
     pub named: List<bool>,
     pub closed: bool,
+    pub silent: List<bool>,
+    ghost silence: { AreSilent table silent } by { Prim.hlevel props },
 }
 
 /// Which ways are asked for.

@@ -10,7 +10,7 @@ ghost use Rattle.spec_matches.specs.Taking.{Embedded, IsField, NoneHas};
 ghost use Rattle.spec_matches.specs.Taking as of_spec;
 ghost use Rattle.ts_search.specs.Adding.{Adds, AreLike, Yields};
 ghost use Rattle.ts_search.specs.Lone.{FirstTakes, IsLone, IsOnce, WholeOf};
-ghost use Rattle.ts_search.specs.Memory.{WaysOf};
+ghost use Rattle.ts_search.specs.Memory.{Told, WaysOf};
 ghost use Rattle.ts_search.specs.Rows.{seen_row};
 ghost use Rattle.ts_search.specs.Sets.{SameMembers, SameWay};
 ghost use Rattle.ts_search.specs.Steps.{Before};
@@ -24,7 +24,8 @@ use crate::products::led;
 use crate::row::Row;
 use crate::search::embeddings;
 use crate::sight::{Sight, has_field};
-use crate::stand::Siblings;
+use crate::silent::siblings_of;
+use crate::stand::{Siblings, Wanted};
 use spec_matches::{Capture, Placing, Slot};
 use std::alloc::{AllocError, Global};
 use ts_base::List;
@@ -337,16 +338,17 @@ fn all_embeddings(
     alloc: Global,
     siblings: &Siblings,
     slots: &[Slot],
+    wanted: Wanted,
 ) -> Result<Vec<Placing>, AllocError>
     requires few { length slots.now < 2 ^ 64 }
     ensures { IfOk result (λ found. (f : Way)
-        → Contains found.items f ↔ WaysOf siblings.now slots.now 0 0 true f) }
+        → Contains found.items f ↔ Told wanted 0 (WaysOf siblings.now slots.now 0 0 true) f) }
 {
     let mut limit = Limit {
         most: usize::MAX,
         cut: false,
     };
-    let found = embeddings(alloc, &mut limit, siblings, slots)?;
+    let found = embeddings(alloc, &mut limit, siblings, slots, wanted)?;
     if limit.cut {
         return Err(AllocError);
     }
@@ -359,21 +361,23 @@ fn embedded(
     limit: &mut Limit,
     siblings: &Siblings,
     slots: &[Slot],
+    wanted: Wanted,
 ) -> Result<Vec<Placing>, AllocError>
     requires few { length slots.now < 2 ^ 64 }
-    ensures { IfOk result (λ found. Yields SameWay (WaysOf siblings.now slots.now 0 0 true)
+    ensures { IfOk result (λ found. Yields SameWay
+        (Told wanted 0 (WaysOf siblings.now slots.now 0 0 true))
         limit.old.cut limit.new.cut found.items) }
 {
     let mut own = Limit {
         most: limit.most,
         cut: false,
     };
-    let found = embeddings(alloc, &mut own, siblings, slots)?;
+    let found = embeddings(alloc, &mut own, siblings, slots, wanted)?;
     if !own.cut {
         return Ok(found);
     }
     if are_none(found.as_slice()) {
-        let all = all_embeddings(alloc, siblings, slots)?;
+        let all = all_embeddings(alloc, siblings, slots, wanted)?;
         return Ok(all);
     }
     limit.cut = true;
@@ -553,7 +557,15 @@ fn whole(
         let ways = first_ways(alloc, limit, sight, items, siblings, from, to)?;
         return Ok(ways);
     }
-    let found = fully(alloc, limit, sight, items, closed, siblings)?;
+    let found = fully(
+        alloc,
+        limit,
+        sight,
+        items,
+        closed,
+        siblings,
+        Wanted::Captures,
+    )?;
     let ways = captures_of(alloc, found)?;
     Ok(ways)
 }
@@ -688,7 +700,7 @@ fn table(
     Ok(List::from_vec(out))
 }
 
-/// The full embeddings of items in siblings.
+/// The full embeddings of items in siblings, as they are asked for.
 #[cycle(taking)]
 pub(crate) fn fully(
     alloc: Global,
@@ -697,21 +709,18 @@ pub(crate) fn fully(
     items: &[Item],
     closed: bool,
     siblings: &[u32],
+    wanted: Wanted,
 ) -> Result<Vec<Placing>, AllocError>
     ensures { IfOk result (λ found. Yields SameWay
-        (Embedded sight.now items.now closed siblings.now)
+        (Told wanted 0 (Embedded sight.now items.now closed siblings.now))
         limit.old.cut limit.new.cut found.items) }
 {
     let cut = limit.cut;
     let table = table(alloc, limit, sight, items, siblings)?;
     let named = sight.nameds(alloc, siblings)?;
     let slots = slots(alloc, items)?;
-    let all = Siblings {
-        table,
-        named,
-        closed,
-    };
-    let found = embedded(alloc, limit, &all, slots.as_slice())?;
+    let all = siblings_of(alloc, table, named, closed)?;
+    let found = embedded(alloc, limit, &all, slots.as_slice(), wanted)?;
     if are_none(found.as_slice()) {
         limit.cut = cut;
         return Ok(found);

@@ -1,42 +1,23 @@
-use Rattle.std.proofs.Common.{arith, sym, [], ◌∷◌, ◌∙◌}
+use Rattle.std.proofs.Common.{arith, sym, subst, [], ◌∷◌, ◌∙◌, ◌+◌, true, false}
 use Rattle.std.specs.HashMap.{get}
 use Rattle.ts_search.specs.declared.stand.Key.{Key}
 use Rattle.ts_search.specs.declared.stand.Stand.{Stand}
+use Rattle.ts_search.specs.declared.stand.Wanted.{Wanted}
 use Rattle.ts_search.specs.declared.stand.Wanted.TheVariants.{All, Captures, Here}
-use Rattle.ts_search.specs.Memory.{Begun, WaysOf, key_eq}
+use Rattle.ts_search.specs.Adding.{FindsMost}
+use Rattle.ts_search.specs.Memory.{Begun, Told, WaysOf, key_eq}
 use Rattle.ts_search.specs.Steps.{HeadFrom, HeadNone, HeadTaken}
 use Rattle.ts_search.proofs.GainLemmas.{finds_exact, gains_exact, late}
 use Rattle.ts_search.proofs.HeadLemmas.{adds_first, adds_head_none, adds_head_run, adds_no_head, adds_no_run, begun_at, below_all, below_more, below_none, below_part, late_first, no_anchor, no_items, no_rounds, none_first, placed_of, told_all, told_at, told_bare, told_here, up_to_all, up_to_more, up_to_none, up_to_part}
 use Rattle.ts_search.proofs.RunLemmas.{not_false, not_true}
-use Rattle.ts_search.proofs.MemoLemmas.{exact_at, exact_of, memo_later, memo_more, rest_is}
+use Rattle.ts_search.proofs.MemoLemmas.{as_long, exact_of, memo_later, memo_more, rest_is, shorter, there_now}
+use Rattle.ts_search.proofs.PassingLemmas.{kept_tails, next_inside, no_tails, settles_itself}
+use Rattle.ts_search.proofs.PlaceLemmas.{none_in_nil}
 use Rattle.ts_search.proofs.search.+ways.Goals as goal
-
-pub add_at-returns-then-not-any_stays-clause-adds : goal.add_at-returns-then-not-any_stays-clause-adds
-add_at-returns-then-not-any_stays-clause-adds t c =
-    adds_no_run c.args.siblings.now c.args.rest.now c.args.at c.args.run c.wanted_after-wanted.result c.wanted_after-wanted.ensures _ _ c.in_ok-tails.tails.items c.in_ok-tails.ensures.ways c.requires.place _
-    (λ h. let y = (rw c.as_slice.ensures.value at c.any_stays.ensures).1 h in let f = c.if-not-any_stays.true in cc)
-
-pub add_at-returns-clause-adds : goal.add_at-returns-clause-adds
-add_at-returns-clause-adds t c =
-    adds_head_run c.args.siblings.now c.args.rest.now c.args.at c.args.run c.wanted_after-wanted.result c.wanted_after-wanted.ensures _ _ c.in_ok-tails.tails.items c.in_ok-tails.ensures.ways c.requires.place
-    _ _ c.in_ok-fronts.fronts.items _ _ (rw c.as_slice-2.ensures at c.in_ok-fronts.ensures) (rw c.as_slice-3.ensures.value at (rw c.as_slice-4.ensures.value at c.in_ok-add_runs.ensures))
 
 pub add_last-returns-then-not-are_rounds-clause-adds : goal.add_last-returns-then-not-are_rounds-clause-adds
 add_last-returns-then-not-are_rounds-clause-adds t c =
     gains_exact (HeadTaken c.args.siblings.now c.args.rest.now c.args.at c.args.run) _ _ _ (no_rounds c.args.siblings.now c.args.rest.now c.args.at c.args.run _ (λ h. let t = c.are_rounds.ensures.1 h in let f = c.if-not-are_rounds.true in cc))
-
-pub runs_from-add_last-requires : goal.runs_from-add_last-requires
-runs_from-add_last-requires t c = (
-  omega arith,
-  (
-    λ rounds. placed_of c.args.siblings.now c.args.rest.now c.args.at c.args.first c.loop-last.last c.reach-end.result c.requires.after c.loop-last.auto.last c.loop-last-test.true c.reach-end.ensures
-        c.requires.anchored rounds,
-    (
-      omega (arith, c.loop-last.auto.last),
-      (c.requires.few, (c.requires.rest, memo_later c.args.siblings.now c.args.all.now _ _ _ (λ e. sym (c.stops.ensures.goes_on c.if-stops.false) ∙ e) c.loop-last.invariant.memo)),
-    ),
-  ),
-)
 
 pub runs_from-loop-last-preserved : goal.runs_from-loop-last-preserved
 runs_from-loop-last-preserved t c = record {
@@ -55,21 +36,10 @@ pub add_first-returns-then-not-is_anchored-clause-adds : goal.add_first-returns-
 add_first-returns-then-not-is_anchored-clause-adds t c =
     gains_exact (HeadFrom c.args.siblings.now c.args.rest.now c.args.at c.args.first) _ _ _ (no_anchor c.args.siblings.now c.args.rest.now c.args.at c.args.first _ (λ h. let t = (rw c.as_slice.ensures at c.is_anchored.ensures).1 h in let f = c.if-not-is_anchored.true in cc))
 
-pub add_first-runs_from-requires : goal.add_first-runs_from-requires
-add_first-runs_from-requires t c = (
-  omega arith,
-  (c.requires.after, ((rw c.as_slice.ensures at c.is_anchored.ensures).0 c.if-not-is_anchored.false, (c.requires.few, (c.requires.rest, c.requires.memo)))),
-)
-
 pub add_first-returns-clause-adds : goal.add_first-returns-clause-adds
 add_first-returns-clause-adds t c =
     adds_first c.args.siblings.now c.args.rest.now c.args.at c.args.first _ _ c.in_ok-captures.captures.items c.once_each-kept.result.items _ _ c.in_ok-captures.ensures.all c.once_each-kept.ensures
     (rw c.as_slice-2.ensures.value at c.in_ok-add_placed.ensures)
-
-pub add_nothing-returns-clause-adds : goal.add_nothing-returns-clause-adds
-add_nothing-returns-clause-adds t c =
-    adds_head_none c.args.siblings.now c.args.rest.now c.args.at c.args.here _ _ c.in_ok-tails.tails.items _ _ (rw c.begun.ensures at c.in_ok-tails.ensures.ways) (not_false c.args.at.slot.optional c.if-not-at.false)
-    (rw c.as_slice.ensures.value at c.in_ok-add_nones.ensures)
 
 pub made-returns-in_default-clause-ways : goal.made-returns-in_default-clause-ways
 made-returns-in_default-clause-ways t c =
@@ -89,38 +59,6 @@ made-returns-clause-ways t c =
     begun_at c.args.siblings.now c.args.slots.now (c.in-Some.slot.now ∷ c.in-Some.rest.now) c.args.number c.args.lo c.args.beside c.args.here _ _ c.loop-first.out.items c.in-Some.ensures.cases.0
     (below_all c.args.siblings.now c.in-Some.rest.now at c.args.here c.loop-first.first c.starts_end-first-end.result _ _ c.loop-first.out.items c.loop-first-test.false c.starts_end-first-end.ensures.all c.loop-first.invariant.adds)
 
-pub made-add_nothing-requires : goal.made-add_nothing-requires
-made-add_nothing-requires t c = (
-  omega (arith, c.in-Some.ensures.cases.1),
-  (omega (arith, c.in-Some.ensures.cases.1, c.requires.few), (rest_is c.args.all.now c.args.slots.now c.in-Some.rest.now c.in-Some.slot.now c.args.number c.requires.slots c.in-Some.ensures.cases.0, c.requires.memo)),
-)
-
-pub made-add_first-requires : goal.made-add_first-requires
-made-add_first-requires t c = (
-  omega (arith, c.in-Some.ensures.cases.1),
-  (
-    c.loop-first.auto.first,
-    (
-      omega (arith, c.in-Some.ensures.cases.1, c.requires.few),
-      (
-        rest_is c.args.all.now c.args.slots.now c.in-Some.rest.now c.in-Some.slot.now c.args.number c.requires.slots c.in-Some.ensures.cases.0,
-        memo_later c.args.siblings.now c.args.all.now _ _ _ (λ e. sym (c.stops.ensures.goes_on c.if-stops.false) ∙ e) c.loop-first.invariant.memo,
-      ),
-    ),
-  ),
-)
-
-pub ways-returns-in-Some-clause-ways : goal.ways-returns-in-Some-clause-ways
-ways-returns-in-Some-clause-ways t c =
-    let key : Key = record { number = c.args.number; lo = c.args.lo; beside = c.args.beside; wanted = c.args.wanted } in
-    exact_at c.args.siblings.now c.args.all.now c.args.slots.now key _ _ c.in-Some.found.items c.requires.slots (c.requires.memo key c.in-Some.found.items (rw c.in-Some.is at c.in_ok-found.ensures))
-
-pub ways-returns-clause-memo : goal.ways-returns-clause-memo
-ways-returns-clause-memo t c =
-    let key : Key = record { number = c.args.number; lo = c.args.lo; beside = c.args.beside; wanted = c.args.wanted } in
-    memo_more c.args.siblings.now c.args.all.now c.args.limit.now.cut c.told.new.limit.cut (get key_eq c.told.new.memo) (get key_eq c.remember.new.memo) key c.in_ok-found-2.found.items (rw c.as_slice.ensures.value at c.in_ok-remember.ensures).0
-    (exact_of c.args.siblings.now c.args.all.now c.args.slots.now key c.args.limit.now.cut c.told.new.limit.cut c.in_ok-found-2.found.items c.requires.slots c.in_ok-found-2.ensures.ways) c.in_ok-found-2.ensures.memo
-
 pub told-returns-in_ok-found-in-Here-clause-ways : goal.told-returns-in_ok-found-in-Here-clause-ways
 told-returns-in_ok-found-in-Here-clause-ways t c =
     told_at c.args.lo (WaysOf c.args.siblings.now c.args.slots.now c.args.number c.args.lo c.args.beside) _ _ c.in_ok-found-in-Here.found.items c.args.wanted Here c.in-Here.is
@@ -137,7 +75,7 @@ add_first-returns-then-not-begins-clause-adds t c =
 
 pub add_at-returns-clause-memo : goal.add_at-returns-clause-memo
 add_at-returns-clause-memo t c =
-    memo_later c.args.siblings.now c.args.all.now _ _ _ (λ e. c.in_ok-fronts.ensures.earlier (c.in_ok-add_runs.ensures.earlier e)) c.in_ok-tails.ensures.memo
+    memo_later c.args.siblings.now c.args.all.now _ _ _ (λ e. c.in_ok-fronts.ensures.earlier (c.in_ok-add_runs.ensures.earlier e)) c.in_ok-fill.ensures.memo
 
 pub runs_from-loop-last-init : goal.runs_from-loop-last-init
 runs_from-loop-last-init t c = record {
@@ -176,3 +114,121 @@ pub told-returns-in_ok-found-in-All-clause-ways : goal.told-returns-in_ok-found-
 told-returns-in_ok-found-in-All-clause-ways t c =
     told_at c.args.lo (WaysOf c.args.siblings.now c.args.slots.now c.args.number c.args.lo c.args.beside) _ _ c.in_ok-found-in-All.found.items c.args.wanted All c.in-All.is
     (told_all c.args.lo (WaysOf c.args.siblings.now c.args.slots.now c.args.number c.args.lo c.args.beside) _ _ c.in_ok-found-in-All.found.items c.in_ok-found-in-All.ensures.ways)
+
+pub add_at-settled-requires : goal.add_at-settled-requires
+add_at-settled-requires t c = omega (arith, c.requires.inside)
+
+pub add_at-fill-requires : goal.add_at-fill-requires
+add_at-fill-requires t c = (
+  omega (arith, shorter c.args.all.now c.args.rest.now (c.args.at.number + 1) c.in-Some.key.number c.requires.rest c.in-Some.ensures.later),
+  (c.in-Some.ensures.inside, (c.requires.few, c.requires.memo)),
+)
+
+pub add_at-kept-tails-requires : goal.add_at-kept-tails-requires
+add_at-kept-tails-requires t c = c.in_ok-fill.ensures.there
+
+pub add_at-returns-in_default-clause-adds : goal.add_at-returns-in_default-clause-adds
+add_at-returns-in_default-clause-adds t c =
+    let asked : Key = record { number = c.args.at.number + 1; lo = c.args.run.past; beside = true; wanted = c.wanted_after-wanted.result } in
+    adds_no_run c.args.siblings.now c.args.rest.now c.args.at c.args.run c.wanted_after-wanted.result c.wanted_after-wanted.ensures _ _ []
+    (no_tails c.args.siblings.now c.args.all.now c.args.rest.now asked c.requires.rest c.in_default.ensures _) c.requires.place _ (λ h. none_in_nil h.0 h.1)
+
+pub add_at-returns-then-not-any_stays-clause-adds : goal.add_at-returns-then-not-any_stays-clause-adds
+add_at-returns-then-not-any_stays-clause-adds t c =
+    let asked : Key = record { number = c.args.at.number + 1; lo = c.args.run.past; beside = true; wanted = c.wanted_after-wanted.result } in
+    adds_no_run c.args.siblings.now c.args.rest.now c.args.at c.args.run c.wanted_after-wanted.result c.wanted_after-wanted.ensures _ _ c.kept-tails.result.now
+    (kept_tails c.args.siblings.now c.args.all.now c.args.rest.now asked c.in-Some.key c.requires.rest c.in-Some.ensures _ _ (get key_eq c.fill.new.memo) c.in_ok-fill.ensures.memo c.in_ok-fill.ensures.earlier c.kept-tails.result.now
+    c.kept-tails.ensures)
+    c.requires.place _ (λ h. let y = c.any_stays.ensures.1 h in let f = c.if-not-any_stays.true in cc)
+
+pub add_at-returns-clause-adds : goal.add_at-returns-clause-adds
+add_at-returns-clause-adds t c =
+    let asked : Key = record { number = c.args.at.number + 1; lo = c.args.run.past; beside = true; wanted = c.wanted_after-wanted.result } in
+    adds_head_run c.args.siblings.now c.args.rest.now c.args.at c.args.run c.wanted_after-wanted.result c.wanted_after-wanted.ensures _ _ c.kept-tails.result.now
+    (kept_tails c.args.siblings.now c.args.all.now c.args.rest.now asked c.in-Some.key c.requires.rest c.in-Some.ensures _ _ (get key_eq c.fill.new.memo) c.in_ok-fill.ensures.memo c.in_ok-fill.ensures.earlier c.kept-tails.result.now
+    c.kept-tails.ensures)
+    c.requires.place _ _ c.in_ok-fronts.fronts.items _ _ (rw c.as_slice.ensures at c.in_ok-fronts.ensures) (rw c.as_slice-2.ensures.value at c.in_ok-add_runs.ensures)
+
+pub runs_from-add_last-requires : goal.runs_from-add_last-requires
+runs_from-add_last-requires t c = (
+  omega arith,
+  (
+    λ rounds. placed_of c.args.siblings.now c.args.rest.now c.args.at c.args.first c.loop-last.last c.reach-end.result c.requires.after c.loop-last.auto.last c.loop-last-test.true c.reach-end.ensures
+        c.requires.anchored rounds,
+    (
+      omega (arith, c.loop-last.auto.last),
+      (
+        c.requires.inside,
+        (c.requires.few, (c.requires.rest, memo_later c.args.siblings.now c.args.all.now _ _ _ (λ e. sym (c.stops.ensures.goes_on c.if-stops.false) ∙ e) c.loop-last.invariant.memo)),
+      ),
+    ),
+  ),
+)
+
+pub add_first-runs_from-requires : goal.add_first-runs_from-requires
+add_first-runs_from-requires t c = (
+  omega arith,
+  (c.requires.after, ((rw c.as_slice.ensures at c.is_anchored.ensures).0 c.if-not-is_anchored.false, (c.requires.inside, (c.requires.few, (c.requires.rest, c.requires.memo))))),
+)
+
+pub add_nothing-fill-requires : goal.add_nothing-fill-requires
+add_nothing-fill-requires t c = (
+  omega (arith, shorter c.args.all.now c.args.rest.now (c.args.at.number + 1) (c.args.at.number + 1) c.requires.rest (omega arith)),
+  (omega (arith, c.requires.inside), (c.requires.few, c.requires.memo)),
+)
+
+pub add_nothing-kept-tails-requires : goal.add_nothing-kept-tails-requires
+add_nothing-kept-tails-requires t c = c.in_ok-fill.ensures.there
+
+pub add_nothing-returns-clause-adds : goal.add_nothing-returns-clause-adds
+add_nothing-returns-clause-adds t c =
+    let key : Key = record { number = c.args.at.number + 1; lo = c.args.at.lo; beside = false; wanted = c.begun-wanted.result } in
+    let kept = kept_tails c.args.siblings.now c.args.all.now c.args.rest.now key key c.requires.rest (settles_itself c.args.siblings.now c.args.all.now key (omega (arith, c.requires.inside))) c.args.limit.now.cut c.fill.new.limit.cut
+    (get key_eq c.fill.new.memo) c.in_ok-fill.ensures.memo c.in_ok-fill.ensures.earlier c.kept-tails.result.now c.kept-tails.ensures in
+    adds_head_none c.args.siblings.now c.args.rest.now c.args.at c.args.here _ _ c.kept-tails.result.now _ _
+    (subst (λ (w : Wanted). FindsMost (Told w c.args.at.lo (WaysOf c.args.siblings.now c.args.rest.now (c.args.at.number + 1) c.args.at.lo false)) c.args.limit.now.cut c.fill.new.limit.cut c.kept-tails.result.now) c.begun-wanted.ensures kept)
+    (not_false c.args.at.slot.optional c.if-not-at.false) c.in_ok-add_nones.ensures
+
+pub made-add_nothing-requires : goal.made-add_nothing-requires
+made-add_nothing-requires t c = (
+  omega (arith, c.in-Some.ensures.cases.1),
+  (
+    next_inside c.args.all.now c.in-Some.rest.now c.in-Some.slot.now c.args.number (sym c.requires.slots ∙ c.in-Some.ensures.cases.0),
+    (c.requires.few, (rest_is c.args.all.now c.args.slots.now c.in-Some.rest.now c.in-Some.slot.now c.args.number c.requires.slots c.in-Some.ensures.cases.0, c.requires.memo)),
+  ),
+)
+
+pub made-add_first-requires : goal.made-add_first-requires
+made-add_first-requires t c = (
+  omega (arith, c.in-Some.ensures.cases.1),
+  (
+    c.loop-first.auto.first,
+    (
+      next_inside c.args.all.now c.in-Some.rest.now c.in-Some.slot.now c.args.number (sym c.requires.slots ∙ c.in-Some.ensures.cases.0),
+      (
+        c.requires.few,
+        (
+          rest_is c.args.all.now c.args.slots.now c.in-Some.rest.now c.in-Some.slot.now c.args.number c.requires.slots c.in-Some.ensures.cases.0,
+          memo_later c.args.siblings.now c.args.all.now _ _ _ (λ e. sym (c.stops.ensures.goes_on c.if-stops.false) ∙ e) c.loop-first.invariant.memo,
+        ),
+      ),
+    ),
+  ),
+)
+
+pub fill-told-requires : goal.fill-told-requires
+fill-told-requires t c = (
+  omega (arith, as_long c.args.all.now c.from_number-slots.result.now c.args.key.number c.from_number-slots.ensures),
+  (c.requires.few, (c.from_number-slots.ensures, c.requires.memo)),
+)
+
+pub fill-returns-clause-there : goal.fill-returns-clause-there
+fill-returns-clause-there t c = there_now (get key_eq c.told.new.memo) (get key_eq c.remember.new.memo) c.args.key c.in_ok-found.found.items c.in_ok-remember.ensures.0
+
+pub fill-returns-clause-earlier : goal.fill-returns-clause-earlier
+fill-returns-clause-earlier t c = c.in_ok-found.ensures.ways.earlier
+
+pub fill-returns-clause-memo : goal.fill-returns-clause-memo
+fill-returns-clause-memo t c =
+    memo_more c.args.siblings.now c.args.all.now c.args.limit.now.cut c.told.new.limit.cut (get key_eq c.told.new.memo) (get key_eq c.remember.new.memo) c.args.key c.in_ok-found.found.items c.in_ok-remember.ensures.0
+    (exact_of c.args.siblings.now c.args.all.now c.from_number-slots.result.now c.args.key c.args.limit.now.cut c.told.new.limit.cut c.in_ok-found.found.items c.from_number-slots.ensures c.in_ok-found.ensures.ways) c.in_ok-found.ensures.memo

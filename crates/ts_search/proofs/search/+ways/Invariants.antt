@@ -1,4 +1,4 @@
-use Rattle.std.proofs.Common.{◌*◌, ◌+◌, length, []}
+use Rattle.std.proofs.Common.{◌*◌, ◌+◌, ◌-◌, length, []}
 use Rattle.std.specs.HashMap.{get}
 use Rattle.ts_search.specs.Adding.{Gains}
 use Rattle.ts_search.specs.Memory.{IsMemo, key_eq}
@@ -26,8 +26,8 @@ decreases-made l = 8 * length l.slots.now
 abbrev pub decreases-told : goal.decreases-told
 decreases-told l = 8 * length l.slots.now + 1
 
-abbrev pub decreases-ways : goal.decreases-ways
-decreases-ways l = 8 * length l.slots.now + 2
+abbrev pub decreases-fill : goal.decreases-fill
+decreases-fill l = 8 * (length l.all.now - l.key.number) + 2
 
 pub record invariant-runs_from-loop-last (l : goal.Live-runs_from-loop-last) : Type 0 where
   pub adds : Gains (TakenUpTo l.siblings l.rest l.at l.first l.last) l.fn.limit.cut l.limit.cut [] l.out.items

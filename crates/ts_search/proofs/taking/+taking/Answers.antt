@@ -4,6 +4,7 @@ use Rattle.spec_matches.specs.declared.found.Capture.{Capture}
 use Rattle.ts_query_syntax.specs.declared.read_query.Item.{Item}
 use Rattle.spec_matches.specs.Taking.{Embedded}
 use Rattle.ts_search.specs.Rows.{seen_row}
+use Rattle.ts_search.specs.Memory.{Told}
 use Rattle.ts_search.specs.Sets.{SameMembers, SameWay}
 use Rattle.ts_search.specs.Ways.{AnyTakes, InsideOf, ItemTakes, PlainOf}
 use Rattle.ts_search.proofs.AddLemmas.{one_in, in_one}
@@ -162,12 +163,14 @@ table-returns t c = rw c.from_vec.ensures (table_all c.args.sight.now c.args.sib
 
 pub fully-returns-then-are_none : goal.fully-returns-then-are_none
 fully-returns-then-are_none t c =
-    yields_empty SameWay (Embedded c.args.sight.now c.args.items.now c.args.closed c.args.siblings.now) _ _ _ c.in_ok-found.found.items
-    (fully_are c.args.sight.now c.args.items.now c.args.siblings.now c.in_ok-table.table _ _ _ c.in_ok-table.ensures c.args.closed c.in_ok-named.named c.in_ok-slots.slots.items c.in_ok-found.found.items c.in_ok-named.ensures
+    yields_empty SameWay (Told c.args.wanted 0 (Embedded c.args.sight.now c.args.items.now c.args.closed c.args.siblings.now)) _ _ _ c.in_ok-found.found.items
+    (fully_are c.args.sight.now c.args.items.now c.args.siblings.now c.in_ok-table.table c.args.wanted _ _ _ c.in_ok-table.ensures c.in_ok-all.all c.in_ok-all.ensures.table c.args.closed c.in_ok-all.ensures.closed c.in_ok-named.named
+    c.in_ok-all.ensures.named c.in_ok-slots.slots.items c.in_ok-found.found.items c.in_ok-named.ensures
     c.in_ok-slots.ensures (rw c.as_slice.ensures.value at c.in_ok-found.ensures))
     ((rw c.as_slice-2.ensures.value at c.are_none.ensures).0 c.if-are_none.true)
 
 pub fully-returns : goal.fully-returns
 fully-returns t c =
-    fully_are c.args.sight.now c.args.items.now c.args.siblings.now c.in_ok-table.table _ _ _ c.in_ok-table.ensures c.args.closed c.in_ok-named.named c.in_ok-slots.slots.items c.in_ok-found.found.items c.in_ok-named.ensures
+    fully_are c.args.sight.now c.args.items.now c.args.siblings.now c.in_ok-table.table c.args.wanted _ _ _ c.in_ok-table.ensures c.in_ok-all.all c.in_ok-all.ensures.table c.args.closed c.in_ok-all.ensures.closed c.in_ok-named.named
+    c.in_ok-all.ensures.named c.in_ok-slots.slots.items c.in_ok-found.found.items c.in_ok-named.ensures
     c.in_ok-slots.ensures (rw c.as_slice.ensures.value at c.in_ok-found.ensures)

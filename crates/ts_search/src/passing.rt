@@ -1,0 +1,109 @@
+//! Items that are passed over: a key that asks for captures goes in, and a later one comes out that
+//! asks for the same.
+ghost use Rattle.std.specs.Prelude.{◌≡◌, ◌↔◌, ◌≤◌, IsTrue, MatchOption, Some, drop, length, slice_get, true};
+ghost use Rattle.spec_matches.specs.declared.placing.Placing.{Placing as Way};
+ghost use Rattle.ts_search.specs.declared.stand.Wanted.TheVariants as asked;
+ghost use Rattle.ts_search.specs.Memory.{TellsOf};
+ghost use Rattle.ts_search.specs.Passing.{AreLoose, IsLoose, MayPass, Settles};
+
+use crate::places::first_taken;
+use crate::stand::{Key, Siblings, Stand, Wanted};
+use spec_matches::Slot;
+
+/// Whether an item takes one sibling, and no anchor stands before it.
+fn is_loose(slot: Slot) -> bool
+    ensures { IsTrue result → IsLoose slot }
+{
+    !slot.optional && !slot.many && slot.more == 0 && !slot.tied
+}
+
+/// Whether the first of some items is so, or there is none, and no anchor at the end.
+fn are_loose(siblings: &Siblings, slots: &[Slot]) -> bool
+    ensures { IsTrue result → AreLoose siblings.now.closed slots.now }
+{
+    if slots.is_empty() {
+        return !siblings.closed;
+    }
+    is_loose(slots[0])
+}
+
+/// Whether it is known that nothing is captured by the item of a number.
+fn is_silent(siblings: &Siblings, number: usize) -> bool
+    ensures { IsTrue result → slice_get siblings.now.silent number ≡ Some true }
+{
+    if number >= siblings.silent.len() {
+        return false;
+    }
+    *siblings.silent.get(number)
+}
+
+/// Whether an item may be passed over.
+fn may_pass(siblings: &Siblings, slot: Slot, rest: &[Slot], number: usize) -> bool
+    ensures { IsTrue result → MayPass siblings.now slot rest.now number }
+{
+    if !is_loose(slot) {
+        return false;
+    }
+    if !are_loose(siblings, rest) {
+        return false;
+    }
+    is_silent(siblings, number)
+}
+
+/// Whether captures alone are asked for.
+fn asks_captures(wanted: Wanted) -> bool
+    ensures { IsTrue result → wanted ≡ asked.Captures }
+{
+    match wanted {
+        Wanted::Captures => true,
+        Wanted::All | Wanted::Here => false,
+    }
+}
+
+/// The items from a number on.
+pub(crate) fn from_number(all: &[Slot], number: usize) -> &[Slot]
+    requires { number ≤ length all.now }
+    ensures { result.now ≡ drop number all.now }
+{
+    let (_, rest) = all.split_at(number);
+    rest
+}
+
+/// The last key that asks for the same, where items that may be passed over take the first siblings
+/// that they can. Where one of them can take none, there are no ways.
+#[cycle(settled)]
+pub(crate) fn settled(siblings: &Siblings, all: &[Slot], key: Key) -> Option<Key>
+    requires { key.number ≤ length all.now }
+    ensures { MatchOption result ((t : Way) → TellsOf siblings.now all.now key t → ⊥)
+        (λ to. Settles siblings.now all.now key to) }
+{
+    if !asks_captures(key.wanted) {
+        return Some(key);
+    }
+    let Some((slot, rest)) = from_number(all, key.number).split_first() else {
+        return Some(key);
+    };
+    if !may_pass(siblings, *slot, rest, key.number) {
+        return Some(key);
+    }
+    let at = Stand {
+        slot: *slot,
+        number: key.number,
+        lo: key.lo,
+        beside: key.beside,
+    };
+    let place = first_taken(siblings, at);
+    if place >= siblings.named.len() {
+        return None;
+    }
+    let next = Key {
+        number: key.number + 1,
+        lo: place + 1,
+        beside: true,
+        wanted: key.wanted,
+    };
+    match settled(siblings, all, next) {
+        Some(to) => Some(to),
+        None => None,
+    }
+}
