@@ -9,7 +9,7 @@ use Rattle.ts_core.specs.declared.symbol.Symbol.{Symbol}
 use Rattle.spec_trees.specs.declared.tree.Tree.{Tree}
 use Rattle.spec_trees.specs.Trees.{span_of, all_spans, bare}
 use Rattle.spec_trees.specs.Made.{form_of, reduced, filling, BeginsFilled, EndsFilled, most_depth}
-use Rattle.spec_runs.specs.Configurations.{starting, AreExtras}
+use Rattle.spec_runs.specs.Configurations.{AreExtras}
 use Rattle.spec_graph.specs.declared.graph.Head.{Head}
 use Rattle.spec_graph.specs.declared.graph.Link.{Link}
 use Rattle.spec_graph.specs.States.{LeadsTo, at_first, by_goto}
@@ -30,12 +30,13 @@ use Rattle.ts_laying.specs.declared.made.Made.{Made}
 use Rattle.ts_reductions.specs.declared.setting.Setting.{Setting}
 use Rattle.ts_reductions.specs.declared.top.Top.{Top}
 use Rattle.ts_laying.specs.Sound.{CanBeParsed, bare_links}
-use Rattle.ts_reductions.specs.Sound.{parsing_of}
+use Rattle.ts_reductions.specs.Sound.{Base, empty_base, parsing_from, parsing_of, IsBegunBy}
 use Rattle.ts_laying.specs.Laying.{head_at, HasPassed, IsNewHead, CanLayMade, CanLayAll, trees_of, end_of, HasNode, AreAllLaid}
 use Rattle.ts_reductions.specs.Asking.{inner_of, outer_of, children_on, key_of, IsAsked, IsReady, IsMadeFor, AreMade, SomeAreDeep, ByTops}
 use Rattle.ts_reductions.specs.Reducing.{IsDeepAt, AreReduced}
 use Rattle.ts_reductions.proofs.SmallLemmas.{first_or_later, contained_flat, good_in, member_bare, place_is_at, filling_extras, spans_turned, lead_once, same_place, share_head, at_shared}
-use Rattle.ts_reductions.proofs.FactLemmas.{grows_grown, begun, reached}
+use Rattle.ts_reductions.proofs.FactLemmas.{grows_grown}
+use Rattle.ts_reductions.proofs.FromLemmas.{text_begun, at_back, link_from, late_enough, node_back}
 use Rattle.ts_reductions.proofs.WayLemmas.{parts_only, trees_append, trees_bare, depths_bare, map_turned, way_join, way_spans, extras_bare, begins_bare, bare_filling}
 use Rattle.ts_reductions.proofs.AskLemmas.{stays_reduce, due}
 use Rattle.ts_reductions.proofs.AskLemmas as ask
@@ -294,35 +295,46 @@ module _ (laws : ReductionLaws) (nodes : NodeLaws) (t : ParseTable) (table : IsT
 
       -- ---- new heads
 
-      module _ (m : Key) (same_look : m.look ≡ k.look) where
+      module _ (base : Base) (begin : IsBegunBy t text base) (early : base.place ≤ k.look) (m : Key) (same_look : m.look ≡ k.look) where
+        abbrev Q : Parsing
+        Q = parsing_from t text base
+
         not_empty : (read : List ℕ) (head : Head) → LeadsTo (goto_of t) read head.state → (head.state ≡ 0 → ⊥) → read ≡ [] → ⊥
         not_empty read head leads none empty =
             none (lead_once (goto_of t) [] head.state 0 (subst (λ (r : List ℕ). LeadsTo (goto_of t) r head.state) empty leads) at_first)
 
         abbrev Little : ℕ → List ℕ → ℕ → Type 0
         Little b read from = ((u : Tree) (place : ℕ) (now : List ℕ)
-            → LaysBefore P (unit_rank t.grammar) m read from (u ∷ []) place now → HasLink P new.heads (bare_links new.links) b u place now)
+            → LaysBefore Q (unit_rank t.grammar) m read from (u ∷ []) place now → HasLink Q new.heads (bare_links new.links) b u place now)
             × ((children : List Tree) (end : ℕ) (over : List ℕ) (extras : List Tree)
             (look number left : ℕ) (p : Production)
-            → CanMakeNode P read from children end over extras look number left p
+            → CanMakeNode Q read from children end over extras look number left p
             → Earlier (record { look = look; begins = from; rank = unit_rank t.grammar left }) m → ⊥)
 
         at_the_place : (b : ℕ) (read : List ℕ) (from : ℕ) → (read ≡ [] → ⊥) → m.look ≤ from → Little b read from
         at_the_place b read from full late = (
-          (λ u place now l. absurd (laws.late P parsed.fit parsed.states starting (reached P) (begun P) (unit_rank t.grammar) m read from (omega arith) full late place now u l)),
-          (λ ks end over xs look number left p c earlier. laws.late_nodes P parsed.fit parsed.states starting (reached P) (begun P) (unit_rank t.grammar) m read from (omega arith) full late ks end over xs look number left p c earlier),
+          (λ u place now l. absurd (laws.late Q parsed.fit parsed.states begin.configuration begin.reached begin.begun (unit_rank t.grammar) m read from (omega (arith, early, same_look, late)) full late place now u l)),
+          (λ ks end over xs look number left p c earlier. laws.late_nodes Q parsed.fit parsed.states begin.configuration begin.reached begin.begun (unit_rank t.grammar) m read from (omega (arith, early, same_look, late)) full late ks end over xs look number left p c earlier),
         )
 
+        -- an extra that is passed there from the start of the text
         where_passed : (b : ℕ) (read : List ℕ) (from : ℕ) → (read ≡ [] → ⊥) → IsAt P new.heads b read from → HasPassed P new b → Little b read from
         where_passed b read from full at p = (
           (λ u place now l.
-              let x = laws.extra P parsed.fit parsed.states starting (reached P) (begun P) (unit_rank t.grammar) m read from p.symbol p.pad p.size (omega arith) full passes place now u l in
-              subst (λ (v : Tree). HasLink P new.heads (bare_links new.links) b v place now) (sym x.0)
+              let f = late_enough t text base laws parsed.fit parsed.states begin (unit_rank t.grammar) m read from u place now l in
+              let x = laws.extra P parsed.fit parsed.states start.configuration start.reached start.begun (unit_rank t.grammar) f.0 read from p.symbol p.pad p.size (omega arith) full passes place now u f.1 in
+              link_from t text base new.heads (bare_links new.links) b u place now
+              (subst (λ (v : Tree). HasLink P new.heads (bare_links new.links) b v place now) (sym x.0)
               (subst (λ (n : ℕ). HasLink P new.heads (bare_links new.links) b (extra_tree p.symbol p.pad p.size) n now) (sym x.1)
-              (subst (λ (r : List ℕ). HasLink P new.heads (bare_links new.links) b (extra_tree p.symbol p.pad p.size) (from + (p.pad + p.size)) r) (sym x.2) link))),
-          (λ ks end over xs look number left q c earlier. laws.none_behind P parsed.fit parsed.states starting (reached P) (begun P) read from p.symbol p.pad p.size (omega arith) full passes ks end over xs look number left q c),
+              (subst (λ (r : List ℕ). HasLink P new.heads (bare_links new.links) b (extra_tree p.symbol p.pad p.size) (from + (p.pad + p.size)) r) (sym x.2) link)))),
+          (λ ks end over xs look number left q c earlier.
+              laws.none_behind P parsed.fit parsed.states start.configuration start.reached start.begun read from p.symbol p.pad p.size (omega arith) full passes ks end over xs look number left q
+              (node_back t text base laws parsed.fit parsed.states begin read from ks end over xs look number left q c)),
         )
           where
+            start : IsBegunBy t text empty_base
+            start = text_begun t text
+
             place_same : p.from ≡ from
             place_same = same_place P new.heads b p.read read p.from from p.at at
 
@@ -340,14 +352,14 @@ module _ (laws : ReductionLaws) (nodes : NodeLaws) (t : ParseTable) (table : IsT
               stands = p.link.stands;
             }
 
-        added : AreAdded P (unit_rank t.grammar) g.heads new.heads (bare_links new.links) m
+        added : AreAdded Q (unit_rank t.grammar) g.heads new.heads (bare_links new.links) m
         added = record { each = λ b read from at. by b read from at (laid.only b at.head at.is) }
           where
-            by : (b : ℕ) (read : List ℕ) (from : ℕ) → (at : IsAt P new.heads b read from) → (slice_get g.heads b ≡ Some at.head) ⊎ IsNewHead P new k.look b at.head → IsAt P g.heads b read from ⊎ Little b read from
+            by : (b : ℕ) (read : List ℕ) (from : ℕ) → (at : IsAt Q new.heads b read from) → (slice_get g.heads b ≡ Some at.head) ⊎ IsNewHead P new k.look b at.head → IsAt Q g.heads b read from ⊎ Little b read from
             by b read from at (inl o) = inl (record { head = at.head; is = o; state = at.state; place_is = at.place_is })
             by b read from at (inr n) = inr (⊎_elim
                 (λ e. at_the_place b read from (not_empty read at.head at.state n.0) (let f = at.place_is in omega (arith, e, f, same_look)))
-                (λ p. where_passed b read from (not_empty read at.head at.state n.0) at p) n.1)
+                (λ p. where_passed b read from (not_empty read at.head at.state n.0) (at_back t text base new.heads b read from at) p) n.1)
 
       each_good : (u : Tree) → Contains (flat_map trees_of mades) u → IsGoodTree t.grammar u
       each_good u there =
@@ -369,5 +381,5 @@ module _ (laws : ReductionLaws) (nodes : NodeLaws) (t : ParseTable) (table : IsT
         done = all_done;
         grown = grows_grown laws P g new laid.grows;
         only = laid.only;
-        added = λ m same. added m same;
+        added = λ base begin early m same. added base begin early m same;
       }

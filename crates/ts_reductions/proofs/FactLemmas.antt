@@ -1,8 +1,6 @@
--- Graphs that have grown, and the empty stack, from which runs begin.
-use Rattle.std.proofs.Common.{arith, inl, refl, []}
-use Rattle.spec_runs.specs.Configurations.{starting}
-use Rattle.spec_runs.specs.Runs.{run_here, IsReached}
-use Rattle.spec_graph.specs.Laying.{Parsing, from_start, IsBegun}
+-- Graphs that have grown.
+use Rattle.std.proofs.Common.{arith}
+use Rattle.spec_graph.specs.Laying.{Parsing}
 use Rattle.spec_graph.specs.Links.{HasGrown}
 use Rattle.ts_graph.specs.declared.view.GraphView.{GraphView}
 use Rattle.ts_laying.specs.Sound.{bare_links}
@@ -25,9 +23,3 @@ grows_grown laws P a b f = record {
         },
       );
 }
-
-pub begun : (P : Parsing) → IsBegun (from_start P) starting
-begun P = record { extras = []; stack_is = refl; all_extras = tt; begins = tt; bytes = inl refl; place_is = refl }
-
-pub reached : (P : Parsing) → IsReached P.grammar P.text starting
-reached P = run_here starting

@@ -38,6 +38,10 @@ pub record ReductionLaws : Type 0 where
   pub spans : (P : Parsing) → Fit P.grammar → AreStates P.grammar P.goto
       → (read now : List ℕ) (from place : ℕ) (w : List Tree)
       → Lays (from_start P) read from w place now → from + all_spans w ≡ place
+  pub embeds : (P : Parsing) → Fit P.grammar → AreStates P.grammar P.goto
+      → (c : Configuration) → IsReached P.grammar P.text c → IsBegun P c
+      → (read now : List ℕ) (from place : ℕ) (w : List Tree)
+      → Lays P read from w place now → Lays (from_start P) read from w place now
   pub shared : (P : Parsing) → Fit P.grammar → AreStates P.grammar P.goto
       → (read other : List ℕ) (place : ℕ) (s : Symbol) (pad size : ℕ)
       → ShareState P.goto read other → PassesAt P read place s pad size

@@ -1,5 +1,5 @@
 -- What the reductions of one key come to.
-use Rattle.std.specs.Prelude.{◌≡◌, ℕ, ◌<◌, ◌⊎◌, List, slice_get, Some}
+use Rattle.std.specs.Prelude.{◌≡◌, ℕ, ◌<◌, ◌≤◌, ◌⊎◌, List, slice_get, Some}
 use Rattle.ts_base.specs.Bytes.{Bytes}
 use Rattle.ts_core.specs.declared.flat.Production.{Production}
 use Rattle.spec_trees.specs.Made.{most_depth}
@@ -13,7 +13,7 @@ use Rattle.ts_table.specs.Ranks.{unit_rank}
 use Rattle.ts_reductions.specs.declared.reducing.Reduced.{Reduced}
 use Rattle.ts_reductions.specs.declared.reducing.Reduced.TheVariants.{Done, TooDeep}
 use Rattle.ts_laying.specs.Sound.{bare_links}
-use Rattle.ts_reductions.specs.Sound.{parsing_of, IsSoundBy}
+use Rattle.ts_reductions.specs.Sound.{Base, parsing_from, parsing_of, IsBegunBy, IsSoundBy}
 use Rattle.ts_laying.specs.Laying.{Grows, IsNewHead}
 
 -- Some reduction of the key in the graph would make a node that is too deep.
@@ -35,7 +35,8 @@ pub record IsDeepAt (t : ParseTable) (text : Bytes) (g : GraphView) (k : Key) : 
 
 -- All reductions of the key that the graph had were done, none of which was too deep. The graph is
 -- sound still, and has grown; each new head stands at the key's place, or an extra is passed there;
--- and all that is laid on new heads before a key at the same place has a link.
+-- and all that is laid on new heads before a key at the same place has a link, from whatever stack
+-- runs go on that ends no later.
 pub record AreReduced (t : ParseTable) (text : Bytes) (old new : GraphView) (k : Key)
     : Type 0 where
   pub sound : IsSoundBy t text new
@@ -46,7 +47,8 @@ pub record AreReduced (t : ParseTable) (text : Bytes) (old new : GraphView) (k :
       new.heads (bare_links new.links)
   pub only : (h : ℕ) (head : Head) → slice_get new.heads h ≡ Some head
       → (slice_get old.heads h ≡ Some head) ⊎ IsNewHead (parsing_of t text) new k.look h head
-  pub added : (m : Key) → m.look ≡ k.look → AreAdded (parsing_of t text) (unit_rank t.grammar)
+  pub added : (base : Base) → IsBegunBy t text base → base.place ≤ k.look
+      → (m : Key) → m.look ≡ k.look → AreAdded (parsing_from t text base) (unit_rank t.grammar)
       old.heads new.heads (bare_links new.links) m
 
 -- What is said of the key. Where a node would be too deep, the graph stays as it was.

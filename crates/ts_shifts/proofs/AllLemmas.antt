@@ -17,7 +17,7 @@ use Rattle.ts_table.specs.Tables.{IsTable}
 use Rattle.ts_table.specs.Ranks.{unit_rank}
 use Rattle.ts_laying.specs.Sound.{bare_links}
 use Rattle.ts_reductions.specs.declared.top.Top.{Top}
-use Rattle.ts_reductions.specs.Sound.{parsing_of}
+use Rattle.ts_reductions.specs.Sound.{Base, parsing_from, parsing_of, IsBegunBy}
 use Rattle.ts_shifts.specs.declared.sights.Span.{Span}
 use Rattle.ts_shifts.specs.declared.sights.Sights.{Sights}
 use Rattle.ts_shifts.specs.Laws.{LeafLaws}
@@ -111,24 +111,28 @@ module _ (laws : LeafLaws) (t : ParseTable) (table : IsTable t) (text : Bytes) (
       passes = λ b read symbol pad size at passes. (opens_at b read symbol pad size at passes.sees).passes read symbol pad size at passes;
     }
 
-    -- a head was there, or little is laid on it
-    abbrev HasLittle : Key → ℕ → List ℕ → ℕ → Type 0
-    HasLittle m b read from =
-        IsAt P old.heads b read from
-        ⊎ (((u : Tree) (place : ℕ) (now : List ℕ) → LaysBefore P (unit_rank t.grammar) m read from (u ∷ []) place now → HasLink P new.heads (bare_links new.links) b u place now)
-        × ((ks : List Tree) (end : ℕ) (over : List ℕ) (xs : List Tree) (at number left : ℕ) (p : Production) → CanMakeNode P read from ks end over xs at number left p
-        → Earlier (record { look = at; begins = from; rank = unit_rank t.grammar left }) m → ⊥))
+    module _ (base : Base) (begin : IsBegunBy t text base) (early : base.place ≤ look) where
+      abbrev Q : Parsing
+      Q = parsing_from t text base
 
-    added : (m : Key) → m.look ≤ suc look → AreAdded P (unit_rank t.grammar) old.heads new.heads (bare_links new.links) m
-    added m low = record { each = λ b read from a. by b read from a (done.behind b a.head a.is) }
-      where
-        by : (b : ℕ) (read : List ℕ) (from : ℕ) (a : IsAt P new.heads b read from) → (slice_get old.heads b ≡ Some a.head) ⊎ (look < a.head.place) → HasLittle m b read from
-        by b read from a (inl was) = inl (record { head = a.head; is = was; state = a.state; place_is = a.place_is })
-        by b read from a (inr past) =
-            let p = a.place_is in inr (
-              (λ u place now l. absurd (none_before laws t table text (unit_rank t.grammar) m read from (omega (arith, past, p)) (omega (arith, past, p, low)) u place now l)),
-              (λ ks end over xs at number left production c earlier. no_node_before laws t table text (unit_rank t.grammar) m read from (omega (arith, past, p)) (omega (arith, past, p, low)) ks end over xs at number left production c earlier),
-            )
+      -- a head was there, or little is laid on it
+      abbrev HasLittle : Key → ℕ → List ℕ → ℕ → Type 0
+      HasLittle m b read from =
+          IsAt Q old.heads b read from
+          ⊎ (((u : Tree) (place : ℕ) (now : List ℕ) → LaysBefore Q (unit_rank t.grammar) m read from (u ∷ []) place now → HasLink Q new.heads (bare_links new.links) b u place now)
+          × ((ks : List Tree) (end : ℕ) (over : List ℕ) (xs : List Tree) (at number left : ℕ) (p : Production) → CanMakeNode Q read from ks end over xs at number left p
+          → Earlier (record { look = at; begins = from; rank = unit_rank t.grammar left }) m → ⊥))
+
+      added : (m : Key) → m.look ≤ suc look → AreAdded Q (unit_rank t.grammar) old.heads new.heads (bare_links new.links) m
+      added m low = record { each = λ b read from a. by b read from a (done.behind b a.head a.is) }
+        where
+          by : (b : ℕ) (read : List ℕ) (from : ℕ) (a : IsAt Q new.heads b read from) → (slice_get old.heads b ≡ Some a.head) ⊎ (look < a.head.place) → HasLittle m b read from
+          by b read from a (inl was) = inl (record { head = a.head; is = was; state = a.state; place_is = a.place_is })
+          by b read from a (inr past) =
+              let p = a.place_is in inr (
+                (λ u place now l. absurd (none_before laws t table text all.sound.laid.parsed.states base begin (unit_rank t.grammar) m read from (omega (arith, past, p)) (omega (arith, past, p, early)) (omega (arith, past, p, low)) u place now l)),
+                (λ ks end over xs at number left production c earlier. no_node_before laws t table text all.sound.laid.parsed.states base begin (unit_rank t.grammar) m read from (omega (arith, past, p)) (omega (arith, past, p, early)) (omega (arith, past, p, low)) ks end over xs at number left production c earlier),
+              )
 
     pub all_done : AreShifted t text old new look
     all_done = record {
@@ -137,5 +141,5 @@ module _ (laws : LeafLaws) (t : ParseTable) (table : IsTable t) (text : Bytes) (
       grown = grows_grown laws P old new done.grows;
       behind = done.behind;
       opened = opened;
-      added = added;
+      added = λ base begin early m low. added base begin early m low;
     }

@@ -19,7 +19,7 @@ use Rattle.spec_runs.specs.Runs.{IsReached}
 use Rattle.spec_graph.specs.declared.graph.Head.{Head}
 use Rattle.spec_graph.specs.declared.graph.Link.{Link}
 use Rattle.spec_graph.specs.States.{AreStates, AreRanks}
-use Rattle.spec_graph.specs.Laying.{Parsing, IsBegun}
+use Rattle.spec_graph.specs.Laying.{Parsing, from_start, Lays, IsBegun}
 use Rattle.spec_graph.specs.Keys.{Key, IsNextKey}
 use Rattle.spec_graph.specs.Links.{IsGraph, IsWholeTo, HasNoneDue, AreDone, HasGrown, AreAdded, IsOpened}
 use Rattle.spec_graph.specs.Replacing.{Replaces}
@@ -41,7 +41,8 @@ pub record LookLaws : Type 0 where
   pub begins_within : (rest : Bytes) (u : List ℕ) (n : ℕ) → BeginsSpelled rest u n
       → n ≤ length rest
 
--- For proofs alone: laws of bare trees, of trees that replace others, and of shifts.
+-- For proofs alone: laws of bare trees, of trees that replace others, of shifts, and of what is
+-- laid.
 pub record LeafLaws : Type 0 where
   pub keeps : (t : Tree) → KeepsAll t
   pub extra : (t : Tree) → bare (as_extra t) ≡ as_extra (bare t)
@@ -49,6 +50,10 @@ pub record LeafLaws : Type 0 where
   pub through : (t u v : Tree) → Replaces t u → Replaces u v → Replaces t v
   pub shifts : (g : FlatGrammar) (read : List ℕ) (t : ℕ) → Act g read t shift
       → IsToken g t × StandsBefore g read t
+  pub embeds : (P : Parsing) → Fit P.grammar → AreStates P.grammar P.goto
+      → (c : Configuration) → IsReached P.grammar P.text c → IsBegun P c
+      → (read now : List ℕ) (from place : ℕ) (w : List Tree)
+      → Lays P read from w place now → Lays (from_start P) read from w place now
 
 -- For proofs alone: laws of graphs that are whole up to later keys, and of keys that follow others.
 pub record NextLaws : Type 0 where

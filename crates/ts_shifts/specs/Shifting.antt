@@ -20,7 +20,7 @@ use Rattle.ts_table.specs.Ranks.{unit_rank}
 use Rattle.ts_laying.specs.Sound.{bare_links}
 use Rattle.ts_laying.specs.Laying.{Grows}
 use Rattle.ts_reductions.specs.declared.top.Top.{Top}
-use Rattle.ts_reductions.specs.Sound.{parsing_of, IsSoundBy}
+use Rattle.ts_reductions.specs.Sound.{Base, parsing_from, parsing_of, IsBegunBy, IsSoundBy}
 use Rattle.ts_shifts.specs.declared.sights.Span.{Span}
 use Rattle.ts_shifts.specs.declared.sights.Sights.{Sights}
 use Rattle.ts_shifts.specs.declared.shifting.Onward.{Onward}
@@ -106,7 +106,8 @@ pub record IsHeadOpened (t : ParseTable) (text : Bytes) (old new : GraphView) (l
   pub opens : OpensHead (parsing_of t text) new.heads (bare_links new.links) look b
 
 -- The same of all heads of the place. Nothing is laid on new heads before a key whose token stands
--- no later than right behind the place.
+-- no later than right behind the place, from whatever stack runs go on that ends no later than the
+-- place.
 pub record AreShifted (t : ParseTable) (text : Bytes) (old new : GraphView) (look : ℕ)
     : Type 0 where
   pub sound : IsSoundBy t text new
@@ -115,7 +116,8 @@ pub record AreShifted (t : ParseTable) (text : Bytes) (old new : GraphView) (loo
       new.heads (bare_links new.links)
   pub behind : AreBehind old new look
   pub opened : IsOpened (parsing_of t text) new.heads (bare_links new.links) look
-  pub added : (m : Key) → m.look ≤ suc look → AreAdded (parsing_of t text) (unit_rank t.grammar)
+  pub added : (base : Base) → IsBegunBy t text base → base.place ≤ look
+      → (m : Key) → m.look ≤ suc look → AreAdded (parsing_from t text base) (unit_rank t.grammar)
       old.heads new.heads (bare_links new.links) m
 
 -- ---- some of them

@@ -16,7 +16,7 @@ ghost use Rattle.ts_table.specs.Tables.{IsTable};
 ghost use Rattle.ts_table.specs.Ranks.{unit_rank};
 ghost use Rattle.ts_laying.specs.Sound.{bare_links};
 ghost use Rattle.ts_laying.specs.Laying.{HasPassed};
-ghost use Rattle.ts_reductions.specs.Sound.{parsing_of, IsSoundBy};
+ghost use Rattle.ts_reductions.specs.Sound.{Base as AnyBase, parsing_from, parsing_of, IsBegunBy, IsSoundBy};
 ghost use Rattle.ts_reductions.specs.Reducing.{AreReduced};
 ghost use Rattle.ts_shifts.specs.declared.sights.Sights.{Sights as AnySights};
 ghost use Rattle.ts_shifts.specs.Laws.{LookLaws, LeafLaws, NextLaws};
@@ -24,7 +24,7 @@ ghost use Rattle.ts_shifts.specs.Looking.{IsHeadAt, StopsThere, AreSights};
 ghost use Rattle.ts_shifts.specs.Passing.{first_key};
 ghost use Rattle.ts_shifts.specs.Shifting.{AreShifted};
 
-use spec_graph::{keys_follow, keys_pass, trees_replace, whole_to_the_next};
+use spec_graph::{keys_follow, keys_pass, runs_lay, trees_replace, whole_to_the_next};
 use spec_lexing::{beginnings, one_answer, token_within};
 use spec_runs::{bare_trees, moves_have_their_place};
 use ts_lexer::same_tokens;
@@ -48,6 +48,7 @@ pub(crate) fn leaf_laws_hold()
     bare_trees();
     trees_replace();
     moves_have_their_place();
+    runs_lay();
 }
 
 /// The laws of graphs that are whole up to later keys hold.
@@ -83,29 +84,36 @@ pub fn passed_heads_go_on()
 }
 
 /// A graph that is whole up to the last key at a place is whole up to the first key at the next
-/// place, once the reductions of that key and then the shifts at the place are done.
+/// place, once the reductions of that key and then the shifts at the place are done: from whatever
+/// stack runs go on that ends no later than the place.
 pub fn places_follow()
-    ensures { (t : ParseTable) (text : Bytes) (most : ℕ) (old mid new : GraphView) (k m : Key)
+    ensures { (t : ParseTable) (text : Bytes) (base : AnyBase) (most : ℕ)
+        (old mid new : GraphView) (k m : Key)
         → IsTable t → AreRanks t.grammar (unit_rank t.grammar) most → IsSoundBy t text old
+        → IsBegunBy t text base → base.place ≤ k.look
         → AreReduced t text old mid k → AreShifted t text mid new k.look
         → IsNextKey most k m → m.look ≡ suc k.look
-        → IsWholeTo (parsing_of t text) (unit_rank t.grammar) old.heads (bare_links old.links) k
-        → IsWholeTo (parsing_of t text) (unit_rank t.grammar) new.heads (bare_links new.links) m }
+        → IsWholeTo (parsing_from t text base) (unit_rank t.grammar) old.heads
+        (bare_links old.links) k
+        → IsWholeTo (parsing_from t text base) (unit_rank t.grammar) new.heads
+        (bare_links new.links) m }
 {
     leaf_laws_hold();
     next_laws_hold();
 }
 
-/// A graph that is whole up to the first key of a place is whole up to that of a later one, where no
-/// head stands from the first place on up to the later one.
+/// A graph that is whole up to the first key of a place is whole up to that of a later one, where
+/// no head stands from the first place on up to the later one: from whatever stack runs go on.
 pub fn empty_places_pass()
-    ensures { (t : ParseTable) (text : Bytes) (most : ℕ) (g : GraphView) (count look : ℕ)
+    ensures { (t : ParseTable) (text : Bytes) (base : AnyBase) (most : ℕ) (g : GraphView)
+        (count look : ℕ)
         → AreRanks t.grammar (unit_rank t.grammar) most → IsSoundBy t text g
+        → IsBegunBy t text base
         → ((place h : ℕ) → look ≤ place → place < count + look → IsHeadAt g place h → ⊥)
-        → IsWholeTo (parsing_of t text) (unit_rank t.grammar) g.heads (bare_links g.links)
-        (first_key most look)
-        → IsWholeTo (parsing_of t text) (unit_rank t.grammar) g.heads (bare_links g.links)
-        (first_key most (count + look)) }
+        → IsWholeTo (parsing_from t text base) (unit_rank t.grammar) g.heads
+        (bare_links g.links) (first_key most look)
+        → IsWholeTo (parsing_from t text base) (unit_rank t.grammar) g.heads
+        (bare_links g.links) (first_key most (count + look)) }
 {
     leaf_laws_hold();
     next_laws_hold();

@@ -1,24 +1,20 @@
 -- One key after another: what is seen, what may be reduced, and how the graph has grown.
-use Rattle.std.proofs.Common.{◌≡◌, ◌∙◌, sym, ap, refl, subst, ℕ, suc, ◌+◌, ◌^◌, ◌<◌, ◌≤◌, ◌⊎◌, inl, inr, ⊎_elim, List, [], ◌++◌, length, slice_get, Option, Some, None, arith}
+use Rattle.std.proofs.Common.{◌≡◌, ◌∙◌, sym, ap, subst, ℕ, ◌+◌, ◌<◌, ◌≤◌, ◌⊎◌, inl, inr, ⊎_elim, List, [], ◌++◌, length, slice_get, Option, Some, None, arith}
 use Rattle.std.specs.List.{Contains}
 use Rattle.std.proofs.lemmas.Bool.{cases_order}
 use Rattle.std.proofs.lemmas.List.Elements.{Contains-append_left, Contains-append_right}
 use Rattle.ts_base.specs.Bytes.{Bytes}
 use Rattle.ts_core.specs.declared.action.Action.TheVariants.{Reduce}
-use Rattle.ts_core.specs.declared.flat.Production.{Production}
-use Rattle.spec_grammar.specs.Symbols.{production_at, symbol_count}
+use Rattle.spec_grammar.specs.Symbols.{symbol_count}
 use Rattle.spec_graph.specs.declared.graph.Head.{Head}
 use Rattle.spec_graph.specs.States.{LeadsTo, at_first, AreRanks}
-use Rattle.spec_graph.specs.Laying.{Parsing}
-use Rattle.spec_graph.specs.Links.{HasNoneDue}
 use Rattle.ts_graph.specs.declared.view.GraphView.{GraphView}
-use Rattle.ts_graph.specs.Down.{KeepNumbers, place_at}
+use Rattle.ts_graph.specs.Down.{KeepNumbers}
 use Rattle.ts_table.specs.declared.view.ParseTable.{ParseTable}
 use Rattle.ts_table.specs.Tables.{IsTable, goto_of, actions_of}
 use Rattle.ts_table.specs.Ranks.{unit_rank}
 use Rattle.ts_laying.specs.Laws.{LayingLaws}
-use Rattle.ts_laying.specs.Sound.{bare_links}
-use Rattle.ts_laying.specs.Laying.{Grows, IsNewHead}
+use Rattle.ts_laying.specs.Laying.{IsNewHead}
 use Rattle.ts_laying.proofs.GrowLemmas.{grows_on}
 use Rattle.ts_laying.proofs.GrowLemmas as growing
 use Rattle.ts_laying.proofs.ClimbLemmas.{new_stays}
@@ -30,7 +26,7 @@ use Rattle.ts_reductions.specs.Laws.{ReductionLaws, NodeLaws}
 use Rattle.ts_reductions.specs.declared.reducing.Reduced.{Reduced}
 use Rattle.ts_reductions.specs.declared.reducing.Reduced.TheVariants.{Done, TooDeep}
 use Rattle.ts_reductions.specs.Reducing.{IsDeepAt, AreReduced, Reduces}
-use Rattle.ts_reductions.specs.Sound.{parsing_of, IsSoundBy}
+use Rattle.ts_reductions.specs.Sound.{Base, parsing_of, IsBegunBy, IsSoundBy}
 use Rattle.ts_reductions.proofs.SmallLemmas.{place_is_at, lead_once}
 use Rattle.ts_reductions.proofs.AskLemmas.{reduces_stay}
 use Rattle.ts_reductions.proofs.LineLemmas.{few_symbols}
@@ -38,7 +34,7 @@ use Rattle.ts_reductions.proofs.RankLemmas.{height_most}
 use Rattle.ts_reductions.proofs.WayLemmas.{way_spans}
 use Rattle.ts_shifts.specs.declared.sights.Sights.{Sights}
 use Rattle.ts_shifts.specs.Laws.{LookLaws, LeafLaws}
-use Rattle.ts_shifts.specs.Looking.{IsHeadAt, AllStandAt, HasAllAt, AreHeadsAt, AreSights}
+use Rattle.ts_shifts.specs.Looking.{AllStandAt, HasAllAt, AreHeadsAt}
 use Rattle.ts_shifts.specs.Passing.{first_key}
 use Rattle.ts_shifts.specs.Shifting.{AreAllSights}
 use Rattle.ts_shifts.proofs.SmallLemmas.{read_at}
@@ -50,7 +46,7 @@ use Rattle.ts_sweeps.specs.declared.sweeping.Swept.TheVariants.{Over, Through, D
 use Rattle.ts_sweeps.specs.Laws.{KeyLaws}
 use Rattle.ts_sweeps.specs.Turns.{turn_of}
 use Rattle.ts_sweeps.specs.Seeking.{batch_at, CanSeek, IsSought, IsNext}
-use Rattle.ts_sweeps.specs.Sweeping.{CanSweep, IsWholeBy, last_key, IsDoneTo, HasMore, AreSwept, IsTooDeep, IsSmall, key_at, After, IsSweptTo, SweepsOne, GoesOn}
+use Rattle.ts_sweeps.specs.Sweeping.{CanSweep, IsWholeBy, HasMore, AreSwept, IsTooDeep, IsSmall, key_at, After, IsSweptTo, SweepsOne, GoesOn}
 use Rattle.ts_sweeps.proofs.KeyLemmas.{passes, first_done, all_past, none_due}
 
 -- ---- heads that came since
@@ -155,13 +151,13 @@ module _ (reductions : ReductionLaws) (nodes : NodeLaws) (laying : LayingLaws) (
     pub heard : (o p : Option Batch) → o ≡ p → (CanSeek t text s g seek tops → IsNext t g seek tops o) → IsNext t g seek sights.tops.items p
     heard o p is f = subst (λ (q : Option Batch). IsNext t g seek sights.tops.items q) is (subst (λ (l : List Top). IsNext t g seek l o) same (f can_seek_by))
 
-  module _ (most : ℕ) (ranks : AreRanks t.grammar (unit_rank t.grammar) most) (start : GraphView) (swept : IsSweptTo t text most start g seek.look seek.below) where
+  module _ (base : Base) (begin : IsBegunBy t text base) (early : base.place ≤ seek.look) (most : ℕ) (ranks : AreRanks t.grammar (unit_rank t.grammar) most) (start : GraphView) (swept : IsSweptTo t text base most start g seek.look seek.below) where
     -- nothing was sought at a later key
-    pub over : IsNext t g seek sights.tops.items None → AreSwept t text start g seek.look sights
+    pub over : IsNext t g seek sights.tops.items None → AreSwept t text base start g seek.look sights
     over none = record {
       seen = can.seen;
       more = swept.more;
-      done = all_past leaves keys t text most ranks g can.seen.sound seek.look swept.begins swept.rank
+      done = all_past leaves keys t text base begin most ranks g can.seen.sound seek.look early swept.begins swept.rank
           (λ x i after. none_due reductions nodes t table text s g seek sights.tops.items can_seek x i (λ small. swept.covers x i small after) (none (batch_at seek.look x i)))
           swept.done;
     }
@@ -196,15 +192,15 @@ module _ (reductions : ReductionLaws) (nodes : NodeLaws) (laying : LayingLaws) (
       after : After swept.begins swept.rank key.begins key.rank
       after = swept.back key.begins key.rank small low few sought.after
 
-      whole : IsWholeBy t text g (key_at seek.look key.begins key.rank)
+      whole : IsWholeBy t text base g (key_at seek.look key.begins key.rank)
       whole =
-          passes leaves keys t text most ranks g can.seen.sound seek.look swept.begins swept.rank key.begins key.rank after (let f = few in omega (arith, f))
+          passes leaves keys t text base begin most ranks g can.seen.sound seek.look early swept.begins swept.rank key.begins key.rank after (let f = few in omega (arith, f))
           (λ x i from to. none_due reductions nodes t table text s g seek sights.tops.items can_seek x i (λ so. swept.covers x i so from)
           (λ h. let m = next.1 (batch_at seek.look x i) h in let l = lower_turn x i key.begins key.rank small to in omega (arith, m, l)))
           swept.done
 
       -- the reductions of the key were done
-      pub through : (new : GraphView) → AreReduced t text g new (key_of key) → IsSweptTo t text most start new seek.look (turn_of key.begins key.rank)
+      pub through : (new : GraphView) → AreReduced t text g new (key_of key) → IsSweptTo t text base most start new seek.look (turn_of key.begins key.rank)
       through new r = record {
         more = more_on laying t text start g new seek.look swept.more (record { grows = reduced.grows; only = reduced.only });
         begins = key.begins;
@@ -272,24 +268,24 @@ module _ (reductions : ReductionLaws) (nodes : NodeLaws) (laying : LayingLaws) (
 pub goes_by : (t : ParseTable) (text : Bytes) (s : Setting) (new : GraphView) (look below : ℕ) (sights : Sights) (r : Swept) (n : ℕ) → r ≡ Through n → GoesOn t text s new look below sights r → CanSweep t text s new look sights × (n < below)
 goes_by t text s new look below sights r n is h = subst (λ (x : Swept). GoesOn t text s new look below sights x) is h
 
-pub through_by : (t : ParseTable) (text : Bytes) (s : Setting) (most : ℕ) (start new : GraphView) (look below : ℕ) (sights : Sights) (r : Swept) (n : ℕ) → r ≡ Through n → SweepsOne t text s most start new look below sights r → IsSweptTo t text most start new look n
-through_by t text s most start new look below sights r n is h = subst (λ (x : Swept). SweepsOne t text s most start new look below sights x) is h
+pub through_by : (t : ParseTable) (text : Bytes) (base : Base) (s : Setting) (most : ℕ) (start new : GraphView) (look below : ℕ) (sights : Sights) (r : Swept) (n : ℕ) → r ≡ Through n → SweepsOne t text base s most start new look below sights r → IsSweptTo t text base most start new look n
+through_by t text base s most start new look below sights r n is h = subst (λ (x : Swept). SweepsOne t text base s most start new look below sights x) is h
 
-pub over_by : (t : ParseTable) (text : Bytes) (s : Setting) (most : ℕ) (start new : GraphView) (look below : ℕ) (sights : Sights) (r : Swept) → r ≡ Over → SweepsOne t text s most start new look below sights r → AreSwept t text start new look sights
-over_by t text s most start new look below sights r is h = subst (λ (x : Swept). SweepsOne t text s most start new look below sights x) is h
+pub over_by : (t : ParseTable) (text : Bytes) (base : Base) (s : Setting) (most : ℕ) (start new : GraphView) (look below : ℕ) (sights : Sights) (r : Swept) → r ≡ Over → SweepsOne t text base s most start new look below sights r → AreSwept t text base start new look sights
+over_by t text base s most start new look below sights r is h = subst (λ (x : Swept). SweepsOne t text base s most start new look below sights x) is h
 
-pub deep_by_all : (t : ParseTable) (text : Bytes) (s : Setting) (most : ℕ) (start new : GraphView) (look below : ℕ) (sights : Sights) (r : Swept) → r ≡ Deep → SweepsOne t text s most start new look below sights r → IsTooDeep t text new
-deep_by_all t text s most start new look below sights r is h = subst (λ (x : Swept). SweepsOne t text s most start new look below sights x) is h
+pub deep_by_all : (t : ParseTable) (text : Bytes) (base : Base) (s : Setting) (most : ℕ) (start new : GraphView) (look below : ℕ) (sights : Sights) (r : Swept) → r ≡ Deep → SweepsOne t text base s most start new look below sights r → IsTooDeep t text new
+deep_by_all t text base s most start new look below sights r is h = subst (λ (x : Swept). SweepsOne t text base s most start new look below sights x) is h
 
 -- ---- the first key
 
-pub first_swept : LayingLaws → LeafLaws → KeyLaws → (t : ParseTable) (text : Bytes) (most : ℕ) → AreRanks t.grammar (unit_rank t.grammar) most → (g : GraphView) → IsSoundBy t text g → (look below : ℕ) → below ≡ 18446744073709551615
-    → IsWholeBy t text g (first_key most look) → IsSweptTo t text most g g look below
-first_swept laying leaves keys t text most ranks g sound look below below_is whole = record {
+pub first_swept : LayingLaws → LeafLaws → KeyLaws → (t : ParseTable) (text : Bytes) (base : Base) → IsBegunBy t text base → (most : ℕ) → AreRanks t.grammar (unit_rank t.grammar) most → (g : GraphView) → IsSoundBy t text g → (look below : ℕ) → base.place ≤ look → below ≡ 18446744073709551615
+    → IsWholeBy t text base g (first_key most look) → IsSweptTo t text base most g g look below
+first_swept laying leaves keys t text base begin most ranks g sound look below early below_is whole = record {
   more = more_none laying t text g look;
   begins = look;
   rank = most;
-  done = first_done leaves keys t text most ranks g sound look whole;
+  done = first_done leaves keys t text base begin most ranks g sound look early whole;
   covers = λ x i so after. let a = so.0 in let b = so.1 in omega (arith, a, b, below_is);
   back = λ x i so low few lt. by x i low few (cases_order x look);
 }

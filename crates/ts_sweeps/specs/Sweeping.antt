@@ -1,5 +1,5 @@
 -- All reductions of one place.
-use Rattle.std.specs.Prelude.{◌≡◌, ℕ, ◌^◌, ◌<◌, ◌≤◌, ◌⊎◌, List, length, slice_get, Some}
+use Rattle.std.specs.Prelude.{◌≡◌, ℕ, ◌^◌, ◌<◌, ◌≤◌, ◌⊎◌, length, slice_get, Some}
 use Rattle.std.specs.List.{Contains}
 use Rattle.ts_base.specs.Bytes.{Bytes}
 use Rattle.spec_graph.specs.declared.graph.Head.{Head}
@@ -18,9 +18,8 @@ use Rattle.ts_reductions.specs.declared.top.Top.{Top}
 use Rattle.ts_reductions.specs.Asking.{TakesSome}
 use Rattle.ts_reductions.specs.Lines.{IsSetting}
 use Rattle.ts_reductions.specs.Reducing.{AreReduced}
-use Rattle.ts_reductions.specs.Sound.{parsing_of, IsSoundBy}
+use Rattle.ts_reductions.specs.Sound.{Base, parsing_from, parsing_of, IsSoundBy}
 use Rattle.ts_shifts.specs.declared.sights.Sights.{Sights}
-use Rattle.ts_shifts.specs.Passing.{first_key}
 use Rattle.ts_shifts.specs.Shifting.{AreAllSights}
 use Rattle.ts_sweeps.specs.declared.sweeping.Swept.{Swept}
 use Rattle.ts_sweeps.specs.declared.sweeping.Swept.TheVariants.{Over, Through, Deep}
@@ -36,10 +35,10 @@ pub record CanSweep (t : ParseTable) (text : Bytes) (s : Setting) (g : GraphView
   pub seen : AreAllSights t text g look sights
   pub takes_some : (top : Top) → Contains sights.tops.items top → TakesSome t g top
 
--- the graph is whole up to the key
-abbrev pub IsWholeBy : ParseTable → Bytes → GraphView → Key → Type 0
-IsWholeBy t text g k =
-    IsWholeTo (parsing_of t text) (unit_rank t.grammar) g.heads (bare_links g.links) k
+-- the graph is whole up to the key, of all that runs lay which go on from the stack
+abbrev pub IsWholeBy : ParseTable → Bytes → Base → GraphView → Key → Type 0
+IsWholeBy t text base g k =
+    IsWholeTo (parsing_from t text base) (unit_rank t.grammar) g.heads (bare_links g.links) k
 
 -- ---- after
 
@@ -48,10 +47,11 @@ abbrev pub last_key : ℕ → Key
 last_key look = record { look = look; begins = 0; rank = 0 }
 
 -- the reductions of the key were done last, in a graph that was whole up to it
-pub record IsDoneTo (t : ParseTable) (text : Bytes) (g : GraphView) (k : Key) : Type 0 where
+pub record IsDoneTo (t : ParseTable) (text : Bytes) (base : Base) (g : GraphView) (k : Key)
+    : Type 0 where
   pub before : GraphView
   pub sound : IsSoundBy t text before
-  pub whole : IsWholeBy t text before k
+  pub whole : IsWholeBy t text base before k
   pub reduced : AreReduced t text before g k
 
 -- The graph has grown. Each new head stands at the place, or an extra is passed there.
@@ -63,11 +63,11 @@ pub record HasMore (t : ParseTable) (text : Bytes) (old new : GraphView) (look :
 
 -- All reductions of the place were done, up to those of its last key, and these are all sights
 -- there.
-pub record AreSwept (t : ParseTable) (text : Bytes) (old new : GraphView) (look : ℕ)
-    (sights : Sights) : Type 0 where
+pub record AreSwept (t : ParseTable) (text : Bytes) (base : Base) (old new : GraphView)
+    (look : ℕ) (sights : Sights) : Type 0 where
   pub seen : AreAllSights t text new look sights
   pub more : HasMore t text old new look
-  pub done : IsDoneTo t text new (last_key look)
+  pub done : IsDoneTo t text base new (last_key look)
 
 -- The graph is sound, and some reduction in it would make a node that is too deep.
 pub record IsTooDeep (t : ParseTable) (text : Bytes) (g : GraphView) : Type 0 where
@@ -75,9 +75,10 @@ pub record IsTooDeep (t : ParseTable) (text : Bytes) (g : GraphView) : Type 0 wh
   pub deep : GraphIsDeep (parsing_of t text) (unit_rank t.grammar) g.heads (bare_links g.links)
 
 -- what is said of the place, by the answer
-abbrev pub Sweeps : ParseTable → Bytes → GraphView → GraphView → ℕ → Sights → Reduced → Type 0
-Sweeps t text old new look sights Done = AreSwept t text old new look sights
-Sweeps t text old new look sights TooDeep = IsTooDeep t text new
+abbrev pub Sweeps : ParseTable → Bytes → Base → GraphView → GraphView → ℕ → Sights → Reduced
+    → Type 0
+Sweeps t text base old new look sights Done = AreSwept t text base old new look sights
+Sweeps t text base old new look sights TooDeep = IsTooDeep t text new
 
 -- ---- between two keys
 
@@ -95,23 +96,24 @@ After b r x i = (x < b) ⊎ ((x ≡ b) × (i < r))
 
 -- The reductions up to some key of the place were done. The keys that come after it are those with
 -- turns below this one.
-pub record IsSweptTo (t : ParseTable) (text : Bytes) (most : ℕ) (start g : GraphView)
-    (look below : ℕ) : Type 0 where
+pub record IsSweptTo (t : ParseTable) (text : Bytes) (base : Base) (most : ℕ)
+    (start g : GraphView) (look below : ℕ) : Type 0 where
   pub more : HasMore t text start g look
   pub begins : ℕ
   pub rank : ℕ
-  pub done : IsDoneTo t text g (key_at look begins rank)
+  pub done : IsDoneTo t text base g (key_at look begins rank)
   pub covers : (x i : ℕ) → IsSmall x i → After begins rank x i → turn_of x i < below
   pub back : (x i : ℕ) → IsSmall x i → x ≤ look → i < most → turn_of x i < below
       → After begins rank x i
 
 -- what is said of the next key, by the answer
-abbrev pub SweepsOne : ParseTable → Bytes → Setting → ℕ → GraphView → GraphView → ℕ → ℕ → Sights
-    → Swept → Type 0
-SweepsOne t text s most start new look below sights Over = AreSwept t text start new look sights
-SweepsOne t text s most start new look below sights (Through next) =
-    IsSweptTo t text most start new look next
-SweepsOne t text s most start new look below sights Deep = IsTooDeep t text new
+abbrev pub SweepsOne : ParseTable → Bytes → Base → Setting → ℕ → GraphView → GraphView → ℕ → ℕ
+    → Sights → Swept → Type 0
+SweepsOne t text base s most start new look below sights Over =
+    AreSwept t text base start new look sights
+SweepsOne t text base s most start new look below sights (Through next) =
+    IsSweptTo t text base most start new look next
+SweepsOne t text base s most start new look below sights Deep = IsTooDeep t text new
 
 -- what the next call may rest on, whatever was known of the graph before
 abbrev pub GoesOn : ParseTable → Bytes → Setting → GraphView → ℕ → ℕ → Sights → Swept → Type 0

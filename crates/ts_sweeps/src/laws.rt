@@ -1,4 +1,14 @@
-//! The laws of other crates that the proofs here rest on. No value goes in or out.
+//! The laws of other crates that the proofs here rest on, and a law of reductions over nothing. No
+//! value goes in or out.
+ghost use Rattle.std.specs.Prelude.{◌≡◌, ℕ, slice_get, Some};
+ghost use Rattle.ts_base.specs.Bytes.{Bytes};
+ghost use Rattle.spec_graph.specs.declared.graph.Head.{Head as AnyHead};
+ghost use Rattle.ts_graph.specs.declared.view.GraphView.{GraphView};
+ghost use Rattle.ts_table.specs.declared.view.ParseTable.{ParseTable};
+ghost use Rattle.ts_table.specs.Tables.{IsTable};
+ghost use Rattle.ts_reductions.specs.declared.top.Top.{Top as AnyTop};
+ghost use Rattle.ts_reductions.specs.Asking.{IsTop, TakesSome};
+ghost use Rattle.ts_reductions.specs.Sound.{IsSoundBy};
 ghost use Rattle.ts_laying.specs.Laws.{LayingLaws};
 ghost use Rattle.ts_reductions.specs.Laws.{ReductionLaws, NodeLaws};
 ghost use Rattle.ts_shifts.specs.Laws.{LookLaws, LeafLaws};
@@ -43,6 +53,7 @@ pub(crate) fn graph_laws_hold()
     trees_replace();
     links_pack();
     extras_are_passed();
+    runs_lay();
     moves_have_their_place();
     tokens_are_known();
     one_answer();
@@ -59,4 +70,15 @@ pub(crate) fn key_laws_hold()
     keys_pass();
     keys_follow();
     moves_have_their_place();
+}
+
+/// A reduction over nothing stays on no token that is seen at a head which is not in state 0, the
+/// state of the empty stack.
+pub fn full_stacks_take_some()
+    ensures { (t : ParseTable) (text : Bytes) (g : GraphView) (look : ℕ) (top : AnyTop)
+        → IsTable t → IsSoundBy t text g → IsTop t text g look top
+        → ((head : AnyHead) → slice_get g.heads top.head ≡ Some head → head.state ≡ 0 → ⊥)
+        → TakesSome t g top }
+{
+    key_laws_hold();
 }

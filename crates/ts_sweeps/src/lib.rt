@@ -7,4 +7,5 @@ mod seeking;
 mod sweeping;
 mod turns;
 
+pub use laws::full_stacks_take_some;
 pub use sweeping::sweep;

@@ -1,11 +1,11 @@
 //! All reductions of a place: a graph and what is seen at its heads there go in, and both come out
 //! with all reductions done, key by key, or that a node would be too deep.
-ghost use Rattle.std.specs.Prelude.{◌≡◌, ℕ, ◌<◌, length, IfOk, OnOk};
+ghost use Rattle.std.specs.Prelude.{◌≡◌, ℕ, ◌<◌, ◌≤◌, length, IfOk, OnOk};
 ghost use Rattle.spec_graph.specs.States.{AreRanks};
 ghost use Rattle.ts_graph.specs.declared.view.GraphView.{GraphView};
 ghost use Rattle.ts_graph.specs.Down.{KeepNumbers};
 ghost use Rattle.ts_table.specs.Ranks.{unit_rank};
-ghost use Rattle.ts_reductions.specs.Sound.{IsSoundBy};
+ghost use Rattle.ts_reductions.specs.Sound.{Base as AnyBase, IsBegunBy, IsSoundBy};
 ghost use Rattle.ts_shifts.specs.Passing.{first_key};
 ghost use Rattle.ts_shifts.specs.Shifting.{AreAllSights};
 ghost use Rattle.ts_sweeps.specs.Sweeping.{CanSweep, IsWholeBy, IsSweptTo, SweepsOne, GoesOn, Sweeps};
@@ -71,11 +71,13 @@ fn sweep_one<L: Tokens>(
     requires ready { CanSweep table.now (L.Text.bytes text.now) setting.now graph.old seek.look
         sights.old }
     ensures made { OnOk result (L.made_for lexer.new table.now) }
-    ensures swept { IfOk result (λ swept. (most : ℕ) (start : GraphView)
+    ensures swept { IfOk result (λ swept. (base : AnyBase) (most : ℕ) (start : GraphView)
         → AreRanks table.now.grammar (unit_rank table.now.grammar) most
-        → IsSweptTo table.now (L.Text.bytes text.now) most start graph.old seek.look seek.below
-        → SweepsOne table.now (L.Text.bytes text.now) setting.now most start graph.new seek.look
-        seek.below sights.new swept) }
+        → IsBegunBy table.now (L.Text.bytes text.now) base → base.place ≤ seek.look
+        → IsSweptTo table.now (L.Text.bytes text.now) base most start graph.old seek.look
+        seek.below
+        → SweepsOne table.now (L.Text.bytes text.now) base setting.now most start graph.new
+        seek.look seek.below sights.new swept) }
     ensures on { IfOk result (GoesOn table.now (L.Text.bytes text.now) setting.now graph.new
         seek.look seek.below sights.new) }
 {
@@ -119,10 +121,11 @@ pub fn sweep<L: Tokens>(
     requires ready { CanSweep table.now (L.Text.bytes text.now) setting.now graph.old place
         sights.old }
     ensures made { OnOk result (L.made_for lexer.new table.now) }
-    ensures swept { IfOk result (λ reduced. (most : ℕ)
+    ensures swept { IfOk result (λ reduced. (base : AnyBase) (most : ℕ)
         → AreRanks table.now.grammar (unit_rank table.now.grammar) most
-        → IsWholeBy table.now (L.Text.bytes text.now) graph.old (first_key most place)
-        → Sweeps table.now (L.Text.bytes text.now) graph.old graph.new place sights.new
+        → IsBegunBy table.now (L.Text.bytes text.now) base → base.place ≤ place
+        → IsWholeBy table.now (L.Text.bytes text.now) base graph.old (first_key most place)
+        → Sweeps table.now (L.Text.bytes text.now) base graph.old graph.new place sights.new
         reduced) }
 {
     graph_laws_hold();

@@ -11,3 +11,13 @@ returns-clause-laying c = record {
   passes_tree = c.extras_are_passed.ensures.tree;
   passes_same = c.extras_are_passed.ensures.same;
 }
+
+pub returns-clause-leaves : goal.returns-clause-leaves
+returns-clause-leaves c = record {
+  keeps = c.bare_trees.ensures.keeps;
+  extra = c.bare_trees.ensures.extra;
+  same = c.trees_replace.ensures.same;
+  through = c.trees_replace.ensures.through;
+  shifts = c.moves_have_their_place.ensures.shift;
+  embeds = c.runs_lay.ensures.embeds;
+}

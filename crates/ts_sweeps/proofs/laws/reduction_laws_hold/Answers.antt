@@ -8,6 +8,7 @@ returns-clause-due c = record {
   repeats = c.repetitions_repeat.ensures;
   through = c.trees_replace.ensures.through;
   spans = c.runs_lay.ensures.spans;
+  embeds = c.runs_lay.ensures.embeds;
   shared = c.extras_are_passed.ensures.shared;
   due = c.reductions_are_due.ensures;
   laid = c.reductions_are_laid.ensures.node;

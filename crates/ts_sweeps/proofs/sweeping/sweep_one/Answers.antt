@@ -8,21 +8,21 @@ pub next_key-requires : goal.next_key-requires
 next_key-requires g c = ((g.L.Text.Content.bytes c.args.text.now), can_seek_by c.reduction_laws_hold.ensures.due c.reduction_laws_hold.ensures.nodes c.graph_laws_hold.ensures.laying c.graph_laws_hold.ensures.leaves c.graph_laws_hold.ensures.look c.key_laws_hold.ensures c.args.table.now c.stands.ensures (g.L.Text.Content.bytes c.args.text.now) c.args.setting.now c.args.graph.now c.args.seek c.args.sights.now c.requires.ready c.as_slice.result.now c.as_slice.ensures.value)
 
 pub returns-in-None-clause-swept : goal.returns-in-None-clause-swept
-returns-in-None-clause-swept g c = λ most start ranks swept. over c.reduction_laws_hold.ensures.due c.reduction_laws_hold.ensures.nodes c.graph_laws_hold.ensures.laying c.graph_laws_hold.ensures.leaves c.graph_laws_hold.ensures.look c.key_laws_hold.ensures c.args.table.now c.stands.ensures (g.L.Text.Content.bytes c.args.text.now) c.args.setting.now c.args.graph.now c.args.seek c.args.sights.now c.requires.ready most ranks start swept (heard c.reduction_laws_hold.ensures.due c.reduction_laws_hold.ensures.nodes c.graph_laws_hold.ensures.laying c.graph_laws_hold.ensures.leaves c.graph_laws_hold.ensures.look c.key_laws_hold.ensures c.args.table.now c.stands.ensures (g.L.Text.Content.bytes c.args.text.now) c.args.setting.now c.args.graph.now c.args.seek c.args.sights.now c.requires.ready c.as_slice.result.now c.as_slice.ensures.value c.in_ok-next.next None c.in-None.is (c.in_ok-next.ensures (g.L.Text.Content.bytes c.args.text.now)))
+returns-in-None-clause-swept g c = λ base most start ranks begin early swept. over c.reduction_laws_hold.ensures.due c.reduction_laws_hold.ensures.nodes c.graph_laws_hold.ensures.laying c.graph_laws_hold.ensures.leaves c.graph_laws_hold.ensures.look c.key_laws_hold.ensures c.args.table.now c.stands.ensures (g.L.Text.Content.bytes c.args.text.now) c.args.setting.now c.args.graph.now c.args.seek c.args.sights.now c.requires.ready base begin early most ranks start swept (heard c.reduction_laws_hold.ensures.due c.reduction_laws_hold.ensures.nodes c.graph_laws_hold.ensures.laying c.graph_laws_hold.ensures.leaves c.graph_laws_hold.ensures.look c.key_laws_hold.ensures c.args.table.now c.stands.ensures (g.L.Text.Content.bytes c.args.text.now) c.args.setting.now c.args.graph.now c.args.seek c.args.sights.now c.requires.ready c.as_slice.result.now c.as_slice.ensures.value c.in_ok-next.next None c.in-None.is (c.in_ok-next.ensures (g.L.Text.Content.bytes c.args.text.now)))
 
 pub reduce_all-requires : goal.reduce_all-requires
 reduce_all-requires g c = ((g.L.Text.Content.bytes c.args.text.now), ready_by c.reduction_laws_hold.ensures.due c.reduction_laws_hold.ensures.nodes c.graph_laws_hold.ensures.laying c.graph_laws_hold.ensures.leaves c.graph_laws_hold.ensures.look c.key_laws_hold.ensures c.args.table.now c.stands.ensures (g.L.Text.Content.bytes c.args.text.now) c.args.setting.now c.args.graph.now c.args.seek c.args.sights.now c.requires.ready c.in-Some.key (heard c.reduction_laws_hold.ensures.due c.reduction_laws_hold.ensures.nodes c.graph_laws_hold.ensures.laying c.graph_laws_hold.ensures.leaves c.graph_laws_hold.ensures.look c.key_laws_hold.ensures c.args.table.now c.stands.ensures (g.L.Text.Content.bytes c.args.text.now) c.args.setting.now c.args.graph.now c.args.seek c.args.sights.now c.requires.ready c.as_slice.result.now c.as_slice.ensures.value c.in_ok-next.next (Some c.in-Some.key) c.in-Some.is (c.in_ok-next.ensures (g.L.Text.Content.bytes c.args.text.now))) c.as_slice-tops.result.now c.as_slice-tops.ensures.value)
 
 pub returns-in-TooDeep-clause-swept : goal.returns-in-TooDeep-clause-swept
-returns-in-TooDeep-clause-swept g c = λ most start ranks swept. (deep_by c.reduction_laws_hold.ensures.due c.reduction_laws_hold.ensures.nodes c.graph_laws_hold.ensures.laying c.graph_laws_hold.ensures.leaves c.graph_laws_hold.ensures.look c.key_laws_hold.ensures c.args.table.now c.stands.ensures (g.L.Text.Content.bytes c.args.text.now) c.args.setting.now c.args.graph.now c.args.seek c.args.sights.now c.requires.ready c.in-Some.key (heard c.reduction_laws_hold.ensures.due c.reduction_laws_hold.ensures.nodes c.graph_laws_hold.ensures.laying c.graph_laws_hold.ensures.leaves c.graph_laws_hold.ensures.look c.key_laws_hold.ensures c.args.table.now c.stands.ensures (g.L.Text.Content.bytes c.args.text.now) c.args.setting.now c.args.graph.now c.args.seek c.args.sights.now c.requires.ready c.as_slice.result.now c.as_slice.ensures.value c.in_ok-next.next (Some c.in-Some.key) c.in-Some.is (c.in_ok-next.ensures (g.L.Text.Content.bytes c.args.text.now))) c.as_slice-tops.result.now c.as_slice-tops.ensures.value c.reduce_all.new.graph c.in_ok-reduce_all-in-Some.field-0 c.in-TooDeep.is (c.in_ok-reduce_all-in-Some.ensures (g.L.Text.Content.bytes c.args.text.now)))
+returns-in-TooDeep-clause-swept g c = λ base most start ranks begin early swept. (deep_by c.reduction_laws_hold.ensures.due c.reduction_laws_hold.ensures.nodes c.graph_laws_hold.ensures.laying c.graph_laws_hold.ensures.leaves c.graph_laws_hold.ensures.look c.key_laws_hold.ensures c.args.table.now c.stands.ensures (g.L.Text.Content.bytes c.args.text.now) c.args.setting.now c.args.graph.now c.args.seek c.args.sights.now c.requires.ready c.in-Some.key (heard c.reduction_laws_hold.ensures.due c.reduction_laws_hold.ensures.nodes c.graph_laws_hold.ensures.laying c.graph_laws_hold.ensures.leaves c.graph_laws_hold.ensures.look c.key_laws_hold.ensures c.args.table.now c.stands.ensures (g.L.Text.Content.bytes c.args.text.now) c.args.setting.now c.args.graph.now c.args.seek c.args.sights.now c.requires.ready c.as_slice.result.now c.as_slice.ensures.value c.in_ok-next.next (Some c.in-Some.key) c.in-Some.is (c.in_ok-next.ensures (g.L.Text.Content.bytes c.args.text.now))) c.as_slice-tops.result.now c.as_slice-tops.ensures.value c.reduce_all.new.graph c.in_ok-reduce_all-in-Some.field-0 c.in-TooDeep.is (c.in_ok-reduce_all-in-Some.ensures (g.L.Text.Content.bytes c.args.text.now)))
 
 pub look_new-requires-clause-sound : goal.look_new-requires-clause-sound
 look_new-requires-clause-sound g c = let r = (done_by c.reduction_laws_hold.ensures.due c.reduction_laws_hold.ensures.nodes c.graph_laws_hold.ensures.laying c.graph_laws_hold.ensures.leaves c.graph_laws_hold.ensures.look c.key_laws_hold.ensures c.args.table.now c.stands.ensures (g.L.Text.Content.bytes c.args.text.now) c.args.setting.now c.args.graph.now c.args.seek c.args.sights.now c.requires.ready c.in-Some.key (heard c.reduction_laws_hold.ensures.due c.reduction_laws_hold.ensures.nodes c.graph_laws_hold.ensures.laying c.graph_laws_hold.ensures.leaves c.graph_laws_hold.ensures.look c.key_laws_hold.ensures c.args.table.now c.stands.ensures (g.L.Text.Content.bytes c.args.text.now) c.args.setting.now c.args.graph.now c.args.seek c.args.sights.now c.requires.ready c.as_slice.result.now c.as_slice.ensures.value c.in_ok-next.next (Some c.in-Some.key) c.in-Some.is (c.in_ok-next.ensures (g.L.Text.Content.bytes c.args.text.now))) c.as_slice-tops.result.now c.as_slice-tops.ensures.value c.reduce_all.new.graph c.in_ok-reduce_all-in-Some.field-0 c.in-Done.is (c.in_ok-reduce_all-in-Some.ensures (g.L.Text.Content.bytes c.args.text.now))) in r.sound
 
 pub returns-in_ok-look_new-in-Done-clause-swept : goal.returns-in_ok-look_new-in-Done-clause-swept
-returns-in_ok-look_new-in-Done-clause-swept g c = λ most start ranks swept.
-    subst (λ (n : ℕ). IsSweptTo c.args.table.now (g.L.Text.Content.bytes c.args.text.now) most start c.reduce_all.new.graph c.args.seek.look n) (sym c.turn.ensures)
-    (through c.reduction_laws_hold.ensures.due c.reduction_laws_hold.ensures.nodes c.graph_laws_hold.ensures.laying c.graph_laws_hold.ensures.leaves c.graph_laws_hold.ensures.look c.key_laws_hold.ensures c.args.table.now c.stands.ensures (g.L.Text.Content.bytes c.args.text.now) c.args.setting.now c.args.graph.now c.args.seek c.args.sights.now c.requires.ready most ranks start swept c.in-Some.key (heard c.reduction_laws_hold.ensures.due c.reduction_laws_hold.ensures.nodes c.graph_laws_hold.ensures.laying c.graph_laws_hold.ensures.leaves c.graph_laws_hold.ensures.look c.key_laws_hold.ensures c.args.table.now c.stands.ensures (g.L.Text.Content.bytes c.args.text.now) c.args.setting.now c.args.graph.now c.args.seek c.args.sights.now c.requires.ready c.as_slice.result.now c.as_slice.ensures.value c.in_ok-next.next (Some c.in-Some.key) c.in-Some.is (c.in_ok-next.ensures (g.L.Text.Content.bytes c.args.text.now))) c.reduce_all.new.graph (done_by c.reduction_laws_hold.ensures.due c.reduction_laws_hold.ensures.nodes c.graph_laws_hold.ensures.laying c.graph_laws_hold.ensures.leaves c.graph_laws_hold.ensures.look c.key_laws_hold.ensures c.args.table.now c.stands.ensures (g.L.Text.Content.bytes c.args.text.now) c.args.setting.now c.args.graph.now c.args.seek c.args.sights.now c.requires.ready c.in-Some.key (heard c.reduction_laws_hold.ensures.due c.reduction_laws_hold.ensures.nodes c.graph_laws_hold.ensures.laying c.graph_laws_hold.ensures.leaves c.graph_laws_hold.ensures.look c.key_laws_hold.ensures c.args.table.now c.stands.ensures (g.L.Text.Content.bytes c.args.text.now) c.args.setting.now c.args.graph.now c.args.seek c.args.sights.now c.requires.ready c.as_slice.result.now c.as_slice.ensures.value c.in_ok-next.next (Some c.in-Some.key) c.in-Some.is (c.in_ok-next.ensures (g.L.Text.Content.bytes c.args.text.now))) c.as_slice-tops.result.now c.as_slice-tops.ensures.value c.reduce_all.new.graph c.in_ok-reduce_all-in-Some.field-0 c.in-Done.is (c.in_ok-reduce_all-in-Some.ensures (g.L.Text.Content.bytes c.args.text.now))))
+returns-in_ok-look_new-in-Done-clause-swept g c = λ base most start ranks begin early swept.
+    subst (λ (n : ℕ). IsSweptTo c.args.table.now (g.L.Text.Content.bytes c.args.text.now) base most start c.reduce_all.new.graph c.args.seek.look n) (sym c.turn.ensures)
+    (through c.reduction_laws_hold.ensures.due c.reduction_laws_hold.ensures.nodes c.graph_laws_hold.ensures.laying c.graph_laws_hold.ensures.leaves c.graph_laws_hold.ensures.look c.key_laws_hold.ensures c.args.table.now c.stands.ensures (g.L.Text.Content.bytes c.args.text.now) c.args.setting.now c.args.graph.now c.args.seek c.args.sights.now c.requires.ready base begin early most ranks start swept c.in-Some.key (heard c.reduction_laws_hold.ensures.due c.reduction_laws_hold.ensures.nodes c.graph_laws_hold.ensures.laying c.graph_laws_hold.ensures.leaves c.graph_laws_hold.ensures.look c.key_laws_hold.ensures c.args.table.now c.stands.ensures (g.L.Text.Content.bytes c.args.text.now) c.args.setting.now c.args.graph.now c.args.seek c.args.sights.now c.requires.ready c.as_slice.result.now c.as_slice.ensures.value c.in_ok-next.next (Some c.in-Some.key) c.in-Some.is (c.in_ok-next.ensures (g.L.Text.Content.bytes c.args.text.now))) c.reduce_all.new.graph (done_by c.reduction_laws_hold.ensures.due c.reduction_laws_hold.ensures.nodes c.graph_laws_hold.ensures.laying c.graph_laws_hold.ensures.leaves c.graph_laws_hold.ensures.look c.key_laws_hold.ensures c.args.table.now c.stands.ensures (g.L.Text.Content.bytes c.args.text.now) c.args.setting.now c.args.graph.now c.args.seek c.args.sights.now c.requires.ready c.in-Some.key (heard c.reduction_laws_hold.ensures.due c.reduction_laws_hold.ensures.nodes c.graph_laws_hold.ensures.laying c.graph_laws_hold.ensures.leaves c.graph_laws_hold.ensures.look c.key_laws_hold.ensures c.args.table.now c.stands.ensures (g.L.Text.Content.bytes c.args.text.now) c.args.setting.now c.args.graph.now c.args.seek c.args.sights.now c.requires.ready c.as_slice.result.now c.as_slice.ensures.value c.in_ok-next.next (Some c.in-Some.key) c.in-Some.is (c.in_ok-next.ensures (g.L.Text.Content.bytes c.args.text.now))) c.as_slice-tops.result.now c.as_slice-tops.ensures.value c.reduce_all.new.graph c.in_ok-reduce_all-in-Some.field-0 c.in-Done.is (c.in_ok-reduce_all-in-Some.ensures (g.L.Text.Content.bytes c.args.text.now))))
 
 pub returns-in_ok-look_new-in-Done-clause-on : goal.returns-in_ok-look_new-in-Done-clause-on
 returns-in_ok-look_new-in-Done-clause-on g c =
