@@ -1,0 +1,3 @@
+pub mod FrontierLemmas
+pub mod NothingLemmas
+pub mod FollowLemmas

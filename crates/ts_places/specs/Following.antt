@@ -1,0 +1,112 @@
+-- What is done at a place of a graph, and where the graph goes on.
+use Rattle.std.specs.Prelude.{◌≡◌, ℕ, suc, ◌<◌, ◌≤◌, Option, Some, None, length}
+use Rattle.ts_base.specs.Bytes.{Bytes}
+use Rattle.spec_graph.specs.States.{AreRanks}
+use Rattle.ts_graph.specs.declared.view.GraphView.{GraphView}
+use Rattle.ts_table.specs.declared.view.ParseTable.{ParseTable}
+use Rattle.ts_table.specs.Ranks.{unit_rank}
+use Rattle.ts_laying.specs.Laying.{Grows}
+use Rattle.ts_reductions.specs.declared.setting.Setting.{Setting}
+use Rattle.ts_reductions.specs.declared.top.Top.{Top}
+use Rattle.ts_reductions.specs.Asking.{IsTop}
+use Rattle.ts_reductions.specs.Lines.{IsSetting}
+use Rattle.ts_reductions.specs.Sound.{Base, IsBegunBy, IsSoundBy}
+use Rattle.ts_shifts.specs.declared.sights.Sights.{Sights}
+use Rattle.ts_shifts.specs.Passing.{first_key}
+use Rattle.ts_shifts.specs.Shifting.{AreAllSights}
+use Rattle.ts_sweeps.specs.Sweeping.{IsWholeBy, IsTooDeep}
+use Rattle.ts_places.specs.declared.following.Next.{Next}
+use Rattle.ts_places.specs.declared.following.Next.TheVariants.{Place, Nowhere, TooDeep, Nothing}
+use Rattle.ts_places.specs.declared.following.Passed.{Passed}
+use Rattle.ts_places.specs.declared.following.Passed.TheVariants.{Over, Deep, Idle}
+use Rattle.ts_places.specs.declared.frontier.Frontier.{Frontier}
+use Rattle.ts_places.specs.Frontiers.{AreOpen, IsNextPlace, IsLastPlace}
+use Rattle.ts_places.specs.Nothing.{AsksForNothing}
+
+-- ---- before
+
+-- A sound graph that is whole up to the first key of a place, of all that runs lay which go on from
+-- a stack that ends no later.
+pub record IsWholeAt (t : ParseTable) (text : Bytes) (base : Base) (most : ℕ) (g : GraphView)
+    (place : ℕ) : Type 0 where
+  pub begun : IsBegunBy t text base
+  pub early : base.place ≤ place
+  pub ranks : AreRanks t.grammar (unit_rank t.grammar) most
+  pub sound : IsSoundBy t text g
+  pub whole : IsWholeBy t text base g (first_key most place)
+
+-- and the setting of its table, and the heads that stand at the place or past it
+pub record CanFollow (t : ParseTable) (text : Bytes) (s : Setting) (base : Base) (most : ℕ)
+    (g : GraphView) (place : ℕ) (frontier : Frontier) : Type 0 where
+  pub setting : IsSetting t (length text) s
+  pub whole : IsWholeAt t text base most g place
+  pub are_open : AreOpen g place frontier.heads.items
+
+-- ---- after
+
+-- All that is asked for at the place was done. These are all sights there.
+pub record IsFollowed (t : ParseTable) (text : Bytes) (old new : GraphView) (place : ℕ)
+    (sights : Sights) : Type 0 where
+  pub grows : Grows old new
+  pub seen : AreAllSights t text new place sights
+
+-- and the graph goes on at the next place
+pub record GoesOnAt (t : ParseTable) (text : Bytes) (base : Base) (most : ℕ) (old new : GraphView)
+    (place : ℕ) (frontier : Frontier) (sights : Sights) (next : ℕ) : Type 0 where
+  pub followed : IsFollowed t text old new place sights
+  pub at : IsNextPlace new place frontier.heads.items next
+  pub whole : IsWholeAt t text base most new next
+
+-- and it goes on nowhere
+pub record IsOver (t : ParseTable) (text : Bytes) (base : Base) (most : ℕ) (old new : GraphView)
+    (place : ℕ) (sights : Sights) : Type 0 where
+  pub followed : IsFollowed t text old new place sights
+  pub last : IsLastPlace new place
+  pub whole : (n : ℕ) → place < n → IsWholeAt t text base most new n
+
+-- a head at the place sees a token on which a reduction over nothing stays
+pub record IsNothingAsked (t : ParseTable) (text : Bytes) (g : GraphView) (place : ℕ)
+    : Type 0 where
+  pub top : Top
+  pub seen : IsTop t text g place top
+  pub asks : AsksForNothing t g top
+
+-- where the graph goes on, by the next place
+abbrev pub next_at : Option ℕ → Next
+next_at None = Nowhere
+next_at (Some next) = Place next
+
+-- what is said of the place, by the answer
+abbrev pub Follows : ParseTable → Bytes → Base → ℕ → GraphView → GraphView → ℕ → Frontier → Frontier
+    → Sights → Next → Type 0
+Follows t text base most old new place before after sights (Place next) =
+    GoesOnAt t text base most old new place after sights next
+Follows t text base most old new place before after sights Nowhere =
+    IsOver t text base most old new place sights
+Follows t text base most old new place before after sights TooDeep = IsTooDeep t text new
+Follows t text base most old new place before after sights Nothing =
+    IsNothingAsked t text old place × (new ≡ old) × (after ≡ before)
+
+-- ---- between
+
+-- the graph, and all that is seen at its heads there
+pub record CanPass (t : ParseTable) (text : Bytes) (s : Setting) (base : Base) (most : ℕ)
+    (g : GraphView) (place : ℕ) (sights : Sights) : Type 0 where
+  pub setting : IsSetting t (length text) s
+  pub whole : IsWholeAt t text base most g place
+  pub seen : AreAllSights t text g place sights
+
+-- all that is asked for was done
+pub record IsPassed (t : ParseTable) (text : Bytes) (base : Base) (most : ℕ) (old new : GraphView)
+    (place : ℕ) (sights : Sights) : Type 0 where
+  pub followed : IsFollowed t text old new place sights
+  pub whole : IsWholeAt t text base most new (suc place)
+
+-- what is said of the place, by the answer
+abbrev pub Passes : ParseTable → Bytes → Base → ℕ → GraphView → GraphView → ℕ → Sights → Sights
+    → Passed → Type 0
+Passes t text base most old new place before after Over =
+    IsPassed t text base most old new place after
+Passes t text base most old new place before after Deep = IsTooDeep t text new
+Passes t text base most old new place before after Idle =
+    IsNothingAsked t text old place × (new ≡ old) × (after ≡ before)

@@ -1,0 +1,4 @@
+pub mod Laws
+pub mod Frontiers
+pub mod Nothing
+pub mod Following

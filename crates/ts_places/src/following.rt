@@ -1,0 +1,177 @@
+//! Follows a graph of stacks over one place of a text: the graph and the heads that stand there or
+//! past it go in; the graph with all reductions, shifts and passed extras of the place comes out,
+//! with what was seen there and the next place at which a head stands.
+ghost use Rattle.std.specs.Prelude.{◌≡◌, ℕ, IfOk, OnOk};
+ghost use Rattle.ts_reductions.specs.Sound.{Base as AnyBase, IsSoundBy};
+ghost use Rattle.ts_shifts.specs.Looking.{AllStandAt, HasAllAt};
+ghost use Rattle.ts_shifts.specs.Shifting.{AreAllSights};
+ghost use Rattle.ts_places.specs.Following.{CanPass, Passes, CanFollow, next_at, Follows};
+
+use crate::frontier::{Frontier, advance, those_at, those_past};
+use crate::laws::place_laws_hold;
+use crate::nothing::some_asks_for_nothing;
+use std::alloc::{AllocError, Global};
+use ts_graph::Graph;
+use ts_lexer::Tokens;
+use ts_reductions::{Reduced, Setting};
+use ts_shifts::{Sights, look_all, shift_all};
+use ts_sweeps::sweep;
+use ts_table::Table;
+
+/// Where a graph goes on behind a place.
+#[derive(Clone, Copy, Debug, PartialEq, Eq)]
+pub enum Next {
+    /// At this place, the least one past it at which a head stands.
+    Place(u32),
+    /// No head stands past the place.
+    Nowhere,
+    /// A node would have been too deep.
+    TooDeep,
+    /// A reduction over nothing stays on a token that is seen at the place, as it does at the end
+    /// of a text that has no token but extras. Nothing was done.
+    Nothing,
+}
+
+/// What a place came to.
+#[derive(Drop)]
+pub struct Followed {
+    /// What the heads that stand there see.
+    pub sights: Sights,
+    pub next: Next,
+}
+
+/// What is done at a place came to.
+#[derive(Clone, Copy)]
+pub(crate) enum Passed {
+    /// All of it was done.
+    Over,
+    /// A node would have been too deep.
+    Deep,
+    /// A reduction over nothing is asked for. Nothing was done.
+    Idle,
+}
+
+/// What the heads of a place see, all of which these are.
+fn look_at<L: Tokens>(
+    alloc: Global,
+    table: &Table,
+    lexer: &mut L,
+    text: &L::Text,
+    graph: &Graph,
+    heads: &[usize],
+) -> Result<Sights, AllocError>
+    requires made { L.made_for lexer.old table.now }
+    requires sound { IsSoundBy table.now (L.Text.bytes text.now) graph.now }
+    requires stand { (look : ℕ) × AllStandAt graph.now look heads.now }
+    ensures made { OnOk result (L.made_for lexer.new table.now) }
+    ensures sights { IfOk result (λ sights. (look : ℕ)
+        → AllStandAt graph.now look heads.now → HasAllAt graph.now look heads.now
+        → AreAllSights table.now (L.Text.bytes text.now) graph.now look sights) }
+{
+    let mut sights = Sights::new(alloc);
+    look_all(table, lexer, text, graph, heads, &mut sights)?;
+    Ok(sights)
+}
+
+/// Does all reductions of a place, and then all shifts and passed extras.
+fn pass_place<L: Tokens>(
+    alloc: Global,
+    table: &Table,
+    setting: &Setting,
+    lexer: &mut L,
+    text: &L::Text,
+    graph: &mut Graph,
+    place: u32,
+    sights: &mut Sights,
+) -> Result<Passed, AllocError>
+    requires made { L.made_for lexer.old table.now }
+    requires ready { (base : AnyBase) × (most : ℕ) × CanPass table.now (L.Text.bytes text.now)
+        setting.now base most graph.old place sights.old }
+    ensures made { OnOk result (L.made_for lexer.new table.now) }
+    ensures passes { IfOk result (λ passed. (base : AnyBase) (most : ℕ)
+        → CanPass table.now (L.Text.bytes text.now) setting.now base most graph.old place
+        sights.old
+        → Passes table.now (L.Text.bytes text.now) base most graph.old graph.new place
+        sights.old sights.new passed) }
+{
+    place_laws_hold();
+    table.stands();
+    if some_asks_for_nothing(table, setting, graph, sights.tops.as_slice()) {
+        return Ok(Passed::Idle);
+    }
+    match sweep(alloc, table, setting, lexer, text, graph, place, sights)? {
+        Reduced::TooDeep => Ok(Passed::Deep),
+        Reduced::Done => {
+            shift_all(table, graph, sights)?;
+            Ok(Passed::Over)
+        }
+    }
+}
+
+/// Where a graph goes on, by the next place at which a head stands.
+fn as_next(place: Option<u32>) -> Next
+    ensures { result ≡ next_at place }
+{
+    match place {
+        Some(next) => Next::Place(next),
+        None => Next::Nowhere,
+    }
+}
+
+/// Does all that is asked for at a place, on a graph that is whole up to its first key: the graph
+/// is then whole up to the first key of the next place at which a head stands, and up to each place
+/// past this one where none does. The frontier goes on with it.
+///
+/// # Errors
+///
+/// `AllocError` where memory runs out. Some of it may be done then.
+pub fn follow_place<L: Tokens>(
+    alloc: Global,
+    table: &Table,
+    setting: &Setting,
+    lexer: &mut L,
+    text: &L::Text,
+    graph: &mut Graph,
+    frontier: &mut Frontier,
+    place: u32,
+) -> Result<Followed, AllocError>
+    requires made { L.made_for lexer.old table.now }
+    requires ready { (base : AnyBase) × (most : ℕ) × CanFollow table.now
+        (L.Text.bytes text.now) setting.now base most graph.old place frontier.old }
+    ensures made { OnOk result (L.made_for lexer.new table.now) }
+    ensures follows { IfOk result (λ followed. (base : AnyBase) (most : ℕ)
+        → CanFollow table.now (L.Text.bytes text.now) setting.now base most graph.old place
+        frontier.old
+        → Follows table.now (L.Text.bytes text.now) base most graph.old graph.new place
+        frontier.old frontier.new followed.sights followed.next) }
+{
+    place_laws_hold();
+    let count = graph.count();
+    let waiting = frontier.heads.as_slice();
+    let here = those_at(alloc, graph, waiting, place)?;
+    let past = those_past(alloc, graph, waiting, place)?;
+    let mut sights = look_at(alloc, table, lexer, text, graph, here.as_slice())?;
+    match pass_place(
+        alloc,
+        table,
+        setting,
+        lexer,
+        text,
+        graph,
+        place,
+        &mut sights,
+    )? {
+        Passed::Over => {
+            let next = as_next(advance(graph, count, place, past, frontier)?);
+            Ok(Followed { sights, next })
+        }
+        Passed::Deep => Ok(Followed {
+            sights,
+            next: Next::TooDeep,
+        }),
+        Passed::Idle => Ok(Followed {
+            sights,
+            next: Next::Nothing,
+        }),
+    }
+}
