@@ -1,0 +1,152 @@
+-- What ended while a graph grows, and what it tells in the end.
+use Rattle.std.proofs.Common.{◌≡◌, ◌∙◌, sym, refl, subst, ℕ, ◌<◌, ◌≤◌, ◌⊎◌, inl, inr, ⊎_elim, List, [], slice_get, Option, Some, None, arith}
+use Rattle.std.specs.List.{Contains}
+use Rattle.ts_base.specs.Bytes.{Bytes}
+use Rattle.ts_core.specs.declared.symbol.Symbol.{Symbol}
+use Rattle.spec_lexing.specs.Lexing.{token}
+use Rattle.spec_tables.specs.Actions.{accept}
+use Rattle.spec_trees.specs.declared.tree.Tree.{Tree}
+use Rattle.spec_trees.specs.Trees.{bare}
+use Rattle.spec_trees.specs.Choice.{Better}
+use Rattle.spec_runs.specs.Configurations.{HasMove}
+use Rattle.spec_graph.specs.Laying.{Parsing, SeesAt}
+use Rattle.spec_graph.specs.Links.{IsAt}
+use Rattle.spec_graph.specs.Outcomes.{GraphAccepts, IsBestOfGraph, IsLastOfGraph}
+use Rattle.spec_graph.proofs.LayLemmas.{order_cases}
+use Rattle.ts_graph.specs.declared.view.GraphView.{GraphView}
+use Rattle.ts_graph.specs.Down.{KeepNumbers}
+use Rattle.ts_table.specs.declared.view.ParseTable.{ParseTable}
+use Rattle.ts_laying.specs.Sound.{bare_links}
+use Rattle.ts_laying.specs.Laying.{HasPassed}
+use Rattle.ts_reductions.specs.Sound.{parsing_of}
+use Rattle.ts_shifts.specs.Looking.{IsHeadAt, StopsThere}
+use Rattle.ts_shifts.proofs.SmallLemmas.{none_contained}
+use Rattle.ts_ends.specs.declared.ends.Ends.{Ends}
+use Rattle.ts_ends.specs.Choosing.{IsPastStuck}
+use Rattle.ts_ends.specs.Ends.{Accepts, AreEnds, AreLater}
+use Rattle.ts_ends.specs.Best.{AcceptsAmong, IsBestOn}
+
+-- ---- before the start
+
+pub nothing_ended : (t : ParseTable) (text : Bytes) (g : GraphView) (ends : Ends) → ends.accepting.items ≡ [] → ends.stuck ≡ None → AreEnds t text g 0 ends
+nothing_ended t text g ends none no_place = record {
+  each = λ h w. absurd (none_contained h (subst (λ (l : List ℕ). Contains l h) none w));
+  all = λ h a lt. absurd (omega (arith, lt));
+  stops = λ q is. absurd (let e : None ≡ Some q = sym no_place ∙ is in cc);
+  last = λ h look q s lt. absurd (omega (arith, lt));
+}
+
+-- ---- while the graph grows
+
+module _ (t : ParseTable) (text : Bytes) (old new : GraphView) where
+  abbrev P : Parsing
+  P = parsing_of t text
+
+  move_at : (h : ℕ) (read : List ℕ) (place : ℕ) (a : IsAt P old.heads h read place) → slice_get new.heads h ≡ Some a.head → IsAt P new.heads h read place
+  move_at h read place a is = record { head = a.head; is = is; state = a.state; place_is = a.place_is }
+
+  back_at : (h : ℕ) (read : List ℕ) (place : ℕ) (a : IsAt P new.heads h read place) → slice_get old.heads h ≡ Some a.head → IsAt P old.heads h read place
+  back_at h read place a is = record { head = a.head; is = is; state = a.state; place_is = a.place_is }
+
+  module _ (keep : KeepNumbers old.heads new.heads) where
+    pub still_accepts : (h : ℕ) → (a : Accepts P old.heads h) → (b : Accepts P new.heads h) × (b.place ≡ a.place)
+    still_accepts h a = (
+      record {
+        read = a.read;
+        place = a.place;
+        at = move_at h a.read a.place a.at (keep h a.at.head a.at.is);
+        symbol = a.symbol;
+        pad = a.pad;
+        size = a.size;
+        sees = a.sees;
+        stays = a.stays;
+      },
+      refl,
+    )
+
+    still_stops : (look h q : ℕ) → StopsThere t text old look h q → StopsThere t text new look h q
+    still_stops look h q s = record { read = s.read; at = move_at h s.read look s.at (keep h s.at.head s.at.is); far = s.far; sees = s.sees; stop_is = s.stop_is }
+
+    module _ (to : ℕ) (ends : Ends) (later : AreLater t text old new to)
+        (quiet : (h : ℕ) → HasPassed P new h → (look stop : ℕ) → StopsThere t text new look h stop → ⊥)
+        (idle : (h : ℕ) → HasPassed P new h → (read : List ℕ) (place : ℕ) (symbol : Symbol) (pad size : ℕ) → IsAt P new.heads h read place → SeesAt P read place (token symbol pad size) → HasMove t.grammar read symbol.0 → ⊥)
+        (e : AreEnds t text old to ends) where
+      accepts_still : (h : ℕ) (a : Accepts P new.heads h) → a.place < to → Contains ends.accepting.items h
+      accepts_still h a lt = by (later h a.at.head a.at.is)
+        where
+          by : (slice_get old.heads h ≡ Some a.at.head) ⊎ ((to ≤ a.at.head.place) ⊎ HasPassed P new h) → Contains ends.accepting.items h
+          by (inl is) =
+              e.all h (record {
+                read = a.read;
+                place = a.place;
+                at = back_at h a.read a.place a.at is;
+                symbol = a.symbol;
+                pad = a.pad;
+                size = a.size;
+                sees = a.sees;
+                stays = a.stays;
+              }) lt
+          by (inr (inl le)) = absurd (let p = a.at.place_is in omega (arith, le, p, lt))
+          by (inr (inr passed)) = absurd (idle h passed a.read a.place a.symbol a.pad a.size a.at a.sees (accept, a.stays))
+
+      stops_still : (h look q : ℕ) → StopsThere t text new look h q → look < to → IsPastStuck ends.stuck q
+      stops_still h look q s lt = by (later h s.at.head s.at.is)
+        where
+          by : (slice_get old.heads h ≡ Some s.at.head) ⊎ ((to ≤ s.at.head.place) ⊎ HasPassed P new h) → IsPastStuck ends.stuck q
+          by (inl is) = e.last h look q (record { read = s.read; at = back_at h s.read look s.at is; far = s.far; sees = s.sees; stop_is = s.stop_is }) lt
+          by (inr (inl le)) = absurd (let p = s.at.place_is in omega (arith, le, p, lt))
+          by (inr (inr passed)) = absurd (quiet h passed look q s)
+
+      pub ends_still : AreEnds t text new to ends
+      ends_still = record {
+        each = λ h w. let r = e.each h w in let b = still_accepts h r.0 in let lt = r.1 in let p = b.1 in (b.0, omega (arith, lt, p));
+        all = accepts_still;
+        stops = λ q is. let r = e.stops q is in (r.0, r.1, still_stops r.1 r.0 q r.2, r.3);
+        last = stops_still;
+      }
+
+-- ---- past places where no head stands
+
+module _ (t : ParseTable) (text : Bytes) (g : GraphView) (to next : ℕ) (ends : Ends) (none : (place h : ℕ) → to ≤ place → place < next → IsHeadAt g place h → ⊥) (le : to ≤ next) (e : AreEnds t text g to ends) where
+  pub ends_passed : AreEnds t text g next ends
+  ends_passed = record {
+    each = λ h w. let r = e.each h w in let lt = r.1 in (r.0, omega (arith, lt, le));
+    all = λ h a lt. ⊎_elim (λ low. e.all h a low) (λ high. absurd (none a.place h high lt (a.at.head, a.at.is, a.at.place_is))) (order_cases a.place to);
+    stops = λ q is. let r = e.stops q is in let lt = r.3 in (r.0, r.1, r.2, omega (arith, lt, le));
+    last = λ h look q s lt. ⊎_elim (λ low. e.last h look q s low) (λ high. absurd (none look h high lt (s.at.head, s.at.is, s.at.place_is))) (order_cases look to);
+  }
+
+-- ---- in the end
+
+module _ (t : ParseTable) (text : Bytes) (g : GraphView) (to : ℕ) (ends : Ends) (best : Option Tree) (none : (place h : ℕ) → to ≤ place → IsHeadAt g place h → ⊥) (e : AreEnds t text g to ends) (is : IsBestOn t text g ends.accepting.items best) where
+  abbrev Q : Parsing
+  Q = parsing_of t text
+
+  before : (h place : ℕ) → IsHeadAt g place h → place < to
+  before h place at = ⊎_elim (λ lt. lt) (λ le. absurd (none place h le at)) (order_cases place to)
+
+  among : (u : Tree) → GraphAccepts Q g.heads (bare_links g.links) u → AcceptsAmong t text g ends.accepting.items u
+  among u a = (a, e.all a.head (record { read = a.read; place = a.place; at = a.at; symbol = a.symbol; pad = a.pad; size = a.size; sees = a.sees; stays = a.stays }) (before a.head a.place (a.at.head, a.at.is, a.at.place_is)))
+
+  pub best_of_graph : (b : Tree) → best ≡ Some b → IsBestOfGraph Q g.heads (bare_links g.links) (bare b)
+  best_of_graph b best_is = record {
+    accepts = (is.accepted b best_is).0;
+    best = λ u a better.
+        let w = is.all u (among u a) in
+        let f : Some w.0 ≡ Some b = sym w.1 ∙ best_is in
+        let one : w.0 ≡ b = cc in
+        w.2 (subst (λ (x : Tree). Better u (bare x)) (sym one) better);
+  }
+
+  pub last_of_graph : best ≡ None → (stop : ℕ) → ends.stuck ≡ Some stop → IsLastOfGraph Q g.heads (bare_links g.links) stop
+  last_of_graph no_best stop stuck = record {
+    none = λ u a. let w = is.all u (among u a) in let f : None ≡ Some w.0 = sym no_best ∙ w.1 in cc;
+    stops = let r = e.stops stop stuck in let s = r.2 in record { head = r.0; read = s.read; place = r.1; at = s.at; far = s.far; sees = s.sees; stop_is = s.stop_is };
+    greatest = λ other s.
+        let there : StopsThere t text g s.place s.head other = record { read = s.read; at = s.at; far = s.far; sees = s.sees; stop_is = s.stop_is } in
+        let r = e.last s.head s.place other there (before s.head s.place (s.at.head, s.at.is, s.at.place_is)) in
+        let f : Some r.0 ≡ Some stop = sym r.1 ∙ stuck in
+        let one : r.0 ≡ stop = cc in
+        let le = r.2 in
+        omega (arith, le, one);
+  }

@@ -1,0 +1,4 @@
+pub mod Laws
+pub mod Choosing
+pub mod Ends
+pub mod Best

@@ -1,0 +1,92 @@
+//! The laws of other crates that the proofs here rest on, and laws of what ended, each a function
+//! without a body. No value goes in or out.
+ghost use Rattle.std.specs.Prelude.{◌≡◌, ℕ, ◌<◌, ◌≤◌, Option, Some, None, []};
+ghost use Rattle.ts_base.specs.Bytes.{Bytes};
+ghost use Rattle.spec_runs.specs.BareTrees.{KeepsAll};
+ghost use Rattle.spec_trees.specs.declared.tree.Tree.{Tree};
+ghost use Rattle.spec_trees.specs.Trees.{bare};
+ghost use Rattle.spec_graph.specs.Outcomes.{IsBestOfGraph, IsLastOfGraph};
+ghost use Rattle.ts_graph.specs.declared.view.GraphView.{GraphView};
+ghost use Rattle.ts_graph.specs.Down.{KeepNumbers};
+ghost use Rattle.ts_table.specs.declared.view.ParseTable.{ParseTable};
+ghost use Rattle.ts_laying.specs.Sound.{bare_links};
+ghost use Rattle.ts_reductions.specs.Sound.{parsing_of, IsSoundBy};
+ghost use Rattle.ts_shifts.specs.Looking.{IsHeadAt};
+ghost use Rattle.ts_ends.specs.declared.ends.Ends.{Ends as AnyEnds};
+ghost use Rattle.ts_ends.specs.Laws.{EndLaws};
+ghost use Rattle.ts_ends.specs.Ends.{AreEnds, AreLater};
+ghost use Rattle.ts_ends.specs.Best.{IsBestOn};
+
+use spec_lexing::{fewer_tokens, one_answer, token_within};
+use spec_reuse::{no_new_tokens, some_move_stays};
+use spec_runs::{
+    bare_trees, empty_rules_are_unused, moves_have_their_place, repetitions_repeat,
+    start_is_no_repetition,
+};
+use ts_node::{accepted_is_node, made_nodes_are_in_form, reduced_by_a_rule};
+use ts_shifts::passed_heads_go_on;
+
+/// The laws of graphs, and of accepted roots, hold.
+pub(crate) fn end_laws_hold()
+    ensures { EndLaws }
+{
+    bare_trees();
+    empty_rules_are_unused();
+    moves_have_their_place();
+    repetitions_repeat();
+    start_is_no_repetition();
+    fewer_tokens();
+    one_answer();
+    token_within();
+    no_new_tokens();
+    some_move_stays();
+    accepted_is_node();
+    made_nodes_are_in_form();
+    reduced_by_a_rule();
+}
+
+/// Bare trees keep all that counts.
+pub(crate) fn tree_laws_hold()
+    ensures { (t : Tree) → KeepsAll t }
+{
+    bare_trees();
+}
+
+/// Nothing ended before the start of the text.
+pub fn ends_begin()
+    ensures { (t : ParseTable) (text : Bytes) (g : GraphView) (ends : AnyEnds)
+        → ends.accepting.items ≡ [] → ends.stuck ≡ None → AreEnds t text g 0 ends }
+{}
+
+/// What ended at earlier places stays so, and nothing more ends there, where a graph grows by heads
+/// at later places, and by heads at which an extra is passed; and where no head stands from one
+/// place on up to a later one, nothing ends there.
+pub fn ends_stay()
+    ensures grows { (t : ParseTable) (text : Bytes) (old new : GraphView) (to : ℕ)
+        (ends : AnyEnds) → IsSoundBy t text new → KeepNumbers old.heads new.heads
+        → AreLater t text old new to → AreEnds t text old to ends
+        → AreEnds t text new to ends }
+    ensures passes { (t : ParseTable) (text : Bytes) (g : GraphView) (to next : ℕ)
+        (ends : AnyEnds)
+        → ((place h : ℕ) → to ≤ place → place < next → IsHeadAt g place h → ⊥) → to ≤ next
+        → AreEnds t text g to ends → AreEnds t text g next ends }
+{
+    passed_heads_go_on();
+}
+
+/// Where all heads stand before the place up to which the ends are known, the best tree at the
+/// heads that accept is the best of the graph; and where there is none, the greatest place at which
+/// a head stops is the last of the graph.
+pub fn ends_tell_the_outcome()
+    ensures best { (t : ParseTable) (text : Bytes) (g : GraphView) (to : ℕ) (ends : AnyEnds)
+        (best : Option Tree)
+        → ((place h : ℕ) → to ≤ place → IsHeadAt g place h → ⊥) → AreEnds t text g to ends
+        → IsBestOn t text g ends.accepting.items best → (b : Tree) → best ≡ Some b
+        → IsBestOfGraph (parsing_of t text) g.heads (bare_links g.links) (bare b) }
+    ensures last { (t : ParseTable) (text : Bytes) (g : GraphView) (to : ℕ) (ends : AnyEnds)
+        (best : Option Tree)
+        → ((place h : ℕ) → to ≤ place → IsHeadAt g place h → ⊥) → AreEnds t text g to ends
+        → IsBestOn t text g ends.accepting.items best → best ≡ None
+        → (stop : ℕ) → ends.stuck ≡ Some stop
+        → IsLastOfGraph (parsing_of t text) g.heads (bare_links g.links) stop }
+{}
