@@ -1,0 +1,257 @@
+-- Where one stack is left: it is reached, and what runs come to past a place is served from it.
+use Rattle.std.proofs.Common.{◌≡◌, ◌∙◌, sym, ap, refl, subst, ℕ, ◌+◌, ◌<◌, ◌≤◌, ◌⊎◌, inl, inr, false, true≢false, List, [], ◌∷◌, ◌++◌, append-nil, length, Option, Some, None, arith}
+use lib.IntN.{ℤ, ◌+ℤ◌}
+use Rattle.ts_core.specs.declared.flat.FlatGrammar.{FlatGrammar}
+use Rattle.ts_core.specs.declared.flat.Production.{Production}
+use Rattle.ts_core.specs.declared.symbol.Symbol.{Symbol}
+use Rattle.spec_lexing.specs.Lexing.{token}
+use Rattle.spec_tables.specs.Actions.{Act, shift}
+use Rattle.spec_trees.specs.declared.tree.Tree.{Tree}
+use Rattle.spec_trees.specs.Trees.{production_of, is_extra_node, elements_of, children_of, total_of, all_totals, span_of, bare}
+use Rattle.spec_trees.specs.Made.{IsLeaf, element, Form, of_rule, of_first, of_next, form_of, made_by, value_of, reduced, filling}
+use Rattle.spec_runs.specs.Configurations.{Configuration, token_tree, pushed}
+use Rattle.spec_runs.specs.Runs.{StepsOn, shift_token, Run, run_here, run_on, IsReached, ComesTooDeep}
+use Rattle.spec_packing.specs.Laws.{RunLaws}
+use Rattle.spec_packing.specs.Serving.{AllServe, ServesConfiguration, ComesToServe}
+use Rattle.spec_packing.proofs.MadeLemmas.{over_says, CanMake, IsLawful, no_children, left_is}
+use Rattle.spec_graph.specs.declared.graph.Head.{Head}
+use Rattle.spec_graph.specs.declared.graph.Link.{Link}
+use Rattle.spec_graph.specs.States.{ShareState, AreRanks}
+use Rattle.spec_graph.specs.Laying.{Parsing, from_start, SeesAt, GoesOn, extra_tree, node_made, Lays, flat, stood, shifted, passed, made, IsBegun}
+use Rattle.spec_graph.specs.Links.{IsAt, IsWay, way_trees, AllStandFor, IsLinked, IsGraph, IsWholeTo}
+use Rattle.spec_graph.proofs.SightLemmas.{Facts, clash, sees_shared}
+use Rattle.spec_graph.proofs.EntryLemmas.{token_says, extra_says, lawful_at}
+use Rattle.spec_graph.proofs.LayLemmas.{IsBase, no_middle, begins_taken, can_make, lays_read, lays_none, run_join}
+use Rattle.spec_graph.proofs.GraphLemmas.{WayLaid, share_head, same_place, ways, way_reached}
+use Rattle.spec_graph.proofs.BaseLemmas.{start_facts, start_base, base_of, run_laid, within}
+use Rattle.spec_graph.proofs.OutcomeLemmas.{at_start, own_trees}
+use Rattle.spec_crossing.specs.Laws.{ServingLaws}
+use Rattle.spec_crossing.specs.Leaving.{AreExact, IsOnlyWay, EndsWithToken, StandsAlone, way_config, EndsBefore}
+use Rattle.spec_crossing.proofs.BeforeLemmas.{IsBefore, begun_before, EndsEarly, GoesPast, run_before}
+use Rattle.spec_crossing.proofs.EndLemmas.{way_of, ends_early}
+
+-- ---- no node is a leaf
+
+snoc_some : {X : Type 0} (xs : List X) (x : X) → xs ++ x ∷ [] ≡ [] → ⊥
+snoc_some [] x e = cc
+snoc_some (y ∷ xs) x e = let h : y ∷ (xs ++ x ∷ []) ≡ [] = e in cc
+
+module _ (g : FlatGrammar) (number left : ℕ) (p : Production) (lawful : IsLawful g number left p) (ks : List Tree) (can : CanMake g number left p ks) where
+  no_leaf_by : (f : Form) (value : ℤ) → form_of g left number ≡ f → production_of (made_by f left number value 0 None ks) ≡ None → elements_of (made_by f left number value 0 None ks) ≡ [] → ⊥
+  no_leaf_by of_rule value e none empty =
+      let o = over_says left (Some number) (value +ℤ all_totals ks) [] ks in
+      let h : ◌≡◌ {A = Option ℕ} (Some number) None = sym o.production_is ∙ none in cc
+  no_leaf_by (of_first a) value e none empty =
+      let o = over_says left None (value +ℤ all_totals ks) (element a (length ks) ∷ []) ks in
+      let h : element a (length ks) ∷ [] ≡ [] = sym o.elements_is ∙ empty in cc
+  no_leaf_by (of_next a) value e none empty = by ks refl
+    where
+      by : (us : List Tree) → ks ≡ us → ⊥
+      by [] is = no_children g number left p lawful a e (subst (λ (l : List Tree). CanMake g number left p l) is can)
+      by (u ∷ us) is =
+          let o = over_says left None (value +ℤ (total_of u +ℤ all_totals us)) (elements_of u ++ element a (length us) ∷ []) (children_of u ++ us) in
+          snoc_some (elements_of u) (element a (length us))
+          (sym o.elements_is ∙ subst (λ (l : List Tree). elements_of (made_by (of_next a) left number value 0 None l) ≡ []) is empty)
+
+  no_leaf : RunLaws → IsLeaf (bare (reduced g number 0 None ks)) → ⊥
+  no_leaf laws leaf =
+      let k = laws.keeps (reduced g number 0 None ks) in
+      let none : production_of (reduced g number 0 None ks) ≡ None = sym k.production ∙ leaf.production in
+      let empty : elements_of (reduced g number 0 None ks) ≡ [] = sym k.elements ∙ leaf.elements in
+      no_leaf_by (form_of g left number) (value_of g number) refl
+      (subst (λ (s : ℕ). production_of (made_by (form_of g s number) s number (value_of g number) 0 None ks) ≡ None) (left_is g number left p lawful can.at) none)
+      (subst (λ (s : ℕ). elements_of (made_by (form_of g s number) s number (value_of g number) 0 None ks) ≡ []) (left_is g number left p lawful can.at) empty)
+
+-- ---- a leaf that is no extra was shifted
+
+record IsShifted (P : Parsing) (γ : List ℕ) (q : ℕ) (t : Tree) (p : ℕ) : Type 0 where
+  pub symbol : Symbol
+  pub pad : ℕ
+  pub size : ℕ
+  pub sees : SeesAt P γ q (token symbol pad size)
+  pub acts : Act P.grammar γ symbol.0 shift
+  pub tree_is : t ≡ token_tree symbol pad size
+  pub ends : p ≡ q + (pad + size)
+
+leaf_shifted : (P : Parsing) (facts : Facts P) (base : IsBase P) → P.stack ≡ [] → (γ : List ℕ) (q : ℕ) (w : List Tree) (t : Tree) (p : ℕ) (δ : List ℕ) → Lays P γ q w p δ → w ≡ t ∷ [] → is_extra_node t ≡ false → IsLeaf t → IsShifted P γ q t p
+leaf_shifted P facts base fresh γ q _ t _ _ (flat _ _) is fills leaf = absurd (let h : [] ≡ t ∷ [] = is in cc)
+leaf_shifted P facts base fresh γ q _ t _ _ (stood _ _ w p δ u above below l at place share) is fills leaf = absurd (no_middle above u below (sym fresh ∙ at))
+leaf_shifted P facts base fresh γ q _ t _ _ (shifted _ _ w p δ s pad size l late sees acts) is fills leaf =
+    let same : token_tree s pad size ≡ t = cc in
+    let none : w ≡ [] = cc in
+    let h = lays_none P facts base γ q w p δ l none in
+    record {
+      symbol = s;
+      pad = pad;
+      size = size;
+      sees = subst (λ (m : ℕ). SeesAt P γ m (token s pad size)) h.0 (subst (λ (r : List ℕ). SeesAt P r p (token s pad size)) h.1 sees);
+      acts = subst (λ (r : List ℕ). Act P.grammar r s.0 shift) h.1 acts;
+      tree_is = sym same;
+      ends = let e = h.0 in omega (arith, e);
+    }
+leaf_shifted P facts base fresh γ q _ t _ _ (passed _ _ w p δ s pad size l late passes) is fills leaf =
+    let same : extra_tree s pad size ≡ t = cc in
+    absurd (true≢false (sym (extra_says facts.laws.runs s pad size).kind ∙ ap is_extra_node same ∙ fills))
+leaf_shifted P facts base fresh γ q _ t _ _ (made _ _ w p δ ks end ε xs look number left pr l inner outer all late taken folds count deep) is fills leaf =
+    let same : node_made P number ks ≡ t = cc in
+    absurd (no_leaf P.grammar number left pr (lawful_at P facts number left pr folds.at) ks
+    (can_make P facts base δ p ks end ε look number left pr inner (begins_taken P facts ks w γ q taken) folds count)
+    facts.laws.runs (subst (λ (x : Tree). IsLeaf x) (sym same) leaf))
+
+-- ---- the stack that is left is reached
+
+module _ (P : Parsing) (facts : Facts P) (heads : List Head) (links : List Link) (graph : IsGraph P heads links) (h place : ℕ) (read : List ℕ) (way : List Link)
+    (at : IsAt P heads h read place) (one : IsOnlyWay links h way) (ends : EndsWithToken way) where
+  abbrev started : Facts (from_start P)
+  started = start_facts P facts
+
+  abbrev bottom : IsBase (from_start P)
+  bottom = start_base P facts
+
+  down : IsWay links h (ends.last ∷ ends.rest) 0
+  down = subst (λ (w : List Link). IsWay links h w 0) ends.way_is one.down
+
+  linked : IsLinked P heads ends.last
+  linked = graph.linked ends.last down.0
+
+  leaf : IsShifted (from_start P) linked.under linked.from ends.last.tree linked.to
+  leaf = leaf_shifted (from_start P) started bottom refl linked.under linked.from (ends.last.tree ∷ []) ends.last.tree linked.to linked.over linked.lays refl ends.fills ends.leaf
+
+  tail : WayLaid (from_start P) started bottom refl refl heads 0 [] 0 (way_trees ends.rest) ends.last.below linked.from
+  tail = ways (from_start P) started bottom refl refl heads links 0 [] 0 (at_start P facts heads 0 [] 0 graph.start) ends.rest (way_trees ends.rest) ends.last.below linked.from linked.under
+      (at_start P facts heads ends.last.below linked.under linked.from linked.below) down.2 (own_trees P facts heads links graph ends.rest ends.last.below 0 down.2)
+
+  share : ShareState P.goto linked.under tail.now
+  share = share_head (from_start P) started heads ends.last.below linked.under tail.now linked.from linked.from (at_start P facts heads ends.last.below linked.under linked.from linked.below) tail.at
+
+  sees : SeesAt (from_start P) tail.now linked.from (token leaf.symbol leaf.pad leaf.size)
+  sees = sees_shared (from_start P) started linked.under tail.now share linked.from (token leaf.symbol leaf.pad leaf.size) leaf.sees
+
+  acts : Act P.grammar tail.now leaf.symbol.0 shift
+  acts = facts.states.acts linked.under tail.now leaf.symbol.0 shift share leaf.acts
+
+  goes : GoesOn (from_start P) tail.now linked.from
+  goes = record { symbol = leaf.symbol; pad = leaf.pad; size = leaf.size; sees = sees; moves = (shift, acts) }
+
+  tail_reached : IsReached P.grammar P.text (way_config ends.rest linked.from)
+  tail_reached = way_reached (from_start P) started bottom refl refl heads (way_trees ends.rest) ends.last.below linked.from tail
+      (λ s pad size p. clash (from_start P) started tail.now linked.from s pad size goes p)
+
+  tail_read : tail.now ≡ filling (way_trees ends.rest)
+  tail_read = lays_read (from_start P) started [] 0 (way_trees ends.rest) linked.from tail.now tail.lays ∙ append-nil (filling (way_trees ends.rest))
+
+  stepped : StepsOn P.grammar P.text (way_config ends.rest linked.from) (pushed (way_config ends.rest linked.from) (token_tree leaf.symbol leaf.pad leaf.size))
+  stepped = shift_token leaf.symbol leaf.pad leaf.size
+      (subst (λ (r : List ℕ). SeesAt P r linked.from (token leaf.symbol leaf.pad leaf.size)) tail_read sees)
+      (subst (λ (r : List ℕ). Act P.grammar r leaf.symbol.0 shift) tail_read acts)
+
+  place_is : linked.from + span_of (token_tree leaf.symbol leaf.pad leaf.size) ≡ place
+  place_is =
+      let says = token_says facts.laws.runs leaf.symbol leaf.pad leaf.size in
+      let to : linked.to ≡ place = same_place P facts heads h linked.over read linked.to place (subst (λ (n : ℕ). IsAt P heads n linked.over linked.to) down.1 linked.above) at in
+      omega (arith, says.pad, says.size, leaf.ends, to)
+
+  config_is : pushed (way_config ends.rest linked.from) (token_tree leaf.symbol leaf.pad leaf.size) ≡ way_config way place
+  config_is =
+      ap (λ (m : ℕ). pair (token_tree leaf.symbol leaf.pad leaf.size ∷ way_trees ends.rest) m) place_is
+      ∙ ap (λ (t : Tree). pair (t ∷ way_trees ends.rest) place) (sym leaf.tree_is)
+      ∙ ap (λ (w : List Link). pair (way_trees w) place) (sym ends.way_is)
+    where
+      pair : List Tree → ℕ → Configuration
+      pair stack m = record { stack = stack; place = m }
+
+  pub left_reached : IsReached P.grammar P.text (way_config way place)
+  left_reached = subst (λ (c : Configuration). IsReached P.grammar P.text c) config_is
+      (run_join P facts _ (way_config ends.rest linked.from) (pushed (way_config ends.rest linked.from) (token_tree leaf.symbol leaf.pad leaf.size)) tail_reached
+      (run_on (way_config ends.rest linked.from) (pushed (way_config ends.rest linked.from) (token_tree leaf.symbol leaf.pad leaf.size)) (pushed (way_config ends.rest linked.from) (token_tree leaf.symbol leaf.pad leaf.size)) stepped
+      (run_here (pushed (way_config ends.rest linked.from) (token_tree leaf.symbol leaf.pad leaf.size)))))
+
+-- ---- what runs come to
+
+-- trees of exact links serve for all for which the links stand
+exact_serve : (way : List Link) (ts : List Tree) → AreExact way → AllStandFor way ts → AllServe (way_trees way) ts
+exact_serve [] [] e a = tt
+exact_serve [] (t ∷ ts) e a = absurd a
+exact_serve (l ∷ way) [] e a = absurd a
+exact_serve (l ∷ way) (t ∷ ts) e a = (
+  record {
+    symbol = a.0.tree.symbol;
+    extra = a.0.tree.extra;
+    pad = a.0.tree.pad;
+    size = a.0.tree.size;
+    depth = let d = a.0.depth in let h = e.0 in omega (arith, d, h);
+    no_better = a.0.tree.no_better;
+  },
+  exact_serve way ts e.1 a.1,
+)
+
+module _ (P : Parsing) (facts : Facts P) (serving : ServingLaws) (c : Configuration) (reached : IsReached P.grammar P.text c) (begun : IsBegun P c) (rank : ℕ → ℕ) (most : ℕ) (ranked : AreRanks P.grammar rank most)
+    (heads : List Head) (links : List Link) (graph : IsGraph P heads links) (n : ℕ) (whole : IsWholeTo P rank heads links (record { look = n; begins = n; rank = most })) (early : c.place < n) where
+  base : IsBase P
+  base = base_of P facts c reached begun
+
+  at_reached : (d : Configuration) → Run P.grammar P.text c d → IsReached P.grammar P.text d
+  at_reached d run = run_join P facts _ c d reached run
+
+  runs_on : (d : Configuration) → Run P.grammar P.text c d → EndsEarly P facts base rank most ranked n d ⊎ GoesPast P facts base rank most ranked n c d
+  runs_on d run = run_before P facts base rank most ranked n c d
+      (begun_before P facts base rank most ranked n c reached begun (omega (arith, early)))
+      ((run_laid P facts c reached begun c (run_here c)).1) early run
+
+  -- how runs end at what may stand for a configuration, they end at that
+  served_ends : (at d : Configuration) → EndsEarly P facts base rank most ranked n at → IsReached P.grammar P.text at → IsReached P.grammar P.text d → ComesTooDeep P.grammar P.text at ⊎ ServesConfiguration at d → EndsBefore P heads links n d
+  served_ends at d ends ra rd serves = by serves
+    where
+      here : EndsBefore P heads links n at
+      here = ends_early P facts base rank most ranked n heads links graph whole at ends
+
+      by : ComesTooDeep P.grammar P.text at ⊎ ServesConfiguration at d → EndsBefore P heads links n d
+      by (inl deep) = absurd (here.shallow deep)
+      by (inr s) = record {
+        shallow = λ deep. here.shallow (serving.deep P.grammar facts.fit P.text d at rd ra s deep);
+        accepts = λ u a.
+            let w = serving.accepts P.grammar facts.fit P.text d at u rd ra s a in
+            let v = here.accepts w.0 w.1 in
+            (v.0, v.1, v.2, serving.no_better v.0 w.0 u v.3 w.2);
+        stops = λ stop p. here.stops stop (serving.stops P.grammar P.text d at stop s p);
+      }
+
+  pub ends_all : length P.text < n → P.place ≤ length P.text → (d : Configuration) → IsReached P.grammar P.text d → ComesToServe P.grammar P.text c d → EndsBefore P heads links n d
+  ends_all last inside d rd w = by (runs_on w.at w.run)
+    where
+      by : EndsEarly P facts base rank most ranked n w.at ⊎ GoesPast P facts base rank most ranked n c w.at → EndsBefore P heads links n d
+      by (inl ends) = served_ends w.at d ends (at_reached w.at w.run) rd w.serves
+      by (inr past) = absurd (too_far past)
+        where
+          too_far : GoesPast P facts base rank most ranked n c w.at → ⊥
+          too_far past =
+              let laid = run_laid P facts c reached begun past.at past.to in
+              let le = within P facts base [] 0 past.at.stack past.at.place (filling past.at.stack) (omega arith) inside laid.0 in
+              let far = past.past in
+              omega (arith, le, far, last)
+
+  module _ (h place : ℕ) (read : List ℕ) (way : List Link) (at : IsAt P heads h read place) (alone : StandsAlone heads n h) (one : IsOnlyWay links h way) (ends : EndsWithToken way) where
+    left : IsReached P.grammar P.text (way_config way place)
+    left = left_reached P facts heads links graph h place read way at one ends
+
+    -- each configuration past the place is one for which the stack may stand
+    past_served : (e : Configuration) → IsBefore P facts base rank most ranked n e → n ≤ e.place → ServesConfiguration (way_config way place) e
+    past_served e before past =
+        let w = way_of P facts base rank most ranked n heads links graph whole e before in
+        let place_at : w.at.head.place ≡ e.place = w.at.place_is in
+        let same : w.head ≡ h = alone w.head w.at.head w.at.is (omega (arith, past, place_at)) in
+        let top : IsAt P heads h (filling e.stack) e.place = subst (λ (k : ℕ). IsAt P heads k (filling e.stack) e.place) same w.at in
+        let down : IsWay links h w.way 0 = subst (λ (k : ℕ). IsWay links k w.way 0) same w.is in
+        let stands : AllStandFor way e.stack = subst (λ (v : List Link). AllStandFor v e.stack) (one.only w.way down) w.stands in
+        record {
+          place = same_place P facts heads h read (filling e.stack) place e.place at top;
+          stack = exact_serve way e.stack one.exact stands;
+        }
+
+    pub left_serves : (d : Configuration) → IsReached P.grammar P.text d → ComesToServe P.grammar P.text c d → EndsBefore P heads links n d ⊎ ComesToServe P.grammar P.text (way_config way place) d
+    left_serves d rd w = by (runs_on w.at w.run)
+      where
+        by : EndsEarly P facts base rank most ranked n w.at ⊎ GoesPast P facts base rank most ranked n c w.at → EndsBefore P heads links n d ⊎ ComesToServe P.grammar P.text (way_config way place) d
+        by (inl e) = inl (served_ends w.at d e (at_reached w.at w.run) rd w.serves)
+        by (inr past) = inr (serving.through P.grammar facts.fit P.text past.at (way_config way place) d (at_reached past.at past.to) left
+            (past_served past.at past.before past.past) (record { at = w.at; run = past.on; serves = w.serves }))

@@ -1,0 +1,5 @@
+pub mod BeforeLemmas
+pub mod EndLemmas
+pub mod LeaveLemmas
+pub mod UnusedLemmas
+pub mod ReadLemmas

@@ -1,0 +1,52 @@
+-- Where one stack is left in a graph of stacks, and what is known then of all runs.
+use Rattle.std.specs.Prelude.{◌≡◌, ℕ, ◌<◌, ◌≤◌, false, List, [], ◌∷◌, slice_get, Some}
+use Rattle.spec_trees.specs.declared.tree.Tree.{Tree}
+use Rattle.spec_trees.specs.Trees.{is_extra_node, tree_depth}
+use Rattle.spec_trees.specs.Made.{IsLeaf}
+use Rattle.spec_trees.specs.Choice.{Better}
+use Rattle.spec_runs.specs.Configurations.{Configuration}
+use Rattle.spec_runs.specs.Runs.{ComesTooDeep, AcceptsTree, StopsAt}
+use Rattle.spec_graph.specs.declared.graph.Head.{Head}
+use Rattle.spec_graph.specs.declared.graph.Link.{Link}
+use Rattle.spec_graph.specs.Laying.{Parsing}
+use Rattle.spec_graph.specs.Links.{IsWay, way_trees}
+use Rattle.spec_graph.specs.Outcomes.{GraphAccepts, GraphStopsAt}
+
+-- each link's own tree is as deep as any for which the link stands
+abbrev pub AreExact : List Link → Type 0
+AreExact [] = Unit {0}
+AreExact (l ∷ way) = (l.depth ≡ tree_depth l.tree) × AreExact way
+
+-- one way alone leads down from the head to that of the empty stack, and its trees are as deep as
+-- any for which its links stand
+pub record IsOnlyWay (links : List Link) (h : ℕ) (way : List Link) : Type 0 where
+  pub down : IsWay links h way 0
+  pub only : (other : List Link) → IsWay links h other 0 → other ≡ way
+  pub exact : AreExact way
+
+-- the topmost tree of a way is a token that was shifted
+pub record EndsWithToken (way : List Link) : Type 0 where
+  pub last : Link
+  pub rest : List Link
+  pub way_is : way ≡ last ∷ rest
+  pub leaf : IsLeaf last.tree
+  pub fills : is_extra_node last.tree ≡ false
+
+-- no other head stands at the place or past it
+abbrev pub StandsAlone : List Head → ℕ → ℕ → Type 0
+StandsAlone heads n h =
+    (k : ℕ) (other : Head) → slice_get heads k ≡ Some other → n ≤ other.place → k ≡ h
+
+-- the configuration of the trees of a way, at a place
+abbrev pub way_config : List Link → ℕ → Configuration
+way_config way place = record { stack = way_trees way; place = place }
+
+-- All ends that runs have at a configuration are in the graph, at places before this one: no node
+-- would be too deep, a tree that is no worse is accepted, and a head stops.
+pub record EndsBefore (P : Parsing) (heads : List Head) (links : List Link) (n : ℕ)
+    (d : Configuration) : Type 0 where
+  pub shallow : ComesTooDeep P.grammar P.text d → ⊥
+  pub accepts : (u : Tree) → AcceptsTree P.grammar P.text d u
+      → (t : Tree) × (a : GraphAccepts P heads links t) × (a.place < n) × (Better u t → ⊥)
+  pub stops : (stop : ℕ) → StopsAt P.grammar P.text d stop
+      → (s : GraphStopsAt P heads stop) × (s.place < n)

@@ -1,0 +1,123 @@
+//! Laws of the definitions, each a function without a body: what other crates may use of them.
+
+ghost use Rattle.std.specs.Prelude.{◌≡◌, ℕ, ◌+◌, ◌<◌, ◌≤◌, ◌⊎◌, List, [], ◌∷◌, ◌++◌, length};
+ghost use Rattle.ts_core.specs.declared.flat.FlatGrammar.{FlatGrammar};
+ghost use Rattle.spec_tables.specs.Actions.{Move, Act, accept};
+ghost use Rattle.spec_tables.specs.Fit.{Fit};
+ghost use Rattle.spec_trees.specs.declared.tree.Tree.{Tree};
+ghost use Rattle.spec_trees.specs.Trees.{span_of, all_spans};
+ghost use Rattle.spec_trees.specs.Made.{filling};
+ghost use Rattle.spec_runs.specs.Configurations.{Configuration};
+ghost use Rattle.spec_runs.specs.Moves.{IsUnused};
+ghost use Rattle.spec_runs.specs.Runs.{IsReached};
+ghost use Rattle.spec_packing.specs.Serving.{ComesToServe};
+ghost use Rattle.spec_graph.specs.declared.graph.Head.{Head};
+ghost use Rattle.spec_graph.specs.declared.graph.Link.{Link};
+ghost use Rattle.spec_graph.specs.States.{AreStates, AreRanks};
+ghost use Rattle.spec_graph.specs.Laying.{Parsing, from_start, Lays, IsBegun};
+ghost use Rattle.spec_graph.specs.Links.{IsAt, IsWay, way_trees, IsGraph, IsWholeTo};
+ghost use Rattle.spec_graph.specs.Laws.{GraphLaws};
+ghost use Rattle.spec_crossing.specs.Laws.{ServingLaws};
+ghost use Rattle.spec_crossing.specs.Leaving.{IsOnlyWay, EndsWithToken, StandsAlone, way_config, EndsBefore};
+
+use spec_lexing::{fewer_tokens, one_answer, token_within};
+use spec_packing::{ends_are_served, no_better_through, runs_are_served};
+use spec_reuse::{no_new_tokens, some_move_stays};
+use spec_runs::{
+    bare_trees, empty_rules_are_unused, moves_have_their_place, repetitions_repeat,
+    start_is_no_repetition,
+};
+
+/// The laws of other crates hold.
+fn laws_hold()
+    ensures { GraphLaws }
+{
+    bare_trees();
+    empty_rules_are_unused();
+    moves_have_their_place();
+    repetitions_repeat();
+    start_is_no_repetition();
+    fewer_tokens();
+    one_answer();
+    token_within();
+    no_new_tokens();
+    some_move_stays();
+}
+
+/// Laws of configurations that may stand for others hold.
+fn serving_laws_hold()
+    ensures { ServingLaws }
+{
+    no_better_through();
+    ends_are_served();
+    runs_are_served();
+}
+
+/// Where one head stands alone at a place or past it, and one way leads down from it, a parser may
+/// go on from the stack of that way's trees: it is reached, and all that runs come to ends in the
+/// graph before that place, or is served from that stack. Where the place is past the text, all
+/// ends are in the graph.
+pub fn one_stack_goes_on()
+    ensures reached { (P : Parsing) → Fit P.grammar → AreStates P.grammar P.goto
+        → (heads : List Head) (links : List Link) → IsGraph P heads links
+        → (h place : ℕ) (read : List ℕ) (way : List Link) → IsAt P heads h read place
+        → IsOnlyWay links h way → EndsWithToken way
+        → IsReached P.grammar P.text (way_config way place) }
+    ensures serves { (P : Parsing) → Fit P.grammar → AreStates P.grammar P.goto
+        → (c : Configuration) → IsReached P.grammar P.text c → IsBegun P c
+        → (rank : ℕ → ℕ) (most : ℕ) → AreRanks P.grammar rank most
+        → (heads : List Head) (links : List Link) → IsGraph P heads links
+        → (n : ℕ) → IsWholeTo P rank heads links (record { look = n; begins = n; rank = most })
+        → c.place < n
+        → (h place : ℕ) (read : List ℕ) (way : List Link) → IsAt P heads h read place
+        → StandsAlone heads n h → IsOnlyWay links h way → EndsWithToken way
+        → (d : Configuration) → IsReached P.grammar P.text d
+        → ComesToServe P.grammar P.text c d
+        → EndsBefore P heads links n d
+        ⊎ ComesToServe P.grammar P.text (way_config way place) d }
+    ensures ends { (P : Parsing) → Fit P.grammar → AreStates P.grammar P.goto
+        → (c : Configuration) → IsReached P.grammar P.text c → IsBegun P c
+        → (rank : ℕ → ℕ) (most : ℕ) → AreRanks P.grammar rank most
+        → (heads : List Head) (links : List Link) → IsGraph P heads links
+        → (n : ℕ) → IsWholeTo P rank heads links (record { look = n; begins = n; rank = most })
+        → c.place < n → length P.text < n → P.place ≤ length P.text
+        → (d : Configuration) → IsReached P.grammar P.text d
+        → ComesToServe P.grammar P.text c d → EndsBefore P heads links n d }
+{
+    laws_hold();
+    serving_laws_hold();
+}
+
+/// What stands on a stack from which runs go on can be laid there, entry by entry.
+pub fn stacks_are_laid()
+    ensures { (P : Parsing) → Fit P.grammar → AreStates P.grammar P.goto → (c : Configuration)
+        → IsReached P.grammar P.text c → IsBegun P c
+        → (above below : List Tree) (t : Tree) → P.stack ≡ above ++ t ∷ below
+        → Lays (from_start P) (filling below) (all_spans below) (t ∷ [])
+        (all_spans below + span_of t) (filling (t ∷ []) ++ filling below) }
+{
+    laws_hold();
+}
+
+/// Behind a symbol that no production names nothing stays but acceptance.
+pub fn unused_symbols_end()
+    ensures { (g : FlatGrammar) (symbol : ℕ) → IsUnused g symbol
+        → (above below : List ℕ) (token : ℕ) (move : Move)
+        → Act g (above ++ symbol ∷ below) token move → move ≡ accept }
+{
+    laws_hold();
+}
+
+/// Where a way leads down to the head of the empty stack, its trees are what was read.
+pub fn ways_are_read()
+    ensures symbols { (P : Parsing) → Fit P.grammar → AreStates P.grammar P.goto
+        → (heads : List Head) (links : List Link) → IsGraph P heads links
+        → (h place : ℕ) (read : List ℕ) (way : List Link) → IsAt P heads h read place
+        → IsWay links h way 0 → IsAt P heads h (filling (way_trees way)) place }
+    ensures spans { (P : Parsing) → Fit P.grammar → AreStates P.grammar P.goto
+        → (heads : List Head) (links : List Link) → IsGraph P heads links
+        → (h place : ℕ) (read : List ℕ) (way : List Link) → IsAt P heads h read place
+        → IsWay links h way 0 → all_spans (way_trees way) ≡ place }
+{
+    laws_hold();
+}

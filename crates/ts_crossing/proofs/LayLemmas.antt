@@ -1,0 +1,273 @@
+-- The topmost tree of a stack is laid above those below it.
+use Rattle.std.proofs.Common.{◌≡◌, ◌∙◌, sym, ap, refl, subst, ℕ, suc, ◌+◌, ◌<◌, ◌≤◌, ◌⊎◌, inl, inr, ⊎_elim, Bool, true, false, List, [], ◌∷◌, ◌++◌, length, map, reverse, slice_get, Some, arith}
+use Rattle.std.specs.List.{Contains}
+use Rattle.std.proofs.lemmas.List.{reverse-append}
+use Rattle.ts_base.specs.Bytes.{Bytes}
+use Rattle.ts_core.specs.declared.flat.FlatGrammar.{FlatGrammar}
+use Rattle.spec_trees.specs.declared.tree.Tree.{Tree}
+use Rattle.spec_trees.specs.declared.tree.Tree.TheFolds.{fold_out-Tree}
+use Rattle.spec_trees.specs.Trees.{symbol_of, is_extra_node, node_extent, span_of, all_spans, elements_of, children_of, node_count, nodes_step, all_nodes, tree_depth, bare}
+use Rattle.spec_trees.specs.Made.{EndBy, filling}
+use Rattle.spec_graph.specs.declared.graph.Head.{Head}
+use Rattle.spec_graph.specs.declared.graph.Link.{Link}
+use Rattle.spec_graph.specs.States.{LeadsTo, at_first, by_goto, ShareState}
+use Rattle.spec_graph.specs.Laying.{Parsing, Lays}
+use Rattle.spec_graph.specs.Links.{IsAt, HasLink}
+use Rattle.ts_table.specs.declared.view.ParseTable.{ParseTable}
+use Rattle.ts_table.specs.Tables.{goto_of}
+use Rattle.ts_gss.specs.declared.layer.Layer.{Layer}
+use Rattle.ts_gss.specs.Stacks.{stack_at, trees_on, state_on, tree_on, under_top}
+use Rattle.ts_graph.specs.declared.view.GraphView.{GraphView}
+use Rattle.ts_graph.specs.Down.{HoldsEachOnce, place_at}
+use Rattle.ts_laying.specs.Sound.{bare_links}
+use Rattle.ts_laying.specs.Laying.{head_at, CanLayOn, IsLaid}
+use Rattle.ts_reductions.specs.Good.{IsGoodTree}
+use Rattle.ts_reductions.specs.Sound.{parsing_of}
+use Rattle.ts_steps.specs.Good.{IsGoodTree as IsGoodOnStack}
+use Rattle.ts_steps.specs.LiveHeads.{HaveStates}
+use Rattle.ts_crossing.specs.Laws.{EnterLaws}
+use Rattle.ts_crossing.specs.Parsing.{parsing_from}
+use Rattle.ts_crossing.specs.Entering.{Stands, LaidTo, CanLayTop}
+use Rattle.ts_crossing.proofs.BareLemmas.{filling_append, filling_tree, filling_bare, span_bare, spans_bare, spans_append}
+use Rattle.ts_crossing.proofs.TableLemmas.{state_leads, lead_once, lead_from}
+use Rattle.ts_crossing.proofs.MemberLemmas.{only_one, place_is_at}
+use Rattle.ts_crossing.proofs.PartLemmas.{end_by_split, spans_turned}
+
+-- a good tree of a stack is one of a graph
+graph_tree : (g : FlatGrammar) (u : Tree) → IsGoodOnStack g u → 0 < span_of u → IsGoodTree g u
+graph_tree g u good some =
+    let count : node_count u ≡ 1 + (length (elements_of u) + all_nodes (children_of u)) = fold_out-Tree ℕ nodes_step u in
+    let parts = good.light.parts in
+    let nodes = good.light.nodes in
+    record {
+      node = good.node;
+      settled = good.settled;
+      form = good.form;
+      some = some;
+      few = omega (arith, count, parts, nodes, some);
+      flat = good.flat_extra;
+    }
+
+last_reach : (end : ℕ) (u : Tree) (ts : List Tree) → EndBy end 0 (reverse (u ∷ ts)) → all_spans ts + node_extent u ≤ end
+last_reach end u ts e =
+    let r = end_by_split end 0 (reverse ts) (u ∷ []) (subst (λ (l : List Tree). EndBy end 0 l) (reverse-append (u ∷ []) ts) e) in
+    let h = r.1.0 in
+    let s = spans_turned ts in
+    omega (arith, h, s)
+
+filling_one : (u : Tree) (ts : List Tree) → filling (u ∷ []) ++ filling ts ≡ filling (u ∷ ts)
+filling_one u ts = sym (filling_append (u ∷ []) ts)
+
+-- over one more tree lists of symbols of one state lead to one state
+lead_tree : (t : ParseTable) (u : Tree) (read other : List ℕ) (n : ℕ) → ShareState (goto_of t) read other → LeadsTo (goto_of t) (filling (u ∷ []) ++ read) n → LeadsTo (goto_of t) (filling (u ∷ []) ++ other) n
+lead_tree t u read other n share leads = by (is_extra_node u) refl
+  where
+    by : (b : Bool) → is_extra_node u ≡ b → LeadsTo (goto_of t) (filling (u ∷ []) ++ other) n
+    by true e =
+        let none : filling (u ∷ []) ≡ [] = rw e refl in
+        let here : LeadsTo (goto_of t) read n = subst (λ (r : List ℕ). LeadsTo (goto_of t) (r ++ read) n) none leads in
+        let there : LeadsTo (goto_of t) other n = subst (λ (m : ℕ). LeadsTo (goto_of t) other m) (lead_once (goto_of t) read share.0 n share.1 here) share.2 in
+        subst (λ (r : List ℕ). LeadsTo (goto_of t) (r ++ other) n) (sym none) there
+    by false e =
+        let one : filling (u ∷ []) ≡ symbol_of u ∷ [] = filling_tree u [] e in
+        let here : LeadsTo (goto_of t) (symbol_of u ∷ read) n = subst (λ (r : List ℕ). LeadsTo (goto_of t) (r ++ read) n) one leads in
+        subst (λ (r : List ℕ). LeadsTo (goto_of t) (r ++ other) n) (sym one)
+        (by_goto other share.0 (symbol_of u) n share.2 (lead_from (goto_of t) read (symbol_of u) n share.0 share.1 here))
+
+module _ (laws : EnterLaws) (t : ParseTable) (text : Bytes) (l : Layer) (lower : List Layer) (stands : Stands t text (l ∷ lower)) (g : GraphView) (top : ℕ) (laid : LaidTo t text lower g top) where
+  abbrev P : Parsing
+  P = parsing_of t text
+
+  abbrev under : List Tree
+  under = map bare (trees_on lower)
+
+  abbrev from : ℕ
+  from = all_spans (trees_on lower)
+
+  abbrev u : Tree
+  u = bare l.tree
+
+  from_is : all_spans under ≡ from
+  from_is = spans_bare laws.keeps (trees_on lower)
+
+  leads_up : LeadsTo (goto_of t) (filling (u ∷ []) ++ filling under) l.state
+  leads_up = subst (λ (r : List ℕ). LeadsTo (goto_of t) r l.state)
+      (sym (filling_bare laws.keeps (trees_on (l ∷ lower))) ∙ sym (filling_one u under))
+      (state_leads t (filling (trees_on (l ∷ lower))) l.state stands.states.0)
+
+  leads_low : LeadsTo (goto_of t) (filling under) (state_on lower)
+  leads_low = by lower stands.states.1
+    where
+      by : (ls : List Layer) → HaveStates t ls → LeadsTo (goto_of t) (filling (map bare (trees_on ls))) (state_on ls)
+      by [] s = at_first
+      by (m ∷ ls) s = subst (λ (r : List ℕ). LeadsTo (goto_of t) r m.state) (sym (filling_bare laws.keeps (trees_on (m ∷ ls)))) (state_leads t (filling (trees_on (m ∷ ls))) m.state s.0)
+
+  lays_up : Lays P (filling under) from (u ∷ []) (from + span_of l.tree) (filling (u ∷ []) ++ filling under)
+  lays_up =
+      let one = stands.laid [] under u refl in
+      subst (λ (n : ℕ). Lays P (filling under) from (u ∷ []) (from + n) (filling (u ∷ []) ++ filling under)) (span_bare laws.keeps l.tree)
+      (subst (λ (m : ℕ). Lays P (filling under) m (u ∷ []) (m + span_of u) (filling (u ∷ []) ++ filling under)) from_is one)
+
+  good : IsGoodTree t.grammar l.tree
+  good = graph_tree t.grammar l.tree stands.good.0 stands.bytes.0
+
+  at_top : IsAt P g.heads top (filling under) from
+  at_top = record { head = head_at (state_on lower) from; is = laid.at; state = leads_low; place_is = refl }
+
+  pub layer_can : CanLayOn P g top l.tree (tree_depth l.tree) l.state
+  layer_can = record {
+    sound = laid.sound;
+    read = filling under;
+    from = from;
+    at = at_top;
+    fits = record {
+      now = filling (u ∷ []) ++ filling under;
+      leads = leads_up;
+      lays = lays_up;
+      shallow = omega arith;
+      deepest = (u, lays_up, (laws.keeps l.tree).depth);
+      form = good.form;
+      some = good.some;
+      reach = last_reach (suc (length text)) l.tree (trees_on lower) stands.reach;
+      within = let w = stands.within in omega (arith, w);
+      not_deep = good.node.sized.shallow;
+    };
+  }
+
+  module _ (new : GraphView) (above : ℕ) (is : IsLaid P g new top (place_at g.heads top) l.tree (tree_depth l.tree) l.state above) (once : HoldsEachOnce new.heads new.links) where
+    abbrev end : ℕ
+    end = all_spans (trees_on (l ∷ lower))
+
+    abbrev Q : Parsing
+    Q = parsing_from t text (map bare (trees_on (l ∷ lower))) end
+
+    place_is : place_at g.heads top + span_of l.tree ≡ end
+    place_is = let p = place_is_at g.heads top (head_at (state_on lower) from) laid.at in omega (arith, p)
+
+    at_above : slice_get new.heads above ≡ Some (head_at l.state end)
+    at_above = subst (λ (n : ℕ). slice_get new.heads above ≡ Some (head_at l.state n)) place_is is.at
+
+    -- the head of the state and the place below is the one on which the tree was laid
+    is_top : (b : ℕ) (read : List ℕ) (place : ℕ) → (a : IsAt Q new.heads b read place) → place ≡ from → ShareState (goto_of t) (filling under) read → b ≡ top
+    is_top b read place a place_at_from share =
+        let first : share.0 ≡ state_on lower = lead_once (goto_of t) (filling under) share.0 (state_on lower) share.1 leads_low in
+        let second : share.0 ≡ a.head.state = lead_once (goto_of t) read share.0 a.head.state share.2 a.state in
+        let same : a.head ≡ head_at (state_on lower) from = heads_same a.head (state_on lower) from (sym second ∙ first) (a.place_is ∙ place_at_from) in
+        once.once b top (head_at (state_on lower) from) (a.is ∙ ap (λ (x : Head). Some x) same) (is.grows.stay top (head_at (state_on lower) from) laid.at)
+      where
+        heads_same : (x : Head) (state place : ℕ) → x.state ≡ state → x.place ≡ place → x ≡ head_at state place
+        heads_same x state place e f = ap (λ (n : ℕ). head_at n x.place) e ∙ ap (λ (n : ℕ). head_at state n) f
+
+    stood_here : (b : ℕ) (read : List ℕ) (place : ℕ) → IsAt Q new.heads b read place → place ≡ from → ShareState (goto_of t) (filling under) read → HasLink Q new.heads (bare_links new.links) b u (place + span_of u) (filling (u ∷ []) ++ read)
+    stood_here b read place a at_from share =
+        let same = is_top b read place a at_from share in
+        let has = is.has in
+        record {
+          link = has.link;
+          there = has.there;
+          below = has.below_is ∙ sym same;
+          above = subst (λ (n : ℕ). IsAt Q new.heads n (filling (u ∷ []) ++ read) (place + span_of u)) (sym has.above_is)
+              (record {
+                head = head_at l.state end;
+                is = at_above;
+                state = lead_tree t u (filling under) read l.state share leads_up;
+                place_is = let s = span_bare laws.keeps l.tree in omega (arith, at_from, s);
+              });
+          stands = record { tree = has.replaces; depth = let d = (laws.keeps l.tree).depth in let n = has.no_less in omega (arith, d, n) };
+        }
+
+    -- links that were there stand for what they stood for
+    stood_still : (b : ℕ) (v : Tree) (place : ℕ) (now : List ℕ) → HasLink (parsing_from t text under from) g.heads (bare_links g.links) b v place now → HasLink Q new.heads (bare_links new.links) b v place now
+    stood_still b v place now has =
+        let n = is.grows.links has.link has.there in
+        record {
+          link = n.0;
+          there = n.1;
+          below = n.3 ∙ has.below;
+          above = subst (λ (k : ℕ). IsAt Q new.heads k now place) (sym n.2)
+              (record { head = has.above.head; is = is.grows.stay has.link.above has.above.head has.above.is; state = has.above.state; place_is = has.above.place_is });
+          stands = record {
+            tree = laws.through n.0.tree has.link.tree v n.4 has.stands.tree;
+            depth = let d = has.stands.depth in let m = n.5 in omega (arith, d, m);
+          };
+        }
+
+    stood_low : (b : ℕ) (read : List ℕ) (place : ℕ) (v : Tree) (over below : List Tree) → IsAt Q new.heads b read place → under ≡ over ++ v ∷ below → place ≡ all_spans below → ShareState (goto_of t) (filling below) read → HasLink Q new.heads (bare_links new.links) b v (place + span_of v) (filling (v ∷ []) ++ read)
+    stood_low b read place v over below a split place_below share = by (is.only b a.head a.is)
+      where
+        by : (slice_get g.heads b ≡ Some a.head) ⊎ (b ≡ above) → HasLink Q new.heads (bare_links new.links) b v (place + span_of v) (filling (v ∷ []) ++ read)
+        by (inl old) = stood_still b v (place + span_of v) (filling (v ∷ []) ++ read)
+            (laid.stood.each b read place v over below (record { head = a.head; is = old; state = a.state; place_is = a.place_is }) split place_below share)
+        by (inr same) =
+            absurd (let both : Some a.head ≡ Some (head_at l.state end) = sym a.is ∙ ap (λ (n : ℕ). slice_get new.heads n) same ∙ at_above in
+            let one : a.head ≡ head_at l.state end = cc in
+            let far : place ≡ end = sym a.place_is ∙ ap (λ (x : Head). x.place) one in
+            let parts : all_spans under ≡ all_spans (over ++ v ∷ below) = ap all_spans split in
+            let s = spans_append over (v ∷ below) in
+            let f = from_is in
+            let b = good.some in
+            omega (arith, far, parts, s, f, b, place_below))
+
+    stood_each : (b : ℕ) (read : List ℕ) (place : ℕ) (v : Tree) (over below : List Tree) → IsAt Q new.heads b read place → Q.stack ≡ over ++ v ∷ below → place ≡ all_spans below → ShareState (goto_of t) (filling below) read → HasLink Q new.heads (bare_links new.links) b v (place + span_of v) (filling (v ∷ []) ++ read)
+    stood_each b read place v [] below a split place_below share =
+        let e : u ∷ under ≡ v ∷ below = split in
+        let first : u ≡ v = cc in
+        let rest : under ≡ below = cc in
+        let at_from : place ≡ from = place_below ∙ ap all_spans (sym rest) ∙ from_is in
+        subst (λ (x : Tree). HasLink Q new.heads (bare_links new.links) b x (place + span_of x) (filling (x ∷ []) ++ read)) first
+        (stood_here b read place a at_from (subst (λ (ts : List Tree). ShareState (goto_of t) (filling ts) read) (sym rest) share))
+    stood_each b read place v (x ∷ over) below a split place_below share =
+        let e : u ∷ under ≡ x ∷ (over ++ v ∷ below) = split in
+        stood_low b read place v over below a (let h : under ≡ over ++ v ∷ below = cc in h) place_below share
+
+    new_good : (k : Link) → Contains new.links k → IsGoodTree t.grammar k.tree
+    new_good k there = ⊎_elim
+        (λ one. subst (λ (x : Tree). IsGoodTree t.grammar x) (only_one l.tree k.tree one) good)
+        (λ old. subst (λ (x : Tree). IsGoodTree t.grammar x) (sym old.2) (laid.good old.0 old.1)) (is.trees k there)
+
+    low_by : (k : ℕ) (head : Head) → slice_get new.heads k ≡ Some head → (slice_get g.heads k ≡ Some head) ⊎ (k ≡ above) → head.place ≤ end
+    low_by k head at (inl old) = let h = laid.low k head old in omega (arith, h)
+    low_by k head at (inr same) =
+        let both : Some head ≡ Some (head_at l.state end) = sym at ∙ ap (λ (n : ℕ). slice_get new.heads n) same ∙ at_above in
+        let one : head ≡ head_at l.state end = cc in
+        let e : head.place ≡ end = ap (λ (x : Head). x.place) one in
+        omega (arith, e)
+
+    pub layer_laid : LaidTo t text (l ∷ lower) new above
+    layer_laid = record {
+      sound = is.sound;
+      good = new_good;
+      at = at_above;
+      stood = record { each = stood_each };
+      low = λ k head at. low_by k head at (is.only k head at);
+    }
+
+-- ---- the same as the code has it
+
+module _ (laws : EnterLaws) (t : ParseTable) (text : Bytes) (stacks : List (List Layer)) (number : ℕ) (g : GraphView) (top : ℕ) (can : CanLayTop t text stacks number g top)
+    (node : Tree) (depth state : ℕ) (node_is : Some node ≡ tree_on (stack_at stacks number)) (depth_is : depth ≡ tree_depth node) (state_is : state ≡ state_on (stack_at stacks number)) where
+  can_by : (layers : List Layer) → 0 < length layers → Stands t text layers → LaidTo t text (under_top layers) g top → Some node ≡ tree_on layers → state ≡ state_on layers → CanLayOn (parsing_of t text) g top node depth state
+  can_by [] lt s laid n st = absurd (omega (arith, lt))
+  can_by (l ∷ lower) lt s laid n st =
+      let same : node ≡ l.tree = cc in
+      let deep : depth ≡ tree_depth l.tree = depth_is ∙ ap tree_depth same in
+      subst (λ (x : Tree). CanLayOn (parsing_of t text) g top x depth state) (sym same)
+      (subst (λ (d : ℕ). CanLayOn (parsing_of t text) g top l.tree d state) (sym deep)
+      (subst (λ (q : ℕ). CanLayOn (parsing_of t text) g top l.tree (tree_depth l.tree) q) (sym st) (layer_can laws t text l lower s g top laid)))
+
+  pub top_can : CanLayOn (parsing_of t text) g top node depth state
+  top_can = can_by (stack_at stacks number) can.some can.stands can.laid node_is state_is
+
+  module _ (new : GraphView) (above : ℕ) (is : IsLaid (parsing_of t text) g new top (place_at g.heads top) node depth state above) (once : HoldsEachOnce new.heads new.links) where
+    laid_by : (layers : List Layer) → 0 < length layers → Stands t text layers → LaidTo t text (under_top layers) g top → Some node ≡ tree_on layers → state ≡ state_on layers → LaidTo t text layers new above
+    laid_by [] lt s laid n st = absurd (omega (arith, lt))
+    laid_by (l ∷ lower) lt s laid n st =
+        let same : node ≡ l.tree = cc in
+        let deep : depth ≡ tree_depth l.tree = depth_is ∙ ap tree_depth same in
+        layer_laid laws t text l lower s g top laid new above
+        (subst (λ (q : ℕ). IsLaid (parsing_of t text) g new top (place_at g.heads top) l.tree (tree_depth l.tree) q above) st
+        (subst (λ (d : ℕ). IsLaid (parsing_of t text) g new top (place_at g.heads top) l.tree d state above) deep
+        (subst (λ (x : Tree). IsLaid (parsing_of t text) g new top (place_at g.heads top) x depth state above) same is))) once
+
+    pub top_laid : LaidTo t text (stack_at stacks number) new above
+    top_laid = laid_by (stack_at stacks number) can.some can.stands can.laid node_is state_is

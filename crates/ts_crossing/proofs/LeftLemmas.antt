@@ -1,0 +1,238 @@
+-- A stack of the trees of a way.
+use Rattle.std.proofs.Common.{◌≡◌, ◌∙◌, sym, ap, refl, subst, ℕ, zero, suc, ◌<◌, List, [], ◌∷◌, ◌++◌, length, length-append, map, reverse, drop, slice_get, Option, Some, arith}
+use Rattle.std.specs.List.{Contains}
+use Rattle.std.specs.Option.{option_map_or}
+use Rattle.std.proofs.lemmas.List.{reverse-append, drop_all}
+use Rattle.ts_base.specs.Bytes.{Bytes}
+use Rattle.spec_trees.specs.declared.tree.Tree.{Tree}
+use Rattle.spec_trees.specs.Trees.{all_spans, bare}
+use Rattle.spec_trees.specs.Inside.{itself}
+use Rattle.spec_trees.specs.Made.{EndBy, filling}
+use Rattle.spec_runs.specs.Configurations.{Configuration}
+use Rattle.spec_graph.specs.declared.graph.Head.{Head}
+use Rattle.spec_graph.specs.declared.graph.Link.{Link}
+use Rattle.spec_graph.specs.States.{LeadsTo}
+use Rattle.spec_graph.specs.Laying.{Parsing}
+use Rattle.spec_graph.specs.Links.{IsAt, IsWay, way_trees, IsLinked, IsGraph}
+use Rattle.spec_crossing.specs.Leaving.{way_config}
+use Rattle.ts_table.specs.declared.view.ParseTable.{ParseTable}
+use Rattle.ts_table.specs.Tables.{goto_of, IsStateOf}
+use Rattle.ts_gss.specs.declared.layer.Layer.{Layer}
+use Rattle.ts_gss.specs.Stacks.{layer_with, stack_at, trees_on}
+use Rattle.ts_graph.specs.declared.view.GraphView.{GraphView}
+use Rattle.ts_graph.specs.Down.{HoldsEachOnce, place_at}
+use Rattle.ts_graph.specs.Ways.{AreAt}
+use Rattle.ts_laying.specs.Sound.{bare_link, bare_links}
+use Rattle.ts_reductions.specs.Sound.{parsing_of, IsSoundBy}
+use Rattle.ts_steps.specs.declared.head.StackHead.{StackHead}
+use Rattle.ts_steps.specs.Good.{EachTree, AreGoodTrees}
+use Rattle.ts_steps.specs.LiveHeads.{config_of, HaveStates, IsGoodStack}
+use Rattle.ts_steps.specs.Heads.{IsOwnWithin, IsOwnHead}
+use Rattle.ts_crossing.specs.Laws.{LeaveLaws}
+use Rattle.ts_crossing.specs.Parsing.{parsing_from}
+use Rattle.ts_crossing.specs.Leaving.{IsStack, state_at, layers_of, IsLeft}
+use Rattle.ts_crossing.proofs.BareLemmas.{filling_bare, spans_bare}
+use Rattle.ts_crossing.proofs.MemberLemmas.{contained_at, read_at, bare_member, place_is_at}
+use Rattle.ts_crossing.proofs.PartLemmas.{stack_new, end_by_both, spans_turned}
+use Rattle.ts_crossing.proofs.TableLemmas.{leads_state}
+
+-- ---- one tree after another
+
+pub top_pushed : (heads : List Head) (old new : List (List Layer)) (top below state : ℕ) (node : Tree) (l : Link) → top ≡ length old → new ≡ old ++ (layer_with node state ∷ stack_at old below) ∷ [] → node ≡ l.tree → state ≡ state_at heads l.above
+    → stack_at new top ≡ layer_with l.tree (state_at heads l.above) ∷ stack_at old below
+top_pushed heads old new top below state node l top_is new_is node_is state_is =
+    ap (λ (ss : List (List Layer)). stack_at ss top) new_is
+    ∙ ap (λ (n : ℕ). stack_at (old ++ (layer_with node state ∷ stack_at old below) ∷ []) n) top_is
+    ∙ stack_new old (layer_with node state ∷ stack_at old below)
+    ∙ ap (λ (t : Tree). layer_with t state ∷ stack_at old below) node_is
+    ∙ ap (λ (s : ℕ). layer_with l.tree s ∷ stack_at old below) state_is
+
+pub top_there : (old new : List (List Layer)) (top : ℕ) (x : List Layer) → top ≡ length old → new ≡ old ++ x ∷ [] → top < length new
+top_there old new top x top_is new_is = let e = ap (λ (ss : List (List Layer)). length ss) new_is in let n = length-append old (x ∷ []) in omega (arith, top_is, e, n)
+
+pub state_of_head : (heads : List Head) (h : ℕ) (head : Head) → slice_get heads h ≡ Some head → head.state ≡ state_at heads h
+state_of_head heads h head e = sym (ap (λ (o : Option Head). option_map_or (λ (x : Head). x.state) o 0) e)
+
+pub way_length : (links : List Link) (numbers : List ℕ) (way : List Link) → AreAt links numbers way → length way ≡ length numbers
+way_length links [] [] a = refl
+way_length links [] (l ∷ way) a = absurd a
+way_length links (k ∷ numbers) [] a = absurd a
+way_length links (k ∷ numbers) (l ∷ way) a = ap suc (way_length links numbers way a.1)
+
+pub way_at : (links : List Link) (numbers : List ℕ) (way : List Link) (i k : ℕ) → AreAt links numbers way → slice_get numbers i ≡ Some k → (l : Link) × (slice_get links k ≡ Some l) × (drop i way ≡ l ∷ drop (suc i) way)
+way_at links [] way i k a e = absurd (let h : slice_get [] i ≡ Some k = e in none i h)
+  where
+    none : (i : ℕ) → slice_get [] i ≡ Some k → ⊥
+    none zero h = cc
+    none (suc i) h = cc
+way_at links (n ∷ numbers) [] i k a e = absurd a
+way_at links (n ∷ numbers) (l ∷ way) zero k a e = let h : Some n ≡ Some k = e in let same : n ≡ k = cc in (l, ap (λ (j : ℕ). slice_get links j) (sym same) ∙ a.0, refl)
+way_at links (n ∷ numbers) (l ∷ way) (suc i) k a e = way_at links numbers way i k a.1 e
+
+pub above_low : (heads : List Head) (links : List Link) (k : ℕ) → k < length links → HoldsEachOnce heads links → (above : ℕ) → ((l : Link) → slice_get links k ≡ Some l → above ≡ l.above) → above < length heads
+above_low heads links k low once above is = let r = read_at links k low in let e = is r.0 r.1 in let w = once.above_there k r.0 r.1 in omega (arith, e, w)
+
+pub place_of_head : (heads : List Head) (h : ℕ) (head : Head) → slice_get heads h ≡ Some head → head.place ≡ place_at heads h
+place_of_head heads h head e = sym (place_is_at heads h head e)
+
+pub first_there : (stacks : List (List Layer)) → stacks ≡ [] ∷ [] → 0 < length stacks
+first_there stacks is = let e = ap (λ (ss : List (List Layer)). length ss) is in omega (arith, e)
+
+pub layers_first : (links : List Link) (heads : List Head) (numbers : List ℕ) (way : List Link) → AreAt links numbers way → (stacks : List (List Layer)) → stacks ≡ [] ∷ [] → stack_at stacks 0 ≡ layers_of heads (drop (length numbers) way)
+layers_first links heads numbers way at stacks is =
+    let n = way_length links numbers way at in
+    ap (λ (ss : List (List Layer)). stack_at ss 0) is ∙ ap (λ (w : List Link). layers_of heads w) (sym (drop_all (length numbers) way (omega (arith, n))))
+
+pub layers_next : (heads : List Head) (way : List Link) (i left : ℕ) (l : Link) (old new : List Layer) → drop i way ≡ l ∷ drop (suc i) way → left ≡ suc i → old ≡ layers_of heads (drop left way) → new ≡ layer_with l.tree (state_at heads l.above) ∷ old → new ≡ layers_of heads (drop i way)
+layers_next heads way i left l old new cut is below top =
+    top
+    ∙ ap (λ (ls : List Layer). layer_with l.tree (state_at heads l.above) ∷ ls) (below ∙ ap (λ (n : ℕ). layers_of heads (drop n way)) is)
+    ∙ ap (λ (w : List Link). layers_of heads w) (sym cut)
+
+pub layers_last : (heads : List Head) (way : List Link) (left : ℕ) (stack : List Layer) → left ≡ 0 → stack ≡ layers_of heads (drop left way) → stack ≡ layers_of heads way
+layers_last heads way left stack z e = e ∙ ap (λ (n : ℕ). layers_of heads (drop n way)) z
+
+-- ---- graphs, from whatever stack runs go on
+
+pub at_from : (t : ParseTable) (text : Bytes) (base : List Tree) (from : ℕ) (heads : List Head) (h : ℕ) (read : List ℕ) (place : ℕ) → IsAt (parsing_of t text) heads h read place → IsAt (parsing_from t text base from) heads h read place
+at_from t text base from heads h read place a = record { head = a.head; is = a.is; state = a.state; place_is = a.place_is }
+
+pub graph_from : (t : ParseTable) (text : Bytes) (base : List Tree) (from : ℕ) (heads : List Head) (links : List Link) → IsGraph (parsing_of t text) heads links → IsGraph (parsing_from t text base from) heads links
+graph_from t text base from heads links g = record {
+  start = at_from t text base from heads 0 [] 0 g.start;
+  linked = λ l there.
+      let k = g.linked l there in
+      record {
+        under = k.under;
+        over = k.over;
+        from = k.from;
+        to = k.to;
+        below = at_from t text base from heads l.below k.under k.from k.below;
+        above = at_from t text base from heads l.above k.over k.to k.above;
+        lays = k.lays;
+        shallow = k.shallow;
+        deepest = k.deepest;
+      };
+  down = g.down;
+}
+
+-- ---- the trees of the stack
+
+layer_trees : (heads : List Head) (way : List Link) → map bare (trees_on (layers_of heads way)) ≡ way_trees (map bare_link way)
+layer_trees heads [] = refl
+layer_trees heads (l ∷ way) = ap (λ (ts : List Tree). bare l.tree ∷ ts) (layer_trees heads way)
+
+module _ (laws : LeaveLaws) (t : ParseTable) (text : Bytes) (g : GraphView) (sound : IsSoundBy t text g) where
+  abbrev P : Parsing
+  P = parsing_of t text
+
+  abbrev bares : List Link
+  bares = bare_links g.links
+
+  abbrev trees : List Link → List Tree
+  trees way = trees_on (layers_of g.heads way)
+
+  linked : (k : ℕ) (l : Link) → slice_get g.links k ≡ Some l → IsLinked P g.heads (bare_link l)
+  linked k l at = sound.laid.graph.linked (bare_link l) (bare_member g.links l (contained_at g.links k l at))
+
+  read_is : (h place : ℕ) (read : List ℕ) (way : List Link) → IsAt P g.heads h read place → IsWay bares h (map bare_link way) 0 → IsAt P g.heads h (filling (trees way)) place
+  read_is h place read way at down =
+      subst (λ (r : List ℕ). IsAt P g.heads h r place)
+      (ap filling (sym (layer_trees g.heads way)) ∙ filling_bare laws.keeps (trees way))
+      (laws.symbols P sound.laid.parsed.fit sound.laid.parsed.states g.heads bares sound.laid.graph h place read (map bare_link way) at down)
+
+  spans_are : (h place : ℕ) (read : List ℕ) (way : List Link) → IsAt P g.heads h read place → IsWay bares h (map bare_link way) 0 → all_spans (trees way) ≡ place
+  spans_are h place read way at down =
+      sym (spans_bare laws.keeps (trees way)) ∙ ap all_spans (layer_trees g.heads way)
+      ∙ laws.spans P sound.laid.parsed.fit sound.laid.parsed.states g.heads bares sound.laid.graph h place read (map bare_link way) at down
+
+  states_of : (numbers : List ℕ) (way : List Link) (h : ℕ) → AreAt g.links numbers way → IsWay bares h (map bare_link way) 0 → HaveStates t (layers_of g.heads way)
+  states_of numbers [] h a w = tt
+  states_of [] (l ∷ way) h a w = absurd a
+  states_of (k ∷ numbers) (l ∷ way) h a w =
+      let up = (linked k l a.0).above in
+      let to = (linked k l a.0).to in
+      let down : IsWay bares l.above (map bare_link (l ∷ way)) 0 = (w.0, refl, w.2) in
+      let at = read_is l.above to (linked k l a.0).over (l ∷ way) up down in (
+        subst (λ (n : ℕ). IsStateOf t (filling (trees (l ∷ way))) n) (state_of_head g.heads l.above at.head at.is) (leads_state t (filling (trees (l ∷ way))) at.head.state at.state),
+        states_of numbers way l.below a.1 w.2,
+      )
+
+  reach_of : (numbers : List ℕ) (way : List Link) (h : ℕ) → AreAt g.links numbers way → IsWay bares h (map bare_link way) 0 → EndBy (suc (length text)) 0 (reverse (trees way))
+  reach_of numbers [] h a w = tt
+  reach_of [] (l ∷ way) h a w = absurd a
+  reach_of (k ∷ numbers) (l ∷ way) h a w =
+      let k2 = linked k l a.0 in
+      let held = sound.laid.held l (contained_at g.links k l a.0) in
+      let place : place_at g.heads l.below ≡ k2.from = place_is_at g.heads l.below k2.below.head k2.below.is ∙ k2.below.place_is in
+      let spans = spans_are l.below k2.from k2.under way k2.below w.2 in
+      let turned = spans_turned (trees way) in
+      let r = held.reach in
+      subst (λ (ts : List Tree). EndBy (suc (length text)) 0 ts) (sym (reverse-append (l.tree ∷ []) (trees way)))
+      (end_by_both (suc (length text)) 0 (reverse (trees way)) (l.tree ∷ []) (reach_of numbers way l.below a.1 w.2) (omega (arith, place, spans, turned, r), tt))
+
+  own_trees : ((l : Link) → Contains g.links l → IsOwnWithin t.grammar l.tree) → (numbers : List ℕ) (way : List Link) → AreAt g.links numbers way → EachTree (IsOwnWithin t.grammar) (trees way)
+  own_trees own numbers [] a = tt
+  own_trees own [] (l ∷ way) a = absurd a
+  own_trees own (k ∷ numbers) (l ∷ way) a = (own l (contained_at g.links k l a.0), own_trees own numbers way a.1)
+
+  good_trees : ((l : Link) → Contains g.links l → IsOwnWithin t.grammar l.tree) → (numbers : List ℕ) (way : List Link) → AreAt g.links numbers way → AreGoodTrees t.grammar (trees way)
+  good_trees own numbers [] a = tt
+  good_trees own [] (l ∷ way) a = absurd a
+  good_trees own (k ∷ numbers) (l ∷ way) a =
+      let there = contained_at g.links k l a.0 in
+      ((own l there l.tree itself (sound.good l there).settled).good, good_trees own numbers way a.1)
+
+  -- ---- the head of the stack
+
+  module _ (h : ℕ) (there : h < length g.heads) (numbers : List ℕ) (stacks : List (List Layer)) (k : StackHead) (s : IsStack g h numbers) (left : IsLeft g h s.way stacks k) where
+    pub head : (x : Head) × (slice_get g.heads h ≡ Some x)
+    head = read_at g.heads h there
+
+    place_is : k.place ≡ head.0.place
+    place_is = left.place ∙ place_is_at g.heads h head.0 head.1
+
+    pub reads : (read : List ℕ) × IsAt P g.heads h read head.0.place
+    reads = by (map bare_link s.way) s.only.down
+      where
+        at_start : h ≡ 0 → (read : List ℕ) × IsAt P g.heads h read head.0.place
+        at_start z =
+            let a = sound.laid.graph.start in
+            let both : Some a.head ≡ Some head.0 = sym a.is ∙ ap (λ (n : ℕ). slice_get g.heads n) (sym z) ∙ head.1 in
+            let one : a.head ≡ head.0 = cc in
+            ([], record { head = head.0; is = head.1; state = subst (λ (x : Head). LeadsTo (goto_of t) [] x.state) one a.state; place_is = refl })
+
+        by : (way : List Link) → IsWay bares h way 0 → (read : List ℕ) × IsAt P g.heads h read head.0.place
+        by [] z = at_start z
+        by (l ∷ way) w =
+            let a = (sound.laid.graph.linked l w.0).above in
+            let both : Some a.head ≡ Some head.0 = sym a.is ∙ ap (λ (n : ℕ). slice_get g.heads n) w.1 ∙ head.1 in
+            let one : a.head ≡ head.0 = cc in
+            ((sound.laid.graph.linked l w.0).over, record { head = head.0; is = head.1; state = subst (λ (x : Head). LeadsTo (goto_of t) (sound.laid.graph.linked l w.0).over x.state) one a.state; place_is = refl })
+
+    pub head_at_place : IsAt P g.heads h reads.0 k.place
+    head_at_place = subst (λ (n : ℕ). IsAt P g.heads h reads.0 n) (sym place_is) reads.1
+
+    pub config_is : config_of stacks k ≡ way_config (map bare_link s.way) k.place
+    config_is =
+        ap (λ (ls : List Layer). pair (map bare (trees_on ls)) k.place) left.stack
+        ∙ ap (λ (ts : List Tree). pair ts k.place) (layer_trees g.heads s.way)
+      where
+        pair : List Tree → ℕ → Configuration
+        pair ts place = record { stack = ts; place = place }
+
+    pub left_own : ((l : Link) → Contains g.links l → IsOwnWithin t.grammar l.tree) → IsOwnHead t (length text) stacks k
+    left_own own = record {
+      live = record {
+        there = left.there;
+        stack = subst (λ (ls : List Layer). IsGoodStack t (length text) ls k.place) (sym left.stack)
+            (record {
+              states = states_of numbers s.way h s.at s.only.down;
+              good = good_trees own numbers s.way s.at;
+              spans = spans_are h k.place reads.0 s.way head_at_place s.only.down;
+              reach = reach_of numbers s.way h s.at s.only.down;
+              within = let w = sound.laid.within h head.0 head.1 in let p = place_is in omega (arith, w, p);
+            });
+      };
+      own = subst (λ (ls : List Layer). EachTree (IsOwnWithin t.grammar) (trees_on ls)) (sym left.stack) (own_trees own numbers s.way s.at);
+    }

@@ -1,0 +1,14 @@
+pub mod TableLemmas
+pub mod BareLemmas
+pub mod MemberLemmas
+pub mod NumberLemmas
+pub mod PartLemmas
+pub mod ForkLemmas
+pub mod StandLemmas
+pub mod LayLemmas
+pub mod WalkLemmas
+pub mod DownLemmas
+pub mod TokenLemmas
+pub mod WayLemmas
+pub mod LeftLemmas
+pub mod EnterLemmas

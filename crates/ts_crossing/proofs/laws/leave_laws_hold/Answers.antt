@@ -1,0 +1,8 @@
+use Rattle.ts_crossing.proofs.laws.leave_laws_hold.Goals as goal
+
+pub returns : goal.returns
+returns c = record {
+  keeps = c.bare_trees.ensures.keeps;
+  symbols = c.ways_are_read.ensures.symbols;
+  spans = c.ways_are_read.ensures.spans;
+}

@@ -1,0 +1,4 @@
+pub mod Laws
+pub mod Parsing
+pub mod Entering
+pub mod Leaving
