@@ -1,21 +1,24 @@
 -- The ways of a list of items, by what the first takes.
 use Rattle.std.proofs.Common.{◌≡◌, ◌∙◌, sym, ap, refl, subst, ℕ, ◌+◌, ◌-◌, ◌<◌, ◌≤◌, ◌⊎◌, inl, inr, ⊎_elim, List, [], ◌∷◌, length, Option, Some, None, Bool, true, false, cond, arith, ◌↔◌}
 use Rattle.std.specs.List.{Contains}
+use Rattle.std.proofs.lemmas.Bool.{cases_lt}
 use Rattle.spec_matches.specs.declared.found.Capture.{Capture}
 use Rattle.spec_matches.specs.declared.placing.Slot.{Slot}
 use Rattle.spec_matches.specs.declared.placing.Run.{Run}
 use Rattle.ts_search.specs.declared.stand.Stand.{Stand}
 use Rattle.ts_search.specs.declared.stand.Siblings.{Siblings}
 use Rattle.spec_matches.specs.declared.placing.Placing.{Placing}
-use Rattle.ts_search.specs.Adding.{Adds, FindsMost, Gains, OfSome}
+use Rattle.ts_search.specs.Adding.{Adds, FindsLike, FindsMost, Gains, OfSome}
 use Rattle.spec_matches.specs.Embedding.{Rounds, Unnamed, Placed, Full, GivesCaptures, Along, IsWayFrom, first_sibling_taken, near_of}
+use Rattle.ts_search.specs.Next.{Passes, TakesFirst}
 use Rattle.ts_search.specs.Table.{Takes}
 use Rattle.ts_search.specs.declared.stand.Wanted.{Wanted}
 use Rattle.ts_search.specs.declared.stand.Wanted.TheVariants.{All, Captures, Here}
-use Rattle.ts_search.specs.Memory.{Begun, IsBare, Told, WaysOf}
+use Rattle.ts_search.specs.Memory.{Begun, HasSameCaptures, IsBare, Told, WaysOf}
 use Rattle.ts_search.specs.Steps.{AnyStays, BeginsLate, HeadFrom, HeadNone, HeadTaken, HeadWay, NoneBefore, Reaches, RunBefore, Shown, Suits, TakenFrom, TakesAt}
 use Rattle.ts_search.proofs.GrowLemmas.{late_placed}
 use Rattle.ts_search.proofs.WidenLemmas.{no_offset}
+use Rattle.ts_search.proofs.NextLemmas.{passes_taken}
 use Rattle.ts_search.proofs.PlaceLemmas.{cases_lt_or_eq, none_in_nil}
 use Rattle.ts_search.proofs.AddLemmas.{adds_none, one_in, in_one}
 use Rattle.ts_search.proofs.GainLemmas.{finds_cut, finds_same, gains_both, gains_empty, gains_finds, gains_none, gains_same}
@@ -152,6 +155,26 @@ module _ (s : Siblings) (is : List Slot) (at : Stand) where
       either f (inl n) = inl (inl n)
       either f (inr (r, lt, begins, h)) = split f r begins h (cases_lt_or_eq r.first first lt)
 
+  -- a run begins where the item takes a sibling
+  pub way_takes : (r : Run) (f : Placing) → HeadWay s is at (Some r) f → TakesAt s at r.first
+  way_takes r f h =
+      let some = h.full.embeds.0.fits.some in
+      let x = h.full.embeds.0.fits.covers r.first (omega arith) some in
+      (x.0, subst (λ (o : ℕ). Takes s.table at.number o r.first x.0) (no_offset at.slot.more r.first) x.1)
+
+  -- places are passed that it does not take
+  pub below_on : (here : Bool) (from to : ℕ) (u v : Bool) (b : List Placing) → Passes (TakesFirst s.table false at.number) from to → Gains (HeadBelow here from) u v [] b → Gains (HeadBelow here to) u v [] b
+  below_on here from to u v b passes before = gains_same (HeadBelow here from) (HeadBelow here to) u v [] b before on back
+    where
+      on : (f : Placing) → HeadBelow here from f → HeadBelow here to f
+      on f (inl n) = inl n
+      on f (inr (r, lt, begins, h)) = inr (r, omega (arith, lt, passes.0), begins, h)
+
+      back : (f : Placing) → HeadBelow here to f → HeadBelow here from f
+      back f (inl n) = inl n
+      back f (inr (r, lt, begins, h)) =
+          ⊎_elim (λ below. inr (r, below, begins, h)) (λ le. absurd (passes_taken s.table at.number from to passes r.first le lt (way_takes r f h))) (cases_lt r.first from)
+
   some_is : (a b : ℕ) → Some a ≡ Some b → a ≡ b
   some_is a b e = cc
 
@@ -244,12 +267,24 @@ module _ (lo : ℕ) (W : Placing → Type 0) (u v : Bool) (found : List Placing)
   pub told_here : FindsMost (Begun true lo W) u v found → FindsMost (Told Here lo W) u v found
   told_here are = finds_same (Begun true lo W) (Told Here lo W) u v found are (λ f h. (h.0, h.1 refl)) (λ f h. (h.0, (λ e. h.1)))
 
-  pub told_bare : (bares : List Placing) → FindsMost (Begun false lo W) u v found → ((f : Placing) → Contains bares f ↔ OfSome IsBare found f) → FindsMost (Told Captures lo W) u v bares
+  -- all ways, or ways that have the captures of all
+  pub all_alike : FindsMost (Begun false lo W) u v found → FindsLike HasSameCaptures W u v found
+  all_alike are = record { only = λ f h. (are.only f h).0; earlier = are.earlier; all = λ e f h. (f, are.all e f ((begun_all false refl lo W f).0 h), refl) }
+
+  pub told_bare : (bares : List Placing) → FindsLike HasSameCaptures W u v found → ((f : Placing) → Contains bares f ↔ OfSome IsBare found f) → FindsMost (Told Captures lo W) u v bares
   told_bare bares are bare = record {
-    only = λ f h. let x = (bare f).0 h in (x.0, (are.only x.0 x.1).0, x.2);
+    only = λ f h. let x = (bare f).0 h in (x.0, are.only x.0 x.1, x.2);
     earlier = are.earlier;
-    all = λ e f h. (bare f).1 (h.0, are.all e h.0 ((begun_all false refl lo W h.0).0 h.1), h.2);
+    all = λ e f h.
+        let y = are.all e h.0 h.1 in
+        (bare f).1 (y.0, y.1, h.2 ∙ ap (λ (c : List Capture). record { first = None; near = false; captures = c }) y.2);
   }
+
+pub like_exact : (W : Placing → Type 0) (w : Bool) (found : List Placing) → ((f : Placing) → Contains found f ↔ W f) → FindsLike HasSameCaptures W w w found
+like_exact W w found are = record { only = λ f. (are f).0; earlier = λ e. e; all = λ e f h. (f, (are f).1 h, refl) }
+
+pub like_at : (s : Siblings) (slots it : List Slot) (k lo : ℕ) (b : Bool) (u v : Bool) (found : List Placing) → slots ≡ it → FindsLike HasSameCaptures (WaysOf s it k lo b) u v found → FindsLike HasSameCaptures (WaysOf s slots k lo b) u v found
+like_at s slots it k lo b u v found e h = subst (λ (l : List Slot). FindsLike HasSameCaptures (WaysOf s l k lo b) u v found) (sym e) h
 
 -- the same for an equal wish, and for equal items
 pub told_at : (lo : ℕ) (W : Placing → Type 0) (u v : Bool) (found : List Placing) (asked it : Wanted) → asked ≡ it → FindsMost (Told it lo W) u v found → FindsMost (Told asked lo W) u v found

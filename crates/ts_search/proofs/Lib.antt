@@ -2,6 +2,7 @@ pub mod AddLemmas
 pub mod AlongLemmas
 pub mod CarryLemmas
 pub mod ChildLemmas
+pub mod CountedLemmas
 pub mod FirstLemmas
 pub mod GainLemmas
 pub mod GatherLemmas
@@ -12,6 +13,7 @@ pub mod IndexLemmas
 pub mod LimitLemmas
 pub mod LoneLemmas
 pub mod MemoLemmas
+pub mod NextLemmas
 pub mod NodeLemmas
 pub mod OnceLemmas
 pub mod OrderLemmas

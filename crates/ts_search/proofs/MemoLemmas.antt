@@ -54,8 +54,8 @@ there_now old new key found updates = (found, updates key ∙ ap (λ (b : Bool).
     itself k = grind (arith, nat_tests)
 
 -- how many items are left
-pub as_long : (all slots : List Slot) (n : ℕ) → slots ≡ drop n all → 8 * length slots + 1 < 8 * (length all - n) + 2
+pub as_long : (all slots : List Slot) (n : ℕ) → slots ≡ drop n all → 10 * length slots + 2 < 10 * (length all - n) + 4
 as_long all slots n e = let l : length slots ≡ length all - n = ap length e ∙ length-drop n all in omega (arith, l)
 
-pub shorter : (all rest : List Slot) (n m : ℕ) → rest ≡ drop n all → n ≤ m → 8 * (length all - m) + 2 < 8 * length rest + 3
+pub shorter : (all rest : List Slot) (n m : ℕ) → rest ≡ drop n all → n ≤ m → 10 * (length all - m) + 4 < 10 * length rest + 5
 shorter all rest n m e le = let l : length rest ≡ length all - n = ap length e ∙ length-drop n all in omega (arith, l, le)

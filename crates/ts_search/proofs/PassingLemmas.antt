@@ -54,7 +54,7 @@ module _ (s : Siblings) where
       let f : Behind (i ∷ is) k lo b (Some r ∷ ws) = subst (λ (o : Option Run). Behind (i ∷ is) k lo b (o ∷ ws)) h.0 g in
       fixed (Some r ∷ ws) (inr (refl, h.1)) (e.0, f.1)
 
-  earlier_way : (is : List Slot) (k lo x : ℕ) (b c : Bool) (f : Placing) → AreLoose s.closed is → lo ≤ x → WaysOf s is k x c f → WaysOf s is k lo b f
+  pub earlier_way : (is : List Slot) (k lo x : ℕ) (b c : Bool) (f : Placing) → AreLoose s.closed is → lo ≤ x → WaysOf s is k x c f → WaysOf s is k lo b f
   earlier_way is k lo x b c f loose le w = record {
     runs = w.runs;
     full = record {
@@ -189,7 +189,7 @@ module _ (s : Siblings) (all is : List Slot) (i : Slot) (key : Key) (asks : key.
       (subst (λ (l : List Slot). Told Captures key.lo (WaysOf s l key.number key.lo key.beside) t ↔ Told Captures key.lo (WaysOf s (i ∷ is) key.number key.lo key.beside) t) (sym begins) ((λ h. h), (λ h. h)))
 
   pub never : (end : ℕ) → NoneTaken s at end → length s.named ≤ end → (t : Placing) → TellsOf s all key t → ⊥
-  never end none past t h = pass_none s is at may.loose may.rest quiet end none past t ((asked t).0 h)
+  never end none past t h = pass_none s is at may.free.loose may.free.rest quiet end none past t ((asked t).0 h)
 
   module _ (p : ℕ) (none : NoneTaken s at p) (inside : p < length s.named) (taken : (key.lo ≤ p) × TakesAt s at p) where
     abbrev pub next : Key
@@ -203,8 +203,8 @@ module _ (s : Siblings) (all is : List Slot) (i : Slot) (key : Key) (asks : key.
 
     passes : (t : Placing) → TellsOf s all key t ↔ TellsOf s all next t
     passes t = (
-      (λ h. (follows t).1 (pass_to s is at may.loose may.rest quiet p none t ((asked t).0 h))),
-      (λ h. (asked t).1 (pass_from s is at may.loose may.rest quiet p inside taken.0 taken.1 t ((follows t).0 h))),
+      (λ h. (follows t).1 (pass_to s is at may.free.loose may.free.rest quiet p none t ((asked t).0 h))),
+      (λ h. (asked t).1 (pass_from s is at may.free.loose may.free.rest quiet p inside taken.0 taken.1 t ((follows t).0 h))),
     )
 
     pub settles_on : (to : Key) → Settles s all next to → Settles s all key to

@@ -5,6 +5,7 @@ pub mod Index
 pub mod Lone
 pub mod Looks
 pub mod Memory
+pub mod Next
 pub mod Passing
 pub mod Rows
 pub mod Sets

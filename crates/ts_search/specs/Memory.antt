@@ -23,6 +23,10 @@ WaysOf s slots number lo beside = IsWayFrom (Takes s.table) s.named s.closed slo
 abbrev pub IsBare : Placing → Placing → Type 0
 IsBare g f = f ≡ record { first = None; near = false; captures = g.captures }
 
+-- a way has the captures of another
+abbrev pub HasSameCaptures : Placing → Placing → Type 0
+HasSameCaptures f g = f.captures ≡ g.captures
+
 -- some ways, or those of them that begin at a place
 abbrev pub Begun : Bool → ℕ → (Placing → Type 0) → Placing → Type 0
 Begun here lo W f = W f × (here ≡ true → f.first ≡ Some lo)

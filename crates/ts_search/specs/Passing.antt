@@ -19,10 +19,14 @@ abbrev pub AreLoose : Bool → List Slot → Type 0
 AreLoose closed [] = closed ≡ false
 AreLoose closed (i ∷ is) = IsLoose i
 
--- an item may be passed over
-pub record MayPass (s : Siblings) (i : Slot) (is : List Slot) (k : ℕ) : Type 0 where
+-- no anchor stands before an item that takes one sibling, nor behind it
+pub record IsFree (s : Siblings) (i : Slot) (is : List Slot) : Type 0 where
   pub loose : IsLoose i
   pub rest : AreLoose s.closed is
+
+-- an item may be passed over
+pub record MayPass (s : Siblings) (i : Slot) (is : List Slot) (k : ℕ) : Type 0 where
+  pub free : IsFree s i is
   pub silent : slice_get s.silent k ≡ Some true
 
 -- a later key asks for the same

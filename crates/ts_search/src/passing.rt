@@ -4,7 +4,7 @@ ghost use Rattle.std.specs.Prelude.{◌≡◌, ◌↔◌, ◌≤◌, IsTrue, Mat
 ghost use Rattle.spec_matches.specs.declared.placing.Placing.{Placing as Way};
 ghost use Rattle.ts_search.specs.declared.stand.Wanted.TheVariants as asked;
 ghost use Rattle.ts_search.specs.Memory.{TellsOf};
-ghost use Rattle.ts_search.specs.Passing.{AreLoose, IsLoose, MayPass, Settles};
+ghost use Rattle.ts_search.specs.Passing.{AreLoose, IsFree, IsLoose, MayPass, Settles};
 
 use crate::places::first_taken;
 use crate::stand::{Key, Siblings, Stand, Wanted};
@@ -37,17 +37,18 @@ fn is_silent(siblings: &Siblings, number: usize) -> bool
     *siblings.silent.get(number)
 }
 
+/// Whether the first of some items takes one sibling, and no anchor stands there or behind it.
+pub(crate) fn is_free(siblings: &Siblings, slot: Slot, rest: &[Slot]) -> bool
+    ensures { IsTrue result → IsFree siblings.now slot rest.now }
+{
+    is_loose(slot) && are_loose(siblings, rest)
+}
+
 /// Whether an item may be passed over.
 fn may_pass(siblings: &Siblings, slot: Slot, rest: &[Slot], number: usize) -> bool
     ensures { IsTrue result → MayPass siblings.now slot rest.now number }
 {
-    if !is_loose(slot) {
-        return false;
-    }
-    if !are_loose(siblings, rest) {
-        return false;
-    }
-    is_silent(siblings, number)
+    is_free(siblings, slot, rest) && is_silent(siblings, number)
 }
 
 /// Whether captures alone are asked for.

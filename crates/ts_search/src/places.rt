@@ -10,6 +10,7 @@ ghost use Rattle.ts_search.specs.declared.stand.Stand.{Stand as At};
 ghost use Rattle.spec_matches.specs.declared.placing.Run.{Run as Stretch};
 ghost use Rattle.spec_matches.specs.declared.found.Capture.{Capture as Mark};
 
+use crate::siblings::next_taken;
 use crate::stand::{Siblings, Stand, Wanted};
 use spec_matches::{Capture, Placing, Run, Slot};
 use ts_base::List;
@@ -274,10 +275,13 @@ pub(crate) fn widens(
     if !at.slot.optional && !at.slot.many {
         return false;
     }
-    for first in from..last_start(siblings, rest, taken, tail) {
+    let end = last_start(siblings, rest, taken, tail);
+    let mut first = next_taken(siblings, at.number, from);
+    while first < end {
         if widens_from(siblings, rest, at, taken, tail, first) {
             return true;
         }
+        first = next_taken(siblings, at.number, first + 1);
     }
     false
 }
@@ -296,10 +300,12 @@ pub(crate) fn first_taken(siblings: &Siblings, at: Stand) -> usize
         → (at.lo ≤ result) × TakesAt siblings.now at result }
 {
     let count = siblings.named.len();
-    for place in at.lo..count {
-        if is_taken(siblings.table.as_slice(), at.number, 0, place) {
+    let mut place = next_taken(siblings, at.number, at.lo);
+    while place < count {
+        if begins(siblings, at, place) {
             return place;
         }
+        place = next_taken(siblings, at.number, place + 1);
     }
     count
 }

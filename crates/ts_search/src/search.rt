@@ -2,11 +2,12 @@
 //! fully embed in the siblings come out.
 ghost use Rattle.std.specs.Prelude.{◌≡◌, ℕ, ◌+◌, ◌-◌, ◌<◌, ◌^◌, ◌↔◌, ◌≤◌, ◌∷◌, [], cond, drop, length, IsTrue, IfOk, OnOk, true, false, None, List as Values};
 ghost use Rattle.std.specs.List.{Contains};
-ghost use Rattle.ts_search.specs.Adding.{Adds, FindsMost, Gains, OfSome};
+ghost use Rattle.ts_search.specs.Adding.{Adds, FindsLike, FindsMost, Gains, OfSome};
 ghost use Rattle.spec_matches.specs.Embedding.{Rounds, Placed, Unnamed, IsWayFrom};
 ghost use Rattle.ts_search.specs.Table.{Takes};
 ghost use Rattle.std.specs.HashMap.{get};
-ghost use Rattle.ts_search.specs.Memory.{Begun, IsMemo, IsThere, Told, WaysOf, key_eq};
+ghost use Rattle.ts_search.specs.Memory.{Begun, HasSameCaptures, IsMemo, IsThere, Told, WaysOf, key_eq};
+ghost use Rattle.ts_search.specs.Passing.{IsFree};
 ghost use Rattle.ts_search.specs.declared.stand.Wanted.TheVariants as asked;
 ghost use Rattle.ts_search.specs.Steps.{AnyStays, HeadFrom, HeadNone, HeadTaken, NoneBefore, NoneTaken, RunBefore, TakenFrom};
 ghost use Rattle.spec_matches.specs.declared.placing.Placing.{Placing as Way};
@@ -14,12 +15,13 @@ ghost use Rattle.spec_matches.specs.declared.placing.Placing.{Placing as Way};
 use crate::limit::{Limit, stops};
 use crate::memo::{is_kept, kept, remember};
 use crate::once::{add_placed, bare, once_each};
-use crate::passing::{from_number, settled};
+use crate::passing::{from_number, is_free, settled};
 use crate::places::{
     are_rounds, begins, begins_late, first_taken, grows, is_anchored, is_unnamed, reach,
     wanted_after, widens,
 };
 use crate::products::{add_behind, along, joined};
+use crate::siblings::{is_silent_by, next_counted, next_taken};
 use crate::stand::{Key, Siblings, Stand, Wanted};
 use spec_matches::{Capture, Placing, Run, Slot};
 use std::alloc::{AllocError, Global};
@@ -465,13 +467,93 @@ fn made(
     };
     let mut out = Vec::new(alloc);
     add_nothing(alloc, limit, memo, &mut out, siblings, all, rest, at, here)?;
-    for first in lo..starts_end(siblings, lo, here) {
+    let end = starts_end(siblings, lo, here);
+    let mut first = next_taken(siblings, number, lo);
+    while first < end {
         if stops(limit, out.len()) {
             return Ok(out);
         }
         add_first(alloc, limit, memo, &mut out, siblings, all, rest, at, first)?;
+        first = next_taken(siblings, number, first + 1);
     }
     Ok(out)
+}
+
+/// Makes ways with the captures of all ways in which an item without anchors takes one sibling.
+/// Behind a place at which it captures nothing no more such places are tried.
+#[cycle(ways)]
+fn made_counted(
+    alloc: Global,
+    limit: &mut Limit,
+    memo: &mut HashMap<Key, List<Placing>>,
+    siblings: &Siblings,
+    all: &[Slot],
+    rest: &[Slot],
+    at: Stand,
+) -> Result<Vec<Placing>, AllocError>
+    requires free { IsFree siblings.now at.slot rest.now }
+    requires inside { at.number < length all.now }
+    requires few { length all.now < 2 ^ 64 }
+    requires rest { rest.now ≡ drop (at.number + 1) all.now }
+    requires memo { IsMemo siblings.now all.now limit.now.cut (get key_eq memo.now) }
+    ensures ways { IfOk result (λ v. FindsLike HasSameCaptures
+        (WaysOf siblings.now (at.slot ∷ rest.now) at.number at.lo at.beside)
+        limit.old.cut limit.new.cut v.items) }
+    ensures memo { OnOk result (IsMemo siblings.now all.now limit.new.cut (get key_eq memo.new)) }
+{
+    let mut out = Vec::new(alloc);
+    let mut silent = false;
+    let mut first = next_taken(siblings, at.number, at.lo);
+    while first < siblings.named.len() {
+        if stops(limit, out.len()) {
+            return Ok(out);
+        }
+        add_first(alloc, limit, memo, &mut out, siblings, all, rest, at, first)?;
+        silent = is_silent_by(siblings, at.number, first, silent);
+        first = next_counted(siblings, at.number, silent, first + 1);
+    }
+    Ok(out)
+}
+
+/// Makes ways with the captures of all ways to embed the items from a number on in the siblings
+/// from `lo` on.
+#[cycle(ways)]
+fn made_captures(
+    alloc: Global,
+    limit: &mut Limit,
+    memo: &mut HashMap<Key, List<Placing>>,
+    siblings: &Siblings,
+    all: &[Slot],
+    slots: &[Slot],
+    number: usize,
+    lo: usize,
+    beside: bool,
+) -> Result<Vec<Placing>, AllocError>
+    requires few { length all.now < 2 ^ 64 }
+    requires slots { slots.now ≡ drop number all.now }
+    requires memo { IsMemo siblings.now all.now limit.now.cut (get key_eq memo.now) }
+    ensures ways { IfOk result (λ v. FindsLike HasSameCaptures
+        (WaysOf siblings.now slots.now number lo beside) limit.old.cut limit.new.cut v.items) }
+    ensures memo { OnOk result (IsMemo siblings.now all.now limit.new.cut (get key_eq memo.new)) }
+{
+    let Some((slot, rest)) = slots.split_first() else {
+        let none = ending(alloc, siblings, number, lo, beside)?;
+        return Ok(none);
+    };
+    if !is_free(siblings, *slot, rest) {
+        let found = made(
+            alloc, limit, memo, siblings, all, slots, number, lo, beside, false,
+        )?;
+        return Ok(found);
+    }
+    let at = Stand {
+        slot: *slot,
+        number,
+        lo,
+        beside,
+    };
+    let found = made_counted(alloc, limit, memo, siblings, all, rest, at)?;
+    Ok(found)
 }
 
 /// Makes the ways to embed the items from a number on in the siblings from `lo` on, as they are
@@ -511,8 +593,8 @@ fn told(
             Ok(found)
         }
         Wanted::Captures => {
-            let found = made(
-                alloc, limit, memo, siblings, all, slots, number, lo, beside, false,
+            let found = made_captures(
+                alloc, limit, memo, siblings, all, slots, number, lo, beside,
             )?;
             let ways = bare(alloc, found)?;
             Ok(ways)

@@ -1,17 +1,16 @@
 //! Items by which nothing is captured: a table of what items take goes in, and for each item whether
 //! it captures nothing comes out.
-ghost use Rattle.std.specs.Prelude.{◌≡◌, [], IfOk, IsTrue, List as Values};
+ghost use Rattle.std.specs.Prelude.{[], IfOk, IsTrue, List as Values};
 ghost use Rattle.std.specs.List.{Contains};
 ghost use Rattle.spec_matches.specs.declared.found.Capture.{Capture as Mark};
 ghost use Rattle.ts_search.specs.Table.{AreSilent, AreSilentRows, IsSilentRow, AreSilentWays};
 
-use crate::stand::Siblings;
 use spec_matches::Capture;
 use std::alloc::{AllocError, Global};
 use ts_base::List;
 
 /// Whether each of some ways captures nothing.
-fn are_silent_ways(ways: &[List<Capture>]) -> bool
+pub(crate) fn are_silent_ways(ways: &[List<Capture>]) -> bool
     ensures { IsTrue result → AreSilentWays ways.now }
 {
     for way in ways {
@@ -47,7 +46,7 @@ fn are_silent_rows(rows: &[List<List<List<Capture>>>]) -> bool
 }
 
 /// For each item of a table whether it captures nothing.
-fn silents(
+pub(crate) fn silents(
     alloc: Global,
     table: &[List<List<List<List<Capture>>>>],
 ) -> Result<List<bool>, AllocError>
@@ -58,24 +57,4 @@ fn silents(
         out.push(are_silent_rows(rows.as_slice()))?;
     }
     Ok(List::from_vec(out))
-}
-
-/// A list of siblings as the items see it.
-pub(crate) fn siblings_of(
-    alloc: Global,
-    table: List<List<List<List<List<Capture>>>>>,
-    named: List<bool>,
-    closed: bool,
-) -> Result<Siblings, AllocError>
-    ensures table { IfOk result (λ s. s.table ≡ table) }
-    ensures named { IfOk result (λ s. s.named ≡ named) }
-    ensures closed { IfOk result (λ s. s.closed ≡ closed) }
-{
-    let silent = silents(alloc, table.as_slice())?;
-    Ok(Siblings {
-        table,
-        named,
-        closed,
-        silent,
-    })
 }

@@ -1,6 +1,7 @@
 //! Where a search stands, and what it searches.
-ghost use Rattle.std.specs.Prelude.{◌≡◌, Some, slice_get, true};
+ghost use Rattle.std.specs.Prelude.{◌≡◌, Some, slice_get, false, true};
 ghost use Rattle.std.proofs.Props.{props};
+ghost use Rattle.ts_search.specs.Next.{AreNext};
 ghost use Rattle.ts_search.specs.Table.{AreSilent};
 
 use spec_matches::{Capture, Slot};
@@ -18,14 +19,20 @@ pub(crate) struct Stand {
 
 /// A list of siblings as the items see it: for each item, place in its round, and sibling the
 /// captures of each way in which the item takes it; for each sibling whether it is named; whether
-/// an anchor stands after the last item; and for each item whether nothing is captured by it.
+/// an anchor stands after the last item; for each item whether nothing is captured by it; and for
+/// each item and sibling the next sibling that it takes as the first of a round, and the next by
+/// which it captures something so.
 #[derive(Debug, Drop)]
 pub(crate) struct Siblings {
     pub table: List<List<List<List<List<Capture>>>>>,
     pub named: List<bool>,
     pub closed: bool,
     pub silent: List<bool>,
+    pub taken: List<List<usize>>,
+    pub capturing: List<List<usize>>,
     ghost silence: { AreSilent table silent } by { Prim.hlevel props },
+    ghost passed: { AreNext table false taken } by { Prim.hlevel props },
+    ghost quiet: { AreNext table true capturing } by { Prim.hlevel props },
 }
 
 /// Which ways are asked for.

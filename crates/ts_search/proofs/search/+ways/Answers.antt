@@ -1,4 +1,4 @@
-use Rattle.std.proofs.Common.{arith, sym, subst, [], ◌∷◌, ◌∙◌, ◌+◌, true, false}
+use Rattle.std.proofs.Common.{arith, refl, sym, subst, [], ◌∷◌, ◌∙◌, ◌+◌, true, false}
 use Rattle.std.specs.HashMap.{get}
 use Rattle.ts_search.specs.declared.stand.Key.{Key}
 use Rattle.ts_search.specs.declared.stand.Stand.{Stand}
@@ -7,8 +7,9 @@ use Rattle.ts_search.specs.declared.stand.Wanted.TheVariants.{All, Captures, Her
 use Rattle.ts_search.specs.Adding.{FindsMost}
 use Rattle.ts_search.specs.Memory.{Begun, Told, WaysOf, key_eq}
 use Rattle.ts_search.specs.Steps.{HeadFrom, HeadNone, HeadTaken}
+use Rattle.ts_search.proofs.CountedLemmas.{counted_all, counted_more, counted_none, counted_on, counted_part}
 use Rattle.ts_search.proofs.GainLemmas.{finds_exact, gains_exact, late}
-use Rattle.ts_search.proofs.HeadLemmas.{adds_first, adds_head_none, adds_head_run, adds_no_head, adds_no_run, begun_at, below_all, below_more, below_none, below_part, late_first, no_anchor, no_items, no_rounds, none_first, placed_of, told_all, told_at, told_bare, told_here, up_to_all, up_to_more, up_to_none, up_to_part}
+use Rattle.ts_search.proofs.HeadLemmas.{adds_first, adds_head_none, adds_head_run, adds_no_head, adds_no_run, all_alike, begun_at, below_all, below_more, below_none, below_on, below_part, late_first, like_at, like_exact, no_anchor, no_items, no_rounds, none_first, placed_of, told_all, told_at, told_bare, told_here, up_to_all, up_to_more, up_to_none, up_to_part}
 use Rattle.ts_search.proofs.RunLemmas.{not_false, not_true}
 use Rattle.ts_search.proofs.MemoLemmas.{as_long, exact_of, memo_later, memo_more, rest_is, shorter, there_now}
 use Rattle.ts_search.proofs.PassingLemmas.{kept_tails, next_inside, no_tails, settles_itself}
@@ -48,8 +49,10 @@ made-returns-in_default-clause-ways t c =
 
 pub made-loop-first-preserved : goal.made-loop-first-preserved
 made-loop-first-preserved t c = record {
-  adds = below_more c.args.siblings.now c.in-Some.rest.now _ c.args.here c.loop-first.first _ _ _ _ _ _ _ (c.starts_end-first-end.ensures.only c.loop-first.first c.loop-first.auto.first c.loop-first-test.true)
-      (c.stops.ensures.goes_on c.if-stops.false) c.loop-first.invariant.adds c.in_ok-add_first.ensures.adds;
+  low = (let l = c.loop-first.invariant.low in let on = c.next_taken-first-in-loop-first.ensures.0 in omega (arith, l, on));
+  adds = below_on c.args.siblings.now c.in-Some.rest.now _ c.args.here (c.loop-first.first + 1) c.next_taken-first-in-loop-first.result _ _ _ c.next_taken-first-in-loop-first.ensures
+      (below_more c.args.siblings.now c.in-Some.rest.now _ c.args.here c.loop-first.first _ _ _ _ _ _ _ (c.starts_end-end.ensures.only c.loop-first.first c.loop-first.invariant.low c.loop-first-test.true)
+      (c.stops.ensures.goes_on c.if-stops.false) c.loop-first.invariant.adds c.in_ok-add_first.ensures.adds);
   memo = c.in_ok-add_first.ensures.memo;
 }
 
@@ -57,7 +60,7 @@ pub made-returns-clause-ways : goal.made-returns-clause-ways
 made-returns-clause-ways t c =
     let at : Stand = record { slot = c.in-Some.slot.now; number = c.args.number; lo = c.args.lo; beside = c.args.beside } in
     begun_at c.args.siblings.now c.args.slots.now (c.in-Some.slot.now ∷ c.in-Some.rest.now) c.args.number c.args.lo c.args.beside c.args.here _ _ c.loop-first.out.items c.in-Some.ensures.cases.0
-    (below_all c.args.siblings.now c.in-Some.rest.now at c.args.here c.loop-first.first c.starts_end-first-end.result _ _ c.loop-first.out.items c.loop-first-test.false c.starts_end-first-end.ensures.all c.loop-first.invariant.adds)
+    (below_all c.args.siblings.now c.in-Some.rest.now at c.args.here c.loop-first.first c.starts_end-end.result _ _ c.loop-first.out.items c.loop-first-test.false c.starts_end-end.ensures.all c.loop-first.invariant.adds)
 
 pub told-returns-in_ok-found-in-Here-clause-ways : goal.told-returns-in_ok-found-in-Here-clause-ways
 told-returns-in_ok-found-in-Here-clause-ways t c =
@@ -96,9 +99,14 @@ add_nothing-returns-then-not-at-clause-adds t c =
 
 pub made-loop-first-init : goal.made-loop-first-init
 made-loop-first-init t c = record {
-  adds = below_none c.args.siblings.now c.in-Some.rest.now _ c.args.here _ _ c.new-out.result.items _ c.new-out.ensures.items c.in_ok-add_nothing.ensures.adds;
+  low = c.next_taken-first.ensures.0;
+  adds = below_on c.args.siblings.now c.in-Some.rest.now _ c.args.here c.args.lo c.next_taken-first.result _ _ _ c.next_taken-first.ensures
+      (below_none c.args.siblings.now c.in-Some.rest.now _ c.args.here _ _ c.new-out.result.items _ c.new-out.ensures.items c.in_ok-add_nothing.ensures.adds);
   memo = c.in_ok-add_nothing.ensures.memo;
 }
+
+pub made-loop-first-smaller : goal.made-loop-first-smaller
+made-loop-first-smaller t c = let on = c.next_taken-first-in-loop-first.ensures.0 in omega (arith, c.loop-first-test.true, on)
 
 pub made-returns-then-stops-clause-ways : goal.made-returns-then-stops-clause-ways
 made-returns-then-stops-clause-ways t c =
@@ -202,7 +210,7 @@ pub made-add_first-requires : goal.made-add_first-requires
 made-add_first-requires t c = (
   omega (arith, c.in-Some.ensures.cases.1),
   (
-    c.loop-first.auto.first,
+    c.loop-first.invariant.low,
     (
       next_inside c.args.all.now c.in-Some.rest.now c.in-Some.slot.now c.args.number (sym c.requires.slots ∙ c.in-Some.ensures.cases.0),
       (
@@ -232,3 +240,70 @@ pub fill-returns-clause-memo : goal.fill-returns-clause-memo
 fill-returns-clause-memo t c =
     memo_more c.args.siblings.now c.args.all.now c.args.limit.now.cut c.told.new.limit.cut (get key_eq c.told.new.memo) (get key_eq c.remember.new.memo) c.args.key c.in_ok-found.found.items c.in_ok-remember.ensures.0
     (exact_of c.args.siblings.now c.args.all.now c.from_number-slots.result.now c.args.key c.args.limit.now.cut c.told.new.limit.cut c.in_ok-found.found.items c.from_number-slots.ensures c.in_ok-found.ensures.ways) c.in_ok-found.ensures.memo
+
+pub made_counted-loop-first-init : goal.made_counted-loop-first-init
+made_counted-loop-first-init t c = record {
+  counted = counted_on c.args.siblings.now c.args.rest.now c.args.at c.requires.free false c.args.at.lo c.next_taken-first.result _ _ c.new-out.result.items c.next_taken-first.ensures
+      (counted_none c.args.siblings.now c.args.rest.now c.args.at false _ c.new-out.result.items refl c.new-out.ensures.items);
+  memo = c.requires.memo;
+}
+
+pub made_counted-loop-first-preserved : goal.made_counted-loop-first-preserved
+made_counted-loop-first-preserved t c = record {
+  counted = counted_on c.args.siblings.now c.args.rest.now c.args.at c.requires.free c.is_silent_by-silent.result (c.loop-first.first + 1) c.next_counted-first.result _ _ _ c.next_counted-first.ensures
+      (counted_more c.args.siblings.now c.args.rest.now c.args.at c.loop-first.silent c.is_silent_by-silent.result c.loop-first.first _ _ _ _ _ _ (c.stops.ensures.goes_on c.if-stops.false) (omega (arith, c.loop-first-test.true, c.len.ensures))
+      c.loop-first.invariant.counted c.in_ok-add_first.ensures.adds c.is_silent_by-silent.ensures);
+  memo = c.in_ok-add_first.ensures.memo;
+}
+
+pub made_counted-loop-first-smaller : goal.made_counted-loop-first-smaller
+made_counted-loop-first-smaller t c = let on = c.next_counted-first.ensures.0 in omega (arith, c.loop-first-test.true, c.len.ensures, on)
+
+pub made_counted-returns-then-stops-clause-ways : goal.made_counted-returns-then-stops-clause-ways
+made_counted-returns-then-stops-clause-ways t c =
+    counted_part c.args.siblings.now c.args.rest.now c.args.at c.requires.free c.loop-first.silent c.loop-first.first _ _ _ c.loop-first.out.items (c.stops.ensures.stops c.if-stops.true) c.loop-first.invariant.counted
+
+pub made_counted-returns-then-stops-clause-memo : goal.made_counted-returns-then-stops-clause-memo
+made_counted-returns-then-stops-clause-memo t c =
+    memo_later c.args.siblings.now c.args.all.now _ _ _ (late _ _ (c.stops.ensures.stops c.if-stops.true)) c.loop-first.invariant.memo
+
+pub made_counted-returns-clause-ways : goal.made_counted-returns-clause-ways
+made_counted-returns-clause-ways t c =
+    counted_all c.args.siblings.now c.args.rest.now c.args.at c.requires.free c.loop-first.silent c.loop-first.first _ _ c.loop-first.out.items (omega (arith, c.loop-first-test.false, c.len.ensures)) c.loop-first.invariant.counted
+
+pub made_counted-add_first-requires : goal.made_counted-add_first-requires
+made_counted-add_first-requires t c = (
+  omega arith,
+  (
+    c.loop-first.invariant.counted.low,
+    (
+      c.requires.inside,
+      (c.requires.few, (c.requires.rest, memo_later c.args.siblings.now c.args.all.now _ _ _ (λ e. sym (c.stops.ensures.goes_on c.if-stops.false) ∙ e) c.loop-first.invariant.memo)),
+    ),
+  ),
+)
+
+pub made_captures-returns-in_default-clause-ways : goal.made_captures-returns-in_default-clause-ways
+made_captures-returns-in_default-clause-ways t c =
+    like_at c.args.siblings.now c.args.slots.now [] c.args.number c.args.lo c.args.beside _ _ c.in_ok-none.none.items (no_items c.args.slots.now c.in_default.ensures.cases)
+    (like_exact (WaysOf c.args.siblings.now [] c.args.number c.args.lo c.args.beside) _ c.in_ok-none.none.items c.in_ok-none.ensures)
+
+pub made_captures-returns-then-not-is_free-clause-ways : goal.made_captures-returns-then-not-is_free-clause-ways
+made_captures-returns-then-not-is_free-clause-ways t c =
+    all_alike c.args.lo (WaysOf c.args.siblings.now c.args.slots.now c.args.number c.args.lo c.args.beside) _ _ c.in_ok-found.found.items c.in_ok-found.ensures.ways
+
+pub made_captures-returns-clause-ways : goal.made_captures-returns-clause-ways
+made_captures-returns-clause-ways t c =
+    like_at c.args.siblings.now c.args.slots.now (c.in-Some.slot.now ∷ c.in-Some.rest.now) c.args.number c.args.lo c.args.beside _ _ c.in_ok-found-2.found.items c.in-Some.ensures.cases.0 c.in_ok-found-2.ensures.ways
+
+pub made_captures-made_counted-requires : goal.made_captures-made_counted-requires
+made_captures-made_counted-requires t c = (
+  omega (arith, c.in-Some.ensures.cases.1),
+  (
+    c.is_free.ensures c.if-not-is_free.false,
+    (
+      next_inside c.args.all.now c.in-Some.rest.now c.in-Some.slot.now c.args.number (sym c.requires.slots ∙ c.in-Some.ensures.cases.0),
+      (c.requires.few, (rest_is c.args.all.now c.args.slots.now c.in-Some.rest.now c.in-Some.slot.now c.args.number c.requires.slots c.in-Some.ensures.cases.0, c.requires.memo)),
+    ),
+  ),
+)
