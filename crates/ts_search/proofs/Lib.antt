@@ -13,6 +13,7 @@ pub mod IndexLemmas
 pub mod LimitLemmas
 pub mod LoneLemmas
 pub mod MemoLemmas
+pub mod MovingLemmas
 pub mod NextLemmas
 pub mod NodeLemmas
 pub mod OnceLemmas

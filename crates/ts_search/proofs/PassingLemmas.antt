@@ -104,16 +104,6 @@ module _ (s : Siblings) (is : List Slot) (at : Stand) (loose : IsLoose at.slot) 
       let x = placed.fits.covers r.first (omega arith) placed.fits.some in
       (x.0, subst (λ (o : ℕ). T at.number o r.first x.0) (no_offset at.slot.more r.first) x.1)
 
-  pub pass_none : (end : ℕ) → NoneTaken s at end → length s.named ≤ end → (t : Placing) → With t → ⊥
-  pass_none end none past t (g, w, bare) = let b = begins_at_run g w in by b.0 b.1
-    where
-      by : (r : Run) → HeadWay s is at (Some r) g → ⊥
-      by r h =
-          let placed = h.full.embeds.0 in
-          let some = placed.fits.some in
-          let inside = placed.fits.inside in
-          none r.first placed.after (omega (arith, some, inside, past)) (taken_first r placed)
-
   pub pass_to : (p : ℕ) → NoneTaken s at p → (t : Placing) → With t → Without p t
   pass_to p none t (g, w, bare) = let b = begins_at_run g w in by b.0 b.1
     where
@@ -187,9 +177,6 @@ module _ (s : Siblings) (all is : List Slot) (i : Slot) (key : Key) (asks : key.
   asked t =
       subst (λ (w : Wanted). Told w key.lo (WaysOf s (drop key.number all) key.number key.lo key.beside) t ↔ Told Captures key.lo (WaysOf s (i ∷ is) key.number key.lo key.beside) t) (sym asks)
       (subst (λ (l : List Slot). Told Captures key.lo (WaysOf s l key.number key.lo key.beside) t ↔ Told Captures key.lo (WaysOf s (i ∷ is) key.number key.lo key.beside) t) (sym begins) ((λ h. h), (λ h. h)))
-
-  pub never : (end : ℕ) → NoneTaken s at end → length s.named ≤ end → (t : Placing) → TellsOf s all key t → ⊥
-  never end none past t h = pass_none s is at may.free.loose may.free.rest quiet end none past t ((asked t).0 h)
 
   module _ (p : ℕ) (none : NoneTaken s at p) (inside : p < length s.named) (taken : (key.lo ≤ p) × TakesAt s at p) where
     abbrev pub next : Key

@@ -5,6 +5,7 @@ use Rattle.spec_matches.specs.declared.placing.Placing.{Placing}
 use Rattle.spec_matches.specs.declared.placing.Slot.{Slot}
 use Rattle.ts_search.specs.declared.stand.Key.{Key}
 use Rattle.ts_search.specs.declared.stand.Siblings.{Siblings}
+use Rattle.ts_search.specs.declared.stand.Wanted.TheVariants.{Here}
 use Rattle.ts_search.specs.Memory.{TellsOf}
 
 -- an item takes one sibling, and no anchor stands before it
@@ -28,6 +29,12 @@ pub record IsFree (s : Siblings) (i : Slot) (is : List Slot) : Type 0 where
 pub record MayPass (s : Siblings) (i : Slot) (is : List Slot) (k : ℕ) : Type 0 where
   pub free : IsFree s i is
   pub silent : slice_get s.silent k ≡ Some true
+
+-- a key asks for the same from the first sibling on that its item takes
+pub record MayMove (i : Slot) (key : Key) : Type 0 where
+  pub free : i.tied ≡ true → key.beside ≡ true → ⊥
+  pub some : i.optional ≡ false
+  pub anywhere : key.wanted ≡ Here → ⊥
 
 -- a later key asks for the same
 pub record Settles (s : Siblings) (all : List Slot) (from to : Key) : Type 0 where

@@ -1,10 +1,10 @@
 //! Items that are passed over: a key that asks for captures goes in, and a later one comes out that
 //! asks for the same.
-ghost use Rattle.std.specs.Prelude.{◌≡◌, ◌↔◌, ◌≤◌, IsTrue, MatchOption, Some, drop, length, slice_get, true};
+ghost use Rattle.std.specs.Prelude.{◌≡◌, ◌≤◌, IsTrue, MatchOption, Some, drop, length, slice_get, true};
 ghost use Rattle.spec_matches.specs.declared.placing.Placing.{Placing as Way};
 ghost use Rattle.ts_search.specs.declared.stand.Wanted.TheVariants as asked;
 ghost use Rattle.ts_search.specs.Memory.{TellsOf};
-ghost use Rattle.ts_search.specs.Passing.{AreLoose, IsFree, IsLoose, MayPass, Settles};
+ghost use Rattle.ts_search.specs.Passing.{AreLoose, IsFree, IsLoose, MayMove, MayPass, Settles};
 
 use crate::places::first_taken;
 use crate::stand::{Key, Siblings, Stand, Wanted};
@@ -61,6 +61,34 @@ fn asks_captures(wanted: Wanted) -> bool
     }
 }
 
+/// Whether the ways that a key asks for may begin anywhere.
+fn asks_anywhere(wanted: Wanted) -> bool
+    ensures { IsTrue result → wanted ≡ asked.Here → ⊥ }
+{
+    match wanted {
+        Wanted::All | Wanted::Captures => true,
+        Wanted::Here => false,
+    }
+}
+
+/// Whether the ways that a key asks for are those from the first sibling on that its item takes.
+fn may_move(slot: Slot, key: Key) -> bool
+    ensures { IsTrue result → MayMove slot key }
+{
+    if slot.tied && key.beside {
+        return false;
+    }
+    !slot.optional && asks_anywhere(key.wanted)
+}
+
+/// Whether the item of a key may be passed over.
+fn passes_over(siblings: &Siblings, slot: Slot, rest: &[Slot], key: Key) -> bool
+    ensures { IsTrue result
+        → (key.wanted ≡ asked.Captures) × MayPass siblings.now slot rest.now key.number }
+{
+    asks_captures(key.wanted) && may_pass(siblings, slot, rest, key.number)
+}
+
 /// The items from a number on.
 pub(crate) fn from_number(all: &[Slot], number: usize) -> &[Slot]
     requires { number ≤ length all.now }
@@ -70,21 +98,19 @@ pub(crate) fn from_number(all: &[Slot], number: usize) -> &[Slot]
     rest
 }
 
-/// The last key that asks for the same, where items that may be passed over take the first siblings
-/// that they can. Where one of them can take none, there are no ways.
+/// The last key that asks for the same: one from the first sibling on that its item takes, where no
+/// anchor stands before that, and behind items that may be passed over, which take the first
+/// siblings that they can. Where one of these items can take none, there are no ways.
 #[cycle(settled)]
 pub(crate) fn settled(siblings: &Siblings, all: &[Slot], key: Key) -> Option<Key>
     requires { key.number ≤ length all.now }
     ensures { MatchOption result ((t : Way) → TellsOf siblings.now all.now key t → ⊥)
         (λ to. Settles siblings.now all.now key to) }
 {
-    if !asks_captures(key.wanted) {
-        return Some(key);
-    }
     let Some((slot, rest)) = from_number(all, key.number).split_first() else {
         return Some(key);
     };
-    if !may_pass(siblings, *slot, rest, key.number) {
+    if !may_move(*slot, key) {
         return Some(key);
     }
     let at = Stand {
@@ -96,6 +122,14 @@ pub(crate) fn settled(siblings: &Siblings, all: &[Slot], key: Key) -> Option<Key
     let place = first_taken(siblings, at);
     if place >= siblings.named.len() {
         return None;
+    }
+    if !passes_over(siblings, *slot, rest, key) {
+        return Some(Key {
+            number: key.number,
+            lo: place,
+            beside: key.beside,
+            wanted: key.wanted,
+        });
     }
     let next = Key {
         number: key.number + 1,
