@@ -13,6 +13,7 @@ writes:
 
 - a C-like text of 1 MiB, with one function of 65,000 calls: some 1,100,000 visible nodes
 - up to 10,000 siblings of two kinds: all of one, and four of one and one of the other in turn
+- up to 100,000 siblings, ten of one kind and all others of another
 - arrays in arrays, 250 deep: 100,000 visible nodes
 """
 import json
@@ -53,6 +54,7 @@ CALL_QUERIES = [
 ]
 TURNS_QUERY = '((call function: (identifier) @f) (#match? @f "^g")) (arguments) @a'
 SIBLING_QUERY = "(s (x)* @a (x) @b (y)? @c)"
+BRANCH_QUERY = "(s [(x) @a (y)] [(x) @b (y)])"
 NESTED_QUERY = "(_ (_ (_) @c))"
 
 
@@ -162,6 +164,8 @@ def main():
     for siblings in (100, 1_000, 10_000):
         measure(program, "one kind", SIBLINGS, "a" * siblings, [[SIBLING_QUERY]], seconds)
         measure(program, "two kinds", SIBLINGS, "aaaaz" * (siblings // 5), [[SIBLING_QUERY]], seconds)
+    for siblings in (1_000, 10_000, 100_000):
+        measure(program, "ten of a kind", SIBLINGS, ("z" * (siblings // 10 - 1) + "a") * 10, [[BRANCH_QUERY]], seconds)
     measure(program, "nested", f"{TOP}/examples/json.json", nested(100_000), [[NESTED_QUERY]], seconds)
 
 
