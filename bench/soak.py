@@ -16,7 +16,9 @@ the word `parse`:
 - each reply is right by the version that its client holds and by its turn, and no client ever holds an older version
 - turns are apart, those of a client rise, and there are as many as the replies took
 
-It ends with status 1 and the script's number at the first line that is wrong.
+It ends with status 1 and the script's number at the first line that is wrong. The step that waits for a version that
+never comes yields ten million times: with two of four processors free 200 scripts took a minute and a half, in two runs
+at once, and beside provers on all four not one of these steps had ended after two minutes.
 """
 import json
 import os
