@@ -1,5 +1,5 @@
 -- How runs end before a place, the graph that is whole up to it tells.
-use Rattle.std.proofs.Common.{◌≡◌, ◌∙◌, sym, ap, refl, subst, ℕ, ◌<◌, inl, false, List, [], ◌∷◌, ◌++◌, append_assoc, reverse, arith}
+use Rattle.std.proofs.Common.{◌≡◌, ◌∙◌, sym, ap, refl, subst, ℕ, ◌<◌, ◌≤◌, inl, false, List, [], ◌∷◌, ◌++◌, append_assoc, reverse, arith}
 use Rattle.std.proofs.lemmas.List.{reverse-append}
 use Rattle.ts_core.specs.declared.flat.FlatGrammar.{FlatGrammar}
 use Rattle.spec_grammar.specs.Symbols.{start_symbol}
@@ -78,8 +78,8 @@ module _ (P : Parsing) (facts : Facts P) (base : IsBase P) (rank : ℕ → ℕ) 
     way : HasWay P heads links 0 d.stack d.place (filling d.stack)
     way = way_of d ends.before
 
-    stops_early : (stop : ℕ) → StopsAt P.grammar P.text d stop → (s : GraphStopsAt P heads stop) × (s.place < n)
-    stops_early stop s = (record { head = way.head; read = filling d.stack; place = d.place; at = way.at; far = s.0; sees = s.1; stop_is = s.2 }, ends.early)
+    stops_early : (stop : ℕ) → StopsAt P.grammar P.text d stop → (s : GraphStopsAt P heads stop) × (P.place ≤ s.place) × (s.place < n)
+    stops_early stop s = (record { head = way.head; read = filling d.stack; place = d.place; at = way.at; far = s.0; sees = s.1; stop_is = s.2 }, ends.late, ends.early)
 
     shallow_early : ComesTooDeep P.grammar P.text d → ⊥
     shallow_early deep =
@@ -102,7 +102,7 @@ module _ (P : Parsing) (facts : Facts P) (base : IsBase P) (rank : ℕ → ℕ) 
         let too : most_depth < tree_depth (node_made P deep.number r.children) = subst (λ (t : Tree). most_depth < tree_depth t) r.node_is deep.deep in
         omega (arith, shallow, too)
 
-    accepts_early : (u : Tree) → AcceptsTree P.grammar P.text d u → (t : Tree) × (a : GraphAccepts P heads links t) × (a.place < n) × (Better u t → ⊥)
+    accepts_early : (u : Tree) → AcceptsTree P.grammar P.text d u → (t : Tree) × (a : GraphAccepts P heads links t) × (P.place ≤ a.place) × (a.place < n) × (Better u t → ⊥)
     accepts_early u x =
         let ts = way_trees way.way in
         let replace = stand_replace way.way d.stack way.stands in
@@ -143,6 +143,7 @@ module _ (P : Parsing) (facts : Facts P) (base : IsBase P) (rank : ℕ → ℕ) 
         } in (
           bare kept,
           has,
+          ends.late,
           ends.early,
           λ better. accepted_replaces P.grammar (facts.laws.runs.start_rule P.grammar facts.fit) r.0 x.root before.forth after.forth x.before x.after md.root_made mc.root_made start r.3
               md.before_made mc.before_made md.after_made mc.after_made before_extras x.before_extras after_extras x.after_extras before.replace after.replace

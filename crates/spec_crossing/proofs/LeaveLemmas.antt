@@ -212,7 +212,7 @@ module _ (P : Parsing) (facts : Facts P) (serving : ServingLaws) (c : Configurat
         accepts = λ u a.
             let w = serving.accepts P.grammar facts.fit P.text d at u rd ra s a in
             let v = here.accepts w.0 w.1 in
-            (v.0, v.1, v.2, serving.no_better v.0 w.0 u v.3 w.2);
+            (v.0, v.1, v.2, v.3, serving.no_better v.0 w.0 u v.4 w.2);
         stops = λ stop p. here.stops stop (serving.stops P.grammar P.text d at stop s p);
       }
 

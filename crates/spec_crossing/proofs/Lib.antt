@@ -3,3 +3,4 @@ pub mod EndLemmas
 pub mod LeaveLemmas
 pub mod UnusedLemmas
 pub mod ReadLemmas
+pub mod RestLemmas

@@ -41,12 +41,14 @@ StandsAlone heads n h =
 abbrev pub way_config : List Link → ℕ → Configuration
 way_config way place = record { stack = way_trees way; place = place }
 
--- All ends that runs have at a configuration are in the graph, at places before this one: no node
--- would be too deep, a tree that is no worse is accepted, and a head stops.
+-- All ends that runs have at a configuration are in the graph, from the place on from which runs go
+-- on, and before this one: no node would be too deep, a tree that is no worse is accepted, and a
+-- head stops.
 pub record EndsBefore (P : Parsing) (heads : List Head) (links : List Link) (n : ℕ)
     (d : Configuration) : Type 0 where
   pub shallow : ComesTooDeep P.grammar P.text d → ⊥
   pub accepts : (u : Tree) → AcceptsTree P.grammar P.text d u
-      → (t : Tree) × (a : GraphAccepts P heads links t) × (a.place < n) × (Better u t → ⊥)
+      → (t : Tree) × (a : GraphAccepts P heads links t) × (P.place ≤ a.place) × (a.place < n)
+      × (Better u t → ⊥)
   pub stops : (stop : ℕ) → StopsAt P.grammar P.text d stop
-      → (s : GraphStopsAt P heads stop) × (s.place < n)
+      → (s : GraphStopsAt P heads stop) × (P.place ≤ s.place) × (s.place < n)

@@ -1,15 +1,16 @@
 //! Laws of the definitions, each a function without a body: what other crates may use of them.
 
-ghost use Rattle.std.specs.Prelude.{◌≡◌, ℕ, ◌+◌, ◌<◌, ◌≤◌, ◌⊎◌, List, [], ◌∷◌, ◌++◌, length};
+ghost use Rattle.std.specs.Prelude.{◌≡◌, ℕ, ◌+◌, ◌<◌, ◌≤◌, ◌⊎◌, List, [], ◌∷◌, ◌++◌, length, Option, Some, None};
 ghost use Rattle.ts_core.specs.declared.flat.FlatGrammar.{FlatGrammar};
 ghost use Rattle.spec_tables.specs.Actions.{Move, Act, accept};
 ghost use Rattle.spec_tables.specs.Fit.{Fit};
 ghost use Rattle.spec_trees.specs.declared.tree.Tree.{Tree};
-ghost use Rattle.spec_trees.specs.Trees.{span_of, all_spans};
+ghost use Rattle.spec_trees.specs.Trees.{span_of, all_spans, bare};
 ghost use Rattle.spec_trees.specs.Made.{filling};
 ghost use Rattle.spec_runs.specs.Configurations.{Configuration};
 ghost use Rattle.spec_runs.specs.Moves.{IsUnused};
-ghost use Rattle.spec_runs.specs.Runs.{IsReached};
+ghost use Rattle.spec_runs.specs.Runs.{IsReached, ComesTooDeep, AcceptsTree, StopsAt};
+ghost use Rattle.spec_runs.specs.Outcomes.{IsBestTree, IsLastStop};
 ghost use Rattle.spec_packing.specs.Serving.{ComesToServe};
 ghost use Rattle.spec_graph.specs.declared.graph.Head.{Head};
 ghost use Rattle.spec_graph.specs.declared.graph.Link.{Link};
@@ -19,7 +20,9 @@ ghost use Rattle.spec_graph.specs.Links.{IsAt, IsWay, way_trees, IsGraph, IsWhol
 ghost use Rattle.spec_graph.specs.Laws.{GraphLaws};
 ghost use Rattle.spec_crossing.specs.Laws.{ServingLaws};
 ghost use Rattle.spec_crossing.specs.Leaving.{IsOnlyWay, EndsWithToken, StandsAlone, way_config, EndsBefore};
+ghost use Rattle.spec_crossing.specs.Resting.{Rests, AccountsForGraph};
 
+use spec_graph::graphs_are_sound;
 use spec_lexing::{fewer_tokens, one_answer, token_within};
 use spec_packing::{ends_are_served, no_better_through, runs_are_served};
 use spec_reuse::{no_new_tokens, some_move_stays};
@@ -86,6 +89,61 @@ pub fn one_stack_goes_on()
 {
     laws_hold();
     serving_laws_hold();
+}
+
+/// What is known of all runs where they rest at a configuration, and the graph was followed from
+/// there: they rest at the stack that is left; and where the graph was followed past the text, the
+/// best tree or the greatest place is the outcome, one of which there is where some run ends.
+pub fn followed_graphs_rest()
+    ensures leaves { (P : Parsing) → Fit P.grammar → AreStates P.grammar P.goto
+        → (c : Configuration) → IsReached P.grammar P.text c → IsBegun P c
+        → (rank : ℕ → ℕ) (most : ℕ) → AreRanks P.grammar rank most
+        → (heads : List Head) (links : List Link) → IsGraph P heads links
+        → (n : ℕ) → IsWholeTo P rank heads links (record { look = n; begins = n; rank = most })
+        → c.place < n
+        → (before stuck : Option ℕ) → AccountsForGraph P heads links n None before stuck
+        → Rests P.grammar P.text before c
+        → (h place : ℕ) (read : List ℕ) (way : List Link) → IsAt P heads h read place
+        → StandsAlone heads n h → IsOnlyWay links h way → EndsWithToken way
+        → Rests P.grammar P.text stuck (way_config way place) }
+    ensures tree { (P : Parsing) → Fit P.grammar → AreStates P.grammar P.goto
+        → (c : Configuration) → IsReached P.grammar P.text c → IsBegun P c
+        → (rank : ℕ → ℕ) (most : ℕ) → AreRanks P.grammar rank most
+        → (heads : List Head) (links : List Link) → IsGraph P heads links
+        → (n : ℕ) → IsWholeTo P rank heads links (record { look = n; begins = n; rank = most })
+        → c.place < n → length P.text < n → P.place ≤ length P.text
+        → (best : Option Tree) (before stuck : Option ℕ)
+        → AccountsForGraph P heads links n best before stuck
+        → Rests P.grammar P.text before c
+        → (b : Tree) → best ≡ Some b → IsBestTree P.grammar P.text (bare b) }
+    ensures stop { (P : Parsing) → Fit P.grammar → AreStates P.grammar P.goto
+        → (c : Configuration) → IsReached P.grammar P.text c → IsBegun P c
+        → (rank : ℕ → ℕ) (most : ℕ) → AreRanks P.grammar rank most
+        → (heads : List Head) (links : List Link) → IsGraph P heads links
+        → (n : ℕ) → IsWholeTo P rank heads links (record { look = n; begins = n; rank = most })
+        → c.place < n → length P.text < n → P.place ≤ length P.text
+        → (best : Option Tree) (before stuck : Option ℕ)
+        → AccountsForGraph P heads links n best before stuck
+        → Rests P.grammar P.text before c
+        → (q : ℕ) → best ≡ None → stuck ≡ Some q → IsLastStop P.grammar P.text q }
+    ensures some { (P : Parsing) → Fit P.grammar → AreStates P.grammar P.goto
+        → (c : Configuration) → IsReached P.grammar P.text c → IsBegun P c
+        → (rank : ℕ → ℕ) (most : ℕ) → AreRanks P.grammar rank most
+        → (heads : List Head) (links : List Link) → IsGraph P heads links
+        → (n : ℕ) → IsWholeTo P rank heads links (record { look = n; begins = n; rank = most })
+        → c.place < n → length P.text < n → P.place ≤ length P.text
+        → (best : Option Tree) (before stuck : Option ℕ)
+        → AccountsForGraph P heads links n best before stuck
+        → Rests P.grammar P.text before c
+        → (((d : Configuration) → IsReached P.grammar P.text d
+        → ComesTooDeep P.grammar P.text d
+        ⊎ (((u : Tree) × AcceptsTree P.grammar P.text d u)
+        ⊎ ((q : ℕ) × StopsAt P.grammar P.text d q)) → ⊥) → ⊥)
+        → best ≡ None → stuck ≡ None → ⊥ }
+{
+    laws_hold();
+    serving_laws_hold();
+    graphs_are_sound();
 }
 
 /// What stands on a stack from which runs go on can be laid there, entry by entry.

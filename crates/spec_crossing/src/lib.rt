@@ -4,4 +4,6 @@
 
 mod laws;
 
-pub use laws::{one_stack_goes_on, stacks_are_laid, unused_symbols_end, ways_are_read};
+pub use laws::{
+    followed_graphs_rest, one_stack_goes_on, stacks_are_laid, unused_symbols_end, ways_are_read,
+};
