@@ -4,3 +4,4 @@ pub mod LeaveLemmas
 pub mod UnusedLemmas
 pub mod ReadLemmas
 pub mod RestLemmas
+pub mod HaltLemmas

@@ -63,9 +63,9 @@ module _ (P : Parsing) (heads : List Head) (links : List Link) (n : ℕ) (best :
     accounted : (d : Configuration) (u : Tree) → IsReached P.grammar P.text d → AcceptsTree P.grammar P.text d u → (b : Tree) × (best ≡ Some b) × (Better u (bare b) → ⊥)
     accounted d u rd a = ⊎_elim (λ cov. absurd (never_withstands None u refl (cov.accepted u a)))
         (λ w.
-          let v = (ends d rd w).accepts u a in
-          let k = counts.accepted v.0 v.1 v.2 v.3 in
-          (k.0, k.1, serving.no_better (bare k.0) v.0 u k.2 v.4))
+        let v = (ends d rd w).accepts u a in
+        let k = counts.accepted v.0 v.1 v.2 v.3 in
+        (k.0, k.1, serving.no_better (bare k.0) v.0 u k.2 v.4))
         (r.done d rd)
 
     pub rests_tree : (b : Tree) → best ≡ Some b → IsBestTree P.grammar P.text (bare b)

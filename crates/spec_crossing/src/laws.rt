@@ -1,15 +1,17 @@
 //! Laws of the definitions, each a function without a body: what other crates may use of them.
 
 ghost use Rattle.std.specs.Prelude.{◌≡◌, ℕ, ◌+◌, ◌<◌, ◌≤◌, ◌⊎◌, List, [], ◌∷◌, ◌++◌, length, Option, Some, None};
+ghost use Rattle.ts_base.specs.Bytes.{Bytes};
 ghost use Rattle.ts_core.specs.declared.flat.FlatGrammar.{FlatGrammar};
+ghost use Rattle.spec_lexing.specs.Lexing.{Found};
 ghost use Rattle.spec_tables.specs.Actions.{Move, Act, accept};
 ghost use Rattle.spec_tables.specs.Fit.{Fit};
 ghost use Rattle.spec_trees.specs.declared.tree.Tree.{Tree};
 ghost use Rattle.spec_trees.specs.Trees.{span_of, all_spans, bare};
 ghost use Rattle.spec_trees.specs.Made.{filling};
-ghost use Rattle.spec_runs.specs.Configurations.{Configuration};
+ghost use Rattle.spec_runs.specs.Configurations.{Configuration, NextIs};
 ghost use Rattle.spec_runs.specs.Moves.{IsUnused};
-ghost use Rattle.spec_runs.specs.Runs.{IsReached, ComesTooDeep, AcceptsTree, StopsAt};
+ghost use Rattle.spec_runs.specs.Runs.{StepsOn, Run, IsReached, ComesTooDeep, AcceptsTree, StopsAt};
 ghost use Rattle.spec_runs.specs.Outcomes.{IsBestTree, IsLastStop};
 ghost use Rattle.spec_packing.specs.Serving.{ComesToServe};
 ghost use Rattle.spec_graph.specs.declared.graph.Head.{Head};
@@ -144,6 +146,21 @@ pub fn followed_graphs_rest()
     laws_hold();
     serving_laws_hold();
     graphs_are_sound();
+}
+
+/// Each run ends: where each step makes a number fall, and something is seen wherever runs go on
+/// to, it cannot be that none comes to a node that is too deep, accepts a tree, or stops.
+pub fn runs_end()
+    ensures { (g : FlatGrammar) → Fit g → (text : Bytes) (c : Configuration)
+        (weight : Configuration → ℕ)
+        → ((d e : Configuration) → Run g text c d → StepsOn g text d e → weight e < weight d)
+        → ((d : Configuration) → Run g text c d
+        → ((found : Found) × NextIs g text d found → ⊥) → ⊥)
+        → ((d : Configuration) → Run g text c d
+        → ComesTooDeep g text d
+        ⊎ (((u : Tree) × AcceptsTree g text d u) ⊎ ((q : ℕ) × StopsAt g text d q)) → ⊥) → ⊥ }
+{
+    laws_hold();
 }
 
 /// What stands on a stack from which runs go on can be laid there, entry by entry.

@@ -5,5 +5,6 @@
 mod laws;
 
 pub use laws::{
-    followed_graphs_rest, one_stack_goes_on, stacks_are_laid, unused_symbols_end, ways_are_read,
+    followed_graphs_rest, one_stack_goes_on, runs_end, stacks_are_laid, unused_symbols_end,
+    ways_are_read,
 };
