@@ -153,33 +153,33 @@ module _ (t : ParseTable) (table : IsTable t) (text : Bytes) (g : GraphView) (lo
   module _ (old mid new : Ends) (up : SeesUpTo t g s.tops.items old mid) (same : new.accepting.items ≡ mid.accepting.items)
       (mine : (q : ℕ) → s.stop ≡ Some q → IsPastStuck new.stuck q)
       (others : (q : ℕ) → IsPastStuck mid.stuck q → IsPastStuck new.stuck q)
-      (from : (q : ℕ) → new.stuck ≡ Some q → (mid.stuck ≡ Some q) ⊎ (s.stop ≡ Some q)) (e : AreEnds t text g look old) where
-    each_new : (h : ℕ) → Contains new.accepting.items h → (b : Accepts P g.heads h) × (b.place < suc look)
+      (from : (q : ℕ) → new.stuck ≡ Some q → (mid.stuck ≡ Some q) ⊎ (s.stop ≡ Some q)) (begin : ℕ) (early : begin ≤ look) (e : AreEnds t text g begin look old) where
+    each_new : (h : ℕ) → Contains new.accepting.items h → (b : Accepts P g.heads h) × (begin ≤ b.place) × (b.place < suc look)
     each_new h w = by (up.each h (subst (λ (l : List ℕ). Contains l h) same w))
       where
-        by : Contains old.accepting.items h ⊎ ((top : Top) × Contains s.tops.items top × (top.head ≡ h) × HasAction t g top Accept) → (b : Accepts P g.heads h) × (b.place < suc look)
-        by (inl o) = let r = e.each h o in let lt = r.1 in (r.0, omega (arith, lt))
-        by (inr v) = subst (λ (n : ℕ). (b : Accepts P g.heads n) × (b.place < suc look)) v.2 (let r = top_accepts v.0 v.1 v.3 in let p = r.1 in (r.0, omega (arith, p)))
+        by : Contains old.accepting.items h ⊎ ((top : Top) × Contains s.tops.items top × (top.head ≡ h) × HasAction t g top Accept) → (b : Accepts P g.heads h) × (begin ≤ b.place) × (b.place < suc look)
+        by (inl o) = let r = e.each h o in let lt = r.2 in (r.0, r.1, omega (arith, lt))
+        by (inr v) = subst (λ (n : ℕ). (b : Accepts P g.heads n) × (begin ≤ b.place) × (b.place < suc look)) v.2 (let r = top_accepts v.0 v.1 v.3 in let p = r.1 in (r.0, omega (arith, p, early), omega (arith, p)))
 
-    all_new : (h : ℕ) (b : Accepts P g.heads h) → b.place < suc look → Contains new.accepting.items h
-    all_new h b lt = subst (λ (l : List ℕ). Contains l h) (sym same) (by (cases_order b.place look))
+    all_new : (h : ℕ) (b : Accepts P g.heads h) → begin ≤ b.place → b.place < suc look → Contains new.accepting.items h
+    all_new h b ge lt = subst (λ (l : List ℕ). Contains l h) (sym same) (by (cases_order b.place look))
       where
         by : (b.place ≡ look) ⊎ ((b.place < look) ⊎ (look < b.place)) → Contains mid.accepting.items h
         by (inl here) = let r = accepts_top h b here in subst (λ (n : ℕ). Contains mid.accepting.items n) r.2 (up.all r.0 r.1 r.3)
-        by (inr (inl less)) = up.olds h (e.all h b less)
+        by (inr (inl less)) = up.olds h (e.all h b ge less)
         by (inr (inr more)) = absurd (omega (arith, lt, more))
 
-    stops_new : (q : ℕ) → new.stuck ≡ Some q → (h at : ℕ) × StopsThere t text g at h q × (at < suc look)
+    stops_new : (q : ℕ) → new.stuck ≡ Some q → (h at : ℕ) × StopsThere t text g at h q × (begin ≤ at) × (at < suc look)
     stops_new q is = by (from q is)
       where
-        by : (mid.stuck ≡ Some q) ⊎ (s.stop ≡ Some q) → (h at : ℕ) × StopsThere t text g at h q × (at < suc look)
-        by (inl o) = let r = e.stops q (sym up.stuck ∙ o) in let lt = r.3 in (r.0, r.1, r.2, omega (arith, lt))
+        by : (mid.stuck ≡ Some q) ⊎ (s.stop ≡ Some q) → (h at : ℕ) × StopsThere t text g at h q × (begin ≤ at) × (at < suc look)
+        by (inl o) = let r = e.stops q (sym up.stuck ∙ o) in let lt = r.4 in (r.0, r.1, r.2, r.3, omega (arith, lt))
         by (inr o) =
             let l : IsLastAmong t text g look a.heads (Some q) = subst (λ (x : Option ℕ). IsLastAmong t text g look a.heads x) o a.sights.stop in
-            (l.0.0, look, l.0.2, omega arith)
+            (l.0.0, look, l.0.2, early, omega arith)
 
-    last_new : (h at q : ℕ) → StopsThere t text g at h q → at < suc look → IsPastStuck new.stuck q
-    last_new h at q st lt = by (cases_order at look)
+    last_new : (h at q : ℕ) → StopsThere t text g at h q → begin ≤ at → at < suc look → IsPastStuck new.stuck q
+    last_new h at q st ge lt = by (cases_order at look)
       where
         among : (o : Option ℕ) → s.stop ≡ o → StopsThere t text g look h q → Contains a.heads h → IsPastStuck new.stuck q
         among None is here w = absurd (let l : IsLastAmong t text g look a.heads None = subst (λ (x : Option ℕ). IsLastAmong t text g look a.heads x) is a.sights.stop in l h q w here)
@@ -194,8 +194,8 @@ module _ (t : ParseTable) (table : IsTable t) (text : Bytes) (g : GraphView) (lo
         by (inl here) =
             let there : StopsThere t text g look h q = subst (λ (n : ℕ). StopsThere t text g n h q) here st in
             among s.stop refl there (a.all h (there.at.head, there.at.is, there.at.place_is))
-        by (inr (inl less)) = let r = e.last h at q st less in others q (r.0, up.stuck ∙ r.1, r.2)
+        by (inr (inl less)) = let r = e.last h at q st ge less in others q (r.0, up.stuck ∙ r.1, r.2)
         by (inr (inr more)) = absurd (omega (arith, lt, more))
 
-    pub ends_more : AreEnds t text g (suc look) new
+    pub ends_more : AreEnds t text g begin (suc look) new
     ends_more = record { each = each_new; all = all_new; stops = stops_new; last = last_new }

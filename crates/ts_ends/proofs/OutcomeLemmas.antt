@@ -28,12 +28,12 @@ use Rattle.ts_ends.specs.Best.{AcceptsAmong, IsBestOn}
 
 -- ---- before the start
 
-pub nothing_ended : (t : ParseTable) (text : Bytes) (g : GraphView) (ends : Ends) → ends.accepting.items ≡ [] → ends.stuck ≡ None → AreEnds t text g 0 ends
-nothing_ended t text g ends none no_place = record {
+pub nothing_ended : (t : ParseTable) (text : Bytes) (g : GraphView) (from : ℕ) (ends : Ends) → ends.accepting.items ≡ [] → ends.stuck ≡ None → AreEnds t text g from from ends
+nothing_ended t text g from ends none no_place = record {
   each = λ h w. absurd (none_contained h (subst (λ (l : List ℕ). Contains l h) none w));
-  all = λ h a lt. absurd (omega (arith, lt));
+  all = λ h a ge lt. absurd (omega (arith, ge, lt));
   stops = λ q is. absurd (let e : None ≡ Some q = sym no_place ∙ is in cc);
-  last = λ h look q s lt. absurd (omega (arith, lt));
+  last = λ h look q s ge lt. absurd (omega (arith, ge, lt));
 }
 
 -- ---- while the graph grows
@@ -67,12 +67,12 @@ module _ (t : ParseTable) (text : Bytes) (old new : GraphView) where
     still_stops : (look h q : ℕ) → StopsThere t text old look h q → StopsThere t text new look h q
     still_stops look h q s = record { read = s.read; at = move_at h s.read look s.at (keep h s.at.head s.at.is); far = s.far; sees = s.sees; stop_is = s.stop_is }
 
-    module _ (to : ℕ) (ends : Ends) (later : AreLater t text old new to)
+    module _ (from to : ℕ) (ends : Ends) (later : AreLater t text old new to)
         (quiet : (h : ℕ) → HasPassed P new h → (look stop : ℕ) → StopsThere t text new look h stop → ⊥)
         (idle : (h : ℕ) → HasPassed P new h → (read : List ℕ) (place : ℕ) (symbol : Symbol) (pad size : ℕ) → IsAt P new.heads h read place → SeesAt P read place (token symbol pad size) → HasMove t.grammar read symbol.0 → ⊥)
-        (e : AreEnds t text old to ends) where
-      accepts_still : (h : ℕ) (a : Accepts P new.heads h) → a.place < to → Contains ends.accepting.items h
-      accepts_still h a lt = by (later h a.at.head a.at.is)
+        (e : AreEnds t text old from to ends) where
+      accepts_still : (h : ℕ) (a : Accepts P new.heads h) → from ≤ a.place → a.place < to → Contains ends.accepting.items h
+      accepts_still h a ge lt = by (later h a.at.head a.at.is)
         where
           by : (slice_get old.heads h ≡ Some a.at.head) ⊎ ((to ≤ a.at.head.place) ⊎ HasPassed P new h) → Contains ends.accepting.items h
           by (inl is) =
@@ -85,40 +85,40 @@ module _ (t : ParseTable) (text : Bytes) (old new : GraphView) where
                 size = a.size;
                 sees = a.sees;
                 stays = a.stays;
-              }) lt
+              }) ge lt
           by (inr (inl le)) = absurd (let p = a.at.place_is in omega (arith, le, p, lt))
           by (inr (inr passed)) = absurd (idle h passed a.read a.place a.symbol a.pad a.size a.at a.sees (accept, a.stays))
 
-      stops_still : (h look q : ℕ) → StopsThere t text new look h q → look < to → IsPastStuck ends.stuck q
-      stops_still h look q s lt = by (later h s.at.head s.at.is)
+      stops_still : (h look q : ℕ) → StopsThere t text new look h q → from ≤ look → look < to → IsPastStuck ends.stuck q
+      stops_still h look q s ge lt = by (later h s.at.head s.at.is)
         where
           by : (slice_get old.heads h ≡ Some s.at.head) ⊎ ((to ≤ s.at.head.place) ⊎ HasPassed P new h) → IsPastStuck ends.stuck q
-          by (inl is) = e.last h look q (record { read = s.read; at = back_at h s.read look s.at is; far = s.far; sees = s.sees; stop_is = s.stop_is }) lt
+          by (inl is) = e.last h look q (record { read = s.read; at = back_at h s.read look s.at is; far = s.far; sees = s.sees; stop_is = s.stop_is }) ge lt
           by (inr (inl le)) = absurd (let p = s.at.place_is in omega (arith, le, p, lt))
           by (inr (inr passed)) = absurd (quiet h passed look q s)
 
-      pub ends_still : AreEnds t text new to ends
+      pub ends_still : AreEnds t text new from to ends
       ends_still = record {
-        each = λ h w. let r = e.each h w in let b = still_accepts h r.0 in let lt = r.1 in let p = b.1 in (b.0, omega (arith, lt, p));
+        each = λ h w. let r = e.each h w in let b = still_accepts h r.0 in let ge = r.1 in let lt = r.2 in let p = b.1 in (b.0, omega (arith, ge, p), omega (arith, lt, p));
         all = accepts_still;
-        stops = λ q is. let r = e.stops q is in (r.0, r.1, still_stops r.1 r.0 q r.2, r.3);
+        stops = λ q is. let r = e.stops q is in (r.0, r.1, still_stops r.1 r.0 q r.2, r.3, r.4);
         last = stops_still;
       }
 
 -- ---- past places where no head stands
 
-module _ (t : ParseTable) (text : Bytes) (g : GraphView) (to next : ℕ) (ends : Ends) (none : (place h : ℕ) → to ≤ place → place < next → IsHeadAt g place h → ⊥) (le : to ≤ next) (e : AreEnds t text g to ends) where
-  pub ends_passed : AreEnds t text g next ends
+module _ (t : ParseTable) (text : Bytes) (g : GraphView) (from to next : ℕ) (ends : Ends) (none : (place h : ℕ) → to ≤ place → place < next → IsHeadAt g place h → ⊥) (le : to ≤ next) (e : AreEnds t text g from to ends) where
+  pub ends_passed : AreEnds t text g from next ends
   ends_passed = record {
-    each = λ h w. let r = e.each h w in let lt = r.1 in (r.0, omega (arith, lt, le));
-    all = λ h a lt. ⊎_elim (λ low. e.all h a low) (λ high. absurd (none a.place h high lt (a.at.head, a.at.is, a.at.place_is))) (order_cases a.place to);
-    stops = λ q is. let r = e.stops q is in let lt = r.3 in (r.0, r.1, r.2, omega (arith, lt, le));
-    last = λ h look q s lt. ⊎_elim (λ low. e.last h look q s low) (λ high. absurd (none look h high lt (s.at.head, s.at.is, s.at.place_is))) (order_cases look to);
+    each = λ h w. let r = e.each h w in let lt = r.2 in (r.0, r.1, omega (arith, lt, le));
+    all = λ h a ge lt. ⊎_elim (λ low. e.all h a ge low) (λ high. absurd (none a.place h high lt (a.at.head, a.at.is, a.at.place_is))) (order_cases a.place to);
+    stops = λ q is. let r = e.stops q is in let lt = r.4 in (r.0, r.1, r.2, r.3, omega (arith, lt, le));
+    last = λ h look q s ge lt. ⊎_elim (λ low. e.last h look q s ge low) (λ high. absurd (none look h high lt (s.at.head, s.at.is, s.at.place_is))) (order_cases look to);
   }
 
 -- ---- in the end
 
-module _ (t : ParseTable) (text : Bytes) (g : GraphView) (to : ℕ) (ends : Ends) (best : Option Tree) (none : (place h : ℕ) → to ≤ place → IsHeadAt g place h → ⊥) (e : AreEnds t text g to ends) (is : IsBestOn t text g ends.accepting.items best) where
+module _ (t : ParseTable) (text : Bytes) (g : GraphView) (to : ℕ) (ends : Ends) (best : Option Tree) (none : (place h : ℕ) → to ≤ place → IsHeadAt g place h → ⊥) (e : AreEnds t text g 0 to ends) (is : IsBestOn t text g ends.accepting.items best) where
   abbrev Q : Parsing
   Q = parsing_of t text
 
@@ -126,7 +126,7 @@ module _ (t : ParseTable) (text : Bytes) (g : GraphView) (to : ℕ) (ends : Ends
   before h place at = ⊎_elim (λ lt. lt) (λ le. absurd (none place h le at)) (order_cases place to)
 
   among : (u : Tree) → GraphAccepts Q g.heads (bare_links g.links) u → AcceptsAmong t text g ends.accepting.items u
-  among u a = (a, e.all a.head (record { read = a.read; place = a.place; at = a.at; symbol = a.symbol; pad = a.pad; size = a.size; sees = a.sees; stays = a.stays }) (before a.head a.place (a.at.head, a.at.is, a.at.place_is)))
+  among u a = (a, e.all a.head (record { read = a.read; place = a.place; at = a.at; symbol = a.symbol; pad = a.pad; size = a.size; sees = a.sees; stays = a.stays }) (omega arith) (before a.head a.place (a.at.head, a.at.is, a.at.place_is)))
 
   pub best_of_graph : (b : Tree) → best ≡ Some b → IsBestOfGraph Q g.heads (bare_links g.links) (bare b)
   best_of_graph b best_is = record {
@@ -144,7 +144,7 @@ module _ (t : ParseTable) (text : Bytes) (g : GraphView) (to : ℕ) (ends : Ends
     stops = let r = e.stops stop stuck in let s = r.2 in record { head = r.0; read = s.read; place = r.1; at = s.at; far = s.far; sees = s.sees; stop_is = s.stop_is };
     greatest = λ other s.
         let there : StopsThere t text g s.place s.head other = record { read = s.read; at = s.at; far = s.far; sees = s.sees; stop_is = s.stop_is } in
-        let r = e.last s.head s.place other there (before s.head s.place (s.at.head, s.at.is, s.at.place_is)) in
+        let r = e.last s.head s.place other there (omega arith) (before s.head s.place (s.at.head, s.at.is, s.at.place_is)) in
         let f : Some r.0 ≡ Some stop = sym r.1 ∙ stuck in
         let one : r.0 ≡ stop = cc in
         let le = r.2 in

@@ -27,17 +27,17 @@ pub record Accepts (P : Parsing) (heads : List Head) (h : ℕ) : Type 0 where
   pub sees : SeesAt P read place (token symbol pad size)
   pub stays : Act P.grammar read symbol.0 accept
 
--- Of the heads that stand before a place, those that accept, and the greatest place at which one of
--- them stops.
-pub record AreEnds (t : ParseTable) (text : Bytes) (g : GraphView) (to : ℕ) (ends : Ends)
+-- Of the heads that stand at one place or past it, and before another, those that accept, and the
+-- greatest place at which one of them stops.
+pub record AreEnds (t : ParseTable) (text : Bytes) (g : GraphView) (from to : ℕ) (ends : Ends)
     : Type 0 where
   pub each : (h : ℕ) → Contains ends.accepting.items h
-      → (a : Accepts (parsing_of t text) g.heads h) × (a.place < to)
-  pub all : (h : ℕ) → (a : Accepts (parsing_of t text) g.heads h) → a.place < to
-      → Contains ends.accepting.items h
+      → (a : Accepts (parsing_of t text) g.heads h) × (from ≤ a.place) × (a.place < to)
+  pub all : (h : ℕ) → (a : Accepts (parsing_of t text) g.heads h) → from ≤ a.place
+      → a.place < to → Contains ends.accepting.items h
   pub stops : (q : ℕ) → ends.stuck ≡ Some q
-      → (h look : ℕ) × StopsThere t text g look h q × (look < to)
-  pub last : (h look q : ℕ) → StopsThere t text g look h q → look < to
+      → (h look : ℕ) × StopsThere t text g look h q × (from ≤ look) × (look < to)
+  pub last : (h look q : ℕ) → StopsThere t text g look h q → from ≤ look → look < to
       → IsPastStuck ends.stuck q
 
 -- Each head was there, or stands no earlier than the place, or an extra is passed there.

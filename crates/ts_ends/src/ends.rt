@@ -1,6 +1,6 @@
 //! The ends at a place: what is seen at its heads goes in, and the heads that accept, and the
 //! greatest place at which one stops, are put to those of earlier places.
-ghost use Rattle.std.specs.Prelude.{◌≡◌, ℕ, ◌<◌, ◌↔◌, ◌⊎◌, suc, [], length, IsTrue, Some, None, OnOk};
+ghost use Rattle.std.specs.Prelude.{◌≡◌, ℕ, ◌<◌, ◌≤◌, ◌↔◌, ◌⊎◌, suc, [], length, IsTrue, Some, None, OnOk};
 ghost use Rattle.std.specs.List.{Contains};
 ghost use Rattle.ts_base.specs.Bytes.{Bytes};
 ghost use Rattle.ts_core.specs.declared.action.Action.TheVariants.{Accept};
@@ -88,10 +88,10 @@ pub fn see_ends(
 ) -> Result<(), AllocError>
     requires { (text : Bytes) × (look : ℕ)
         × AreAllSights table.now text graph.now look sights.now }
-    ensures { OnOk result ((text : Bytes) (look : ℕ)
-        → AreAllSights table.now text graph.now look sights.now
-        → AreEnds table.now text graph.now look ends.old
-        → AreEnds table.now text graph.now (suc look) ends.new) }
+    ensures { OnOk result ((text : Bytes) (from look : ℕ)
+        → AreAllSights table.now text graph.now look sights.now → from ≤ look
+        → AreEnds table.now text graph.now from look ends.old
+        → AreEnds table.now text graph.now from (suc look) ends.new) }
 {
     table.stands();
     for top in sights.tops.as_slice() {

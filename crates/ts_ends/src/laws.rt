@@ -52,24 +52,24 @@ pub(crate) fn tree_laws_hold()
     bare_trees();
 }
 
-/// Nothing ended before the start of the text.
+/// Nothing ended before the place from which the ends are kept.
 pub fn ends_begin()
-    ensures { (t : ParseTable) (text : Bytes) (g : GraphView) (ends : AnyEnds)
-        → ends.accepting.items ≡ [] → ends.stuck ≡ None → AreEnds t text g 0 ends }
+    ensures { (t : ParseTable) (text : Bytes) (g : GraphView) (from : ℕ) (ends : AnyEnds)
+        → ends.accepting.items ≡ [] → ends.stuck ≡ None → AreEnds t text g from from ends }
 {}
 
 /// What ended at earlier places stays so, and nothing more ends there, where a graph grows by heads
 /// at later places, and by heads at which an extra is passed; and where no head stands from one
 /// place on up to a later one, nothing ends there.
 pub fn ends_stay()
-    ensures grows { (t : ParseTable) (text : Bytes) (old new : GraphView) (to : ℕ)
+    ensures grows { (t : ParseTable) (text : Bytes) (old new : GraphView) (from to : ℕ)
         (ends : AnyEnds) → IsSoundBy t text new → KeepNumbers old.heads new.heads
-        → AreLater t text old new to → AreEnds t text old to ends
-        → AreEnds t text new to ends }
-    ensures passes { (t : ParseTable) (text : Bytes) (g : GraphView) (to next : ℕ)
+        → AreLater t text old new to → AreEnds t text old from to ends
+        → AreEnds t text new from to ends }
+    ensures passes { (t : ParseTable) (text : Bytes) (g : GraphView) (from to next : ℕ)
         (ends : AnyEnds)
         → ((place h : ℕ) → to ≤ place → place < next → IsHeadAt g place h → ⊥) → to ≤ next
-        → AreEnds t text g to ends → AreEnds t text g next ends }
+        → AreEnds t text g from to ends → AreEnds t text g from next ends }
 {
     passed_heads_go_on();
 }
@@ -80,12 +80,12 @@ pub fn ends_stay()
 pub fn ends_tell_the_outcome()
     ensures best { (t : ParseTable) (text : Bytes) (g : GraphView) (to : ℕ) (ends : AnyEnds)
         (best : Option Tree)
-        → ((place h : ℕ) → to ≤ place → IsHeadAt g place h → ⊥) → AreEnds t text g to ends
+        → ((place h : ℕ) → to ≤ place → IsHeadAt g place h → ⊥) → AreEnds t text g 0 to ends
         → IsBestOn t text g ends.accepting.items best → (b : Tree) → best ≡ Some b
         → IsBestOfGraph (parsing_of t text) g.heads (bare_links g.links) (bare b) }
     ensures last { (t : ParseTable) (text : Bytes) (g : GraphView) (to : ℕ) (ends : AnyEnds)
         (best : Option Tree)
-        → ((place h : ℕ) → to ≤ place → IsHeadAt g place h → ⊥) → AreEnds t text g to ends
+        → ((place h : ℕ) → to ≤ place → IsHeadAt g place h → ⊥) → AreEnds t text g 0 to ends
         → IsBestOn t text g ends.accepting.items best → best ≡ None
         → (stop : ℕ) → ends.stuck ≡ Some stop
         → IsLastOfGraph (parsing_of t text) g.heads (bare_links g.links) stop }

@@ -38,8 +38,8 @@ loop-top-preserved c =
     (c.accepts.ensures.0 c.if-not-accepts.false) _ c.in_ok-push.ensures.items refl
 
 pub returns : goal.returns
-returns c = λ text look all before.
+returns c = λ text from look all early before.
     let tops = c.as_slice-top-items.result.now in
     let many = c.loop-top-test.false in
     let up = subst (λ (l : List Top). SeesUpTo c.args.table.now c.args.graph.now l c.args.ends.now c.loop-top.ends) (take_all c.loop-top.top-index tops (omega arith) ∙ c.as_slice-top-items.ensures.value) c.loop-top.invariant in
-    ends_more c.args.table.now c.stands.ensures text c.args.graph.now look c.args.sights.now all c.args.ends.now c.loop-top.ends _ up refl c.see_stop.ensures.mine c.see_stop.ensures.others c.see_stop.ensures.from before
+    ends_more c.args.table.now c.stands.ensures text c.args.graph.now look c.args.sights.now all c.args.ends.now c.loop-top.ends _ up refl c.see_stop.ensures.mine c.see_stop.ensures.others c.see_stop.ensures.from from early before

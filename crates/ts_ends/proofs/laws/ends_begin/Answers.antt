@@ -2,4 +2,4 @@ use Rattle.ts_ends.proofs.OutcomeLemmas.{nothing_ended}
 use Rattle.ts_ends.proofs.laws.ends_begin.Goals as goal
 
 pub returns : goal.returns
-returns c t text g ends none no_place = nothing_ended t text g ends none no_place
+returns c t text g from ends none no_place = nothing_ended t text g from ends none no_place
