@@ -18,7 +18,8 @@ use Rattle.ts_graph.specs.Down.{KeepNumbers}
 use Rattle.ts_table.specs.declared.view.ParseTable.{ParseTable}
 use Rattle.ts_laying.specs.Sound.{bare_links}
 use Rattle.ts_laying.specs.Laying.{HasPassed}
-use Rattle.ts_reductions.specs.Sound.{parsing_of}
+use Rattle.spec_crossing.specs.Resting.{AccountsForGraph}
+use Rattle.ts_reductions.specs.Sound.{Base, parsing_from, parsing_of}
 use Rattle.ts_shifts.specs.Looking.{IsHeadAt, StopsThere}
 use Rattle.ts_shifts.proofs.SmallLemmas.{none_contained}
 use Rattle.ts_ends.specs.declared.ends.Ends.{Ends}
@@ -150,3 +151,100 @@ module _ (t : ParseTable) (text : Bytes) (g : GraphView) (to : ℕ) (ends : Ends
         let le = r.2 in
         omega (arith, le, one);
   }
+
+-- ---- what is told of a graph that is followed from a base on
+
+module _ (t : ParseTable) (text : Bytes) (base : Base) (g : GraphView) (to : ℕ) (ends : Ends) (best : Option Tree) (before after : Option ℕ) (e : AreEnds t text g base.place to ends)
+    (is : IsBestOn t text g ends.accepting.items best) (olds : (q : ℕ) → IsPastStuck before q → IsPastStuck after q) (news : (q : ℕ) → IsPastStuck ends.stuck q → IsPastStuck after q)
+    (from : (q : ℕ) → after ≡ Some q → (before ≡ Some q) ⊎ (ends.stuck ≡ Some q)) where
+  abbrev S : Parsing
+  S = parsing_from t text base
+
+  there : (h : ℕ) (read : List ℕ) (place : ℕ) → IsAt S g.heads h read place → IsAt (parsing_of t text) g.heads h read place
+  there h read place a = record { head = a.head; is = a.is; state = a.state; place_is = a.place_is }
+
+  here : (h : ℕ) (read : List ℕ) (place : ℕ) → IsAt (parsing_of t text) g.heads h read place → IsAt S g.heads h read place
+  here h read place a = record { head = a.head; is = a.is; state = a.state; place_is = a.place_is }
+
+  accepts_there : (u : Tree) → GraphAccepts S g.heads (bare_links g.links) u → GraphAccepts (parsing_of t text) g.heads (bare_links g.links) u
+  accepts_there u a = record {
+    head = a.head;
+    read = a.read;
+    place = a.place;
+    at = there a.head a.read a.place a.at;
+    symbol = a.symbol;
+    pad = a.pad;
+    size = a.size;
+    sees = a.sees;
+    stays = a.stays;
+    way = a.way;
+    is = a.is;
+    before = a.before;
+    root = a.root;
+    after = a.after;
+    trees_are = a.trees_are;
+    before_extras = a.before_extras;
+    root_fills = a.root_fills;
+    after_extras = a.after_extras;
+    tree_is = a.tree_is;
+  }
+
+  accepts_here : (u : Tree) → GraphAccepts (parsing_of t text) g.heads (bare_links g.links) u → GraphAccepts S g.heads (bare_links g.links) u
+  accepts_here u a = record {
+    head = a.head;
+    read = a.read;
+    place = a.place;
+    at = here a.head a.read a.place a.at;
+    symbol = a.symbol;
+    pad = a.pad;
+    size = a.size;
+    sees = a.sees;
+    stays = a.stays;
+    way = a.way;
+    is = a.is;
+    before = a.before;
+    root = a.root;
+    after = a.after;
+    trees_are = a.trees_are;
+    before_extras = a.before_extras;
+    root_fills = a.root_fills;
+    after_extras = a.after_extras;
+    tree_is = a.tree_is;
+  }
+
+  pub ends_counted : AccountsForGraph S g.heads (bare_links g.links) to best before after
+  unfolding accepts_there
+  ends_counted = record {
+    accepted = λ u a ge lt. is.all u (
+      accepts_there u a,
+      e.all a.head (record {
+        read = a.read;
+        place = a.place;
+        at = there a.head a.read a.place a.at;
+        symbol = a.symbol;
+        pad = a.pad;
+        size = a.size;
+        sees = a.sees;
+        stays = a.stays;
+      }) ge lt,
+    );
+    tree_from = λ b best_is. accepts_here (bare b) (is.accepted b best_is).0;
+    places = λ q s ge lt. news q (e.last s.head s.place q (record { read = s.read; at = there s.head s.read s.place s.at; far = s.far; sees = s.sees; stop_is = s.stop_is }) ge lt);
+    past = olds;
+    stuck_from = λ q after_is. ⊎_elim (λ b. inl b) (λ n.
+        let r = e.stops q n in
+        let s = r.2 in
+        inr (record { head = r.0; read = s.read; place = r.1; at = here r.0 s.read r.1 s.at; far = s.far; sees = s.sees; stop_is = s.stop_is })) (from q after_is);
+  }
+
+-- where no head accepts there is no tree
+pub none_is_best : (t : ParseTable) (text : Bytes) (g : GraphView) (heads : List ℕ) → heads ≡ [] → IsBestOn t text g heads None
+none_is_best t text g heads none = record {
+  accepted = λ b is. absurd (no_tree b is);
+  root = λ b is. absurd (no_tree b is);
+  form = λ b is. absurd (no_tree b is);
+  all = λ u a. absurd (none_contained a.0.head (subst (λ (l : List ℕ). Contains l a.0.head) none a.1));
+}
+  where
+    no_tree : (b : Tree) → ◌≡◌ {A = Option Tree} None (Some b) → ⊥
+    no_tree b is = cc

@@ -1,19 +1,21 @@
 //! The laws of other crates that the proofs here rest on, and laws of what ended, each a function
 //! without a body. No value goes in or out.
-ghost use Rattle.std.specs.Prelude.{◌≡◌, ℕ, ◌<◌, ◌≤◌, Option, Some, None, []};
+ghost use Rattle.std.specs.Prelude.{◌≡◌, ℕ, ◌<◌, ◌≤◌, ◌⊎◌, List, Option, Some, None, []};
 ghost use Rattle.ts_base.specs.Bytes.{Bytes};
 ghost use Rattle.spec_runs.specs.BareTrees.{KeepsAll};
 ghost use Rattle.spec_trees.specs.declared.tree.Tree.{Tree};
 ghost use Rattle.spec_trees.specs.Trees.{bare};
 ghost use Rattle.spec_graph.specs.Outcomes.{IsBestOfGraph, IsLastOfGraph};
+ghost use Rattle.spec_crossing.specs.Resting.{AccountsForGraph};
 ghost use Rattle.ts_graph.specs.declared.view.GraphView.{GraphView};
 ghost use Rattle.ts_graph.specs.Down.{KeepNumbers};
 ghost use Rattle.ts_table.specs.declared.view.ParseTable.{ParseTable};
 ghost use Rattle.ts_laying.specs.Sound.{bare_links};
-ghost use Rattle.ts_reductions.specs.Sound.{parsing_of, IsSoundBy};
+ghost use Rattle.ts_reductions.specs.Sound.{Base as AnyBase, parsing_from, parsing_of, IsSoundBy};
 ghost use Rattle.ts_shifts.specs.Looking.{IsHeadAt};
 ghost use Rattle.ts_ends.specs.declared.ends.Ends.{Ends as AnyEnds};
 ghost use Rattle.ts_ends.specs.Laws.{EndLaws};
+ghost use Rattle.ts_ends.specs.Choosing.{IsPastStuck};
 ghost use Rattle.ts_ends.specs.Ends.{AreEnds, AreLater};
 ghost use Rattle.ts_ends.specs.Best.{IsBestOn};
 
@@ -89,4 +91,20 @@ pub fn ends_tell_the_outcome()
         → IsBestOn t text g ends.accepting.items best → best ≡ None
         → (stop : ℕ) → ends.stuck ≡ Some stop
         → IsLastOfGraph (parsing_of t text) g.heads (bare_links g.links) stop }
+{}
+
+/// Where runs go on from a stack, what ended from the place on where that ends accounts for the ends
+/// in the graph, with the best tree, and with a greatest place that is one of those before or of
+/// these. Where no head accepts there is no tree.
+pub fn ends_account()
+    ensures counted { (t : ParseTable) (text : Bytes) (base : AnyBase) (g : GraphView) (to : ℕ)
+        (ends : AnyEnds) (best : Option Tree) (before after : Option ℕ)
+        → AreEnds t text g base.place to ends → IsBestOn t text g ends.accepting.items best
+        → ((q : ℕ) → IsPastStuck before q → IsPastStuck after q)
+        → ((q : ℕ) → IsPastStuck ends.stuck q → IsPastStuck after q)
+        → ((q : ℕ) → after ≡ Some q → (before ≡ Some q) ⊎ (ends.stuck ≡ Some q))
+        → AccountsForGraph (parsing_from t text base) g.heads (bare_links g.links) to best
+        before after }
+    ensures none { (t : ParseTable) (text : Bytes) (g : GraphView) (heads : List ℕ)
+        → heads ≡ [] → IsBestOn t text g heads None }
 {}
