@@ -1,24 +1,23 @@
 -- The stack from which runs go on: what is known of it where a run came to it, and what is laid over it.
-use Rattle.std.proofs.Common.{◌≡◌, ◌∙◌, sym, ap, refl, subst, ℕ, zero, suc, ◌+◌, ◌-◌, ◌<◌, ◌≤◌, ◌⊎◌, inl, inr, ⊎_elim, Bool, true, false, true≢false, List, [], ◌∷◌, ◌++◌, append-nil, append_assoc, length, reverse, drop, arith}
-use Rattle.std.proofs.lemmas.List.{length-reverse, length-drop}
+use Rattle.std.proofs.Common.{◌≡◌, ◌∙◌, sym, ap, refl, subst, ℕ, ◌+◌, ◌-◌, ◌<◌, ◌≤◌, ◌⊎◌, inl, inr, ⊎_elim, true, false, true≢false, List, [], ◌∷◌, ◌++◌, append-nil, append_assoc, length, reverse, drop, arith}
+use Rattle.std.proofs.lemmas.List.{length-drop}
 use Rattle.ts_core.specs.declared.flat.Production.{Production}
 use Rattle.ts_core.specs.declared.symbol.Symbol.{Symbol}
 use Rattle.spec_lexing.specs.Lexing.{token}
-use Rattle.spec_tables.specs.Actions.{Act, shift, reduce}
 use Rattle.spec_trees.specs.declared.tree.Tree.{Tree}
-use Rattle.spec_trees.specs.Trees.{symbol_of, is_extra_node, span_of, all_spans, tree_depth}
-use Rattle.spec_trees.specs.Made.{filling, BeginsFilled, most_depth}
+use Rattle.spec_trees.specs.Trees.{is_extra_node, span_of, all_spans}
+use Rattle.spec_trees.specs.Made.{filling, BeginsFilled}
 use Rattle.spec_runs.specs.Configurations.{Configuration, starting, token_tree, AreExtras}
-use Rattle.spec_runs.specs.Runs.{Run, run_here, IsReached}
+use Rattle.spec_runs.specs.Runs.{Run, IsReached}
 use Rattle.spec_packing.proofs.MadeLemmas.{all_spans_append}
-use Rattle.spec_graph.specs.States.{LeadsTo, at_first, ShareState}
+use Rattle.spec_graph.specs.States.{LeadsTo, at_first}
 use Rattle.spec_graph.specs.Laying.{Parsing, from_start, SeesAt, PassesAt, ReducesAt, extra_tree, node_made, Taken, some, nothing, Lays, flat, stood, shifted, passed, made, IsBegun}
 use Rattle.spec_graph.specs.Keys.{Key, LaysBefore, flat_before, stood_before, shifted_before, passed_before, made_before}
 use Rattle.spec_graph.proofs.SightLemmas.{Facts}
-use Rattle.spec_graph.proofs.EntryLemmas.{token_says, extra_says, kind_of, filling_tree, filling_one, filling_extras, shift_bytes}
-use Rattle.spec_graph.proofs.LayLemmas.{IsBase, no_middle, lays_read, lays_made, lays_spans, grows, lays_none, lays_state, Split, split, joins, extras_same, lays_run, nothing_laid}
+use Rattle.spec_graph.proofs.EntryLemmas.{token_says, extra_says, kind_of, filling_one, shift_bytes}
+use Rattle.spec_graph.proofs.LayLemmas.{AreRuled, ruled_middle, lays_ruled, IsBase, no_middle, lays_read, lays_made, lays_spans, grows, lays_none, lays_state, Split, split, joins, lays_run, nothing_laid}
 use Rattle.spec_graph.proofs.OrderLemmas.{node_bytes}
-use Rattle.spec_graph.proofs.GraphLemmas.{transfer}
+use Rattle.spec_graph.proofs.GraphLemmas.{transfer, extra_bytes}
 
 module _ (P : Parsing) (facts : Facts P) where
   pub start_facts : Facts (from_start P)
@@ -29,6 +28,8 @@ module _ (P : Parsing) (facts : Facts P) where
     spans = refl;
     low = λ above below t at. absurd (no_middle above t below at);
     extra = λ above below t at e. absurd (no_middle above t below at);
+    some_extra = λ above below t at e. absurd (no_middle above t below at);
+    rule = λ above below t at. absurd (no_middle above t below at);
     all_made = tt;
     states = λ above below at. (0, subst (λ (r : List ℕ). LeadsTo P.goto r 0) (ap filling (none above below at)) at_first);
   }
@@ -128,7 +129,7 @@ module _ (P : Parsing) (facts : Facts P) where
         (subst (λ (m : ℕ). Lays (from_start P) (filling below) (all_spans below) (t ∷ []) m (filling (t ∷ below))) end high)
 
     -- the topmost tree has bytes
-    top_some : (f : Tree) (rest : List Tree) → P.stack ≡ f ∷ rest → 0 < span_of f
+    pub top_some : (f : Tree) (rest : List Tree) → P.stack ≡ f ∷ rest → 0 < span_of f
     top_some f rest at = ⊎_elim (λ h. h) (λ w. absurd (by begun.bytes w.1)) (top_bytes P.stack P.place (filling P.stack) f rest stack_laid at (subst (λ (s : List Tree). BeginsFilled s) at begun.begins))
       where
         by : (P.stack ≡ []) ⊎ (0 < P.place) → P.place ≡ 0 → ⊥
@@ -159,6 +160,8 @@ module _ (P : Parsing) (facts : Facts P) where
       spans = sym begun.place_is;
       low = below_low;
       extra = extra_low;
+      some_extra = λ above below t at e. extra_bytes (from_start P) start_facts start_base (filling below) (all_spans below) t (all_spans below + span_of t) (filling (t ∷ []) ++ filling below) (one_laid above below t at) e;
+      rule = λ above below t at. ruled_middle P.grammar above t below (subst (λ (w : List Tree). AreRuled P.grammar w) at (lays_ruled (from_start P) start_facts start_base [] 0 P.stack P.place (filling P.stack) stack_laid));
       all_made = lays_made (from_start P) start_facts start_base [] 0 P.stack P.place (filling P.stack) stack_laid;
       states = λ above below at. lays_state (from_start P) start_facts start_base [] 0 below (all_spans below) (filling below) 0 at_first (low_part above below at);
     }
@@ -183,7 +186,7 @@ module _ (P : Parsing) (facts : Facts P) where
       where
         bottom : Lays (from_start P) γ q w p δ → δ ≡ [] → p ≡ 0 → (w ≡ []) × (γ ≡ []) × (q ≡ 0)
         bottom low none z =
-            let e = nothing_laid (from_start P) start_facts start_base refl refl γ q w p δ low none z in
+            let e = nothing_laid (from_start P) start_facts start_base γ q w p δ low none z in
             let h = lays_none (from_start P) start_facts start_base γ q w p δ low e in
             (e, sym h.1 ∙ none, sym h.0 ∙ z)
 

@@ -1,7 +1,6 @@
 -- What a reduction in a graph makes can be laid there; and what is laid on a new head.
-use Rattle.std.proofs.Common.{◌≡◌, ◌∙◌, sym, ap, refl, subst, ℕ, zero, suc, ◌+◌, ◌<◌, ◌≤◌, ◌⊎◌, inl, inr, ⊎_elim, Bool, true, false, true≢false, List, [], ◌∷◌, ◌++◌, append-nil, append_assoc, length, reverse, map, Option, Some, None, arith}
-use Rattle.std.specs.List.{Contains}
-use Rattle.std.proofs.lemmas.List.{reverse-append, reverse-reverse, length-map, length-reverse}
+use Rattle.std.proofs.Common.{◌≡◌, ◌∙◌, sym, ap, refl, subst, ℕ, ◌+◌, ◌<◌, ◌≤◌, ⊎_elim, List, [], ◌∷◌, ◌++◌, length, reverse, map, Option, Some, arith}
+use Rattle.std.proofs.lemmas.List.{reverse-reverse, length-map, length-reverse}
 use Rattle.ts_core.specs.declared.flat.Production.{Production}
 use Rattle.ts_core.specs.declared.flat.Step.{Step}
 use Rattle.ts_core.specs.declared.symbol.Symbol.{Symbol}
@@ -10,33 +9,32 @@ use Rattle.spec_tables.specs.Actions.{Act, shift, reduce}
 use Rattle.spec_trees.specs.declared.tree.Tree.{Tree}
 use Rattle.spec_trees.specs.Trees.{span_of, all_spans, tree_depth}
 use Rattle.spec_trees.specs.Made.{form_of, filling, step_symbols, BeginsFilled, most_depth}
-use Rattle.spec_runs.specs.Configurations.{token_tree, AreExtras}
-use Rattle.spec_packing.proofs.MadeLemmas.{AllMade, CanMake}
+use Rattle.spec_runs.specs.Configurations.{AreExtras}
+use Rattle.spec_packing.proofs.MadeLemmas.{CanMake}
 use Rattle.spec_graph.specs.declared.graph.Head.{Head}
 use Rattle.spec_graph.specs.declared.graph.Link.{Link}
-use Rattle.spec_graph.specs.States.{ShareState, LeadsTo}
-use Rattle.spec_graph.specs.Laying.{Parsing, from_start, SeesAt, GoesOn, PassesAt, ReducesAt, extra_tree, node_made, Taken, some, nothing, Lays, flat, made, CanMakeNode}
+use Rattle.spec_graph.specs.States.{ShareState}
+use Rattle.spec_graph.specs.Laying.{Parsing, GoesOn, PassesAt, ReducesAt, extra_tree, node_made, Taken, some, nothing, Lays, flat, made, CanMakeNode}
 use Rattle.spec_graph.specs.Replacing.{depth_over}
 use Rattle.spec_graph.specs.Keys.{Key, Earlier, LaysBefore, flat_before, stood_before, shifted_before, passed_before, made_before}
 use Rattle.spec_graph.specs.Links.{IsWay, way_trees, depths_of, IsGraph, IsDue, way_depth}
 use Rattle.spec_graph.proofs.SightLemmas.{Facts, same_token, sees_one, clash, narrows, sees_shared}
-use Rattle.spec_graph.proofs.EntryLemmas.{node_tells, filling_turned, all_made_back, same_front}
+use Rattle.spec_graph.proofs.EntryLemmas.{node_tells, filling_turned, same_front}
 use Rattle.spec_graph.proofs.ReplaceLemmas.{AllDeeper, deeper_over, deeper_turned}
-use Rattle.spec_graph.proofs.LayLemmas.{IsBase, lays_read, lays_made, lays_spans, lays_none, lays_state, grows, can_make, begins_taken, bottom_turned, Split, split, extras_same, passes_on, starts}
+use Rattle.spec_graph.proofs.LayLemmas.{IsBase, lays_read, lays_spans, lays_none, lays_state, grows, can_make, begins_taken, bottom_turned, split, extras_same, Peeled, bare_place, one_more, peel, passes_on, starts}
 use Rattle.spec_graph.proofs.OrderLemmas.{node_bytes, before_lays}
 use Rattle.spec_graph.proofs.GraphLemmas.{share_head, AreLaid, WayLaid, ways}
 use Rattle.spec_graph.proofs.KeyLemmas.{map_turned}
-use Rattle.spec_graph.proofs.BaseLemmas.{start_facts, start_base}
-use Rattle.spec_graph.proofs.OutcomeLemmas.{SameKinds, kinds_begins, kinds_length, kinds_turned, none_long, at_start, own_trees, Deepest, deepest}
+use Rattle.spec_graph.proofs.OutcomeLemmas.{SameKinds, kinds_begins, kinds_length, kinds_turned, none_long, own_trees, deepest}
 
 same_kinds : (ts : List Tree) → SameKinds ts ts
 same_kinds [] = tt
 same_kinds (t ∷ ts) = (refl, same_kinds ts)
 
-module _ (P : Parsing) (facts : Facts P) (heads : List Head) (links : List Link) (graph : IsGraph P heads links) (rank : ℕ → ℕ) (key : Key) (number left : ℕ) (p : Production) (h e b : ℕ) (outer inner : List Link) (over now : List ℕ) (end : ℕ)
+module _ (P : Parsing) (facts : Facts P) (base : IsBase P) (heads : List Head) (links : List Link) (graph : IsGraph P heads links) (rank : ℕ → ℕ) (key : Key) (number left : ℕ) (p : Production) (h e b : ℕ) (outer inner : List Link) (over now : List ℕ) (end : ℕ)
     (due : IsDue P rank heads links key number left p h e b outer inner over now end) where
   abbrev Laid : List Link → List Tree → Type 0
-  Laid way ts = AreLaid (from_start P) (start_facts P facts) (start_base P facts) refl refl heads way ts
+  Laid way ts = AreLaid P facts base heads way ts
 
   many : (ts : List Tree) → filling ts ≡ filling (way_trees inner) → length (filling (reverse ts)) ≡ length p.steps
   many ts same = ap (λ (l : List ℕ). length l) (filling_turned ts) ∙ length-reverse (filling ts) ∙ ap (λ (l : List ℕ). length l) same ∙ due.count
@@ -60,20 +58,20 @@ module _ (P : Parsing) (facts : Facts P) (heads : List Head) (links : List Link)
 
   -- what lies on the way, from the lower head on
   module _ (ts : List Tree) (laid : Laid inner ts) (kinds : SameKinds ts (way_trees inner)) (filled : filling ts ≡ filling (way_trees inner)) where
-    low : WayLaid (from_start P) (start_facts P facts) (start_base P facts) refl refl heads b now key.begins ts e end
-    low = ways (from_start P) (start_facts P facts) (start_base P facts) refl refl heads links b now key.begins (at_start P facts heads b now key.begins due.bottom) inner ts e end over (at_start P facts heads e over end due.middle) due.taken_off laid
+    low : WayLaid P facts base heads b now key.begins ts e end
+    low = ways P facts base heads links b now key.begins due.bottom inner ts e end over due.middle due.taken_off laid
 
-    high : WayLaid (from_start P) (start_facts P facts) (start_base P facts) refl refl heads e low.now end (way_trees outer) h key.look
-    high = ways (from_start P) (start_facts P facts) (start_base P facts) refl refl heads links e low.now end low.at outer (way_trees outer) h key.look over (at_start P facts heads h over key.look due.top) due.lifted (own_trees P facts heads links graph outer h e due.lifted)
+    high : WayLaid P facts base heads e low.now end (way_trees outer) h key.look
+    high = ways P facts base heads links e low.now end low.at outer (way_trees outer) h key.look over due.top due.lifted (own_trees P facts base heads links graph outer h e due.lifted)
 
     flat_read : high.now ≡ low.now
-    flat_read = extras_same (from_start P) (start_facts P facts) (start_base P facts) (way_trees outer) low.now end key.look high.now due.all_extras high.lays
+    flat_read = extras_same P facts base (way_trees outer) low.now end key.look high.now due.all_extras high.lays
 
-    outer_lays : Lays (from_start P) low.now end (way_trees outer) key.look low.now
-    outer_lays = subst (λ (r : List ℕ). Lays (from_start P) low.now end (way_trees outer) key.look r) flat_read high.lays
+    outer_lays : Lays P low.now end (way_trees outer) key.look low.now
+    outer_lays = subst (λ (r : List ℕ). Lays P low.now end (way_trees outer) key.look r) flat_read high.lays
 
     share : ShareState P.goto over low.now
-    share = subst (λ (r : List ℕ). ShareState P.goto over r) flat_read (share_head (from_start P) (start_facts P facts) heads h over high.now key.look key.look (at_start P facts heads h over key.look due.top) high.at)
+    share = subst (λ (r : List ℕ). ShareState P.goto over r) flat_read (share_head P facts heads h over high.now key.look key.look due.top high.at)
 
     stays : Act P.grammar low.now due.reduces.symbol.0 (reduce number)
     stays = facts.states.acts over low.now due.reduces.symbol.0 (reduce number) share due.reduces.stays
@@ -84,13 +82,13 @@ module _ (P : Parsing) (facts : Facts P) (heads : List Head) (links : List Link)
         let both : ◌≡◌ {A = Option (ℕ × Production)} (Some (ends.left, ends.production)) (Some (left, p)) = sym ends.at ∙ due.reduces.at in
         let pair : ◌≡◌ {A = ℕ × Production} (ends.left, ends.production) (left, p) = cc in
         let same : ends.production ≡ p = ap (λ (q : ℕ × Production). q.1) pair in
-        let first : low.now ≡ filling ts ++ now = lays_read (from_start P) (start_facts P facts) now key.begins ts end low.now low.lays in
+        let first : low.now ≡ filling ts ++ now = lays_read P facts now key.begins ts end low.now low.lays in
         let other : low.now ≡ reverse (step_symbols p) ++ ends.earlier = ends.read_is ∙ ap (λ (q : Production). reverse (step_symbols q) ++ ends.earlier) same in
         let count : length (filling ts) ≡ length (reverse (step_symbols p)) =
         ap (λ (l : List ℕ). length l) filled ∙ due.count ∙ sym (length-map p.steps (λ (step : Step). step.symbol.0)) ∙ sym (length-reverse (step_symbols p)) in
         same_front (filling ts) (reverse (step_symbols p)) now ends.earlier count (sym first ∙ other)
 
-    folds : ReducesAt (from_start P) low.now key.look number left p now
+    folds : ReducesAt P low.now key.look number left p now
     folds = record {
       symbol = due.reduces.symbol;
       pad = due.reduces.pad;
@@ -98,27 +96,34 @@ module _ (P : Parsing) (facts : Facts P) (heads : List Head) (links : List Link)
       sees = sees_shared P facts over low.now share key.look (token due.reduces.symbol due.reduces.pad due.reduces.size) due.reduces.sees;
       stays = stays;
       at = due.reduces.at;
-      read_is = lays_read (from_start P) (start_facts P facts) now key.begins ts end low.now low.lays ∙ ap (λ (l : List ℕ). l ++ now) front;
+      read_is = lays_read P facts now key.begins ts end low.now low.lays ∙ ap (λ (l : List ℕ). l ++ now) front;
     }
 
-    inner_lays : Lays (from_start P) now key.begins (reverse (reverse ts)) end low.now
-    inner_lays = subst (λ (l : List Tree). Lays (from_start P) now key.begins l end low.now) (sym (reverse-reverse ts)) low.lays
+    inner_lays : Lays P now key.begins (reverse (reverse ts)) end low.now
+    inner_lays = subst (λ (l : List Tree). Lays P now key.begins l end low.now) (sym (reverse-reverse ts)) low.lays
 
     make : CanMake P.grammar number left p (reverse ts)
-    make = can_make (from_start P) (start_facts P facts) (start_base P facts) now key.begins (reverse ts) end low.now key.look number left p inner_lays (begins_taken (from_start P) (start_facts P facts) (reverse ts) [] now key.begins (taken_so ts kinds)) folds (many ts filled)
+    make = can_make P facts base now key.begins (reverse ts) end low.now key.look number left p inner_lays (begins_taken P facts (reverse ts) [] now key.begins (taken_so ts kinds)) folds (many ts filled)
 
     depth_is : tree_depth (node_made P number (reverse ts)) ≡ depth_over (form_of P.grammar left number) (reverse (map tree_depth ts))
     depth_is = (node_tells P facts number left p (reverse ts) make).depth ∙ ap (depth_over (form_of P.grammar left number)) (map_turned ts)
 
-    node_laid : tree_depth (node_made P number (reverse ts)) ≤ most_depth → Lays (from_start P) now key.begins (node_made P number (reverse ts) ∷ []) end (left ∷ now)
-    node_laid shallow = made now key.begins [] key.begins now (reverse ts) end low.now (way_trees outer) key.look number left p (flat now key.begins) inner_lays outer_lays due.all_extras (omega arith) (taken_so ts kinds) folds (many ts filled) shallow
+    node_laid : P.place ≤ key.look → tree_depth (node_made P number (reverse ts)) ≤ most_depth → Lays P now key.begins (node_made P number (reverse ts) ∷ []) end (left ∷ now)
+    node_laid late shallow = made now key.begins [] key.begins now (reverse ts) end low.now (way_trees outer) key.look number left p (flat now key.begins) inner_lays outer_lays due.all_extras late (taken_so ts kinds) folds (many ts filled) shallow
 
     -- the extras above are passed over the node too
-    extras_laid : tree_depth (node_made P number (reverse ts)) ≤ most_depth → Lays (from_start P) (left ∷ now) end (way_trees outer) key.look (left ∷ now)
-    extras_laid shallow =
-        let bottom = at_start P facts heads b now key.begins due.bottom in
-        let state = lays_state (from_start P) (start_facts P facts) (start_base P facts) now key.begins (node_made P number (reverse ts) ∷ []) end (left ∷ now) bottom.head.state bottom.state (node_laid shallow) in
-        passes_on (from_start P) (start_facts P facts) (start_base P facts) low.now (left ∷ now) (narrows (from_start P) (start_facts P facts) low.now key.look number left p now folds) state.0 state.1 (way_trees outer) end key.look due.all_extras (omega arith) outer_lays
+    extras_laid : P.place ≤ key.look → tree_depth (node_made P number (reverse ts)) ≤ most_depth → Lays P (left ∷ now) end (way_trees outer) key.look (left ∷ now)
+    extras_laid late shallow =
+        let bottom = due.bottom in
+        let state = lays_state P facts base now key.begins (node_made P number (reverse ts) ∷ []) end (left ∷ now) bottom.head.state bottom.state (node_laid late shallow) in
+        passes_on P facts base low.now (left ∷ now) (narrows P facts low.now key.look number left p now folds) state.0 state.1 (way_trees outer) end key.look due.all_extras late outer_lays
+
+    end_late : P.place ≤ key.look → P.place ≤ end
+    end_late late = by (peel P facts base low.now end (way_trees outer) key.look low.now outer_lays due.all_extras late refl)
+      where
+        by : Peeled P facts base low.now end (way_trees outer) key.look → P.place ≤ end
+        by (bare_place none same) = omega (arith, same, late)
+        by (one_more ys s pad size is early first rest all) = early
 
   no_deeper : (way : List Link) (h b : ℕ) → IsWay links h way b → AllDeeper (depths_of way) (map tree_depth (way_trees way))
   no_deeper [] h b is = tt
@@ -127,39 +132,43 @@ module _ (P : Parsing) (facts : Facts P) (heads : List Head) (links : List Link)
   -- the node over the way's own trees
   pub due_depth : tree_depth (node_made P number (reverse (way_trees inner))) ≤ way_depth P number left inner
   due_depth =
-      let d = depth_is (way_trees inner) (own_trees P facts heads links graph inner e b due.taken_off) (same_kinds (way_trees inner)) refl in
+      let d = depth_is (way_trees inner) (own_trees P facts base heads links graph inner e b due.taken_off) (same_kinds (way_trees inner)) refl in
       let less = deeper_over (form_of P.grammar left number) (reverse (depths_of inner)) (reverse (map tree_depth (way_trees inner))) (deeper_turned (depths_of inner) (map tree_depth (way_trees inner)) (no_deeper inner e b due.taken_off)) in
       omega (arith, d, less)
 
-  pub due_laid : way_depth P number left inner ≤ most_depth → Lays (from_start P) now key.begins (node_made P number (reverse (way_trees inner)) ∷ []) end (left ∷ now)
-  due_laid low_depth = node_laid (way_trees inner) (own_trees P facts heads links graph inner e b due.taken_off) (same_kinds (way_trees inner)) refl (let d = due_depth in omega (arith, d, low_depth))
+  pub due_laid : P.place ≤ key.look → way_depth P number left inner ≤ most_depth → Lays P now key.begins (node_made P number (reverse (way_trees inner)) ∷ []) end (left ∷ now)
+  due_laid late low_depth = node_laid (way_trees inner) (own_trees P facts base heads links graph inner e b due.taken_off) (same_kinds (way_trees inner)) refl late (let d = due_depth in omega (arith, d, low_depth))
 
   -- and one over trees of the way's depths
-  pub due_deepest : way_depth P number left inner ≤ most_depth → (t : Tree) × Lays (from_start P) now key.begins (t ∷ []) end (left ∷ now) × (tree_depth t ≡ way_depth P number left inner)
-  due_deepest low_depth =
-      let w = deepest P facts heads links graph inner e b due.taken_off in
+  pub due_deepest : P.place ≤ key.look → way_depth P number left inner ≤ most_depth → (t : Tree) × Lays P now key.begins (t ∷ []) end (left ∷ now) × (tree_depth t ≡ way_depth P number left inner)
+  due_deepest late low_depth =
+      let w = deepest P facts base heads links graph inner e b due.taken_off in
       let d : tree_depth (node_made P number (reverse w.trees)) ≡ way_depth P number left inner =
       depth_is w.trees w.laid w.kinds w.filled ∙ ap (λ (l : List ℕ). depth_over (form_of P.grammar left number) (reverse l)) w.depths in
-      (node_made P number (reverse w.trees), node_laid w.trees w.laid w.kinds w.filled (omega (arith, d, low_depth)), d)
+      (node_made P number (reverse w.trees), node_laid w.trees w.laid w.kinds w.filled late (omega (arith, d, low_depth)), d)
+
+  -- the extras above are all laid anew
+  pub due_end : P.place ≤ key.look → P.place ≤ end
+  due_end late = end_late (way_trees inner) (own_trees P facts base heads links graph inner e b due.taken_off) (same_kinds (way_trees inner)) refl late
 
   -- each extra above is passed over the node
-  pub due_extras_over : way_depth P number left inner ≤ most_depth → (above below : List Tree) (x : Tree) → way_trees outer ≡ above ++ x ∷ below
-      → Lays (from_start P) (left ∷ now) (end + all_spans below) (x ∷ []) ((end + all_spans below) + span_of x) (left ∷ now)
-  due_extras_over low_depth above below x is =
-      let all = extras_laid (way_trees inner) (own_trees P facts heads links graph inner e b due.taken_off) (same_kinds (way_trees inner)) refl (let d = due_depth in omega (arith, d, low_depth)) in
-      let cut = split (from_start P) (start_facts P facts) (start_base P facts) above (x ∷ below) (left ∷ now) end key.look (left ∷ now) (subst (λ (l : List Tree). Lays (from_start P) (left ∷ now) end l key.look (left ∷ now)) is all) in
-      let one = split (from_start P) (start_facts P facts) (start_base P facts) (x ∷ []) below (left ∷ now) end cut.place cut.between cut.low in
+  pub due_extras_over : P.place ≤ key.look → way_depth P number left inner ≤ most_depth → (above below : List Tree) (x : Tree) → way_trees outer ≡ above ++ x ∷ below
+      → Lays P (left ∷ now) (end + all_spans below) (x ∷ []) ((end + all_spans below) + span_of x) (left ∷ now)
+  due_extras_over late low_depth above below x is =
+      let all = extras_laid (way_trees inner) (own_trees P facts base heads links graph inner e b due.taken_off) (same_kinds (way_trees inner)) refl late (let d = due_depth in omega (arith, d, low_depth)) in
+      let cut = split P facts base above (x ∷ below) (left ∷ now) end key.look (left ∷ now) (subst (λ (l : List Tree). Lays P (left ∷ now) end l key.look (left ∷ now)) is all) in
+      let one = split P facts base (x ∷ []) below (left ∷ now) end cut.place cut.between cut.low in
       let parts = extras_parts above x below (subst (λ (l : List Tree). AreExtras l) is due.all_extras) in
-      let low_read : one.between ≡ left ∷ now = extras_same (from_start P) (start_facts P facts) (start_base P facts) below (left ∷ now) end one.place one.between parts.1 one.low in
-      let low_place = lays_spans (from_start P) (start_facts P facts) (start_base P facts) (left ∷ now) end below one.place one.between one.low in
-      let high_read : cut.between ≡ one.between = extras_same (from_start P) (start_facts P facts) (start_base P facts) (x ∷ []) one.between one.place cut.place cut.between parts.0 one.high in
-      let high_place = lays_spans (from_start P) (start_facts P facts) (start_base P facts) one.between one.place (x ∷ []) cut.place cut.between one.high in
+      let low_read : one.between ≡ left ∷ now = extras_same P facts base below (left ∷ now) end one.place one.between parts.1 one.low in
+      let low_place = lays_spans P facts base (left ∷ now) end below one.place one.between one.low in
+      let high_read : cut.between ≡ one.between = extras_same P facts base (x ∷ []) one.between one.place cut.place cut.between parts.0 one.high in
+      let high_place = lays_spans P facts base one.between one.place (x ∷ []) cut.place cut.between one.high in
       let at_low : one.place ≡ end + all_spans below = omega (arith, low_place) in
       let at_high : cut.place ≡ (end + all_spans below) + span_of x = omega (arith, low_place, high_place) in
-      subst (λ (r : List ℕ). Lays (from_start P) (left ∷ now) (end + all_spans below) (x ∷ []) ((end + all_spans below) + span_of x) r) (high_read ∙ low_read)
-      (subst (λ (r : List ℕ). Lays (from_start P) r (end + all_spans below) (x ∷ []) ((end + all_spans below) + span_of x) cut.between) low_read
-      (subst (λ (m : ℕ). Lays (from_start P) one.between m (x ∷ []) ((end + all_spans below) + span_of x) cut.between) at_low
-      (subst (λ (m : ℕ). Lays (from_start P) one.between one.place (x ∷ []) m cut.between) at_high one.high)))
+      subst (λ (r : List ℕ). Lays P (left ∷ now) (end + all_spans below) (x ∷ []) ((end + all_spans below) + span_of x) r) (high_read ∙ low_read)
+      (subst (λ (r : List ℕ). Lays P r (end + all_spans below) (x ∷ []) ((end + all_spans below) + span_of x) cut.between) low_read
+      (subst (λ (m : ℕ). Lays P one.between m (x ∷ []) ((end + all_spans below) + span_of x) cut.between) at_low
+      (subst (λ (m : ℕ). Lays P one.between one.place (x ∷ []) m cut.between) at_high one.high)))
     where
       extras_parts : (above : List Tree) (x : Tree) (below : List Tree) → AreExtras (above ++ x ∷ below) → AreExtras (x ∷ []) × AreExtras below
       extras_parts [] x below a = ((a.0, tt), a.1)

@@ -1,6 +1,6 @@
 -- The trees and extras that are laid on stacks: tokens, extras and nodes.
-use Rattle.std.proofs.Common.{◌≡◌, ◌∙◌, sym, ap, refl, subst, ℕ, suc, ◌+◌, ◌-◌, ◌<◌, ◌≤◌, ◌⊎◌, inl, inr, ⊎_elim, max, Bool, true, false, true≢false, nat_eq, List, [], ◌∷◌, ◌++◌, append-nil, length, reverse, map, drop, Option, Some, None, unwrap_or, option_map, All, arith}
-use Rattle.std.proofs.lemmas.List.{reverse-append, reverse-reverse, length-map, length-reverse, length-append}
+use Rattle.std.proofs.Common.{◌≡◌, ◌∙◌, sym, ap, refl, subst, ℕ, ◌+◌, ◌<◌, ◌≤◌, max, Bool, true, false, true≢false, nat_eq, List, [], ◌∷◌, ◌++◌, append-nil, length, reverse, map, drop, Option, Some, None, unwrap_or, option_map, All, arith}
+use Rattle.std.proofs.lemmas.List.{reverse-append, reverse-reverse, length-map, length-reverse}
 use Rattle.std.proofs.lemmas.List.Elements.{All-head, All-tail}
 use lib.IntN.{ℤ, pos, ◌+ℤ◌}
 use Rattle.ts_base.specs.Bytes.{Bytes}
@@ -9,23 +9,22 @@ use Rattle.ts_core.specs.declared.flat.Production.{Production}
 use Rattle.ts_core.specs.declared.flat.Step.{Step}
 use Rattle.ts_core.specs.declared.flat.TokenDef.{TokenDef}
 use Rattle.ts_core.specs.declared.symbol.Symbol.{Symbol}
-use Rattle.spec_grammar.specs.Symbols.{production_at, is_among, is_extra}
+use Rattle.spec_grammar.specs.Symbols.{production_at, is_among}
 use Rattle.spec_lexing.specs.Matching.{MatchesToken, plainly, as_keyword}
 use Rattle.spec_lexing.specs.Lexing.{Found, token, absent, behind, Lexes, takes, ends, passes, stops}
 use Rattle.spec_tables.specs.Actions.{Act, shift}
-use Rattle.spec_tables.specs.Fit.{Fit, IsToken as IsTokenSymbol}
+use Rattle.spec_tables.specs.Fit.{IsToken as IsTokenSymbol}
 use Rattle.spec_tables.specs.Items.{IsToken}
 use Rattle.spec_trees.specs.declared.tree.Tree.{Tree}
-use Rattle.spec_trees.specs.declared.tree.Element.{Element}
 use Rattle.spec_trees.specs.declared.tree.Tree.TheOpen.{Tree-F}
 use Rattle.spec_trees.specs.declared.tree.Tree.TheViews.{roll-Tree, out-roll-Tree}
 use Rattle.spec_trees.specs.declared.tree.Tree.TheFolds.{fold_out-Tree, fold-roll-Tree}
-use Rattle.spec_trees.specs.Trees.{symbol_of, production_of, pad_of, size_of, is_extra_node, elements_of, children_of, total_of, all_totals, span_of, all_spans, first_pad, maximum, tree_depth, depth_step, greatest_depth, bare}
-use Rattle.spec_trees.specs.Made.{leaf_of, as_extra, node_over, element, Form, of_rule, of_first, of_next, form_of, made_by, left_of, value_of, reduced, filling, step_symbols, BeginsFilled}
+use Rattle.spec_trees.specs.Trees.{symbol_of, pad_of, size_of, is_extra_node, elements_of, children_of, total_of, all_totals, span_of, all_spans, first_pad, tree_depth, depth_step, greatest_depth, bare}
+use Rattle.spec_trees.specs.Made.{leaf_of, as_extra, element, Form, of_rule, of_first, of_next, form_of, made_by, left_of, value_of, reduced, filling, step_symbols}
 use Rattle.spec_runs.specs.BareTrees.{KeepsAll}
 use Rattle.spec_runs.specs.Configurations.{token_tree, AreExtras}
 use Rattle.spec_packing.specs.Laws.{RunLaws}
-use Rattle.spec_packing.proofs.MadeLemmas.{IsMade, AllMade, Over, over_says, CanMake, IsLawful, first_some, before_flat, next_is_flat, no_children, all_spans_append, made_bare, made_token, made_passed, made_reduced}
+use Rattle.spec_packing.proofs.MadeLemmas.{IsMade, AllMade, over_says, CanMake, IsLawful, first_some, before_flat, next_is_flat, no_children, all_spans_append, made_bare, made_token, made_passed, made_reduced}
 use Rattle.spec_packing.proofs.ReducedLemmas.{pad_append}
 use Rattle.spec_packing.proofs.ReachedLemmas.{lawful}
 use Rattle.spec_graph.specs.Replacing.{depth_over}

@@ -1,28 +1,25 @@
 -- Ways in a graph of stacks: what they stand for, and that runs come to it.
-use Rattle.std.proofs.Common.{◌≡◌, ◌∙◌, sym, ap, refl, subst, ℕ, zero, suc, ◌+◌, ◌<◌, ◌≤◌, ◌⊎◌, inl, inr, ⊎_elim, Bool, true, false, true≢false, List, [], ◌∷◌, ◌++◌, append-nil, append_assoc, length, length-append, reverse, map, slice_get, Option, Some, None, arith}
-use Rattle.std.specs.List.{Contains}
-use Rattle.std.proofs.lemmas.List.{reverse-append, reverse-reverse, length-map, length-reverse}
-use Rattle.ts_core.specs.declared.flat.Production.{Production}
-use Rattle.ts_core.specs.declared.flat.Step.{Step}
+use Rattle.std.proofs.Common.{◌≡◌, ◌∙◌, sym, ap, refl, subst, ℕ, zero, suc, ◌+◌, ◌<◌, ◌≤◌, ◌⊎◌, inl, inr, Bool, true, false, true≢false, List, [], ◌∷◌, ◌++◌, append-nil, length, length-append, reverse, Some, arith}
+use Rattle.std.proofs.lemmas.List.{reverse-append}
 use Rattle.ts_core.specs.declared.symbol.Symbol.{Symbol}
 use Rattle.spec_lexing.specs.Lexing.{token}
-use Rattle.spec_tables.specs.Actions.{Act, shift, reduce}
+use Rattle.spec_tables.specs.Actions.{shift, reduce}
 use Rattle.spec_trees.specs.declared.tree.Tree.{Tree}
-use Rattle.spec_trees.specs.Trees.{symbol_of, pad_of, size_of, is_extra_node, span_of, all_spans, first_pad, tree_depth}
-use Rattle.spec_trees.specs.Made.{filling, step_symbols, BeginsFilled, most_depth}
-use Rattle.spec_runs.specs.Configurations.{Configuration, starting, token_tree, AreExtras}
-use Rattle.spec_runs.specs.Runs.{Run, IsReached}
-use Rattle.spec_packing.proofs.MadeLemmas.{CanMake}
+use Rattle.spec_trees.specs.Trees.{symbol_of, pad_of, size_of, is_extra_node, span_of, all_spans, first_pad}
+use Rattle.spec_trees.specs.Made.{filling, step_symbols}
+use Rattle.spec_runs.specs.Configurations.{token_tree, AreExtras}
+use Rattle.spec_runs.specs.Runs.{IsReached}
+use Rattle.spec_packing.proofs.MadeLemmas.{all_spans_append}
 use Rattle.spec_graph.specs.declared.graph.Head.{Head}
 use Rattle.spec_graph.specs.declared.graph.Link.{Link}
-use Rattle.spec_graph.specs.States.{LeadsTo, at_first, ShareState, AreStates, AreRanks}
-use Rattle.spec_graph.specs.Laying.{Parsing, from_start, SeesAt, GoesOn, PassesAt, ReducesAt, extra_tree, PassesTree, node_made, Taken, some, nothing, Lays, flat, stood, shifted, passed, made, ComesOver}
+use Rattle.spec_graph.specs.States.{LeadsTo, at_first, ShareState, AreRanks}
+use Rattle.spec_graph.specs.Laying.{Parsing, SeesAt, PassesAt, extra_tree, PassesTree, node_made, Taken, some, nothing, Lays, flat, stood, shifted, passed, made, ComesOver}
 use Rattle.spec_graph.specs.Replacing.{AreAlike}
 use Rattle.spec_graph.specs.Keys.{Key, LaysBefore, flat_before, stood_before, shifted_before, passed_before, made_before}
-use Rattle.spec_graph.specs.Links.{IsAt, IsWay, way_trees, StandsForTree, AllStandFor, HasWay, HasLink, IsLinked, IsGraph, IsWholeTo}
-use Rattle.spec_graph.proofs.SightLemmas.{Facts, lead_once, share_back, share_on, same_token, sees_one, clash, move_shared, sees_shared, passes_shared}
-use Rattle.spec_graph.proofs.EntryLemmas.{LeafSays, token_says, extra_says, node_tells, kind_of, symbol_is, filling_tree, filling_extra, filling_turned, filling_none, spans_turned, children_fill, pass_bytes}
-use Rattle.spec_graph.proofs.LayLemmas.{IsBase, HasBottom, bottom_turned, order_cases, lays_read, can_make, begins_taken, lays_spans, grows, lays_none, lays_state, joins, extras_same, Peeled, bare_place, one_more, peel, starts, sound, nothing_laid}
+use Rattle.spec_graph.specs.Links.{IsAt, IsWay, HasWay, IsWholeTo}
+use Rattle.spec_graph.proofs.SightLemmas.{Facts, lead_once, share_on, same_token, sees_one, clash, sees_shared, passes_shared}
+use Rattle.spec_graph.proofs.EntryLemmas.{token_says, extra_says, node_tells, kind_of, filling_tree, filling_extra, filling_turned, children_fill, pass_bytes}
+use Rattle.spec_graph.proofs.LayLemmas.{IsBase, HasBottom, bottom_turned, order_cases, lays_read, can_make, begins_taken, lays_spans, grows, lays_none, lays_state, split, joins, extras_same, not_stood, Peeled, bare_place, one_more, peel, starts, sound, nothing_laid}
 use Rattle.spec_graph.proofs.OrderLemmas.{before_lays}
 
 module _ (P : Parsing) (facts : Facts P) where
@@ -156,9 +153,9 @@ module _ (P : Parsing) (facts : Facts P) where
           (made_before δ p [] p δ ks end ε xs look number left pr (flat_before δ p) inner outer all late
           (taken_alone ks w γ q p δ (before_lays P facts base rank k γ q w p δ l) taken) folds count deep earlier)
 
--- ---- soundness, where runs go on from the start
+-- ---- soundness, over the stack from which runs go on
 
-module _ (P : Parsing) (facts : Facts P) (base : IsBase P) (fresh : P.stack ≡ []) (zero_place : P.place ≡ 0) where
+module _ (P : Parsing) (facts : Facts P) (base : IsBase P) where
   -- sound, as told of what is laid from the start
   pub record IsLaid (heads : List Head) (l : Link) (t : Tree) : Type 0 where
     pub under : List ℕ
@@ -204,28 +201,46 @@ module _ (P : Parsing) (facts : Facts P) (base : IsBase P) (fresh : P.stack ≡ 
     where
       bottom_none : (ts : List Tree) (m : ℕ) (μ : List ℕ) → Lays P γ q ts m μ → μ ≡ [] → m ≡ 0 → (ts ≡ []) × (γ ≡ []) × (q ≡ 0)
       bottom_none ts m μ l none z =
-          let e = nothing_laid P facts base fresh zero_place γ q ts m μ l none z in
+          let e = nothing_laid P facts base γ q ts m μ l none z in
           let h = lays_none P facts base γ q ts m μ l e in
           (e, sym h.1 ∙ none, sym h.0 ∙ z)
 
-  -- such a way from the start is reached, where no extra is passed at its head
-  pub way_reached : (heads : List Head) (ts : List Tree) (h p : ℕ) → (w : WayLaid heads 0 [] 0 ts h p) → ((s : Symbol) (pad size : ℕ) → PassesAt P w.now p s pad size → ⊥) → IsReached P.grammar P.text (record { stack = ts; place = p })
-  way_reached heads ts h p w quiet =
-      let f = sound P facts base fresh zero_place [] 0 ts p w.now 0 at_first w.lays [] refl (λ a b. refl) in
-      by f (peel P facts base w.now p f.extras f.look w.now f.lays f.all_extras (omega (arith, zero_place)) refl)
-    where
-      by : (f : ComesOver P [] ts 0 p w.now) → Peeled P facts base w.now p f.extras f.look → IsReached P.grammar P.text (record { stack = ts; place = p })
-      by f (bare_place none place) =
-          subst (λ (u : List Tree). IsReached P.grammar P.text (record { stack = u; place = p })) (append-nil ts)
-          (subst (λ (m : ℕ). IsReached P.grammar P.text (record { stack = ts ++ []; place = m })) (sym place)
-          (subst (λ (u : List Tree). IsReached P.grammar P.text (record { stack = u ++ (ts ++ []); place = f.look })) none f.run))
-      by f (one_more ys s pad size is late first rest all) = absurd (quiet s pad size first)
-
   -- ---- what can be packed
 
-  -- the token that is seen where a tree begins, and its pad
-  abbrev Reads : List ℕ → ℕ → ℕ → Type 0
-  Reads γ q low = (s : Symbol) × (pad : ℕ) × (size : ℕ) × SeesAt P γ q (token s pad size) × (low ≡ pad)
+  -- one entry of the stack
+  abbrev Entry : Tree → ℕ → Type 0
+  Entry t q = (above : List Tree) × (below : List Tree) × (P.stack ≡ above ++ t ∷ below) × (q ≡ all_spans below)
+
+  -- entries with bytes at one place are one
+  one_entry : (stack above below over under : List Tree) (t u : Tree) → stack ≡ above ++ t ∷ below → stack ≡ over ++ u ∷ under → all_spans below ≡ all_spans under → 0 < span_of t → 0 < span_of u → t ≡ u
+  one_entry stack [] below [] under t u is at same lt lt2 = let e : t ∷ below ≡ u ∷ under = sym is ∙ at in cc
+  one_entry stack [] below (y ∷ over) under t u is at same lt lt2 =
+      let e : t ∷ below ≡ y ∷ (over ++ u ∷ under) = sym is ∙ at in
+      let f : below ≡ over ++ u ∷ under = cc in
+      let n = ap all_spans f in
+      let m = all_spans_append over (u ∷ under) in
+      absurd (omega (arith, n, m, same, lt2))
+  one_entry stack (x ∷ above) below [] under t u is at same lt lt2 =
+      let e : u ∷ under ≡ x ∷ (above ++ t ∷ below) = sym at ∙ is in
+      let f : under ≡ above ++ t ∷ below = cc in
+      let n = ap all_spans f in
+      let m = all_spans_append above (t ∷ below) in
+      absurd (omega (arith, n, m, same, lt))
+  one_entry stack (x ∷ above) below (y ∷ over) under t u is at same lt lt2 =
+      let e : x ∷ (above ++ t ∷ below) ≡ y ∷ (over ++ u ∷ under) = sym is ∙ at in
+      let f : above ++ t ∷ below ≡ over ++ u ∷ under = cc in
+      one_entry (above ++ t ∷ below) above below over under t u refl f same lt lt2
+
+  same_entry : (t u : Tree) (q : ℕ) → Entry t q → Entry u q → 0 < span_of t → 0 < span_of u → t ≡ u
+  same_entry t u q a b lt lt2 = one_entry P.stack a.0 a.1 b.0 b.1 t u a.2 b.2 (sym a.3 ∙ b.3) lt lt2
+
+  entry_early : (t : Tree) (q : ℕ) → Entry t q → q < P.place
+  entry_early t q a = let h = base.low a.0 a.1 t a.2 in let e = a.3 in omega (arith, h, e)
+
+  -- what lies where a tree begins, and its pad: an entry of the stack, or the token that is seen
+  data Reads (γ : List ℕ) (q low : ℕ) : Type 0 where
+    stands : (t : Tree) → Entry t q → is_extra_node t ≡ false → 0 < span_of t → low ≡ pad_of t → Reads γ q low
+    reads : (s : Symbol) (pad size : ℕ) → P.place ≤ q → SeesAt P γ q (token s pad size) → low ≡ pad → Reads γ q low
 
   abbrev low_pad : List Tree → ℕ
   low_pad [] = 0
@@ -241,15 +256,23 @@ module _ (P : Parsing) (facts : Facts P) (base : IsBase P) (fresh : P.stack ≡ 
   low_turned [] = refl
   low_turned (k ∷ ks) = ap low_pad (reverse-append (k ∷ []) ks) ∙ low_front (reverse ks) k
 
+  moved_entry : (t : Tree) (q p : ℕ) → p ≡ q → Entry t p → Entry t q
+  moved_entry t q p f a = (a.0, a.1, a.2, sym f ∙ a.3)
+
   moved_read : (γ δ : List ℕ) (q p low low2 : ℕ) → δ ≡ γ → p ≡ q → low2 ≡ low → Reads δ p low → Reads γ q low2
-  moved_read γ δ q p low low2 e f g r = (r.0, r.1, r.2, subst (λ (m : ℕ). SeesAt P γ m (token r.0 r.1 r.2)) f (subst (λ (h : List ℕ). SeesAt P h p (token r.0 r.1 r.2)) e r.3), g ∙ r.4)
+  moved_read γ δ q p low low2 e f g (stands t a fills lt is) = stands t (moved_entry t q p f a) fills lt (g ∙ is)
+  moved_read γ δ q p low low2 e f g (reads s pad size late sees is) =
+      reads s pad size (omega (arith, late, f)) (subst (λ (m : ℕ). SeesAt P γ m (token s pad size)) f (subst (λ (h : List ℕ). SeesAt P h p (token s pad size)) e sees)) (g ∙ is)
 
   lowest : (γ : List ℕ) (q : ℕ) (w : List Tree) (p : ℕ) (δ : List ℕ) → Lays P γ q w p δ → HasBottom w → Reads γ q (low_pad w)
   lowest γ q _ _ _ (flat _ _) h = absurd h
-  lowest γ q _ _ _ (stood _ _ w p δ t above below l at place share) h = absurd (let lt = base.low above below t at in omega (arith, lt, zero_place))
+  lowest γ q _ _ _ (stood _ _ [] p δ t above below l at place share) h =
+      let e = lays_none P facts base γ q [] p δ l refl in
+      moved_read γ δ q p (pad_of t) (pad_of t) e.1 e.0 refl (stands t (above, below, at, place) h.0 h.1 refl)
+  lowest γ q _ _ _ (stood _ _ (f ∷ w) p δ t above below l at place share) h = lowest γ q (f ∷ w) p δ l h
   lowest γ q _ _ _ (shifted _ _ [] p δ s pad size l late sees acts) h =
       let e = lays_none P facts base γ q [] p δ l refl in
-      moved_read γ δ q p pad (pad_of (token_tree s pad size)) e.1 e.0 (token_says facts.laws.runs s pad size).pad (s, pad, size, sees, refl)
+      moved_read γ δ q p pad (pad_of (token_tree s pad size)) e.1 e.0 (token_says facts.laws.runs s pad size).pad (reads s pad size late sees refl)
   lowest γ q _ _ _ (shifted _ _ (f ∷ w) p δ s pad size l late sees acts) h = lowest γ q (f ∷ w) p δ l h
   lowest γ q _ _ _ (passed _ _ [] p δ s pad size l late passes) h = absurd (true≢false (sym (extra_says facts.laws.runs s pad size).kind ∙ h.0))
   lowest γ q _ _ _ (passed _ _ (f ∷ w) p δ s pad size l late passes) h = lowest γ q (f ∷ w) p δ l h
@@ -266,10 +289,18 @@ module _ (P : Parsing) (facts : Facts P) (base : IsBase P) (fresh : P.stack ≡ 
       long [] lt = lt
       long (k ∷ ks) lt = omega arith
 
-  -- an extra is what is seen where it begins
-  extra_read : (γ : List ℕ) (q : ℕ) (w : List Tree) (t : Tree) (p : ℕ) (δ : List ℕ) → Lays P γ q w p δ → w ≡ t ∷ [] → is_extra_node t ≡ true → (s : Symbol) × (pad : ℕ) × (size : ℕ) × (t ≡ extra_tree s pad size) × PassesAt P γ q s pad size
+  -- an extra is an entry of the stack, or what is seen where it begins
+  data IsRead (γ : List ℕ) (q : ℕ) (t : Tree) : Type 0 where
+    stands_there : Entry t q → IsRead γ q t
+    is_read : (s : Symbol) (pad size : ℕ) → P.place ≤ q → t ≡ extra_tree s pad size → PassesAt P γ q s pad size → IsRead γ q t
+
+  extra_read : (γ : List ℕ) (q : ℕ) (w : List Tree) (t : Tree) (p : ℕ) (δ : List ℕ) → Lays P γ q w p δ → w ≡ t ∷ [] → is_extra_node t ≡ true → IsRead γ q t
   extra_read γ q _ t _ _ (flat _ _) is e = absurd (let h : [] ≡ t ∷ [] = is in cc)
-  extra_read γ q _ t _ _ (stood _ _ w p δ u above below l at place share) is e = absurd (let lt = base.low above below u at in omega (arith, lt, zero_place))
+  extra_read γ q _ t _ _ (stood _ _ w p δ u above below l at place share) is e =
+      let same : u ≡ t = cc in
+      let none : w ≡ [] = cc in
+      let h = lays_none P facts base γ q w p δ l none in
+      stands_there (moved_entry t q p h.0 (subst (λ (x : Tree). Entry x p) same (above, below, at, place)))
   extra_read γ q _ t _ _ (shifted _ _ w p δ s pad size l late sees acts) is e =
       let same : token_tree s pad size ≡ t = cc in
       absurd (true≢false (sym e ∙ ap is_extra_node (sym same) ∙ (token_says facts.laws.runs s pad size).kind))
@@ -280,24 +311,44 @@ module _ (P : Parsing) (facts : Facts P) (base : IsBase P) (fresh : P.stack ≡ 
       let same : extra_tree s pad size ≡ t = cc in
       let none : w ≡ [] = cc in
       let h = lays_none P facts base γ q w p δ l none in
-      (s, pad, size, sym same, subst (λ (m : ℕ). PassesAt P γ m s pad size) h.0 (subst (λ (r : List ℕ). PassesAt P r p s pad size) h.1 passes))
+      is_read s pad size (let f = h.0 in omega (arith, late, f)) (sym same) (subst (λ (m : ℕ). PassesAt P γ m s pad size) h.0 (subst (λ (r : List ℕ). PassesAt P r p s pad size) h.1 passes))
 
   alone_spans : (γ : List ℕ) (q : ℕ) (t : Tree) (p : ℕ) (δ : List ℕ) → Lays P γ q (t ∷ []) p δ → q + span_of t ≡ p
   alone_spans γ q t p δ l = let h = lays_spans P facts base γ q (t ∷ []) p δ l in omega (arith, h)
 
-  pub passes_tree : (γ : List ℕ) (q : ℕ) (t : Tree) (p : ℕ) (δ : List ℕ) → Lays P γ q (t ∷ []) p δ → is_extra_node t ≡ true → PassesTree P γ q t p
-  passes_tree γ q t p δ l e =
-      let r = extra_read γ q (t ∷ []) t p δ l refl e in
-      let x = extra_says facts.laws.runs r.0 r.1 r.2 in
-      let span : span_of t ≡ r.1 + r.2 = ap span_of r.3 ∙ (let y = x.pad in let z = x.size in omega (arith, y, z)) in
-      record {
-        symbol = r.0;
-        pad = r.1;
-        size = r.2;
-        passes = r.4;
-        tree_is = r.3;
-        ends = let a = alone_spans γ q t p δ l in omega (arith, a, span);
+  extra_span : (t : Tree) (s : Symbol) (pad size : ℕ) → t ≡ extra_tree s pad size → span_of t ≡ pad + size
+  extra_span t s pad size is =
+      let x = extra_says facts.laws.runs s pad size in
+      ap span_of is ∙ (let y = x.pad in let z = x.size in omega (arith, y, z))
+
+  pub passes_tree : (γ : List ℕ) (q : ℕ) (t : Tree) (p : ℕ) (δ : List ℕ) → P.place ≤ p → Lays P γ q (t ∷ []) p δ → is_extra_node t ≡ true → PassesTree P γ q t p
+  passes_tree γ q t p δ late l e = by (extra_read γ q (t ∷ []) t p δ l refl e)
+    where
+      by : IsRead γ q t → PassesTree P γ q t p
+      by (stands_there a) = absurd (not_stood P facts base a.0 a.1 t q a.2 a.3 e (let s = alone_spans γ q t p δ l in omega (arith, s, late)))
+      by (is_read s pad size early is passes) = record {
+        symbol = s;
+        pad = pad;
+        size = size;
+        passes = passes;
+        tree_is = is;
+        ends = let a = alone_spans γ q t p δ l in let span = extra_span t s pad size is in omega (arith, a, span);
       }
+
+  -- extras have bytes
+  pub extra_bytes : (γ : List ℕ) (q : ℕ) (t : Tree) (p : ℕ) (δ : List ℕ) → Lays P γ q (t ∷ []) p δ → is_extra_node t ≡ true → 0 < span_of t
+  extra_bytes γ q t p δ l e = by (extra_read γ q (t ∷ []) t p δ l refl e)
+    where
+      by : IsRead γ q t → 0 < span_of t
+      by (stands_there a) = base.some_extra a.0 a.1 t a.2 e
+      by (is_read s pad size early is passes) = let b = pass_bytes P facts γ q s pad size passes in let span = extra_span t s pad size is in omega (arith, b, span)
+
+  same_low : (γ : List ℕ) (q n m : ℕ) → Reads γ q n → Reads γ q m → n ≡ m
+  same_low γ q n m (stands t a fills lt is) (stands u b fills2 lt2 at) = is ∙ ap pad_of (same_entry t u q a b lt lt2) ∙ sym at
+  same_low γ q n m (stands t a fills lt is) (reads s pad size late sees at) = absurd (let h = entry_early t q a in omega (arith, h, late))
+  same_low γ q n m (reads s pad size late sees at) (stands t a fills lt is) = absurd (let h = entry_early t q a in omega (arith, h, late))
+  same_low γ q n m (reads s pad size late sees is) (reads r pad2 size2 late2 sees2 at) =
+      is ∙ (same_token s r pad pad2 size size2 (sees_one P facts γ q (token s pad size) (token r pad2 size2) sees sees2)).1 ∙ sym at
 
   same_read : (γ : List ℕ) (q : ℕ) (t u : Tree) (p : ℕ) (δ ε : List ℕ) → Lays P γ q (t ∷ []) p δ → Lays P γ q (u ∷ []) p ε → is_extra_node t ≡ false → is_extra_node u ≡ false → pad_of t ≡ pad_of u
   same_read γ q t u p δ ε l m e f = by (order_cases 0 (span_of t))
@@ -306,22 +357,95 @@ module _ (P : Parsing) (facts : Facts P) (base : IsBase P) (fresh : P.stack ≡ 
       spans = omega (arith, alone_spans γ q t p δ l, alone_spans γ q u p ε m)
 
       by : (0 < span_of t) ⊎ (span_of t ≤ 0) → pad_of t ≡ pad_of u
-      by (inl some_bytes) =
-          let a = lowest γ q (t ∷ []) p δ l (e, some_bytes) in
-          let b = lowest γ q (u ∷ []) p ε m (f, omega (arith, some_bytes, spans)) in
-          let same = same_token a.0 b.0 a.1 b.1 a.2 b.2 (sees_one P facts γ q (token a.0 a.1 a.2) (token b.0 b.1 b.2) a.3 b.3) in
-          a.4 ∙ same.1 ∙ sym b.4
+      by (inl some_bytes) = same_low γ q (pad_of t) (pad_of u) (lowest γ q (t ∷ []) p δ l (e, some_bytes)) (lowest γ q (u ∷ []) p ε m (f, omega (arith, some_bytes, spans)))
       by (inr none) = omega (arith, none, spans)
 
   -- a tree that is not an extra, and an extra, do not begin at one place with one end
   mixed : (γ : List ℕ) (q : ℕ) (t u : Tree) (p : ℕ) (δ ε : List ℕ) → Lays P γ q (t ∷ []) p δ → Lays P γ q (u ∷ []) p ε → is_extra_node t ≡ false → is_extra_node u ≡ true → ⊥
-  mixed γ q t u p δ ε l m e f =
-      let r = extra_read γ q (u ∷ []) u p ε m refl f in
-      let b = pass_bytes P facts γ q r.0 r.1 r.2 r.4 in
-      let x = extra_says facts.laws.runs r.0 r.1 r.2 in
-      let span_u : span_of u ≡ r.1 + r.2 = ap span_of r.3 ∙ (let y = x.pad in let z = x.size in omega (arith, y, z)) in
-      let some_bytes : 0 < span_of t = omega (arith, b, span_u, alone_spans γ q t p δ l, alone_spans γ q u p ε m) in
-      clash P facts γ q r.0 r.1 r.2 (starts P facts base γ q (t ∷ []) p δ l (omega (arith, zero_place)) (e, some_bytes)) r.4
+  mixed γ q t u p δ ε l m e f = by (extra_read γ q (u ∷ []) u p ε m refl f)
+    where
+      extra_some : 0 < span_of u
+      extra_some = extra_bytes γ q u p ε m f
+
+      some_bytes : 0 < span_of t
+      some_bytes = omega (arith, extra_some, alone_spans γ q t p δ l, alone_spans γ q u p ε m)
+
+      entry : Entry u q → Reads γ q (pad_of t) → ⊥
+      entry a (stands v b fills lt is) = true≢false (sym f ∙ ap is_extra_node (same_entry u v q a b extra_some lt) ∙ fills)
+      entry a (reads s pad size late sees is) = let h = entry_early u q a in omega (arith, h, late)
+
+      by : IsRead γ q u → ⊥
+      by (stands_there a) = entry a (lowest γ q (t ∷ []) p δ l (e, some_bytes))
+      by (is_read s pad size late is passes) = clash P facts γ q s pad size (starts P facts base γ q (t ∷ []) p δ l late (e, some_bytes)) passes
+
+  same_extra : (γ : List ℕ) (q : ℕ) (t u : Tree) → 0 < span_of t → 0 < span_of u → IsRead γ q t → IsRead γ q u → t ≡ u
+  same_extra γ q t u lt lt2 (stands_there a) (stands_there b) = same_entry t u q a b lt lt2
+  same_extra γ q t u lt lt2 (stands_there a) (is_read s pad size late is passes) = absurd (let h = entry_early t q a in omega (arith, h, late))
+  same_extra γ q t u lt lt2 (is_read s pad size late is passes) (stands_there a) = absurd (let h = entry_early u q a in omega (arith, h, late))
+  same_extra γ q t u lt lt2 (is_read s pad size late is passes) (is_read r pad2 size2 late2 at passes2) =
+      let same = same_token s r pad pad2 size size2 (sees_one P facts γ q (token s pad size) (token r pad2 size2) passes.sees passes2.sees) in
+      is ∙ ap (λ (x : Symbol). extra_tree x pad size) same.0 ∙ ap (λ (x : ℕ). extra_tree r x size) same.1 ∙ ap (λ (x : ℕ). extra_tree r pad2 x) same.2 ∙ sym at
+
+  -- extras up to one place are always the same
+  last_of : (xs : List Tree) → (xs ≡ []) ⊎ ((us : List Tree) × (x : Tree) × (xs ≡ us ++ x ∷ []))
+  last_of [] = inl refl
+  last_of (y ∷ ys) = by (last_of ys)
+    where
+      by : (ys ≡ []) ⊎ ((us : List Tree) × (x : Tree) × (ys ≡ us ++ x ∷ [])) → (y ∷ ys ≡ []) ⊎ ((us : List Tree) × (x : Tree) × (y ∷ ys ≡ us ++ x ∷ []))
+      by (inl e) = inr ([], y, ap (λ (l : List Tree). y ∷ l) e)
+      by (inr w) = inr (y ∷ w.0, w.1, ap (λ (l : List Tree). y ∷ l) w.2)
+
+  extras_parts : (us : List Tree) (x : Tree) → AreExtras (us ++ x ∷ []) → AreExtras us × (is_extra_node x ≡ true)
+  extras_parts [] x a = (tt, a.0)
+  extras_parts (u ∷ us) x a = let r = extras_parts us x a.1 in ((a.0, r.0), r.1)
+
+  -- the lowest of some extras, and the others over it
+  record Lowest (γ : List ℕ) (q : ℕ) (us : List Tree) (x : Tree) (p : ℕ) : Type 0 where
+    first : Lays P γ q (x ∷ []) (q + span_of x) γ
+    rest : Lays P γ (q + span_of x) us p γ
+    extras : AreExtras us
+    extra : is_extra_node x ≡ true
+
+  lowest_extra : (γ : List ℕ) (q : ℕ) (us : List Tree) (x : Tree) (p : ℕ) → Lays P γ q (us ++ x ∷ []) p γ → AreExtras (us ++ x ∷ []) → Lowest γ q us x p
+  lowest_extra γ q us x p l a =
+      let s = split P facts base us (x ∷ []) γ q p γ l in
+      let e = extras_parts us x a in
+      let read : s.between ≡ γ = extras_same P facts base (x ∷ []) γ q s.place s.between (e.1, tt) s.low in
+      let place : s.place ≡ q + span_of x = sym (alone_spans γ q x s.place s.between s.low) in
+      record {
+        first = subst (λ (r : List ℕ). Lays P γ q (x ∷ []) (q + span_of x) r) read (subst (λ (m : ℕ). Lays P γ q (x ∷ []) m s.between) place s.low);
+        rest = subst (λ (r : List ℕ). Lays P r (q + span_of x) us p γ) read (subst (λ (m : ℕ). Lays P s.between m us p γ) place s.high);
+        extras = e.0;
+        extra = e.1;
+      }
+
+  no_more : (γ : List ℕ) (q : ℕ) (us : List Tree) (x : Tree) (p : ℕ) → Lays P γ q [] p γ → Lowest γ q us x p → ⊥
+  no_more γ q us x p none w =
+      let a = grows P facts base γ (q + span_of x) us p γ w.rest in
+      let b = extra_bytes γ q x (q + span_of x) γ w.first w.extra in
+      let c = (lays_none P facts base γ q [] p γ none refl).0 in
+      omega (arith, a, b, c)
+
+  pub extras_once : (n : ℕ) (γ : List ℕ) (q : ℕ) (xs ys : List Tree) (p : ℕ) → length xs < n → Lays P γ q xs p γ → AreExtras xs → Lays P γ q ys p γ → AreExtras ys → xs ≡ ys
+  extras_once zero γ q xs ys p lt l a m b = absurd (omega (arith, lt))
+  extras_once (suc n) γ q xs ys p lt l a m b = by (last_of xs) (last_of ys) (λ r us vs k c d f e. extras_once n γ r us vs p k c d f e)
+    where
+      by : (xs ≡ []) ⊎ ((us : List Tree) × (x : Tree) × (xs ≡ us ++ x ∷ [])) → (ys ≡ []) ⊎ ((vs : List Tree) × (y : Tree) × (ys ≡ vs ++ y ∷ []))
+          → ((r : ℕ) (us vs : List Tree) → length us < n → Lays P γ r us p γ → AreExtras us → Lays P γ r vs p γ → AreExtras vs → us ≡ vs) → xs ≡ ys
+      by (inl e) (inl f) again = e ∙ sym f
+      by (inl e) (inr v) again =
+          absurd (no_more γ q v.0 v.1 p (subst (λ (ts : List Tree). Lays P γ q ts p γ) e l) (lowest_extra γ q v.0 v.1 p (subst (λ (ts : List Tree). Lays P γ q ts p γ) v.2 m) (subst AreExtras v.2 b)))
+      by (inr u) (inl f) again =
+          absurd (no_more γ q u.0 u.1 p (subst (λ (ts : List Tree). Lays P γ q ts p γ) f m) (lowest_extra γ q u.0 u.1 p (subst (λ (ts : List Tree). Lays P γ q ts p γ) u.2 l) (subst AreExtras u.2 a)))
+      by (inr u) (inr v) again =
+          let x = lowest_extra γ q u.0 u.1 p (subst (λ (ts : List Tree). Lays P γ q ts p γ) u.2 l) (subst AreExtras u.2 a) in
+          let y = lowest_extra γ q v.0 v.1 p (subst (λ (ts : List Tree). Lays P γ q ts p γ) v.2 m) (subst AreExtras v.2 b) in
+          let one : u.1 ≡ v.1 =
+          same_extra γ q u.1 v.1 (extra_bytes γ q u.1 (q + span_of u.1) γ x.first x.extra) (extra_bytes γ q v.1 (q + span_of v.1) γ y.first y.extra)
+          (extra_read γ q (u.1 ∷ []) u.1 (q + span_of u.1) γ x.first refl x.extra) (extra_read γ q (v.1 ∷ []) v.1 (q + span_of v.1) γ y.first refl y.extra) in
+          let count : length xs ≡ length u.0 + 1 = ap (λ (ts : List Tree). length ts) u.2 ∙ length-append u.0 (u.1 ∷ []) in
+          let inner : u.0 ≡ v.0 = again (q + span_of u.1) u.0 v.0 (omega (arith, count, lt)) x.rest x.extras (subst (λ (t : Tree). Lays P γ (q + span_of t) v.0 p γ) (sym one) y.rest) y.extras in
+          u.2 ∙ ap (λ (ts : List Tree). ts ++ u.1 ∷ []) inner ∙ ap (λ (t : Tree). v.0 ++ t ∷ []) one ∙ sym v.2
 
   -- What is laid between two heads twice is of one kind, with one symbol and the same bytes.
   pub like : (heads : List Head) (a b : ℕ) (γ δ under over : List ℕ) (q p : ℕ) (t u : Tree) → IsAt P heads a γ q → IsAt P heads b δ p → IsAt P heads a under q → IsAt P heads b over p
@@ -342,10 +466,7 @@ module _ (P : Parsing) (facts : Facts P) (base : IsBase P) (fresh : P.stack ≡ 
 
       by : (x y : Bool) → is_extra_node t ≡ x → is_extra_node u ≡ y → AreAlike t u
       by true true e f =
-          let r = extra_read γ q (t ∷ []) t p δ l refl e in
-          let z = extra_read γ q (u ∷ []) u p m.now m.lays refl f in
-          let same = same_token r.0 z.0 r.1 z.1 r.2 z.2 (sees_one P facts γ q (token r.0 r.1 r.2) (token z.0 z.1 z.2) r.4.sees z.4.sees) in
-          let one : t ≡ u = r.3 ∙ ap (λ (x : Symbol). extra_tree x r.1 r.2) same.0 ∙ ap (λ (x : ℕ). extra_tree z.0 x r.2) same.1 ∙ ap (λ (x : ℕ). extra_tree z.0 z.1 x) same.2 ∙ sym z.3 in
+          let one = same_extra γ q t u (extra_bytes γ q t p δ l e) (extra_bytes γ q u p m.now m.lays f) (extra_read γ q (t ∷ []) t p δ l refl e) (extra_read γ q (u ∷ []) u p m.now m.lays refl f) in
           record { symbol = ap symbol_of one; extra = ap is_extra_node one; pad = ap pad_of one; size = ap size_of one }
       by true false e f = absurd (mixed γ q u t p m.now δ m.lays l f e)
       by false true e f = absurd (mixed γ q t u p δ m.now l m.lays e f)
@@ -379,3 +500,19 @@ module _ (P : Parsing) (facts : Facts P) (base : IsBase P) (fresh : P.stack ≡ 
       read_is = lays_read P facts under q (t ∷ []) p moved.now moved.lays
           ∙ ap (λ (r : List ℕ). r ++ under) (same_filling t u alike.symbol alike.extra)
           ∙ sym (lays_read P facts under q (u ∷ []) p over m)
+
+  -- ---- what is reached, where runs go on from the start
+
+  -- such a way from the start is reached, where no extra is passed at its head
+  module _ (fresh : P.stack ≡ []) (zero_place : P.place ≡ 0) where
+    pub way_reached : (heads : List Head) (ts : List Tree) (h p : ℕ) → (w : WayLaid heads 0 [] 0 ts h p) → ((s : Symbol) (pad size : ℕ) → PassesAt P w.now p s pad size → ⊥) → IsReached P.grammar P.text (record { stack = ts; place = p })
+    way_reached heads ts h p w quiet =
+        let f = sound P facts base fresh zero_place [] 0 ts p w.now 0 at_first w.lays [] refl (λ a b. refl) in
+        by f (peel P facts base w.now p f.extras f.look w.now f.lays f.all_extras (omega (arith, zero_place)) refl)
+      where
+        by : (f : ComesOver P [] ts 0 p w.now) → Peeled P facts base w.now p f.extras f.look → IsReached P.grammar P.text (record { stack = ts; place = p })
+        by f (bare_place none place) =
+            subst (λ (u : List Tree). IsReached P.grammar P.text (record { stack = u; place = p })) (append-nil ts)
+            (subst (λ (m : ℕ). IsReached P.grammar P.text (record { stack = ts ++ []; place = m })) (sym place)
+            (subst (λ (u : List Tree). IsReached P.grammar P.text (record { stack = u ++ (ts ++ []); place = f.look })) none f.run))
+        by f (one_more ys s pad size is late first rest all) = absurd (quiet s pad size first)

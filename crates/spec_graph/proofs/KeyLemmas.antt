@@ -1,29 +1,29 @@
 -- A graph that is whole up to a key is whole up to the next one, once all reductions of the key are done.
-use Rattle.std.proofs.Common.{◌≡◌, ◌∙◌, sym, ap, refl, subst, ℕ, zero, suc, ◌+◌, ◌<◌, ◌≤◌, ◌⊎◌, inl, inr, ⊎_elim, Bool, true, false, List, [], ◌∷◌, ◌++◌, append-nil, length, reverse, map, Option, Some, None, arith}
+use Rattle.std.proofs.Common.{◌≡◌, ◌∙◌, sym, ap, refl, subst, ℕ, zero, suc, ◌+◌, ◌<◌, ◌≤◌, ◌⊎◌, inl, inr, ⊎_elim, List, [], ◌∷◌, ◌++◌, length, reverse, map, None, arith}
 use Rattle.std.specs.List.{Contains}
 use Rattle.std.proofs.lemmas.Bool.{cases_order}
-use Rattle.std.proofs.lemmas.List.{reverse-append, reverse-reverse, length-map, length-reverse}
+use Rattle.std.proofs.lemmas.List.{reverse-append, reverse-reverse, length-reverse}
 use Rattle.ts_core.specs.declared.flat.Production.{Production}
 use Rattle.ts_core.specs.declared.symbol.Symbol.{Symbol}
 use Rattle.spec_lexing.specs.Lexing.{token}
-use Rattle.spec_tables.specs.Actions.{Act, shift, reduce}
+use Rattle.spec_tables.specs.Actions.{Act, shift}
 use Rattle.spec_trees.specs.declared.tree.Tree.{Tree}
-use Rattle.spec_trees.specs.Trees.{symbol_of, span_of, all_spans, tree_depth, bare}
+use Rattle.spec_trees.specs.Trees.{span_of, tree_depth}
 use Rattle.spec_trees.specs.Made.{form_of, reduced, filling, BeginsFilled, most_depth}
-use Rattle.spec_runs.specs.Configurations.{token_tree, AreExtras}
+use Rattle.spec_runs.specs.Configurations.{token_tree}
 use Rattle.spec_packing.proofs.MadeLemmas.{IsMade, AllMade, CanMake}
 use Rattle.spec_graph.specs.declared.graph.Head.{Head}
 use Rattle.spec_graph.specs.declared.graph.Link.{Link}
-use Rattle.spec_graph.specs.States.{LeadsTo, AreRanks}
-use Rattle.spec_graph.specs.Laying.{Parsing, SeesAt, PassesAt, ReducesAt, extra_tree, node_made, Taken, some, nothing, Lays, CanMakeNode}
-use Rattle.spec_graph.specs.Replacing.{Replaces, AllReplace, depth_over}
+use Rattle.spec_graph.specs.States.{AreRanks}
+use Rattle.spec_graph.specs.Laying.{Parsing, SeesAt, PassesAt, extra_tree, node_made, Taken, some, nothing, Lays, CanMakeNode}
+use Rattle.spec_graph.specs.Replacing.{Replaces, AllReplace}
 use Rattle.spec_graph.specs.Keys.{Key, Earlier, IsKey, IsNextKey, LaysBefore, flat_before, stood_before, shifted_before, passed_before, made_before}
-use Rattle.spec_graph.specs.Links.{IsAt, IsWay, way_trees, depths_of, StandsForTree, AllStandFor, HasWay, HasLink, IsWholeTo, IsDue, HasNoneDue, way_depth, AreDone, HasGrown, AreAdded, IsOpened, HasStood}
+use Rattle.spec_graph.specs.Links.{IsAt, IsWay, way_trees, depths_of, AllStandFor, HasLink, IsWholeTo, HasNoneDue, way_depth, AreDone, HasGrown, AreAdded, IsOpened, HasStood}
 use Rattle.spec_graph.proofs.SightLemmas.{Facts}
 use Rattle.spec_graph.proofs.EntryLemmas.{node_tells, lawful_at, filling_turned, all_made_turned}
 use Rattle.spec_graph.proofs.ReplaceLemmas.{replaces_chain, replaces_bare, all_turned, same_symbols, same_extras, same_begins, same_length, AllDeeper, deeper_over, deeper_turned}
 use Rattle.spec_graph.proofs.NodeLemmas.{replaces_reduced}
-use Rattle.spec_graph.proofs.LayLemmas.{IsBase, lays_read, lays_made, can_make, begins_taken, grows, lays_none, order_cases}
+use Rattle.spec_graph.proofs.LayLemmas.{IsBase, can_make, begins_taken, grows, lays_none, order_cases}
 use Rattle.spec_graph.proofs.OrderLemmas.{before_lays, order_inner, order_outer}
 use Rattle.spec_graph.proofs.GraphLemmas.{has_way, at_place}
 

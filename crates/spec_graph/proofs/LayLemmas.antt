@@ -1,25 +1,25 @@
 -- Runs lay entries one after another, and what is laid is reached.
-use Rattle.std.proofs.Common.{◌≡◌, ◌∙◌, sym, ap, refl, subst, ℕ, zero, suc, ◌+◌, ◌<◌, ◌≤◌, ◌⊎◌, inl, inr, ⊎_elim, Bool, true, false, true≢false, List, [], ◌∷◌, ◌++◌, append-nil, append_assoc, length, length-append, reverse, Option, Some, None, arith}
+use Rattle.std.proofs.Common.{◌≡◌, ◌∙◌, sym, ap, refl, subst, ℕ, zero, suc, ◌+◌, ◌<◌, ◌≤◌, ◌⊎◌, inl, inr, Bool, true, false, true≢false, List, [], ◌∷◌, ◌++◌, append-nil, append_assoc, length, length-append, reverse, Option, Some, None, is_some, IsTrue, arith}
+use lib.IntN.{ℤ, ◌+ℤ◌}
 use Rattle.std.proofs.lemmas.Bool.{cases_order}
-use Rattle.std.proofs.lemmas.List.{reverse-append, reverse-reverse, length-map, length-reverse}
+use Rattle.std.proofs.lemmas.List.{reverse-append, length-map, length-reverse}
 use Rattle.ts_core.specs.declared.flat.FlatGrammar.{FlatGrammar}
 use Rattle.ts_core.specs.declared.flat.Production.{Production}
 use Rattle.ts_core.specs.declared.flat.Step.{Step}
 use Rattle.ts_core.specs.declared.symbol.Symbol.{Symbol}
-use Rattle.spec_grammar.specs.Symbols.{production_at}
+use Rattle.spec_grammar.specs.Symbols.{start_symbol, production_at, is_repetition}
 use Rattle.spec_lexing.specs.Lexing.{token}
 use Rattle.spec_tables.specs.Actions.{Act, shift, reduce}
-use Rattle.spec_tables.specs.Items.{IsToken}
 use Rattle.spec_trees.specs.declared.tree.Tree.{Tree}
-use Rattle.spec_trees.specs.Trees.{symbol_of, pad_of, is_extra_node, span_of, all_spans, tree_depth, bare}
-use Rattle.spec_trees.specs.Made.{reduced, filling, step_symbols, BeginsFilled, most_depth}
-use Rattle.spec_runs.specs.Configurations.{Configuration, starting, stack_symbols, token_tree, pushed, HasMove, NextIs, AreExtras, IsReduction}
-use Rattle.spec_runs.specs.Runs.{CanMove, StepsOn, shift_token, pass_extra, reduce_trees, Run, run_here, run_on, IsReached}
-use Rattle.spec_packing.proofs.MadeLemmas.{IsMade, AllMade, CanMake, first_some, all_spans_append}
-use Rattle.spec_graph.specs.States.{LeadsTo, at_first, by_goto, ShareState}
-use Rattle.spec_graph.specs.Laying.{Parsing, SeesAt, GoesOn, PassesAt, ReducesAt, extra_tree, node_made, Taken, some, nothing, Lays, flat, stood, shifted, passed, made, CanMakeNode, ComesOver}
-use Rattle.spec_graph.proofs.SightLemmas.{Facts, same_token, sees_one, clash, stands_before, IsNarrower, narrows, passes_still, lead_once, lead_from}
-use Rattle.spec_graph.proofs.EntryLemmas.{LeafSays, token_says, extra_says, NodeSays, node_kind, filling_tree, filling_extra, filling_one, filling_append, filling_turned, filling_none, filling_extras, spans_turned, all_made_append, all_made_back, same_front, children_fill, shift_bytes, pass_bytes, shift_made, pass_made, node_is_made, node_tells}
+use Rattle.spec_trees.specs.Trees.{symbol_of, production_of, is_extra_node, all_totals, span_of, all_spans, tree_depth}
+use Rattle.spec_trees.specs.Made.{reduced, made_by, form_of, left_of, value_of, filling, step_symbols, BeginsFilled, most_depth}
+use Rattle.spec_runs.specs.Configurations.{Configuration, token_tree, AreExtras, IsReduction}
+use Rattle.spec_runs.specs.Runs.{CanMove, StepsOn, shift_token, pass_extra, reduce_trees, Run, run_here, run_on}
+use Rattle.spec_packing.proofs.MadeLemmas.{over_says, IsMade, AllMade, CanMake, first_some}
+use Rattle.spec_graph.specs.States.{LeadsTo, at_first, by_goto}
+use Rattle.spec_graph.specs.Laying.{Parsing, SeesAt, GoesOn, PassesAt, ReducesAt, extra_tree, node_made, Taken, some, nothing, Lays, flat, stood, shifted, passed, made, ComesOver}
+use Rattle.spec_graph.proofs.SightLemmas.{Facts, same_token, sees_one, clash, stands_before, IsNarrower, narrows, passes_still, lead_from}
+use Rattle.spec_graph.proofs.EntryLemmas.{token_says, extra_says, node_kind, filling_tree, filling_extra, filling_one, filling_append, filling_turned, filling_none, filling_extras, spans_turned, all_made_back, same_front, children_fill, pass_bytes, shift_made, pass_made, node_is_made, node_tells}
 
 -- ---- lists
 
@@ -75,11 +75,25 @@ order_cases a b = by (cases_order a b)
     by (inr (inl h)) = inl h
     by (inr (inr h)) = inr (omega (arith, h))
 
+-- a tree of the start rule that fills a step has a number
+abbrev pub IsRuled : FlatGrammar → Tree → Type 0
+IsRuled g t = is_extra_node t ≡ false → symbol_of t ≡ start_symbol g → IsTrue (is_some (production_of t))
+
+abbrev pub AreRuled : FlatGrammar → List Tree → Type 0
+AreRuled g [] = Unit {0}
+AreRuled g (t ∷ ts) = IsRuled g t × AreRuled g ts
+
+pub ruled_middle : (g : FlatGrammar) (above : List Tree) (t : Tree) (below : List Tree) → AreRuled g (above ++ t ∷ below) → IsRuled g t
+ruled_middle g [] t below a = a.0
+ruled_middle g (x ∷ above) t below a = ruled_middle g above t below a.1
+
 -- what is known of the stack from which runs go on
 pub record IsBase (P : Parsing) : Type 0 where
   pub spans : all_spans P.stack ≡ P.place
   pub low : (above below : List Tree) (t : Tree) → P.stack ≡ above ++ t ∷ below → all_spans below < P.place
   pub extra : (above below : List Tree) (t : Tree) → P.stack ≡ above ++ t ∷ below → is_extra_node t ≡ true → all_spans below + span_of t < P.place
+  pub some_extra : (above below : List Tree) (t : Tree) → P.stack ≡ above ++ t ∷ below → is_extra_node t ≡ true → 0 < span_of t
+  pub rule : (above below : List Tree) (t : Tree) → P.stack ≡ above ++ t ∷ below → IsRuled P.grammar t
   pub all_made : AllMade P.grammar P.stack
   pub states : (above below : List Tree) → P.stack ≡ above ++ below → (n : ℕ) × LeadsTo P.goto (filling below) n
 
@@ -142,6 +156,39 @@ module _ (P : Parsing) (facts : Facts P) where
       }),
       lays_made γ q w p δ l,
     )
+
+    -- a node of the start rule has the number of its production
+    node_ruled : (number left : ℕ) (p : Production) → production_at P.grammar number ≡ Some (left, p) → (ks : List Tree) → IsRuled P.grammar (node_made P number ks)
+    node_ruled number left p at ks fills start =
+        subst (λ (o : Option ℕ). IsTrue (is_some o)) (sym ((facts.laws.runs.keeps (reduced P.grammar number 0 None ks)).production ∙ by (left_of P.grammar number) plain)) refl
+      where
+        left_is : left_of P.grammar number ≡ left
+        left_is = rw at refl
+
+        plain : is_repetition P.grammar (left_of P.grammar number) ≡ false
+        plain =
+            ap (is_repetition P.grammar) (left_is ∙ sym (node_kind facts.laws.runs P.grammar number left p at ks).0 ∙ start)
+            ∙ facts.laws.runs.start_rule P.grammar facts.fit
+
+        by : (l : ℕ) → is_repetition P.grammar l ≡ false → production_of (made_by (form_of P.grammar l number) l number (value_of P.grammar number) 0 None ks) ≡ Some number
+        by l e = rw e (over_says l (Some number) (value_of P.grammar number +ℤ all_totals ks) [] ks).production_is
+
+    pub lays_ruled : (γ : List ℕ) (q : ℕ) (w : List Tree) (p : ℕ) (δ : List ℕ) → Lays P γ q w p δ → AreRuled P.grammar w
+    lays_ruled γ q _ _ _ (flat _ _) = tt
+    lays_ruled γ q _ _ _ (stood _ _ w p δ t above below l at place share) = (base.rule above below t at, lays_ruled γ q w p δ l)
+    lays_ruled γ q _ _ _ (shifted _ _ w p δ s pad size l late sees acts) = (
+      (λ fills start.
+          let low = (facts.laws.runs.shifts P.grammar δ s.0 acts).0.1 in
+          let kind : s.0 ≡ start_symbol P.grammar = sym (token_says facts.laws.runs s pad size).symbol ∙ start in
+          absurd (omega (arith, kind, low))),
+      lays_ruled γ q w p δ l,
+    )
+    lays_ruled γ q _ _ _ (passed _ _ w p δ s pad size l late passes) = (
+      (λ fills start. absurd (true≢false (sym (extra_says facts.laws.runs s pad size).kind ∙ fills))),
+      lays_ruled γ q w p δ l,
+    )
+    lays_ruled γ q _ _ _ (made _ _ w p δ ks end ε xs look number left pr l inner outer all late taken folds count deep) =
+        (node_ruled number left pr folds.at ks, lays_ruled γ q w p δ l)
 
     pub can_make : (δ : List ℕ) (p : ℕ) (ks : List Tree) (end : ℕ) (ε : List ℕ) (look number left : ℕ) (pr : Production) → Lays P δ p (reverse ks) end ε → BeginsFilled ks → ReducesAt P ε look number left pr δ → length (filling ks) ≡ length pr.steps → CanMake P.grammar number left pr ks
     can_make δ p ks end ε look number left pr inner begins folds count = record {
@@ -240,12 +287,26 @@ module _ (P : Parsing) (facts : Facts P) where
             let h = low read place in
             nothing none (ap (λ (x : List Tree). x ++ w) none_v ∙ h.0) h.1 h.2
 
+    -- what is laid up to the place 0, with no symbols read, is nothing
+    pub nothing_laid : (γ : List ℕ) (q : ℕ) (w : List Tree) (p : ℕ) (δ : List ℕ) → Lays P γ q w p δ → δ ≡ [] → p ≡ 0 → w ≡ []
+    nothing_laid γ q _ _ _ (flat _ _) e z = refl
+    nothing_laid γ q _ _ _ (stood _ _ w p δ t above below l at place share) e z = absurd (by (is_extra_node t) refl)
+      where
+        by : (b : Bool) → is_extra_node t ≡ b → ⊥
+        by true is = let h = base.some_extra above below t at is in omega (arith, h, z)
+        by false is =
+            let f : symbol_of t ∷ δ ≡ filling (t ∷ []) ++ δ = ap (λ (r : List ℕ). r ++ δ) (sym (filling_tree t [] is)) in
+            let h : symbol_of t ∷ δ ≡ [] = f ∙ e in cc
+    nothing_laid γ q _ _ _ (shifted _ _ w p δ s pad size l late sees acts) e z = absurd (let h : s.0 ∷ δ ≡ [] = e in cc)
+    nothing_laid γ q _ _ _ (passed _ _ w p δ s pad size l late passes) e z = absurd (let h = pass_bytes P facts δ p s pad size passes in omega (arith, h, z))
+    nothing_laid γ q _ _ _ (made _ _ w p δ ks end ε xs look number left pr l inner outer all late taken folds count deep) e z = absurd (let h : left ∷ δ ≡ [] = e in cc)
+
     -- extras change no symbols
     pub extras_same : (xs : List Tree) (γ : List ℕ) (q p : ℕ) (δ : List ℕ) → AreExtras xs → Lays P γ q xs p δ → δ ≡ γ
     extras_same xs γ q p δ a l = lays_read γ q xs p δ l ∙ ap (λ (r : List ℕ). r ++ γ) (filling_none xs a)
 
     -- an extra of the stack from which runs go on ends before that place
-    not_stood : (above below : List Tree) (t : Tree) (p : ℕ) → P.stack ≡ above ++ t ∷ below → p ≡ all_spans below → is_extra_node t ≡ true → P.place ≤ p + span_of t → ⊥
+    pub not_stood : (above below : List Tree) (t : Tree) (p : ℕ) → P.stack ≡ above ++ t ∷ below → p ≡ all_spans below → is_extra_node t ≡ true → P.place ≤ p + span_of t → ⊥
     not_stood above below t p at place e late = let h = base.extra above below t at e in omega (arith, h, place, late)
 
     token_fills : (s : Symbol) (pad size : ℕ) → is_extra_node (token_tree s pad size) ≡ true → ⊥
@@ -582,14 +643,6 @@ module _ (P : Parsing) (facts : Facts P) where
       -- nothing is below where nothing was read at the start
       abbrev pub AtBottom : List ℕ → ℕ → List Tree → Type 0
       AtBottom γ q s = γ ≡ [] → q ≡ 0 → s ≡ []
-
-      -- what is laid at the start, with no symbols read, is nothing
-      pub nothing_laid : (γ : List ℕ) (q : ℕ) (w : List Tree) (p : ℕ) (δ : List ℕ) → Lays P γ q w p δ → δ ≡ [] → p ≡ 0 → w ≡ []
-      nothing_laid γ q _ _ _ (flat _ _) e z = refl
-      nothing_laid γ q _ _ _ (stood _ _ w p δ t above below l at place share) e z = absurd (never_stood above below t at)
-      nothing_laid γ q _ _ _ (shifted _ _ w p δ s pad size l late sees acts) e z = absurd (let h : s.0 ∷ δ ≡ [] = e in cc)
-      nothing_laid γ q _ _ _ (passed _ _ w p δ s pad size l late passes) e z = absurd (let h = pass_bytes P facts δ p s pad size passes in omega (arith, h, z))
-      nothing_laid γ q _ _ _ (made _ _ w p δ ks end ε xs look number left pr l inner outer all late taken folds count deep) e z = absurd (let h : left ∷ δ ≡ [] = e in cc)
 
       bottom_over : (γ : List ℕ) (q : ℕ) (w : List Tree) (p : ℕ) (δ : List ℕ) (s : List Tree) → Lays P γ q w p δ → AtBottom γ q s → AtBottom δ p (w ++ s)
       bottom_over γ q w p δ s l low e z =

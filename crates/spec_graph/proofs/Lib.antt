@@ -9,6 +9,7 @@ pub mod OrderLemmas
 pub mod GraphLemmas
 pub mod KeyLemmas
 pub mod BaseLemmas
+pub mod GroundLemmas
 pub mod OutcomeLemmas
 pub mod DueLemmas
 pub mod AskedLemmas

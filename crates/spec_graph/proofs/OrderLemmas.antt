@@ -1,24 +1,23 @@
 -- The order in which nodes are made: all that a reduction takes comes before the node that it makes.
-use Rattle.std.proofs.Common.{◌≡◌, ◌∙◌, sym, ap, refl, subst, ℕ, zero, suc, ◌+◌, ◌<◌, ◌≤◌, ◌⊎◌, inl, inr, ⊎_elim, Bool, true, false, true≢false, List, [], ◌∷◌, ◌++◌, append-nil, append_assoc, length, length-append, reverse, map, Option, Some, None, arith}
+use Rattle.std.proofs.Common.{◌≡◌, ◌∙◌, sym, ap, refl, subst, ℕ, zero, suc, ◌+◌, ◌<◌, ◌≤◌, ◌⊎◌, inl, inr, false, true≢false, List, [], ◌∷◌, ◌++◌, append-nil, length, length-append, reverse, map, arith}
 use Rattle.std.proofs.lemmas.Bool.{cases_order}
-use Rattle.std.proofs.lemmas.List.{reverse-append, reverse-reverse, length-map, length-reverse}
-use Rattle.ts_core.specs.declared.flat.FlatGrammar.{FlatGrammar}
+use Rattle.std.proofs.lemmas.List.{reverse-reverse}
 use Rattle.ts_core.specs.declared.flat.Production.{Production}
 use Rattle.ts_core.specs.declared.flat.Step.{Step}
 use Rattle.ts_core.specs.declared.symbol.Symbol.{Symbol}
 use Rattle.spec_lexing.specs.Lexing.{token}
-use Rattle.spec_tables.specs.Actions.{Act, shift, reduce}
+use Rattle.spec_tables.specs.Actions.{shift, reduce}
 use Rattle.spec_trees.specs.declared.tree.Tree.{Tree}
-use Rattle.spec_trees.specs.Trees.{symbol_of, is_extra_node, span_of, all_spans, tree_depth}
-use Rattle.spec_trees.specs.Made.{filling, step_symbols, BeginsFilled, most_depth}
-use Rattle.spec_runs.specs.Configurations.{token_tree, HasMove, AreExtras}
+use Rattle.spec_trees.specs.Trees.{symbol_of, is_extra_node, all_spans}
+use Rattle.spec_trees.specs.Made.{filling, BeginsFilled}
+use Rattle.spec_runs.specs.Configurations.{AreExtras}
 use Rattle.spec_packing.proofs.MadeLemmas.{CanMake, first_some}
-use Rattle.spec_graph.specs.States.{LeadsTo, ShareState, AreRanks}
-use Rattle.spec_graph.specs.Laying.{Parsing, SeesAt, GoesOn, PassesAt, ReducesAt, extra_tree, node_made, Taken, some, nothing, Lays, flat, stood, shifted, passed, made, CanMakeNode}
+use Rattle.spec_graph.specs.States.{LeadsTo, AreRanks}
+use Rattle.spec_graph.specs.Laying.{Parsing, GoesOn, PassesAt, ReducesAt, extra_tree, node_made, Taken, some, nothing, Lays, flat, stood, shifted, passed, made, CanMakeNode}
 use Rattle.spec_graph.specs.Keys.{Key, Earlier, LaysBefore, flat_before, stood_before, shifted_before, passed_before, made_before}
-use Rattle.spec_graph.proofs.SightLemmas.{Facts, same_token, sees_one, clash, IsNarrower, narrows}
-use Rattle.spec_graph.proofs.EntryLemmas.{extra_says, token_says, node_tells, kind_of, symbol_is, filling_tree, filling_turned, children_fill, shift_bytes, pass_bytes, spans_turned}
-use Rattle.spec_graph.proofs.LayLemmas.{IsBase, HasBottom, bottom_turned, order_cases, extras_append, lays_read, can_make, lays_spans, grows, lays_none, lays_state, extras_same, passes_on, Peeled, bare_place, one_more, peel, starts}
+use Rattle.spec_graph.proofs.SightLemmas.{Facts, same_token, sees_one, clash, narrows}
+use Rattle.spec_graph.proofs.EntryLemmas.{extra_says, token_says, kind_of, symbol_is, filling_tree, filling_turned, children_fill, shift_bytes, pass_bytes, spans_turned}
+use Rattle.spec_graph.proofs.LayLemmas.{IsBase, HasBottom, bottom_turned, order_cases, extras_append, lays_read, can_make, lays_spans, grows, lays_none, lays_state, passes_on, Peeled, bare_place, one_more, peel, starts}
 
 module _ (P : Parsing) (facts : Facts P) (base : IsBase P) where
   -- after these symbols extras alone stand from the place to `look`, where a token with a move is seen

@@ -1,10 +1,9 @@
 -- Trees that may take the place of others, alone and one by one in lists.
-use Rattle.std.proofs.Common.{◌≡◌, ◌∙◌, sym, ap, refl, subst, ℕ, suc, ◌≤◌, max, Bool, true, false, List, [], ◌∷◌, ◌++◌, length, reverse, map, arith}
+use Rattle.std.proofs.Common.{◌≡◌, ◌∙◌, sym, ap, refl, subst, ℕ, suc, ◌≤◌, Bool, true, false, List, [], ◌∷◌, ◌++◌, length, reverse, arith}
 use Rattle.std.proofs.lemmas.List.{reverse-append, reverse-reverse}
 use Rattle.spec_trees.specs.declared.tree.Tree.{Tree}
 use Rattle.spec_trees.specs.Trees.{symbol_of, is_extra_node, span_of, all_spans, first_pad, maximum, bare}
 use Rattle.spec_trees.specs.Made.{Form, of_rule, of_first, of_next, filling, BeginsFilled}
-use Rattle.spec_trees.specs.Choice.{Better}
 use Rattle.spec_runs.specs.BareTrees.{KeepsAll}
 use Rattle.spec_runs.specs.Configurations.{AreExtras}
 use Rattle.spec_packing.proofs.RankLemmas.{better_strict, no_better_chains, unbared}

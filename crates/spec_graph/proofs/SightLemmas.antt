@@ -1,13 +1,9 @@
 -- What is seen after some symbols, and after others on which fewer moves stay.
-use Rattle.std.proofs.Common.{◌≡◌, ◌∙◌, sym, ap, refl, subst, ℕ, zero, suc, ◌+◌, ◌<◌, ◌≤◌, ◌⊎◌, inl, inr, ⊎_elim, Bool, true, false, List, [], ◌∷◌, ◌++◌, length, reverse, drop, get_or, Option, Some, None, arith}
+use Rattle.std.proofs.Common.{◌≡◌, ◌∙◌, sym, ap, refl, subst, ℕ, zero, suc, ◌<◌, ◌⊎◌, inl, inr, ⊎_elim, true, List, [], ◌∷◌, ◌++◌, length, reverse, drop, get_or, Option, Some, arith}
 use Rattle.std.specs.List.{Contains}
-use Rattle.ts_base.specs.Bytes.{Bytes}
-use Rattle.ts_core.specs.declared.flat.FlatGrammar.{FlatGrammar}
 use Rattle.ts_core.specs.declared.flat.Production.{Production}
 use Rattle.ts_core.specs.declared.symbol.Symbol.{Symbol}
-use Rattle.spec_grammar.specs.Symbols.{production_at, is_extra}
-use Rattle.spec_lexing.specs.Lexing.{Found, token, absent, Lex}
-use Rattle.spec_tables.specs.Actions.{Move, Act, shift, reduce}
+use Rattle.spec_lexing.specs.Lexing.{Found, token}
 use Rattle.spec_tables.specs.Fit.{Fit}
 use Rattle.spec_trees.specs.Made.{step_symbols}
 use Rattle.spec_runs.specs.Configurations.{HasMove, AreValidTokens}

@@ -6,7 +6,7 @@ use Rattle.ts_core.specs.declared.flat.FlatGrammar.{FlatGrammar}
 use Rattle.ts_core.specs.declared.flat.Production.{Production}
 use Rattle.ts_core.specs.declared.symbol.Symbol.{Symbol}
 use Rattle.spec_grammar.specs.Symbols.{production_at}
-use Rattle.spec_lexing.specs.Lexing.{Found, token, absent, Lex}
+use Rattle.spec_lexing.specs.Lexing.{Found, token, Lex}
 use Rattle.spec_tables.specs.Actions.{Act, Reduces, reduce}
 use Rattle.spec_tables.specs.Fit.{Fit}
 use Rattle.spec_tables.specs.Items.{Item}

@@ -1,6 +1,6 @@
 -- What runs lay on a stack, one entry after another. The stack below is not named: its symbols and
 -- its place say all that counts.
-use Rattle.std.specs.Prelude.{◌≡◌, ℕ, ◌+◌, ◌<◌, ◌≤◌, ◌⊎◌, true, false, List, [], ◌∷◌, ◌++◌, length, reverse, drop, Some, None}
+use Rattle.std.specs.Prelude.{◌≡◌, ℕ, ◌+◌, ◌<◌, ◌≤◌, ◌⊎◌, true, List, [], ◌∷◌, ◌++◌, length, reverse, drop, Some, None}
 use Rattle.ts_base.specs.Bytes.{Bytes}
 use Rattle.ts_core.specs.declared.flat.FlatGrammar.{FlatGrammar}
 use Rattle.ts_core.specs.declared.flat.Production.{Production}
@@ -9,7 +9,7 @@ use Rattle.spec_grammar.specs.Symbols.{production_at, is_extra}
 use Rattle.spec_lexing.specs.Lexing.{Found, token, Lex}
 use Rattle.spec_tables.specs.Actions.{Act, shift, reduce}
 use Rattle.spec_trees.specs.declared.tree.Tree.{Tree}
-use Rattle.spec_trees.specs.Trees.{is_extra_node, span_of, all_spans, tree_depth, bare}
+use Rattle.spec_trees.specs.Trees.{span_of, all_spans, tree_depth, bare}
 use Rattle.spec_trees.specs.Made.{as_extra, reduced, filling, step_symbols, BeginsFilled, most_depth}
 use Rattle.spec_runs.specs.Configurations.{Configuration, token_tree, HasMove, AreValidTokens, AreExtras}
 use Rattle.spec_runs.specs.Runs.{Run}

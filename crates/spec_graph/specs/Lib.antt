@@ -1,5 +1,6 @@
 pub mod States
 pub mod Laying
+pub mod Grounded
 pub mod Replacing
 pub mod Links
 pub mod Keys

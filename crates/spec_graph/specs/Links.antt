@@ -11,20 +11,24 @@ use Rattle.spec_trees.specs.Made.{form_of, filling, most_depth}
 use Rattle.spec_runs.specs.Configurations.{token_tree, AreExtras}
 use Rattle.spec_graph.specs.declared.graph.Head.{Head}
 use Rattle.spec_graph.specs.declared.graph.Link.{Link}
-use Rattle.spec_graph.specs.States.{LeadsTo, ShareState}
-use Rattle.spec_graph.specs.Replacing.{Replaces, AllReplace, depth_over}
-use Rattle.spec_graph.specs.Laying.{Parsing, from_start, SeesAt, PassesAt, ReducesAt, extra_tree, node_made, Taken, Lays, CanMakeNode}
+use Rattle.spec_graph.specs.States.{Goto, LeadsTo, ShareState}
+use Rattle.spec_graph.specs.Replacing.{Replaces, depth_over}
+use Rattle.spec_graph.specs.Laying.{Parsing, SeesAt, PassesAt, ReducesAt, extra_tree, node_made, Taken, Lays, CanMakeNode}
 use Rattle.spec_graph.specs.Keys.{Key, Earlier, LaysBefore}
 
 -- ---- heads and ways
 
--- the head of this number stands at the place, in the state of these symbols
-pub record IsAt (P : Parsing) (heads : List Head) (h : ℕ) (read : List ℕ) (place : ℕ)
+-- the head of this number stands at the place, in the state to which these symbols lead
+pub record StandsAt (goto : Goto) (heads : List Head) (h : ℕ) (read : List ℕ) (place : ℕ)
     : Type 0 where
   pub head : Head
   pub is : slice_get heads h ≡ Some head
-  pub state : LeadsTo P.goto read head.state
+  pub state : LeadsTo goto read head.state
   pub place_is : head.place ≡ place
+
+-- so it is for what is parsed, whatever stack runs go on from
+abbrev pub IsAt : Parsing → List Head → ℕ → List ℕ → ℕ → Type 0
+IsAt P heads h read place = StandsAt P.goto heads h read place
 
 -- the links of a way from one head down to another, the topmost first
 abbrev pub IsWay : List Link → ℕ → List Link → ℕ → Type 0
@@ -80,10 +84,9 @@ pub record IsLinked (P : Parsing) (heads : List Head) (l : Link) : Type 0 where
   pub to : ℕ
   pub below : IsAt P heads l.below under from
   pub above : IsAt P heads l.above over to
-  pub lays : Lays (from_start P) under from (l.tree ∷ []) to over
+  pub lays : Lays P under from (l.tree ∷ []) to over
   pub shallow : tree_depth l.tree ≤ l.depth
-  pub deepest : (t : Tree) × Lays (from_start P) under from (t ∷ []) to over
-      × (tree_depth t ≡ l.depth)
+  pub deepest : (t : Tree) × Lays P under from (t ∷ []) to over × (tree_depth t ≡ l.depth)
 
 -- Head 0 is that of the empty stack, each link is sound, and a way leads down from each head.
 pub record IsGraph (P : Parsing) (heads : List Head) (links : List Link) : Type 0 where

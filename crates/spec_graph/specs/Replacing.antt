@@ -1,5 +1,5 @@
 -- When one tree may take the place of another, whatever their depths.
-use Rattle.std.specs.Prelude.{◌≡◌, ℕ, suc, ◌+◌, ◌⊎◌, max, List, [], ◌∷◌}
+use Rattle.std.specs.Prelude.{◌≡◌, ℕ, suc, ◌⊎◌, max, List, [], ◌∷◌}
 use Rattle.spec_trees.specs.declared.tree.Tree.{Tree}
 use Rattle.spec_trees.specs.Trees.{symbol_of, pad_of, size_of, is_extra_node, maximum, bare}
 use Rattle.spec_trees.specs.Made.{Form, of_rule, of_first, of_next}

@@ -19,6 +19,7 @@ ghost use Rattle.spec_graph.specs.declared.graph.Head.{Head as AnyHead};
 ghost use Rattle.spec_graph.specs.declared.graph.Link.{Link as AnyLink};
 ghost use Rattle.spec_graph.specs.States.{LeadsTo, ShareState, AreStates, AreRanks};
 ghost use Rattle.spec_graph.specs.Laying.{Parsing, from_start, SeesAt, PassesAt, ReducesAt, extra_tree, PassesTree, node_made, Lays, CanMakeNode, IsBegun, ComesOver};
+ghost use Rattle.spec_graph.specs.Grounded.{AreMadeTrees, IsGrounded};
 ghost use Rattle.spec_graph.specs.Replacing.{AreAlike, Replaces, ReplacesBoth, AllReplace, depth_over};
 ghost use Rattle.spec_graph.specs.Keys.{Key, Earlier, IsNextKey, LaysBefore};
 ghost use Rattle.spec_graph.specs.Links.{IsAt, IsWay, way_trees, HasWay, IsGraph, IsWholeTo, IsDue, way_depth, AreDone, HasNoneDue, HasGrown, AreAdded, IsOpened, HasStood};
@@ -48,6 +49,23 @@ fn laws_hold()
     some_move_stays();
 }
 
+/// The empty stack is grounded, and so is each stack from which runs go on, once some run came to
+/// it. The trees of a stack to which a run comes are such as moves make. What stands below a tree of
+/// a grounded stack ends before the stack does.
+pub fn stacks_are_grounded()
+    ensures empty { (P : Parsing) → Fit P.grammar → AreStates P.grammar P.goto → P.stack ≡ []
+        → P.place ≡ 0 → IsGrounded P }
+    ensures reached { (P : Parsing) → Fit P.grammar → AreStates P.grammar P.goto
+        → (c : Configuration) → IsReached P.grammar P.text c → IsBegun P c → IsGrounded P }
+    ensures trees { (P : Parsing) → Fit P.grammar → AreStates P.grammar P.goto
+        → (c : Configuration) → IsReached P.grammar P.text c
+        → AreMadeTrees P.grammar c.stack }
+    ensures low { (P : Parsing) → IsGrounded P → (above below : List Tree) (t : Tree)
+        → P.stack ≡ above ++ t ∷ below → all_spans below < P.place }
+{
+    laws_hold();
+}
+
 /// What runs reach is laid, from the start and over the stack from which runs go on; and what is
 /// laid is reached, once the extras behind it are passed. It reaches from place to place.
 pub fn runs_lay()
@@ -64,9 +82,9 @@ pub fn runs_lay()
         → (c : Configuration) → IsReached P.grammar P.text c → IsBegun P c
         → (read now : List ℕ) (from place : ℕ) (w : List Tree)
         → Lays P read from w place now → Lays (from_start P) read from w place now }
-    ensures spans { (P : Parsing) → Fit P.grammar → AreStates P.grammar P.goto
+    ensures spans { (P : Parsing) → Fit P.grammar → AreStates P.grammar P.goto → IsGrounded P
         → (read now : List ℕ) (from place : ℕ) (w : List Tree)
-        → Lays (from_start P) read from w place now → from + all_spans w ≡ place }
+        → Lays P read from w place now → from + all_spans w ≡ place }
 {
     laws_hold();
 }
@@ -81,17 +99,17 @@ pub fn trees_replace()
     ensures both { (old tree new : Tree) → AreAlike (bare old) (bare tree)
         → (Better tree old → new ≡ tree) → ((Better tree old → ⊥) → new ≡ old)
         → ReplacesBoth old tree new }
-    ensures nodes { (P : Parsing) → Fit P.grammar → AreStates P.grammar P.goto
+    ensures nodes { (P : Parsing) → Fit P.grammar → AreStates P.grammar P.goto → IsGrounded P
         → (now over other : List ℕ) (place end look number left : ℕ) (p : Production)
         (ks us : List Tree)
-        → Lays (from_start P) now place (reverse ks) end over
-        → Lays (from_start P) now place (reverse us) end other
+        → Lays P now place (reverse ks) end over
+        → Lays P now place (reverse us) end other
         → BeginsFilled us → ReducesAt P other look number left p now
         → length (filling us) ≡ length p.steps → AllReplace ks us
         → Replaces (node_made P number ks) (node_made P number us) }
-    ensures depth { (P : Parsing) → Fit P.grammar → AreStates P.grammar P.goto
+    ensures depth { (P : Parsing) → Fit P.grammar → AreStates P.grammar P.goto → IsGrounded P
         → (now over : List ℕ) (place end look number left : ℕ) (p : Production) (ks : List Tree)
-        → Lays (from_start P) now place (reverse ks) end over
+        → Lays P now place (reverse ks) end over
         → BeginsFilled ks → ReducesAt P over look number left p now
         → length (filling ks) ≡ length p.steps
         → tree_depth (node_made P number ks)
@@ -102,16 +120,14 @@ pub fn trees_replace()
 
 /// All that a node is made of comes before it, and so do the extras up to its lookahead.
 pub fn parts_come_first()
-    ensures inner { (P : Parsing) → Fit P.grammar → AreStates P.grammar P.goto
-        → (c : Configuration) → IsReached P.grammar P.text c → IsBegun P c
+    ensures inner { (P : Parsing) → Fit P.grammar → AreStates P.grammar P.goto → IsGrounded P
         → (rank : ℕ → ℕ) (most : ℕ) → AreRanks P.grammar rank most
         → (now over : List ℕ) (place end look number left n : ℕ) (p : Production)
         (ks extras : List Tree) → LeadsTo P.goto now n
         → CanMakeNode P now place ks end over extras look number left p
         → LaysBefore P rank (record { look = look; begins = place; rank = rank left })
         now place (reverse ks) end over }
-    ensures outer { (P : Parsing) → Fit P.grammar → AreStates P.grammar P.goto
-        → (c : Configuration) → IsReached P.grammar P.text c → IsBegun P c
+    ensures outer { (P : Parsing) → Fit P.grammar → AreStates P.grammar P.goto → IsGrounded P
         → (rank : ℕ → ℕ) (most : ℕ) → AreRanks P.grammar rank most
         → (now over : List ℕ) (place end look number left : ℕ) (p : Production)
         (ks extras : List Tree)
@@ -125,33 +141,34 @@ pub fn parts_come_first()
 /// What is laid twice between two heads is of one kind, with one symbol and the same bytes, so that
 /// the better of both can be kept: either can be laid there after the symbols of the other.
 pub fn links_pack()
-    ensures alike { (P : Parsing) → Fit P.grammar → AreStates P.grammar P.goto
+    ensures alike { (P : Parsing) → Fit P.grammar → AreStates P.grammar P.goto → IsGrounded P
         → (heads : List AnyHead) (a b : ℕ) (read other now then : List ℕ) (from to : ℕ)
         (t u : Tree) → IsAt P heads a read from → IsAt P heads b now to
         → IsAt P heads a other from → IsAt P heads b then to
-        → Lays (from_start P) read from (t ∷ []) to now
-        → Lays (from_start P) other from (u ∷ []) to then → AreAlike t u }
-    ensures either { (P : Parsing) → Fit P.grammar → AreStates P.grammar P.goto
+        → Lays P read from (t ∷ []) to now
+        → Lays P other from (u ∷ []) to then → AreAlike t u }
+    ensures either { (P : Parsing) → Fit P.grammar → AreStates P.grammar P.goto → IsGrounded P
         → (heads : List AnyHead) (a b : ℕ) (read other now then : List ℕ) (from to : ℕ)
         (t u : Tree) → IsAt P heads a read from → IsAt P heads b now to
         → IsAt P heads a other from → IsAt P heads b then to
-        → Lays (from_start P) read from (t ∷ []) to now
-        → Lays (from_start P) other from (u ∷ []) to then
-        → Lays (from_start P) other from (t ∷ []) to then }
+        → Lays P read from (t ∷ []) to now
+        → Lays P other from (u ∷ []) to then
+        → Lays P other from (t ∷ []) to then }
 {
     laws_hold();
 }
 
-/// An extra that is laid alone is passed there, and no symbol comes with it. What is passed after
-/// some symbols is passed after all that lead to the same state.
+/// An extra that is laid alone is passed there, if it ends no earlier than the stack from which runs
+/// go on, and no symbol comes with it. What is passed after some symbols is passed after all that
+/// lead to the same state.
 pub fn extras_are_passed()
-    ensures tree { (P : Parsing) → Fit P.grammar → AreStates P.grammar P.goto
+    ensures tree { (P : Parsing) → Fit P.grammar → AreStates P.grammar P.goto → IsGrounded P
         → (read now : List ℕ) (from place : ℕ) (t : Tree)
-        → Lays (from_start P) read from (t ∷ []) place now → is_extra_node t ≡ true
-        → PassesTree (from_start P) read from t place }
-    ensures same { (P : Parsing) → Fit P.grammar → AreStates P.grammar P.goto
+        → P.place ≤ place → Lays P read from (t ∷ []) place now → is_extra_node t ≡ true
+        → PassesTree P read from t place }
+    ensures same { (P : Parsing) → Fit P.grammar → AreStates P.grammar P.goto → IsGrounded P
         → (read now : List ℕ) (from place : ℕ) (t : Tree)
-        → Lays (from_start P) read from (t ∷ []) place now → is_extra_node t ≡ true
+        → Lays P read from (t ∷ []) place now → is_extra_node t ≡ true
         → now ≡ read }
     ensures shared { (P : Parsing) → Fit P.grammar → AreStates P.grammar P.goto
         → (read other : List ℕ) (place : ℕ) (s : AnySymbol) (pad size : ℕ)
@@ -164,23 +181,20 @@ pub fn extras_are_passed()
 /// A graph is whole up to the first key where all that stood has links. From there it is whole up
 /// to each next key once all reductions of a key are done.
 pub fn whole_to_the_next()
-    ensures begins { (P : Parsing) → Fit P.grammar → AreStates P.grammar P.goto
-        → (c : Configuration) → IsReached P.grammar P.text c → IsBegun P c
+    ensures begins { (P : Parsing) → Fit P.grammar → AreStates P.grammar P.goto → IsGrounded P
         → (rank : ℕ → ℕ) (most : ℕ) → AreRanks P.grammar rank most
         → (heads : List AnyHead) (links : List AnyLink) → IsAt P heads 0 [] 0
         → HasStood P heads links
         → IsWholeTo P rank heads links
         (record { look = P.place; begins = P.place; rank = most }) }
-    ensures on { (P : Parsing) → Fit P.grammar → AreStates P.grammar P.goto
-        → (c : Configuration) → IsReached P.grammar P.text c → IsBegun P c
+    ensures on { (P : Parsing) → Fit P.grammar → AreStates P.grammar P.goto → IsGrounded P
         → (rank : ℕ → ℕ) (most : ℕ) → AreRanks P.grammar rank most
         → (heads : List AnyHead) (links : List AnyLink) (heads' : List AnyHead)
         (links' : List AnyLink) (k m : Key) → IsGraph P heads links
         → IsWholeTo P rank heads links k → AreDone P rank heads links heads' links' k
         → HasGrown P heads links heads' links' → AreAdded P rank heads heads' links' m
         → IsNextKey most k m → k.look ≡ m.look → IsWholeTo P rank heads' links' m }
-    ensures next_place { (P : Parsing) → Fit P.grammar → AreStates P.grammar P.goto
-        → (c : Configuration) → IsReached P.grammar P.text c → IsBegun P c
+    ensures next_place { (P : Parsing) → Fit P.grammar → AreStates P.grammar P.goto → IsGrounded P
         → (rank : ℕ → ℕ) (most : ℕ) → AreRanks P.grammar rank most
         → (heads : List AnyHead) (links : List AnyLink) (heads' : List AnyHead)
         (links' : List AnyLink) (k m : Key) → IsGraph P heads links
@@ -208,8 +222,7 @@ pub fn keys_follow()
 /// A graph in which nothing is due at some keys is whole up to the key behind them: lower ranks at
 /// one start, and earlier starts.
 pub fn keys_pass()
-    ensures ranks { (P : Parsing) → Fit P.grammar → AreStates P.grammar P.goto
-        → (c : Configuration) → IsReached P.grammar P.text c → IsBegun P c
+    ensures ranks { (P : Parsing) → Fit P.grammar → AreStates P.grammar P.goto → IsGrounded P
         → (rank : ℕ → ℕ) (most : ℕ) → AreRanks P.grammar rank most
         → (heads : List AnyHead) (links : List AnyLink) → IsGraph P heads links
         → (n look begins r : ℕ) → IsWholeTo P rank heads links
@@ -217,8 +230,7 @@ pub fn keys_pass()
         → ((i : ℕ) → r < i → i ≤ n + r → HasNoneDue P rank heads links
         (record { look = look; begins = begins; rank = i }))
         → IsWholeTo P rank heads links (record { look = look; begins = begins; rank = r }) }
-    ensures starts { (P : Parsing) → Fit P.grammar → AreStates P.grammar P.goto
-        → (c : Configuration) → IsReached P.grammar P.text c → IsBegun P c
+    ensures starts { (P : Parsing) → Fit P.grammar → AreStates P.grammar P.goto → IsGrounded P
         → (rank : ℕ → ℕ) (most : ℕ) → AreRanks P.grammar rank most
         → (heads : List AnyHead) (links : List AnyLink) → IsGraph P heads links
         → (n look begins : ℕ) → IsWholeTo P rank heads links
@@ -235,13 +247,13 @@ pub fn keys_pass()
 /// down from there over extras and then over so many trees as it takes. These fill its steps, and
 /// an item stands before its rule's symbol below them.
 pub fn reductions_are_due()
-    ensures { (P : Parsing) → Fit P.grammar → AreStates P.grammar P.goto
+    ensures { (P : Parsing) → Fit P.grammar → AreStates P.grammar P.goto → IsGrounded P
         → (rank : ℕ → ℕ) (heads : List AnyHead) (links : List AnyLink)
-        → IsGraph (from_start P) heads links
+        → IsGraph P heads links
         → (k : Key) (number left : ℕ) (p : Production) (h e b : ℕ) (outer inner : List AnyLink)
         (read : List ℕ) (s : AnySymbol) (pad size : ℕ)
-        → IsAt (from_start P) heads h read k.look
-        → SeesAt (from_start P) read k.look (token s pad size)
+        → IsAt P heads h read k.look
+        → SeesAt P read k.look (token s pad size)
         → Act P.grammar read s.0 (reduce number)
         → production_at P.grammar number ≡ Some (left, p) → k.rank ≡ rank left
         → IsWay links h outer e → AreExtras (way_trees outer) → IsWay links e inner b
@@ -250,7 +262,7 @@ pub fn reductions_are_due()
         → length (filling (way_trees inner)) ≡ length p.steps
         → ((low : AnyHead) → slice_get heads b ≡ Some low → low.place ≡ k.begins)
         → (over now : List ℕ) × (end : ℕ)
-        × IsDue (from_start P) rank heads links k number left p h e b outer inner over now end
+        × IsDue P rank heads links k number left p h e b outer inner over now end
         × (filling (way_trees inner) ≡ reverse (step_symbols p))
         × StandsBefore P.grammar now left }
 {
@@ -259,39 +271,46 @@ pub fn reductions_are_due()
 
 /// What a reduction in a sound graph makes can be laid from its lower head to that of its rule: the
 /// node over the trees of its way, which is no deeper than the way says, and some tree of that
-/// depth. Each extra above is passed over it too.
+/// depth. Each extra above is passed over it too. The key's token stands at the end of the stack
+/// from which runs go on or past it, and then so does the end of the node.
 pub fn reductions_are_laid()
-    ensures node { (P : Parsing) → Fit P.grammar → AreStates P.grammar P.goto
+    ensures node { (P : Parsing) → Fit P.grammar → AreStates P.grammar P.goto → IsGrounded P
         → (rank : ℕ → ℕ) (heads : List AnyHead) (links : List AnyLink) → IsGraph P heads links
         → (k : Key) (number left : ℕ) (p : Production) (h e b : ℕ) (outer inner : List AnyLink)
         (over now : List ℕ) (end : ℕ)
         → IsDue P rank heads links k number left p h e b outer inner over now end
-        → way_depth P number left inner ≤ most_depth
-        → Lays (from_start P) now k.begins
+        → P.place ≤ k.look → way_depth P number left inner ≤ most_depth
+        → Lays P now k.begins
         (node_made P number (reverse (way_trees inner)) ∷ []) end (left ∷ now) }
-    ensures depth { (P : Parsing) → Fit P.grammar → AreStates P.grammar P.goto
+    ensures end { (P : Parsing) → Fit P.grammar → AreStates P.grammar P.goto → IsGrounded P
+        → (rank : ℕ → ℕ) (heads : List AnyHead) (links : List AnyLink) → IsGraph P heads links
+        → (k : Key) (number left : ℕ) (p : Production) (h e b : ℕ) (outer inner : List AnyLink)
+        (over now : List ℕ) (end : ℕ)
+        → IsDue P rank heads links k number left p h e b outer inner over now end
+        → P.place ≤ k.look → P.place ≤ end }
+    ensures depth { (P : Parsing) → Fit P.grammar → AreStates P.grammar P.goto → IsGrounded P
         → (rank : ℕ → ℕ) (heads : List AnyHead) (links : List AnyLink) → IsGraph P heads links
         → (k : Key) (number left : ℕ) (p : Production) (h e b : ℕ) (outer inner : List AnyLink)
         (over now : List ℕ) (end : ℕ)
         → IsDue P rank heads links k number left p h e b outer inner over now end
         → tree_depth (node_made P number (reverse (way_trees inner)))
         ≤ way_depth P number left inner }
-    ensures deepest { (P : Parsing) → Fit P.grammar → AreStates P.grammar P.goto
+    ensures deepest { (P : Parsing) → Fit P.grammar → AreStates P.grammar P.goto → IsGrounded P
         → (rank : ℕ → ℕ) (heads : List AnyHead) (links : List AnyLink) → IsGraph P heads links
         → (k : Key) (number left : ℕ) (p : Production) (h e b : ℕ) (outer inner : List AnyLink)
         (over now : List ℕ) (end : ℕ)
         → IsDue P rank heads links k number left p h e b outer inner over now end
-        → way_depth P number left inner ≤ most_depth
-        → (t : Tree) × Lays (from_start P) now k.begins (t ∷ []) end (left ∷ now)
+        → P.place ≤ k.look → way_depth P number left inner ≤ most_depth
+        → (t : Tree) × Lays P now k.begins (t ∷ []) end (left ∷ now)
         × (tree_depth t ≡ way_depth P number left inner) }
-    ensures extras { (P : Parsing) → Fit P.grammar → AreStates P.grammar P.goto
+    ensures extras { (P : Parsing) → Fit P.grammar → AreStates P.grammar P.goto → IsGrounded P
         → (rank : ℕ → ℕ) (heads : List AnyHead) (links : List AnyLink) → IsGraph P heads links
         → (k : Key) (number left : ℕ) (p : Production) (h e b : ℕ) (outer inner : List AnyLink)
         (over now : List ℕ) (end : ℕ)
         → IsDue P rank heads links k number left p h e b outer inner over now end
-        → way_depth P number left inner ≤ most_depth
+        → P.place ≤ k.look → way_depth P number left inner ≤ most_depth
         → (above below : List Tree) (x : Tree) → way_trees outer ≡ above ++ x ∷ below
-        → Lays (from_start P) (left ∷ now) (end + all_spans below) (x ∷ [])
+        → Lays P (left ∷ now) (end + all_spans below) (x ∷ [])
         ((end + all_spans below) + span_of x) (left ∷ now) }
 {
     laws_hold();
@@ -301,28 +320,24 @@ pub fn reductions_are_laid()
 /// that stands no earlier than a key's token nothing is laid before the key, and no node begins
 /// there before it. Head 0 is left out.
 pub fn new_heads_have_little()
-    ensures extra { (P : Parsing) → Fit P.grammar → AreStates P.grammar P.goto
-        → (c : Configuration) → IsReached P.grammar P.text c → IsBegun P c
+    ensures extra { (P : Parsing) → Fit P.grammar → AreStates P.grammar P.goto → IsGrounded P
         → (rank : ℕ → ℕ) (k : Key) (read : List ℕ) (from : ℕ) (s : AnySymbol) (pad size : ℕ)
         → P.place ≤ from → (read ≡ [] → ⊥) → PassesAt P read from s pad size
         → (place : ℕ) (now : List ℕ) (t : Tree)
         → LaysBefore P rank k read from (t ∷ []) place now
         → (t ≡ extra_tree s pad size) × (place ≡ from + (pad + size)) × (now ≡ read) }
-    ensures none { (P : Parsing) → Fit P.grammar → AreStates P.grammar P.goto
-        → (c : Configuration) → IsReached P.grammar P.text c → IsBegun P c
+    ensures none { (P : Parsing) → Fit P.grammar → AreStates P.grammar P.goto → IsGrounded P
         → (read : List ℕ) (from : ℕ) (s : AnySymbol) (pad size : ℕ)
         → P.place ≤ from → (read ≡ [] → ⊥) → PassesAt P read from s pad size
         → (ks : List Tree) (end : ℕ) (over : List ℕ) (extras : List Tree)
         (look number left : ℕ) (p : Production)
         → CanMakeNode P read from ks end over extras look number left p → ⊥ }
-    ensures late { (P : Parsing) → Fit P.grammar → AreStates P.grammar P.goto
-        → (c : Configuration) → IsReached P.grammar P.text c → IsBegun P c
+    ensures late { (P : Parsing) → Fit P.grammar → AreStates P.grammar P.goto → IsGrounded P
         → (rank : ℕ → ℕ) (k : Key) (read : List ℕ) (from : ℕ)
         → P.place ≤ from → (read ≡ [] → ⊥) → k.look ≤ from
         → (place : ℕ) (now : List ℕ) (t : Tree)
         → LaysBefore P rank k read from (t ∷ []) place now → ⊥ }
-    ensures late_nodes { (P : Parsing) → Fit P.grammar → AreStates P.grammar P.goto
-        → (c : Configuration) → IsReached P.grammar P.text c → IsBegun P c
+    ensures late_nodes { (P : Parsing) → Fit P.grammar → AreStates P.grammar P.goto → IsGrounded P
         → (rank : ℕ → ℕ) (k : Key) (read : List ℕ) (from : ℕ)
         → P.place ≤ from → (read ≡ [] → ⊥) → k.look ≤ from
         → (ks : List Tree) (end : ℕ) (over : List ℕ) (extras : List Tree)
@@ -370,16 +385,24 @@ pub fn whole_graphs_have_all()
     laws_hold();
 }
 
-/// What a graph whose links are sound says is so: some run accepts the tree, stops at the place, or
-/// comes to a node that is too deep.
+/// A graph that is sound over a stack to which some run came is sound from the start of the text. So
+/// what it says is so: some run accepts the tree, stops at the place, or comes to a node that is too
+/// deep.
 pub fn graphs_are_sound()
+    ensures start { (P : Parsing) → Fit P.grammar → AreStates P.grammar P.goto
+        → (c : Configuration) → IsReached P.grammar P.text c → IsBegun P c
+        → (heads : List AnyHead) (links : List AnyLink) → IsGraph P heads links
+        → IsGraph (from_start P) heads links }
     ensures accepts { (P : Parsing) → Fit P.grammar → AreStates P.grammar P.goto
+        → (c : Configuration) → IsReached P.grammar P.text c → IsBegun P c
         → (heads : List AnyHead) (links : List AnyLink) → IsGraph P heads links
         → (t : Tree) → GraphAccepts P heads links t → SomeAccepts P.grammar P.text t }
     ensures stops { (P : Parsing) → Fit P.grammar → AreStates P.grammar P.goto
+        → (c : Configuration) → IsReached P.grammar P.text c → IsBegun P c
         → (heads : List AnyHead) (links : List AnyLink) → IsGraph P heads links
         → (stop : ℕ) → GraphStopsAt P heads stop → SomeStopsAt P.grammar P.text stop }
     ensures deep { (P : Parsing) → Fit P.grammar → AreStates P.grammar P.goto
+        → (c : Configuration) → IsReached P.grammar P.text c → IsBegun P c
         → (rank : ℕ → ℕ) (heads : List AnyHead) (links : List AnyLink)
         → IsGraph P heads links
         → GraphIsDeep P rank heads links → SomeIsTooDeep P.grammar P.text }

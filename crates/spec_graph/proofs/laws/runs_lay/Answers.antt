@@ -2,9 +2,10 @@ use Rattle.std.proofs.Common.{[], refl, arith}
 use Rattle.spec_graph.proofs.SightLemmas.{Facts}
 use Rattle.spec_runs.specs.Configurations.{starting}
 use Rattle.spec_graph.specs.States.{at_first}
-use Rattle.spec_graph.specs.Laying.{Parsing, from_start, flat}
+use Rattle.spec_graph.specs.Laying.{from_start, flat}
 use Rattle.spec_graph.proofs.LayLemmas.{lays_run, lays_spans, sound}
 use Rattle.spec_graph.proofs.BaseLemmas.{start_facts, start_base, run_laid, embed}
+use Rattle.spec_graph.proofs.GroundLemmas.{ground_base}
 use Rattle.spec_graph.proofs.laws.runs_lay.Goals as goal
 
 pub returns-clause-start : goal.returns-clause-start
@@ -20,6 +21,6 @@ pub returns-clause-embeds : goal.returns-clause-embeds
 returns-clause-embeds c P fit states b reached begun read now from place w l = embed P (record { laws = c.laws_hold.ensures; fit = fit; states = states }) b reached begun read from w place now l
 
 pub returns-clause-spans : goal.returns-clause-spans
-returns-clause-spans c P fit states read now from place w l =
+returns-clause-spans c P fit states ground read now from place w l =
     let facts : Facts P = record { laws = c.laws_hold.ensures; fit = fit; states = states } in
-    lays_spans (from_start P) (start_facts P facts) (start_base P facts) read from w place now l
+    lays_spans P facts (ground_base P ground) read from w place now l
