@@ -9,7 +9,7 @@ use Rattle.spec_trees.specs.Trees.{is_extra_node, span_of, tree_depth, all_spans
 use Rattle.spec_graph.specs.declared.graph.Head.{Head}
 use Rattle.spec_graph.specs.declared.graph.Link.{Link}
 use Rattle.spec_graph.specs.States.{LeadsTo}
-use Rattle.spec_graph.specs.Laying.{Parsing, from_start, extra_tree, PassesTree}
+use Rattle.spec_graph.specs.Laying.{Parsing, extra_tree, PassesTree}
 use Rattle.spec_graph.specs.Links.{IsAt, HasLink}
 use Rattle.spec_graph.specs.Replacing.{Replaces}
 use Rattle.ts_graph.specs.declared.view.GraphView.{GraphView}
@@ -44,12 +44,13 @@ pub passed_stays : LayingLaws → (Q : Parsing) (a b : GraphView) → Grows a b 
 passed_stays laws Q a b g h p = record {
   read = p.read;
   from = p.from;
-  at = at_stays (from_start Q) a.heads b.heads g.stay h p.read p.from p.at;
+  late = p.late;
+  at = at_stays Q a.heads b.heads g.stay h p.read p.from p.at;
   symbol = p.symbol;
   pad = p.pad;
   size = p.size;
   passes = p.passes;
-  link = link_stays laws (from_start Q) a b g h (extra_tree p.symbol p.pad p.size) (p.from + (p.pad + p.size)) p.read p.link;
+  link = link_stays laws Q a b g h (extra_tree p.symbol p.pad p.size) (p.from + (p.pad + p.size)) p.read p.link;
 }
 
 -- only the empty list leads to state 0
@@ -65,7 +66,8 @@ pub record Climbs (Q : Parsing) (old now : GraphView) (base top : ℕ) (read : L
   pub place : ℕ
   pub sound : IsSoundFor Q now
   pub grows : Grows old now
-  pub at : IsAt (from_start Q) now.heads top read place
+  pub at : IsAt Q now.heads top read place
+  pub late : Q.place ≤ place
   pub fit : FitExtras Q read place state rest
   pub ends : place + all_spans rest ≡ end
   pub based : (top ≡ base) ⊎ HasPassed Q now base
@@ -91,6 +93,7 @@ module _ (laws : LayingLaws) (Q : Parsing) where
     sound = can.sound;
     grows = grows_none laws old;
     at = can.at;
+    late = can.late;
     fit = can.fit;
     ends = let p = place_is_at old.heads base can.at.head can.at.is ∙ can.at.place_is in omega (arith, p, is);
     based = inl refl;
@@ -100,9 +103,6 @@ module _ (laws : LayingLaws) (Q : Parsing) where
   }
 
   module _ (old now : GraphView) (base top : ℕ) (read : List ℕ) (x : Tree) (xs : List Tree) (state end : ℕ) (every : List Tree) (some_read : read ≡ [] → ⊥) (c : Climbs Q old now base top read (x ∷ xs) state end every) where
-    abbrev P : Parsing
-    P = from_start Q
-
     fits : FitsAfter Q read c.place x 1 state
     fits = c.fit.0
 
@@ -110,10 +110,10 @@ module _ (laws : LayingLaws) (Q : Parsing) where
     bare_extra = (laws.keeps x).extra ∙ c.fit.1
 
     read_is : fits.now ≡ read
-    read_is = laws.passes_same Q c.sound.parsed.fit c.sound.parsed.states read fits.now c.place (c.place + span_of x) (bare x) fits.lays bare_extra
+    read_is = laws.passes_same Q c.sound.parsed.fit c.sound.parsed.states c.sound.parsed.grounded read fits.now c.place (c.place + span_of x) (bare x) fits.lays bare_extra
 
-    passes : PassesTree P read c.place (bare x) (c.place + span_of x)
-    passes = laws.passes_tree Q c.sound.parsed.fit c.sound.parsed.states read fits.now c.place (c.place + span_of x) (bare x) fits.lays bare_extra
+    passes : PassesTree Q read c.place (bare x) (c.place + span_of x)
+    passes = laws.passes_tree Q c.sound.parsed.fit c.sound.parsed.states c.sound.parsed.grounded read fits.now c.place (c.place + span_of x) (bare x) (let l = c.late in omega (arith, l)) fits.lays bare_extra
 
     leads : LeadsTo Q.goto read state
     leads = subst (λ (r : List ℕ). LeadsTo Q.goto r state) read_is fits.leads
@@ -122,7 +122,7 @@ module _ (laws : LayingLaws) (Q : Parsing) where
     climb_can = record { sound = c.sound; read = read; from = c.place; at = c.at; fits = fits }
 
     module _ (new : GraphView) (above : ℕ) (laid : IsLaid Q now new top c.place x 1 state above) where
-      high : IsAt P new.heads above read (c.place + span_of x)
+      high : IsAt Q new.heads above read (c.place + span_of x)
       high = record {
         head = head_at state (c.place + span_of x);
         is = laid.at;
@@ -130,13 +130,14 @@ module _ (laws : LayingLaws) (Q : Parsing) where
         place_is = refl;
       }
 
-      low : IsAt P new.heads top read c.place
-      low = at_stays P now.heads new.heads laid.grows.stay top read c.place c.at
+      low : IsAt Q new.heads top read c.place
+      low = at_stays Q now.heads new.heads laid.grows.stay top read c.place c.at
 
       passed_top : HasPassed Q new top
       passed_top = record {
         read = read;
         from = c.place;
+        late = c.late;
         at = low;
         symbol = passes.symbol;
         pad = passes.pad;
@@ -146,7 +147,7 @@ module _ (laws : LayingLaws) (Q : Parsing) where
           link = laid.has.link;
           there = laid.has.there;
           below = laid.has.below_is;
-          above = subst (λ (h : ℕ). IsAt P new.heads h read (c.place + (passes.pad + passes.size))) (sym laid.has.above_is) (subst (λ (n : ℕ). IsAt P new.heads above read n) passes.ends high);
+          above = subst (λ (h : ℕ). IsAt Q new.heads h read (c.place + (passes.pad + passes.size))) (sym laid.has.above_is) (subst (λ (n : ℕ). IsAt Q new.heads above read n) passes.ends high);
           stands = record {
             tree = subst (λ (u : Tree). Replaces laid.has.link.tree u) passes.tree_is laid.has.replaces;
             depth = let d = ap tree_depth passes.tree_is in let k = (laws.keeps x).depth in omega (arith, d, k, fits.shallow, laid.has.no_less);
@@ -169,6 +170,7 @@ module _ (laws : LayingLaws) (Q : Parsing) where
         sound = laid.sound;
         grows = grows_on laws old now new c.grows laid.grows;
         at = high;
+        late = let l = c.late in omega (arith, l);
         fit = c.fit.2;
         ends = let e = c.ends in omega (arith, e);
         based = inr (⊎_elim (λ e. subst (λ (h : ℕ). HasPassed Q new h) e passed_top) (λ p. passed_stays laws Q now new laid.grows base p) c.based);
@@ -226,6 +228,7 @@ module _ (laws : LayingLaws) (Q : Parsing) (old mid : GraphView) (m : Made) (can
     read = can.fits.now;
     from = can.from + span_of m.piece.node;
     at = record { head = head_at m.piece.state (can.from + span_of m.piece.node); is = laid.at; state = can.fits.leads; place_is = refl };
+    late = can.late;
     leads = can.fits.leads;
     some = can.some;
     fit = can.extras;
@@ -289,8 +292,9 @@ can_made_stays Q a b g sound m can = record {
   sound = sound;
   read = can.read;
   from = can.from;
-  at = at_stays (from_start Q) a.heads b.heads g.stay m.below can.read can.from can.at;
+  at = at_stays Q a.heads b.heads g.stay m.below can.read can.from can.at;
   fits = can.fits;
+  late = can.late;
   some = can.some;
   extras = can.extras;
 }

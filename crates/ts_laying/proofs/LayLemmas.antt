@@ -11,7 +11,7 @@ use Rattle.spec_trees.specs.Made.{most_depth}
 use Rattle.spec_trees.specs.Choice.{IsInForm, AreOfOneGrammar}
 use Rattle.spec_graph.specs.declared.graph.Head.{Head}
 use Rattle.spec_graph.specs.declared.graph.Link.{Link}
-use Rattle.spec_graph.specs.Laying.{Parsing, from_start, Lays}
+use Rattle.spec_graph.specs.Laying.{Parsing, Lays}
 use Rattle.spec_graph.specs.Replacing.{AreAlike, Replaces, ReplacesBoth}
 use Rattle.spec_graph.specs.Links.{IsAt, IsWay, IsLinked}
 use Rattle.ts_graph.specs.declared.view.GraphView.{GraphView}
@@ -43,16 +43,13 @@ is_head_in (x ∷ heads) head = by (same_head x head) (is_head_in heads head)
 
 module _ (laws : LayingLaws) (Q : Parsing) (old : GraphView) (below : ℕ) (tree : Tree) (depth state : ℕ) (can : CanLayOn Q old below tree depth state) (heads : List Head) (above : ℕ) (stay : KeepNumbers old.heads heads)
     (at : slice_get heads above ≡ Some (head_at state (can.from + span_of tree))) where
-  abbrev P : Parsing
-  P = from_start Q
-
   abbrev to : ℕ
   to = can.from + span_of tree
 
-  low_at : IsAt P heads below can.read can.from
-  low_at = at_stays P old.heads heads stay below can.read can.from can.at
+  low_at : IsAt Q heads below can.read can.from
+  low_at = at_stays Q old.heads heads stay below can.read can.from can.at
 
-  high_at : IsAt P heads above can.fits.now to
+  high_at : IsAt Q heads above can.fits.now to
   high_at = record { head = head_at state to; is = at; state = can.fits.leads; place_is = refl }
 
   low_place : place_at heads below ≡ can.from
@@ -63,14 +60,14 @@ module _ (laws : LayingLaws) (Q : Parsing) (old : GraphView) (below : ℕ) (tree
 
   -- ---- what holds of each link
 
-  old_place : (h : ℕ) (read : List ℕ) (place : ℕ) → IsAt P old.heads h read place → place_at heads h ≡ place_at old.heads h
+  old_place : (h : ℕ) (read : List ℕ) (place : ℕ) → IsAt Q old.heads h read place → place_at heads h ≡ place_at old.heads h
   old_place h read place a = place_is_at heads h a.head (stay h a.head a.is) ∙ sym (place_is_at old.heads h a.head a.is)
 
-  old_linked : (l : Link) → Contains old.links l → IsLinked P old.heads (bare_link l)
+  old_linked : (l : Link) → Contains old.links l → IsLinked Q old.heads (bare_link l)
   old_linked l there = can.sound.graph.linked (bare_link l) (bare_member old.links l there)
 
-  still_linked : (l : Link) → Contains old.links l → IsLinked P heads (bare_link l)
-  still_linked l there = linked_stays P old.heads heads stay (bare_link l) (old_linked l there)
+  still_linked : (l : Link) → Contains old.links l → IsLinked Q heads (bare_link l)
+  still_linked l there = linked_stays Q old.heads heads stay (bare_link l) (old_linked l there)
 
   still_held : (l : Link) → Contains old.links l → IsHeld Q heads l
   still_held l there =
@@ -88,14 +85,14 @@ module _ (laws : LayingLaws) (Q : Parsing) (old : GraphView) (below : ℕ) (tree
 
   -- a link between both heads, with the tree or one that was laid there
   module _ (l : Link) (b : l.below ≡ below) (a : l.above ≡ above) where
-    here_linked : (u : Tree) → Lays P can.read can.from (bare l.tree ∷ []) to can.fits.now → tree_depth (bare l.tree) ≤ l.depth → Lays P can.read can.from (u ∷ []) to can.fits.now → tree_depth u ≡ l.depth → IsLinked P heads (bare_link l)
+    here_linked : (u : Tree) → Lays Q can.read can.from (bare l.tree ∷ []) to can.fits.now → tree_depth (bare l.tree) ≤ l.depth → Lays Q can.read can.from (u ∷ []) to can.fits.now → tree_depth u ≡ l.depth → IsLinked Q heads (bare_link l)
     here_linked u lays shallow deep is = record {
       under = can.read;
       over = can.fits.now;
       from = can.from;
       to = to;
-      below = subst (λ (h : ℕ). IsAt P heads h can.read can.from) (sym b) low_at;
-      above = subst (λ (h : ℕ). IsAt P heads h can.fits.now to) (sym a) high_at;
+      below = subst (λ (h : ℕ). IsAt Q heads h can.read can.from) (sym b) low_at;
+      above = subst (λ (h : ℕ). IsAt Q heads h can.fits.now to) (sym a) high_at;
       lays = lays;
       shallow = shallow;
       deepest = (u, deep, is);
@@ -117,7 +114,7 @@ module _ (laws : LayingLaws) (Q : Parsing) (old : GraphView) (below : ℕ) (tree
 
   module _ (new : GraphView) (heads_are : new.heads ≡ heads) (only : (h : ℕ) (head : Head) → slice_get heads h ≡ Some head → (slice_get old.heads h ≡ Some head) ⊎ (h ≡ above))
       (links_stay : LinksStay (bare_links old.links) (bare_links new.links))
-      (each : (l : Link) → Contains new.links l → IsLinked P heads (bare_link l) × IsHeld Q heads l)
+      (each : (l : Link) → Contains new.links l → IsLinked Q heads (bare_link l) × IsHeld Q heads l)
       (has : HasTree (bare_links new.links) below (bare tree) depth above) (trees : TreesFrom old new (tree ∷ [])) where
     down : (h : ℕ) (head : Head) → slice_get heads h ≡ Some head → (way : List Link) × IsWay (bare_links new.links) h way 0
     down h head is = ⊎_elim still over (only h head is)
@@ -131,10 +128,10 @@ module _ (laws : LayingLaws) (Q : Parsing) (old : GraphView) (below : ℕ) (tree
             let v = way_stays (bare_links old.links) (bare_links new.links) links_stay w.0 below 0 w.1 in
             (has.link ∷ v.0, (has.there, has.above_is ∙ sym e, subst (λ (n : ℕ). IsWay (bare_links new.links) n v.0 0) (sym has.below_is) v.1))
 
-    linked : (n : Link) → Contains (bare_links new.links) n → IsLinked P heads n
+    linked : (n : Link) → Contains (bare_links new.links) n → IsLinked Q heads n
     linked n there =
         let m = member_bare new.links n there in
-        subst (λ (x : Link). IsLinked P heads x) m.2 (each m.0 m.1).0
+        subst (λ (x : Link). IsLinked Q heads x) m.2 (each m.0 m.1).0
 
     inside : (h : ℕ) (head : Head) → slice_get heads h ≡ Some head → head.place ≤ length Q.text
     inside h head is = ⊎_elim (λ o. can.sound.within h head o)
@@ -150,8 +147,8 @@ module _ (laws : LayingLaws) (Q : Parsing) (old : GraphView) (below : ℕ) (tree
       sound = record {
         parsed = can.sound.parsed;
         graph = record {
-          start = subst (λ (hs : List Head). IsAt P hs 0 [] 0) (sym heads_are) (at_stays P old.heads heads stay 0 [] 0 can.sound.graph.start);
-          linked = subst (λ (hs : List Head). (n : Link) → Contains (bare_links new.links) n → IsLinked P hs n) (sym heads_are) linked;
+          start = subst (λ (hs : List Head). IsAt Q hs 0 [] 0) (sym heads_are) (at_stays Q old.heads heads stay 0 [] 0 can.sound.graph.start);
+          linked = subst (λ (hs : List Head). (n : Link) → Contains (bare_links new.links) n → IsLinked Q hs n) (sym heads_are) linked;
           down = subst (λ (hs : List Head). (h : ℕ) (head : Head) → slice_get hs h ≡ Some head → (way : List Link) × IsWay (bare_links new.links) h way 0) (sym heads_are) down;
         };
         held = λ l there. subst (λ (hs : List Head). IsHeld Q hs l) (sym heads_are) (each l there).1;
@@ -186,7 +183,7 @@ module _ (laws : LayingLaws) (Q : Parsing) (old : GraphView) (below : ℕ) (tree
   abbrev one : Link
   one = link_with above below tree depth
 
-  one_so : IsLinked P heads (bare_link one) × IsHeld Q heads one
+  one_so : IsLinked Q heads (bare_link one) × IsHeld Q heads one
   one_so = (
     here_linked one refl refl can.fits.deepest.0 can.fits.lays bare_shallow can.fits.deepest.1 can.fits.deepest.2,
     here_held one refl refl can.fits.form refl can.fits.reach can.fits.not_deep,
@@ -215,11 +212,11 @@ module _ (laws : LayingLaws) (Q : Parsing) (old : GraphView) (below : ℕ) (tree
       cases : (l : Link) → Contains new.links l → Contains old.links l ⊎ (one ≡ l)
       cases l there = Contains-push_cases old.links one l (subst (λ (ls : List Link). Contains ls l) links_are there)
 
-      each_by : (l : Link) → Contains old.links l ⊎ (one ≡ l) → IsLinked P heads (bare_link l) × IsHeld Q heads l
+      each_by : (l : Link) → Contains old.links l ⊎ (one ≡ l) → IsLinked Q heads (bare_link l) × IsHeld Q heads l
       each_by l (inl there) = (still_linked l there, still_held l there)
-      each_by l (inr e) = subst (λ (x : Link). IsLinked P heads (bare_link x) × IsHeld Q heads x) e one_so
+      each_by l (inr e) = subst (λ (x : Link). IsLinked Q heads (bare_link x) × IsHeld Q heads x) e one_so
 
-      each : (l : Link) → Contains new.links l → IsLinked P heads (bare_link l) × IsHeld Q heads l
+      each : (l : Link) → Contains new.links l → IsLinked Q heads (bare_link l) × IsHeld Q heads l
       each l there = each_by l (cases l there)
 
       trees_by : (l : Link) → Contains old.links l ⊎ (one ≡ l) → Contains (tree ∷ []) l.tree ⊎ ((o : Link) × Contains old.links o × (l.tree ≡ o.tree))
@@ -235,37 +232,37 @@ module _ (laws : LayingLaws) (Q : Parsing) (old : GraphView) (below : ℕ) (tree
     o_there : Contains old.links o
     o_there = contained_at old.links k o o_is
 
-    o_linked : IsLinked P heads (bare_link o)
+    o_linked : IsLinked Q heads (bare_link o)
     o_linked = still_linked o o_there
 
-    o_low : IsAt P heads below o_linked.under o_linked.from
-    o_low = subst (λ (h : ℕ). IsAt P heads h o_linked.under o_linked.from) o_below o_linked.below
+    o_low : IsAt Q heads below o_linked.under o_linked.from
+    o_low = subst (λ (h : ℕ). IsAt Q heads h o_linked.under o_linked.from) o_below o_linked.below
 
-    o_high : IsAt P heads above o_linked.over o_linked.to
-    o_high = subst (λ (h : ℕ). IsAt P heads h o_linked.over o_linked.to) o_above o_linked.above
+    o_high : IsAt Q heads above o_linked.over o_linked.to
+    o_high = subst (λ (h : ℕ). IsAt Q heads h o_linked.over o_linked.to) o_above o_linked.above
 
     from_is : o_linked.from ≡ can.from
-    from_is = same_place P heads below o_linked.under can.read o_linked.from can.from o_low low_at
+    from_is = same_place Q heads below o_linked.under can.read o_linked.from can.from o_low low_at
 
     to_is : o_linked.to ≡ to
-    to_is = same_place P heads above o_linked.over can.fits.now o_linked.to to o_high high_at
+    to_is = same_place Q heads above o_linked.over can.fits.now o_linked.to to o_high high_at
 
     -- what was laid between the two heads
-    module _ (u : Tree) (l : Lays P o_linked.under o_linked.from (u ∷ []) o_linked.to o_linked.over) where
-      low_too : IsAt P heads below o_linked.under can.from
-      low_too = subst (λ (n : ℕ). IsAt P heads below o_linked.under n) from_is o_low
+    module _ (u : Tree) (l : Lays Q o_linked.under o_linked.from (u ∷ []) o_linked.to o_linked.over) where
+      low_too : IsAt Q heads below o_linked.under can.from
+      low_too = subst (λ (n : ℕ). IsAt Q heads below o_linked.under n) from_is o_low
 
-      high_too : IsAt P heads above o_linked.over to
-      high_too = subst (λ (n : ℕ). IsAt P heads above o_linked.over n) to_is o_high
+      high_too : IsAt Q heads above o_linked.over to
+      high_too = subst (λ (n : ℕ). IsAt Q heads above o_linked.over n) to_is o_high
 
-      moved : Lays P o_linked.under can.from (u ∷ []) to o_linked.over
-      moved = subst (λ (n : ℕ). Lays P o_linked.under can.from (u ∷ []) n o_linked.over) to_is (subst (λ (n : ℕ). Lays P o_linked.under n (u ∷ []) o_linked.to o_linked.over) from_is l)
+      moved : Lays Q o_linked.under can.from (u ∷ []) to o_linked.over
+      moved = subst (λ (n : ℕ). Lays Q o_linked.under can.from (u ∷ []) n o_linked.over) to_is (subst (λ (n : ℕ). Lays Q o_linked.under n (u ∷ []) o_linked.to o_linked.over) from_is l)
 
       alike : AreAlike u (bare tree)
-      alike = laws.alike P can.sound.parsed.fit can.sound.parsed.states heads below above o_linked.under can.read o_linked.over can.fits.now can.from to u (bare tree) low_too high_too low_at high_at moved can.fits.lays
+      alike = laws.alike Q can.sound.parsed.fit can.sound.parsed.states can.sound.parsed.grounded heads below above o_linked.under can.read o_linked.over can.fits.now can.from to u (bare tree) low_too high_too low_at high_at moved can.fits.lays
 
-      comes_here : Lays P can.read can.from (u ∷ []) to can.fits.now
-      comes_here = laws.either P can.sound.parsed.fit can.sound.parsed.states heads below above o_linked.under can.read o_linked.over can.fits.now can.from to u (bare tree) low_too high_too low_at high_at moved can.fits.lays
+      comes_here : Lays Q can.read can.from (u ∷ []) to can.fits.now
+      comes_here = laws.either Q can.sound.parsed.fit can.sound.parsed.states can.sound.parsed.grounded heads below above o_linked.under can.read o_linked.over can.fits.now can.from to u (bare tree) low_too high_too low_at high_at moved can.fits.lays
 
     o_alike : AreAlike (bare o.tree) (bare tree)
     o_alike = alike (bare o.tree) o_linked.lays
@@ -304,33 +301,33 @@ module _ (laws : LayingLaws) (Q : Parsing) (old : GraphView) (below : ℕ) (tree
       m_not_deep : m.depth ≤ most_depth
       m_not_deep = let d = packed.depth_is in omega (arith, d, o_held.not_deep, can.fits.not_deep)
 
-      m_tree : Lays P can.read can.from (bare m.tree ∷ []) to can.fits.now × (tree_depth (bare m.tree) ≤ m.depth) × IsHeld Q heads m
+      m_tree : Lays Q can.read can.from (bare m.tree ∷ []) to can.fits.now × (tree_depth (bare m.tree) ≤ m.depth) × IsHeld Q heads m
       m_tree = ⊎_elim is_new is_old choice.which
         where
-          is_new : m.tree ≡ tree → Lays P can.read can.from (bare m.tree ∷ []) to can.fits.now × (tree_depth (bare m.tree) ≤ m.depth) × IsHeld Q heads m
+          is_new : m.tree ≡ tree → Lays Q can.read can.from (bare m.tree ∷ []) to can.fits.now × (tree_depth (bare m.tree) ≤ m.depth) × IsHeld Q heads m
           is_new e = (
-            subst (λ (x : Tree). Lays P can.read can.from (bare x ∷ []) to can.fits.now) (sym e) can.fits.lays,
+            subst (λ (x : Tree). Lays Q can.read can.from (bare x ∷ []) to can.fits.now) (sym e) can.fits.lays,
             (let d = ap (λ (x : Tree). tree_depth (bare x)) e in omega (arith, d, bare_shallow, own_depth)),
             here_held m m_below m_above (subst (λ (x : Tree). IsInForm Q.grammar x) (sym e) can.fits.form) (ap span_of e) (subst (λ (x : Tree). can.from + node_extent x ≤ suc (length Q.text)) (sym e) can.fits.reach) m_not_deep,
           )
 
-          is_old : m.tree ≡ o.tree → Lays P can.read can.from (bare m.tree ∷ []) to can.fits.now × (tree_depth (bare m.tree) ≤ m.depth) × IsHeld Q heads m
+          is_old : m.tree ≡ o.tree → Lays Q can.read can.from (bare m.tree ∷ []) to can.fits.now × (tree_depth (bare m.tree) ≤ m.depth) × IsHeld Q heads m
           is_old e = (
-            subst (λ (x : Tree). Lays P can.read can.from (bare x ∷ []) to can.fits.now) (sym e) (comes_here (bare o.tree) o_linked.lays),
+            subst (λ (x : Tree). Lays Q can.read can.from (bare x ∷ []) to can.fits.now) (sym e) (comes_here (bare o.tree) o_linked.lays),
             (let d = ap (λ (x : Tree). tree_depth (bare x)) e in let s = o_linked.shallow in omega (arith, d, s, o_depth)),
             here_held m m_below m_above (subst (λ (x : Tree). IsInForm Q.grammar x) (sym e) o_held.form) (ap span_of e ∙ o_span)
                 (subst (λ (x : Tree). can.from + node_extent x ≤ suc (length Q.text)) (sym e) (let low = ap (place_at heads) o_below ∙ low_place in omega (arith, low, o_held.reach))) m_not_deep,
           )
 
-      m_deep : (u : Tree) × Lays P can.read can.from (u ∷ []) to can.fits.now × (tree_depth u ≡ m.depth)
+      m_deep : (u : Tree) × Lays Q can.read can.from (u ∷ []) to can.fits.now × (tree_depth u ≡ m.depth)
       m_deep = by (cases_order o.depth depth)
         where
-          by : (o.depth ≡ depth) ⊎ ((o.depth < depth) ⊎ (depth < o.depth)) → (u : Tree) × Lays P can.read can.from (u ∷ []) to can.fits.now × (tree_depth u ≡ m.depth)
+          by : (o.depth ≡ depth) ⊎ ((o.depth < depth) ⊎ (depth < o.depth)) → (u : Tree) × Lays Q can.read can.from (u ∷ []) to can.fits.now × (tree_depth u ≡ m.depth)
           by (inl same) = let d = packed.depth_is in (can.fits.deepest.0, can.fits.deepest.1, (let e = can.fits.deepest.2 in omega (arith, e, d, same)))
           by (inr (inl lt)) = let d = packed.depth_is in (can.fits.deepest.0, can.fits.deepest.1, (let e = can.fits.deepest.2 in omega (arith, e, d, lt)))
           by (inr (inr lt)) = let d = packed.depth_is in let x = o_linked.deepest in (x.0, comes_here x.0 x.1, (let e = x.2 in omega (arith, e, d, lt)))
 
-      m_so : IsLinked P heads (bare_link m) × IsHeld Q heads m
+      m_so : IsLinked Q heads (bare_link m) × IsHeld Q heads m
       m_so = let x = m_tree in let d = m_deep in (here_linked m m_below m_above d.0 x.0 x.1 d.1 d.2, x.2)
 
     module _ (new : GraphView) (m : Link) (m_is : slice_get new.links k ≡ Some m) (packed : IsPacked o tree depth m) (others : (j : ℕ) → (j ≡ k → ⊥) → slice_get new.links j ≡ slice_get old.links j) where
@@ -359,11 +356,11 @@ module _ (laws : LayingLaws) (Q : Parsing) (old : GraphView) (below : ℕ) (tree
       same_link : (l : Link) (j : ℕ) → slice_get new.links j ≡ Some l → j ≡ k → m ≡ l
       same_link l j is e = let f : Some m ≡ Some l = sym m_is ∙ ap (λ (x : ℕ). slice_get new.links x) (sym e) ∙ is in cc
 
-      each_at : (l : Link) (j : ℕ) → slice_get new.links j ≡ Some l → (j ≡ k) ⊎ (j ≡ k → ⊥) → IsLinked P heads (bare_link l) × IsHeld Q heads l
-      each_at l j is (inl e) = subst (λ (x : Link). IsLinked P heads (bare_link x) × IsHeld Q heads x) (same_link l j is e) (m_so m packed)
+      each_at : (l : Link) (j : ℕ) → slice_get new.links j ≡ Some l → (j ≡ k) ⊎ (j ≡ k → ⊥) → IsLinked Q heads (bare_link l) × IsHeld Q heads l
+      each_at l j is (inl e) = subst (λ (x : Link). IsLinked Q heads (bare_link x) × IsHeld Q heads x) (same_link l j is e) (m_so m packed)
       each_at l j is (inr other) = let there = contained_at old.links j l (sym (others j other) ∙ is) in (still_linked l there, still_held l there)
 
-      each : (l : Link) → Contains new.links l → IsLinked P heads (bare_link l) × IsHeld Q heads l
+      each : (l : Link) → Contains new.links l → IsLinked Q heads (bare_link l) × IsHeld Q heads l
       each l there = let j = at_contained new.links l there in each_at l j.0 j.1 (same_number j.0)
 
       abbrev Comes : Link → Type 0

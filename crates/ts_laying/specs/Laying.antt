@@ -9,7 +9,7 @@ use Rattle.spec_trees.specs.Choice.{IsInForm}
 use Rattle.spec_graph.specs.declared.graph.Head.{Head}
 use Rattle.spec_graph.specs.declared.graph.Link.{Link}
 use Rattle.spec_graph.specs.States.{LeadsTo}
-use Rattle.spec_graph.specs.Laying.{Parsing, from_start, Lays, PassesAt, extra_tree}
+use Rattle.spec_graph.specs.Laying.{Parsing, Lays, PassesAt, extra_tree}
 use Rattle.spec_graph.specs.Replacing.{Replaces}
 use Rattle.spec_graph.specs.Links.{IsAt, HasLink}
 use Rattle.ts_graph.specs.declared.view.GraphView.{GraphView}
@@ -23,10 +23,10 @@ pub record FitsAfter (P : Parsing) (read : List ℕ) (from : ℕ) (tree : Tree)
     (depth state : ℕ) : Type 0 where
   pub now : List ℕ
   pub leads : LeadsTo P.goto now state
-  pub lays : Lays (from_start P) read from (bare tree ∷ []) (from + span_of tree) now
+  pub lays : Lays P read from (bare tree ∷ []) (from + span_of tree) now
   pub shallow : tree_depth tree ≤ depth
   pub deepest : (u : Tree)
-      × Lays (from_start P) read from (u ∷ []) (from + span_of tree) now
+      × Lays P read from (u ∷ []) (from + span_of tree) now
       × (tree_depth u ≡ depth)
   pub form : IsInForm P.grammar tree
   pub some : 0 < span_of tree
@@ -40,7 +40,7 @@ pub record CanLayOn (P : Parsing) (g : GraphView) (below : ℕ) (tree : Tree)
   pub sound : IsSoundFor P g
   pub read : List ℕ
   pub from : ℕ
-  pub at : IsAt (from_start P) g.heads below read from
+  pub at : IsAt P g.heads below read from
   pub fits : FitsAfter P read from tree depth state
 
 -- a link between two heads may stand for the tree, and for this depth
@@ -91,16 +91,18 @@ FitExtras P read from state (x ∷ xs) =
     FitsAfter P read from x 1 state × (is_extra_node x ≡ true)
     × FitExtras P read (from + span_of x) state xs
 
--- An extra is passed at the head, and a link stands for it.
+-- An extra is passed at the head, which stands where the stack from which runs go on ends, or past
+-- it; and a link stands for the extra.
 pub record HasPassed (P : Parsing) (g : GraphView) (h : ℕ) : Type 0 where
   pub read : List ℕ
   pub from : ℕ
-  pub at : IsAt (from_start P) g.heads h read from
+  pub late : P.place ≤ from
+  pub at : IsAt P g.heads h read from
   pub symbol : Symbol
   pub pad : ℕ
   pub size : ℕ
-  pub passes : PassesAt (from_start P) read from symbol pad size
-  pub link : HasLink (from_start P) g.heads (bare_links g.links) h
+  pub passes : PassesAt P read from symbol pad size
+  pub link : HasLink P g.heads (bare_links g.links) h
       (extra_tree symbol pad size) (from + (pad + size)) read
 
 -- A new head is not that of the empty stack. It stands at the place, or an extra is passed at it.
@@ -109,13 +111,14 @@ IsNewHead P g look h head =
     (head.state ≡ 0 → ⊥) × ((head.place ≡ look) ⊎ HasPassed P g h)
 
 -- The graph is sound, and the extras can be laid on one of its heads, which is not that of the
--- empty stack.
+-- empty stack, and stands where the stack from which runs go on ends, or past it.
 pub record CanLayExtras (P : Parsing) (g : GraphView) (base : ℕ)
     (xs : List Tree) (state : ℕ) : Type 0 where
   pub sound : IsSoundFor P g
   pub read : List ℕ
   pub from : ℕ
-  pub at : IsAt (from_start P) g.heads base read from
+  pub at : IsAt P g.heads base read from
+  pub late : P.place ≤ from
   pub leads : LeadsTo P.goto read state
   pub some : read ≡ [] → ⊥
   pub fit : FitExtras P read from state xs
@@ -133,13 +136,15 @@ pub record AreExtrasLaid (P : Parsing) (old new : GraphView) (base end : ℕ) (x
 
 -- ---- what a reduction makes
 
--- The graph is sound, and the node can be laid on one of its heads, and then the extras.
+-- The graph is sound, and the node can be laid on one of its heads, and then the extras. It ends
+-- where the stack from which runs go on ends, or past it.
 pub record CanLayMade (P : Parsing) (g : GraphView) (m : Made) : Type 0 where
   pub sound : IsSoundFor P g
   pub read : List ℕ
   pub from : ℕ
-  pub at : IsAt (from_start P) g.heads m.below read from
+  pub at : IsAt P g.heads m.below read from
   pub fits : FitsAfter P read from m.piece.node m.piece.depth m.piece.state
+  pub late : P.place ≤ from + span_of m.piece.node
   pub some : fits.now ≡ [] → ⊥
   pub extras : FitExtras P fits.now (from + span_of m.piece.node) m.piece.state m.extras
 

@@ -8,15 +8,18 @@ use Rattle.spec_trees.specs.Choice.{IsInForm}
 use Rattle.spec_graph.specs.declared.graph.Head.{Head}
 use Rattle.spec_graph.specs.declared.graph.Link.{Link}
 use Rattle.spec_graph.specs.States.{AreStates}
-use Rattle.spec_graph.specs.Laying.{Parsing, from_start}
+use Rattle.spec_graph.specs.Laying.{Parsing}
+use Rattle.spec_graph.specs.Grounded.{IsGrounded}
 use Rattle.spec_graph.specs.Links.{IsGraph}
 use Rattle.ts_graph.specs.declared.view.GraphView.{GraphView}
 use Rattle.ts_graph.specs.Down.{place_at}
 
--- the states are those of the grammar, which is fit, and the text is not too long
+-- the states are those of the grammar, which is fit; the stack from which runs go on has such trees
+-- as moves make, and the text is not too long
 pub record CanBeParsed (P : Parsing) : Type 0 where
   pub fit : Fit P.grammar
   pub states : AreStates P.grammar P.goto
+  pub grounded : IsGrounded P
   pub short : length P.text ≤ most_span
 
 -- the link with its bare tree
@@ -37,11 +40,11 @@ pub record IsHeld (P : Parsing) (heads : List Head) (l : Link) : Type 0 where
   pub reach : place_at heads l.below + node_extent l.tree ≤ suc (length P.text)
   pub not_deep : l.depth ≤ most_depth
 
--- The graph is sound for what is parsed from the start of the text, its links have what they
--- should, and its heads stand within the text.
+-- The graph is sound over the stack from which runs go on, its links have what they should, and its
+-- heads stand within the text.
 pub record IsSoundFor (P : Parsing) (g : GraphView) : Type 0 where
   pub parsed : CanBeParsed P
-  pub graph : IsGraph (from_start P) g.heads (bare_links g.links)
+  pub graph : IsGraph P g.heads (bare_links g.links)
   pub held : (l : Link) → Contains g.links l → IsHeld P g.heads l
   pub within : (h : ℕ) (head : Head) → slice_get g.heads h ≡ Some head
       → head.place ≤ length P.text
