@@ -23,6 +23,7 @@ use Rattle.ts_reductions.specs.declared.setting.Setting.{Setting}
 use Rattle.ts_reductions.specs.Lines.{IsLine}
 use Rattle.ts_laying.specs.declared.made.Made.{Made}
 use Rattle.ts_reductions.specs.declared.top.Top.{Top}
+use Rattle.ts_reductions.specs.Sound.{Base}
 use Rattle.ts_reductions.specs.Asking.{HasReduction, IsAsked, IsMadeFor, IsAskedDeep, IsReadyAt, IsReady, AreMade, SomeAreDeep, Adds, OnWay, ByNumber, ByAction, ByTop, ByTops}
 use Rattle.ts_reductions.proofs.GatherLemmas.{at_one}
 
@@ -254,9 +255,11 @@ all_made t size g k A xs a = subst (λ (l : List Made). AreMade t size g k A l) 
 
 -- ---- the same of the loops
 
-pub ready_at : (t : ParseTable) (text : Bytes) (s : Setting) (g : GraphView) (k : Batch) (tops : List Top) → IsReady t text s g k tops → (top : Top) → Contains tops top → IsReadyAt t text s g k top
-ready_at t text s g k tops ready top there = record {
+abbrev pub ready_at : (t : ParseTable) (text : Bytes) (base : Base) (s : Setting) (g : GraphView) (k : Batch) (tops : List Top) → IsReady t text base s g k tops → (top : Top) → Contains tops top → IsReadyAt t text s g k top
+ready_at t text base s g k tops ready top there = record {
+  base = base;
   sound = ready.sound;
+  late = ready.late;
   setting = ready.setting;
   seen = ready.seen.each top there;
   takes_some = ready.takes_some top there;

@@ -28,7 +28,7 @@ use Rattle.ts_reductions.specs.declared.batch.Batch.{Batch}
 use Rattle.ts_reductions.specs.declared.setting.Setting.{Setting}
 use Rattle.ts_reductions.specs.declared.top.Top.{Top}
 use Rattle.ts_reductions.specs.Laws.{ReductionLaws}
-use Rattle.ts_reductions.specs.Sound.{parsing_of}
+use Rattle.ts_reductions.specs.Sound.{parsing_from}
 use Rattle.ts_reductions.specs.Asking.{inner_of, outer_of, key_of, IsAsked, IsReadyAt}
 use Rattle.ts_reductions.proofs.SmallLemmas.{place_is_at, filling_extras, filling_turned}
 use Rattle.ts_reductions.proofs.WayLemmas.{Parts, parts, map_turned, trees_append, trees_bare, way_bare, way_cut, bare_extras, bare_begins, bare_filling}
@@ -74,7 +74,7 @@ ends_part xs ys ends before last e = ends (xs ++ before) last (ap (λ (l : List 
 
 module _ (laws : ReductionLaws) (t : ParseTable) (table : IsTable t) (text : Bytes) (s : Setting) (g : GraphView) (k : Batch) (top : Top) (number : ℕ) (way : List Link) (b : ℕ) (ready : IsReadyAt t text s g k top) (asked : IsAsked t g k top number way b) where
   abbrev P : Parsing
-  P = parsing_of t text
+  P = parsing_from t text ready.base
 
   parsed : CanBeParsed P
   parsed = ready.sound.laid.parsed
@@ -149,7 +149,7 @@ module _ (laws : ReductionLaws) (t : ParseTable) (table : IsTable t) (text : Byt
 
   pub found : (over now : List ℕ) × (end : ℕ) × IsDue P (unit_rank t.grammar) g.heads links (key_of k) number asked.left asked.production top.head e b (bare_links outer) (bare_links inner) over now end
       × (filling (way_trees (bare_links inner)) ≡ reverse (step_symbols asked.production)) × StandsBefore t.grammar now asked.left
-  found = laws.due P parsed.fit parsed.states (unit_rank t.grammar) g.heads links ready.sound.laid.graph (key_of k) number asked.left asked.production top.head e b (bare_links outer) (bare_links inner) ready.seen.read top.token ready.seen.pad ready.seen.size
+  found = laws.due P parsed.fit parsed.states parsed.grounded (unit_rank t.grammar) g.heads links ready.sound.laid.graph (key_of k) number asked.left asked.production top.head e b (bare_links outer) (bare_links inner) ready.seen.read top.token ready.seen.pad ready.seen.size
       ready.seen.at ready.seen.sees acts asked.is (sym asked.ranked) lifted outer_extras taken_off bare_some low_begins low_ends (ap (λ (l : List ℕ). length l) bare_same ∙ filled_inner) stands
 
   abbrev pub over : List ℕ

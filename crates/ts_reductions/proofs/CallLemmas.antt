@@ -28,7 +28,7 @@ use Rattle.ts_laying.specs.declared.made.Made.{Made}
 use Rattle.ts_reductions.specs.declared.lines.Line.{Line}
 use Rattle.ts_reductions.specs.declared.setting.Setting.{Setting}
 use Rattle.ts_reductions.specs.declared.top.Top.{Top}
-use Rattle.ts_reductions.specs.Sound.{parsing_of}
+use Rattle.ts_reductions.specs.Sound.{parsing_from}
 use Rattle.ts_reductions.specs.Lines.{IsLine}
 use Rattle.ts_reductions.specs.Depths.{depth_when, AreShallow}
 use Rattle.ts_reductions.specs.Asking.{inner_of, outer_of, children_on, extras_on, depth_on, HasReduction, IsAsked, IsAskedDeep, IsReadyAt, IsMadeFor}
@@ -114,7 +114,7 @@ module _ (laws : ReductionLaws) (nodes : NodeLaws) (t : ParseTable) (table : IsT
   pub inner_shallow : AreShallow (inner_of way)
   inner_shallow =
       let c = ask.cut laws t table text s g k top number way b ready asked in
-      way_shallow (parsing_of t text) g.heads g.links ready.sound.laid.held (inner_of way) c.0 b c.2
+      way_shallow (parsing_from t text ready.base) g.heads g.links ready.sound.laid.held (inner_of way) c.0 b c.2
 
   -- ---- what is known of the production
 

@@ -30,13 +30,12 @@ use Rattle.ts_laying.specs.declared.made.Made.{Made}
 use Rattle.ts_reductions.specs.declared.setting.Setting.{Setting}
 use Rattle.ts_reductions.specs.declared.top.Top.{Top}
 use Rattle.ts_laying.specs.Sound.{CanBeParsed, bare_links}
-use Rattle.ts_reductions.specs.Sound.{Base, empty_base, parsing_from, parsing_of, IsBegunBy}
+use Rattle.ts_reductions.specs.Sound.{Base, parsing_from}
 use Rattle.ts_laying.specs.Laying.{head_at, HasPassed, IsNewHead, CanLayMade, CanLayAll, trees_of, end_of, HasNode, AreAllLaid}
 use Rattle.ts_reductions.specs.Asking.{inner_of, outer_of, children_on, key_of, IsAsked, IsReady, IsMadeFor, AreMade, SomeAreDeep, ByTops}
 use Rattle.ts_reductions.specs.Reducing.{IsDeepAt, AreReduced}
 use Rattle.ts_reductions.proofs.SmallLemmas.{first_or_later, contained_flat, good_in, member_bare, place_is_at, filling_extras, spans_turned, lead_once, same_place, share_head, at_shared}
 use Rattle.ts_reductions.proofs.FactLemmas.{grows_grown}
-use Rattle.ts_reductions.proofs.FromLemmas.{text_begun, at_back, link_from, late_enough, node_back}
 use Rattle.ts_reductions.proofs.WayLemmas.{parts_only, trees_append, trees_bare, depths_bare, map_turned, way_join, way_spans, extras_bare, begins_bare, bare_filling}
 use Rattle.ts_reductions.proofs.AskLemmas.{stays_reduce, due}
 use Rattle.ts_reductions.proofs.AskLemmas as ask
@@ -80,17 +79,17 @@ ends_before xs ys some_ys ends = begins_ends (xs ++ ys) (subst BeginsFilled (sym
 
 -- ---- each reduction that is due is asked for
 
-module _ (laws : ReductionLaws) (nodes : NodeLaws) (t : ParseTable) (table : IsTable t) (text : Bytes) (s : Setting) (g : GraphView) (k : Batch) (tops : List Top) (ready : IsReady t text s g k tops) where
+module _ (laws : ReductionLaws) (nodes : NodeLaws) (t : ParseTable) (table : IsTable t) (text : Bytes) (base : Base) (s : Setting) (g : GraphView) (k : Batch) (tops : List Top) (ready : IsReady t text base s g k tops) where
   abbrev P : Parsing
-  P = parsing_of t text
+  P = parsing_from t text base
 
   parsed : CanBeParsed P
   parsed = ready.sound.laid.parsed
 
   -- one that would be too deep
-  pub deep_at : SomeAreDeep t g k (ByTops tops) → IsDeepAt t text g (key_of k)
+  pub deep_at : SomeAreDeep t g k (ByTops tops) → IsDeepAt t text base g (key_of k)
   deep_at d =
-      let r = ready_at t text s g k tops ready d.top d.means in
+      let r = ready_at t text base s g k tops ready d.top d.means in
       let a = d.deep.asked in
       record {
         number = d.number;
@@ -269,12 +268,12 @@ module _ (laws : ReductionLaws) (nodes : NodeLaws) (t : ParseTable) (table : IsT
     pub each_can : (m : Made) → Contains mades m → CanLayMade P g m
     each_can m there =
         let r = all_made.each m there in
-        can_lay laws nodes t table text s g k r.0 r.1 r.2 r.3 (ready_at t text s g k tops ready r.0 r.4) m r.5
+        can_lay laws nodes t table text s g k r.0 r.1 r.2 r.3 (ready_at t text base s g k tops ready r.0 r.4) m r.5
 
     pub each_ends : (m : Made) → Contains mades m → end_of g m ≡ k.look
     each_ends m there =
         let r = all_made.each m there in
-        ends_at laws nodes t table text s g k r.0 r.1 r.2 r.3 (ready_at t text s g k tops ready r.0 r.4) m r.5
+        ends_at laws nodes t table text s g k r.0 r.1 r.2 r.3 (ready_at t text base s g k tops ready r.0 r.4) m r.5
 
     pub can_all : CanLayAll P g k.look mades
     can_all = record { sound = ready.sound.laid; each = each_can; ends = each_ends }
@@ -295,48 +294,43 @@ module _ (laws : ReductionLaws) (nodes : NodeLaws) (t : ParseTable) (table : IsT
 
       -- ---- new heads
 
-      module _ (base : Base) (begin : IsBegunBy t text base) (early : base.place ≤ k.look) (m : Key) (same_look : m.look ≡ k.look) where
-        abbrev Q : Parsing
-        Q = parsing_from t text base
-
+      module _ (m : Key) (same_look : m.look ≡ k.look) where
         not_empty : (read : List ℕ) (head : Head) → LeadsTo (goto_of t) read head.state → (head.state ≡ 0 → ⊥) → read ≡ [] → ⊥
         not_empty read head leads none empty =
             none (lead_once (goto_of t) [] head.state 0 (subst (λ (r : List ℕ). LeadsTo (goto_of t) r head.state) empty leads) at_first)
 
         abbrev Little : ℕ → List ℕ → ℕ → Type 0
         Little b read from = ((u : Tree) (place : ℕ) (now : List ℕ)
-            → LaysBefore Q (unit_rank t.grammar) m read from (u ∷ []) place now → HasLink Q new.heads (bare_links new.links) b u place now)
+            → LaysBefore P (unit_rank t.grammar) m read from (u ∷ []) place now → HasLink P new.heads (bare_links new.links) b u place now)
             × ((children : List Tree) (end : ℕ) (over : List ℕ) (extras : List Tree)
             (look number left : ℕ) (p : Production)
-            → CanMakeNode Q read from children end over extras look number left p
+            → CanMakeNode P read from children end over extras look number left p
             → Earlier (record { look = look; begins = from; rank = unit_rank t.grammar left }) m → ⊥)
 
         at_the_place : (b : ℕ) (read : List ℕ) (from : ℕ) → (read ≡ [] → ⊥) → m.look ≤ from → Little b read from
-        at_the_place b read from full late = (
-          (λ u place now l. absurd (laws.late Q parsed.fit parsed.states begin.configuration begin.reached begin.begun (unit_rank t.grammar) m read from (omega (arith, early, same_look, late)) full late place now u l)),
-          (λ ks end over xs look number left p c earlier. laws.late_nodes Q parsed.fit parsed.states begin.configuration begin.reached begin.begun (unit_rank t.grammar) m read from (omega (arith, early, same_look, late)) full late ks end over xs look number left p c earlier),
-        )
+        at_the_place b read from full late =
+            let early = ready.late in (
+              (λ u place now l. absurd (laws.late P parsed.fit parsed.states parsed.grounded (unit_rank t.grammar) m read from (omega (arith, early, same_look, late)) full late place now u l)),
+              (λ ks end over xs look number left p c earlier. laws.late_nodes P parsed.fit parsed.states parsed.grounded (unit_rank t.grammar) m read from (omega (arith, early, same_look, late)) full late ks end over xs look number left p c earlier),
+            )
 
-        -- an extra that is passed there from the start of the text
+        -- an extra that is passed there
         where_passed : (b : ℕ) (read : List ℕ) (from : ℕ) → (read ≡ [] → ⊥) → IsAt P new.heads b read from → HasPassed P new b → Little b read from
         where_passed b read from full at p = (
           (λ u place now l.
-              let f = late_enough t text base laws parsed.fit parsed.states begin (unit_rank t.grammar) m read from u place now l in
-              let x = laws.extra P parsed.fit parsed.states start.configuration start.reached start.begun (unit_rank t.grammar) f.0 read from p.symbol p.pad p.size (omega arith) full passes place now u f.1 in
-              link_from t text base new.heads (bare_links new.links) b u place now
-              (subst (λ (v : Tree). HasLink P new.heads (bare_links new.links) b v place now) (sym x.0)
+              let x = laws.extra P parsed.fit parsed.states parsed.grounded (unit_rank t.grammar) m read from p.symbol p.pad p.size late full passes place now u l in
+              subst (λ (v : Tree). HasLink P new.heads (bare_links new.links) b v place now) (sym x.0)
               (subst (λ (n : ℕ). HasLink P new.heads (bare_links new.links) b (extra_tree p.symbol p.pad p.size) n now) (sym x.1)
-              (subst (λ (r : List ℕ). HasLink P new.heads (bare_links new.links) b (extra_tree p.symbol p.pad p.size) (from + (p.pad + p.size)) r) (sym x.2) link)))),
+              (subst (λ (r : List ℕ). HasLink P new.heads (bare_links new.links) b (extra_tree p.symbol p.pad p.size) (from + (p.pad + p.size)) r) (sym x.2) link))),
           (λ ks end over xs look number left q c earlier.
-              laws.none_behind P parsed.fit parsed.states start.configuration start.reached start.begun read from p.symbol p.pad p.size (omega arith) full passes ks end over xs look number left q
-              (node_back t text base laws parsed.fit parsed.states begin read from ks end over xs look number left q c)),
+              laws.none_behind P parsed.fit parsed.states parsed.grounded read from p.symbol p.pad p.size late full passes ks end over xs look number left q c),
         )
           where
-            start : IsBegunBy t text empty_base
-            start = text_begun t text
-
             place_same : p.from ≡ from
             place_same = same_place P new.heads b p.read read p.from from p.at at
+
+            late : base.place ≤ from
+            late = let h = p.late in let e = place_same in omega (arith, h, e)
 
             passes : PassesAt P read from p.symbol p.pad p.size
             passes = subst (λ (n : ℕ). PassesAt P read n p.symbol p.pad p.size) place_same (laws.shared P parsed.fit parsed.states p.read read p.from p.symbol p.pad p.size (share_head P new.heads b p.read read p.from from p.at at) p.passes)
@@ -352,20 +346,20 @@ module _ (laws : ReductionLaws) (nodes : NodeLaws) (t : ParseTable) (table : IsT
               stands = p.link.stands;
             }
 
-        added : AreAdded Q (unit_rank t.grammar) g.heads new.heads (bare_links new.links) m
+        added : AreAdded P (unit_rank t.grammar) g.heads new.heads (bare_links new.links) m
         added = record { each = λ b read from at. by b read from at (laid.only b at.head at.is) }
           where
-            by : (b : ℕ) (read : List ℕ) (from : ℕ) → (at : IsAt Q new.heads b read from) → (slice_get g.heads b ≡ Some at.head) ⊎ IsNewHead P new k.look b at.head → IsAt Q g.heads b read from ⊎ Little b read from
+            by : (b : ℕ) (read : List ℕ) (from : ℕ) → (at : IsAt P new.heads b read from) → (slice_get g.heads b ≡ Some at.head) ⊎ IsNewHead P new k.look b at.head → IsAt P g.heads b read from ⊎ Little b read from
             by b read from at (inl o) = inl (record { head = at.head; is = o; state = at.state; place_is = at.place_is })
             by b read from at (inr n) = inr (⊎_elim
                 (λ e. at_the_place b read from (not_empty read at.head at.state n.0) (let f = at.place_is in omega (arith, e, f, same_look)))
-                (λ p. where_passed b read from (not_empty read at.head at.state n.0) (at_back t text base new.heads b read from at) p) n.1)
+                (λ p. where_passed b read from (not_empty read at.head at.state n.0) at p) n.1)
 
       each_good : (u : Tree) → Contains (flat_map trees_of mades) u → IsGoodTree t.grammar u
       each_good u there =
           let f = contained_flat trees_of mades u there in
           let r = all_made.each f.0 f.1 in
-          by f.0 r.5 (good_extras laws nodes t table text s g k r.0 r.1 r.2 r.3 (ready_at t text s g k tops ready r.0 r.4) f.0 r.5) (first_or_later f.0.piece.node f.0.extras u f.2)
+          by f.0 r.5 (good_extras laws nodes t table text s g k r.0 r.1 r.2 r.3 (ready_at t text base s g k tops ready r.0 r.4) f.0 r.5) (first_or_later f.0.piece.node f.0.extras u f.2)
         where
           by : {top : Top} {number : ℕ} {way : List Link} {b : ℕ} (m : Made) → IsMadeFor t (length text) g k top number way b m → AreGoodTrees t.grammar m.extras → (m.piece.node ≡ u) ⊎ Contains m.extras u → IsGoodTree t.grammar u
           by m made goods (inl e) = subst (λ (x : Tree). IsGoodTree t.grammar x) e made.good
@@ -374,12 +368,12 @@ module _ (laws : ReductionLaws) (nodes : NodeLaws) (t : ParseTable) (table : IsT
       new_good : (l : Link) → Contains new.links l → IsGoodTree t.grammar l.tree
       new_good l there = ⊎_elim (λ h. each_good l.tree h) (λ w. subst (λ (x : Tree). IsGoodTree t.grammar x) (sym w.2) (ready.sound.good w.0 w.1)) (laid.trees l there)
 
-      pub reduced_all : AreReduced t text g new (key_of k)
+      pub reduced_all : AreReduced t text base g new (key_of k)
       reduced_all = record {
         sound = record { laid = laid.sound; good = new_good };
         grows = laid.grows;
         done = all_done;
         grown = grows_grown laws P g new laid.grows;
         only = laid.only;
-        added = λ base begin early m same. added base begin early m same;
+        added = added;
       }

@@ -24,7 +24,7 @@ use Rattle.ts_laying.specs.declared.made.Made.{Made}
 use Rattle.ts_reductions.specs.declared.setting.Setting.{Setting}
 use Rattle.ts_reductions.specs.declared.top.Top.{Top}
 use Rattle.ts_laying.specs.Sound.{CanBeParsed, bare_links}
-use Rattle.ts_reductions.specs.Sound.{parsing_of}
+use Rattle.ts_reductions.specs.Sound.{parsing_from}
 use Rattle.ts_laying.specs.Laying.{FitsAfter, FitExtras, CanLayMade, end_of}
 use Rattle.ts_reductions.specs.Asking.{inner_of, outer_of, children_on, extras_on, key_of, IsAsked, IsReadyAt, IsMadeFor}
 use Rattle.ts_reductions.proofs.SmallLemmas.{all_spans-append, spans_turned, extras_turned}
@@ -44,7 +44,7 @@ map_append f (x ∷ xs) ys = ap (λ (l : List Tree). f x ∷ l) (map_append f xs
 
 module _ (laws : ReductionLaws) (nodes : NodeLaws) (t : ParseTable) (table : IsTable t) (text : Bytes) (s : Setting) (g : GraphView) (k : Batch) (top : Top) (number : ℕ) (way : List Link) (b : ℕ) (ready : IsReadyAt t text s g k top) (m : Made) (made : IsMadeFor t (length text) g k top number way b m) where
   abbrev P : Parsing
-  P = parsing_of t text
+  P = parsing_from t text ready.base
 
   parsed : CanBeParsed P
   parsed = ready.sound.laid.parsed
@@ -103,11 +103,11 @@ module _ (laws : ReductionLaws) (nodes : NodeLaws) (t : ParseTable) (table : IsT
   own_laid =
       subst (λ (n : ℕ). Lays P now k.begins (bare node ∷ []) n (asked.left ∷ now)) (sym end_is)
       (subst (λ (x : Tree). Lays P now k.begins (x ∷ []) end (asked.left ∷ now)) (sym node_bare)
-      (laws.laid P parsed.fit parsed.states (unit_rank t.grammar) g.heads links ready.sound.laid.graph (key_of k) number asked.left asked.production top.head e b (bare_links (outer_of way)) (bare_links (inner_of way)) over now end (ask.due laws t table text s g k top number way b ready asked) shallow))
+      (laws.laid P parsed.fit parsed.states parsed.grounded (unit_rank t.grammar) g.heads links ready.sound.laid.graph (key_of k) number asked.left asked.production top.head e b (bare_links (outer_of way)) (bare_links (inner_of way)) over now end (ask.due laws t table text s g k top number way b ready asked) ready.late shallow))
 
   deep_laid : (u : Tree) × Lays P now k.begins (u ∷ []) (k.begins + span_of node) (asked.left ∷ now) × (tree_depth u ≡ m.piece.depth)
   deep_laid =
-      let d = laws.deepest P parsed.fit parsed.states (unit_rank t.grammar) g.heads links ready.sound.laid.graph (key_of k) number asked.left asked.production top.head e b (bare_links (outer_of way)) (bare_links (inner_of way)) over now end (ask.due laws t table text s g k top number way b ready asked) shallow in
+      let d = laws.deepest P parsed.fit parsed.states parsed.grounded (unit_rank t.grammar) g.heads links ready.sound.laid.graph (key_of k) number asked.left asked.production top.head e b (bare_links (outer_of way)) (bare_links (inner_of way)) over now end (ask.due laws t table text s g k top number way b ready asked) ready.late shallow in
       (d.0, subst (λ (n : ℕ). Lays P now k.begins (d.0 ∷ []) n (asked.left ∷ now)) (sym end_is) d.1, d.2 ∙ depth_is)
 
   same_under : bottom.head ≡ made.under
@@ -151,7 +151,7 @@ module _ (laws : ReductionLaws) (nodes : NodeLaws) (t : ParseTable) (table : IsT
   extra_laid done rest x is =
       let cut : way_trees (bare_links (outer_of way)) ≡ map bare (reverse rest) ++ bare x ∷ map bare (reverse done) =
       above_bare ∙ ap (λ (l : List Tree). map bare l) (turned_middle done rest x above is) ∙ map_append bare (reverse rest) (x ∷ reverse done) in
-      let one = laws.extras P parsed.fit parsed.states (unit_rank t.grammar) g.heads links ready.sound.laid.graph (key_of k) number asked.left asked.production top.head e b (bare_links (outer_of way)) (bare_links (inner_of way)) over now end (ask.due laws t table text s g k top number way b ready asked) shallow
+      let one = laws.extras P parsed.fit parsed.states parsed.grounded (unit_rank t.grammar) g.heads links ready.sound.laid.graph (key_of k) number asked.left asked.production top.head e b (bare_links (outer_of way)) (bare_links (inner_of way)) over now end (ask.due laws t table text s g k top number way b ready asked) ready.late shallow
       (map bare (reverse rest)) (map bare (reverse done)) (bare x) cut in
       let c = laws.keeps x in let p = c.pad in let z = c.size in
       let low : end + all_spans (map bare (reverse done)) ≡ end + all_spans done = omega (arith, bare_spans (reverse done), spans_turned done) in
@@ -198,6 +198,11 @@ module _ (laws : ReductionLaws) (nodes : NodeLaws) (t : ParseTable) (table : IsT
       (subst (λ (n : ℕ). EndBy (suc size) n extras) (sym none_done) (making.extra_reach laws nodes t table text s g k top number way b ready asked))
       (omega (arith, look_sum, look_within))))
 
+  node_late : ready.base.place ≤ k.begins + span_of node
+  node_late =
+      let h = laws.end P parsed.fit parsed.states parsed.grounded (unit_rank t.grammar) g.heads links ready.sound.laid.graph (key_of k) number asked.left asked.production top.head e b (bare_links (outer_of way)) (bare_links (inner_of way)) over now end (ask.due laws t table text s g k top number way b ready asked) ready.late in
+      omega (arith, h, end_is)
+
   at_below : IsAt P g.heads m.below now k.begins
   at_below = subst (λ (h : ℕ). IsAt P g.heads h now k.begins) (sym made.below_is) bottom
 
@@ -209,6 +214,7 @@ module _ (laws : ReductionLaws) (nodes : NodeLaws) (t : ParseTable) (table : IsT
     from = k.begins;
     at = at_below;
     fits = fits_node;
+    late = node_late;
     some = λ none. let f : asked.left ∷ now ≡ [] = none in cc;
     extras = fits_extras;
   }

@@ -1,6 +1,5 @@
 pub mod SmallLemmas
 pub mod FactLemmas
-pub mod FromLemmas
 pub mod LineLemmas
 pub mod RankLemmas
 pub mod SpanLemmas

@@ -23,7 +23,7 @@ use Rattle.ts_node.specs.Standing.{CanBeReduced}
 use Rattle.ts_reductions.specs.Laws.{ReductionLaws, NodeLaws}
 use Rattle.ts_reductions.specs.Good.{IsGoodTree, AreGoodTrees}
 use Rattle.ts_reductions.specs.Lines.{lengthens_by}
-use Rattle.ts_reductions.specs.Sound.{parsing_of}
+use Rattle.ts_reductions.specs.Sound.{parsing_from}
 use Rattle.ts_reductions.specs.Asking.{inner_of, outer_of, children_on, extras_on, depth_on, key_of, IsAsked, IsReadyAt}
 use Rattle.ts_reductions.specs.Depths.{depth_when}
 use Rattle.ts_reductions.proofs.SmallLemmas.{place_is_at, spans_turned, good_turned}
@@ -41,7 +41,7 @@ depth_forms (of_next a) (d ∷ ds) = refl
 
 module _ (laws : ReductionLaws) (nodes : NodeLaws) (t : ParseTable) (table : IsTable t) (text : Bytes) (s : Setting) (g : GraphView) (k : Batch) (top : Top) (number : ℕ) (way : List Link) (b : ℕ) (ready : IsReadyAt t text s g k top) (asked : IsAsked t g k top number way b) where
   abbrev P : Parsing
-  P = parsing_of t text
+  P = parsing_from t text ready.base
 
   parsed : CanBeParsed P
   parsed = ready.sound.laid.parsed
@@ -157,7 +157,7 @@ module _ (laws : ReductionLaws) (nodes : NodeLaws) (t : ParseTable) (table : IsT
 
     pub node_shallow : tree_depth node ≤ depth_on t number asked.left way
     node_shallow =
-        let d = laws.depth P parsed.fit parsed.states (unit_rank t.grammar) g.heads links ready.sound.laid.graph (key_of k) number asked.left asked.production top.head e b (bare_links (outer_of way)) (bare_links (inner_of way)) (ask.over laws t table text s g k top number way b ready asked) now end
+        let d = laws.depth P parsed.fit parsed.states parsed.grounded (unit_rank t.grammar) g.heads links ready.sound.laid.graph (key_of k) number asked.left asked.production top.head e b (bare_links (outer_of way)) (bare_links (inner_of way)) (ask.over laws t table text s g k top number way b ready asked) now end
         (ask.due laws t table text s g k top number way b ready asked) in
         let x = (laws.keeps node).depth in
         let y = ap tree_depth bare_is in
@@ -176,9 +176,9 @@ module _ (laws : ReductionLaws) (nodes : NodeLaws) (t : ParseTable) (table : IsT
       -- it is as long as its children, since it reaches from place to place
       pub node_spans : span_of node ≡ all_spans children
       node_spans =
-          let l = laws.laid P parsed.fit parsed.states (unit_rank t.grammar) g.heads links ready.sound.laid.graph (key_of k) number asked.left asked.production top.head e b (bare_links (outer_of way)) (bare_links (inner_of way)) (ask.over laws t table text s g k top number way b ready asked) now end
-          (ask.due laws t table text s g k top number way b ready asked) way_shallow in
-          let r = laws.spans P parsed.fit parsed.states now (asked.left ∷ now) k.begins end (node_made P number (reverse (way_trees (bare_links (inner_of way)))) ∷ []) l in
+          let l = laws.laid P parsed.fit parsed.states parsed.grounded (unit_rank t.grammar) g.heads links ready.sound.laid.graph (key_of k) number asked.left asked.production top.head e b (bare_links (outer_of way)) (bare_links (inner_of way)) (ask.over laws t table text s g k top number way b ready asked) now end
+          (ask.due laws t table text s g k top number way b ready asked) ready.late way_shallow in
+          let r = laws.spans P parsed.fit parsed.states parsed.grounded now (asked.left ∷ now) k.begins end (node_made P number (reverse (way_trees (bare_links (inner_of way)))) ∷ []) l in
           let q = ap span_of bare_is in
           let x = (laws.keeps node).pad in
           let y = (laws.keeps node).size in

@@ -28,7 +28,7 @@ use Rattle.ts_reductions.specs.declared.batch.Batch.{Batch}
 use Rattle.ts_reductions.specs.declared.setting.Setting.{Setting}
 use Rattle.ts_reductions.specs.declared.top.Top.{Top}
 use Rattle.ts_laying.specs.declared.made.Made.{Made}
-use Rattle.ts_reductions.specs.Sound.{parsing_of, IsSoundBy}
+use Rattle.ts_reductions.specs.Sound.{Base, parsing_of, IsSoundBy}
 use Rattle.ts_reductions.specs.Lines.{IsSetting}
 
 -- ---- what is seen at heads
@@ -115,18 +115,22 @@ TakesSome t g top =
     → Contains (actions_of t head.state top.token.0) (Reduce number)
     → production_at t.grammar number ≡ Some (left, p) → p.steps ≡ [] → ⊥
 
--- a sound graph, the setting of its table, and a head that sees a token at the key's place
+-- a graph that is sound over some stack, which ends at the key's place or before it, the setting of
+-- its table, and a head that sees a token at that place
 pub record IsReadyAt (t : ParseTable) (text : Bytes) (s : Setting) (g : GraphView) (k : Batch)
     (top : Top) : Type 0 where
-  pub sound : IsSoundBy t text g
+  pub base : Base
+  pub sound : IsSoundBy t text base g
+  pub late : base.place ≤ k.look
   pub setting : IsSetting t (length text) s
   pub seen : IsTop t text g k.look top
   pub takes_some : TakesSome t g top
 
--- the same of all heads that see a token at the key's place
-pub record IsReady (t : ParseTable) (text : Bytes) (s : Setting) (g : GraphView) (k : Batch)
-    (tops : List Top) : Type 0 where
-  pub sound : IsSoundBy t text g
+-- the same over this stack, of all heads that see a token at the key's place
+pub record IsReady (t : ParseTable) (text : Bytes) (base : Base) (s : Setting) (g : GraphView)
+    (k : Batch) (tops : List Top) : Type 0 where
+  pub sound : IsSoundBy t text base g
+  pub late : base.place ≤ k.look
   pub setting : IsSetting t (length text) s
   pub seen : AreTops t text g k.look tops
   pub takes_some : (top : Top) → Contains tops top → TakesSome t g top

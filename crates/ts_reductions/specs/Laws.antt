@@ -12,13 +12,13 @@ use Rattle.spec_trees.specs.Trees.{span_of, all_spans, tree_depth, bare}
 use Rattle.spec_trees.specs.Made.{IsNode, FitsProduction, form_of, of_next, left_of, reduced, filling, step_symbols, BeginsFilled, most_depth}
 use Rattle.spec_trees.specs.Choice.{IsInForm}
 use Rattle.spec_runs.specs.BareTrees.{KeepsAll}
-use Rattle.spec_runs.specs.Configurations.{Configuration, AreExtras}
+use Rattle.spec_runs.specs.Configurations.{AreExtras}
 use Rattle.spec_runs.specs.Moves.{StandsBefore, EndsWithProduction, RepeatsItself}
-use Rattle.spec_runs.specs.Runs.{IsReached}
 use Rattle.spec_graph.specs.declared.graph.Head.{Head}
 use Rattle.spec_graph.specs.declared.graph.Link.{Link}
 use Rattle.spec_graph.specs.States.{ShareState, AreStates}
-use Rattle.spec_graph.specs.Laying.{Parsing, from_start, SeesAt, PassesAt, extra_tree, node_made, Lays, CanMakeNode, IsBegun}
+use Rattle.spec_graph.specs.Laying.{Parsing, SeesAt, PassesAt, extra_tree, node_made, Lays, CanMakeNode}
+use Rattle.spec_graph.specs.Grounded.{IsGrounded}
 use Rattle.spec_graph.specs.Replacing.{Replaces}
 use Rattle.spec_graph.specs.Keys.{Key, Earlier, LaysBefore}
 use Rattle.spec_graph.specs.Links.{IsAt, IsWay, way_trees, IsGraph, IsDue, way_depth}
@@ -35,24 +35,20 @@ pub record ReductionLaws : Type 0 where
       → production_at g number ≡ Some (left, p) → form_of g left number ≡ of_next alternative
       → RepeatsItself left p
   pub through : (t u v : Tree) → Replaces t u → Replaces u v → Replaces t v
-  pub spans : (P : Parsing) → Fit P.grammar → AreStates P.grammar P.goto
+  pub spans : (P : Parsing) → Fit P.grammar → AreStates P.grammar P.goto → IsGrounded P
       → (read now : List ℕ) (from place : ℕ) (w : List Tree)
-      → Lays (from_start P) read from w place now → from + all_spans w ≡ place
-  pub embeds : (P : Parsing) → Fit P.grammar → AreStates P.grammar P.goto
-      → (c : Configuration) → IsReached P.grammar P.text c → IsBegun P c
-      → (read now : List ℕ) (from place : ℕ) (w : List Tree)
-      → Lays P read from w place now → Lays (from_start P) read from w place now
+      → Lays P read from w place now → from + all_spans w ≡ place
   pub shared : (P : Parsing) → Fit P.grammar → AreStates P.grammar P.goto
       → (read other : List ℕ) (place : ℕ) (s : Symbol) (pad size : ℕ)
       → ShareState P.goto read other → PassesAt P read place s pad size
       → PassesAt P other place s pad size
-  pub due : (P : Parsing) → Fit P.grammar → AreStates P.grammar P.goto
+  pub due : (P : Parsing) → Fit P.grammar → AreStates P.grammar P.goto → IsGrounded P
       → (rank : ℕ → ℕ) (heads : List Head) (links : List Link)
-      → IsGraph (from_start P) heads links
+      → IsGraph P heads links
       → (k : Key) (number left : ℕ) (p : Production) (h e b : ℕ) (outer inner : List Link)
       (read : List ℕ) (s : Symbol) (pad size : ℕ)
-      → IsAt (from_start P) heads h read k.look
-      → SeesAt (from_start P) read k.look (token s pad size)
+      → IsAt P heads h read k.look
+      → SeesAt P read k.look (token s pad size)
       → Act P.grammar read s.0 (reduce number)
       → production_at P.grammar number ≡ Some (left, p) → k.rank ≡ rank left
       → IsWay links h outer e → AreExtras (way_trees outer) → IsWay links e inner b
@@ -61,63 +57,65 @@ pub record ReductionLaws : Type 0 where
       → length (filling (way_trees inner)) ≡ length p.steps
       → ((low : Head) → slice_get heads b ≡ Some low → low.place ≡ k.begins)
       → (over now : List ℕ) × (end : ℕ)
-      × IsDue (from_start P) rank heads links k number left p h e b outer inner over now end
+      × IsDue P rank heads links k number left p h e b outer inner over now end
       × (filling (way_trees inner) ≡ reverse (step_symbols p))
       × StandsBefore P.grammar now left
-  pub laid : (P : Parsing) → Fit P.grammar → AreStates P.grammar P.goto
+  pub laid : (P : Parsing) → Fit P.grammar → AreStates P.grammar P.goto → IsGrounded P
       → (rank : ℕ → ℕ) (heads : List Head) (links : List Link) → IsGraph P heads links
       → (k : Key) (number left : ℕ) (p : Production) (h e b : ℕ) (outer inner : List Link)
       (over now : List ℕ) (end : ℕ)
       → IsDue P rank heads links k number left p h e b outer inner over now end
-      → way_depth P number left inner ≤ most_depth
-      → Lays (from_start P) now k.begins
+      → P.place ≤ k.look → way_depth P number left inner ≤ most_depth
+      → Lays P now k.begins
       (node_made P number (reverse (way_trees inner)) ∷ []) end (left ∷ now)
-  pub depth : (P : Parsing) → Fit P.grammar → AreStates P.grammar P.goto
+  pub end : (P : Parsing) → Fit P.grammar → AreStates P.grammar P.goto → IsGrounded P
+      → (rank : ℕ → ℕ) (heads : List Head) (links : List Link) → IsGraph P heads links
+      → (k : Key) (number left : ℕ) (p : Production) (h e b : ℕ) (outer inner : List Link)
+      (over now : List ℕ) (end : ℕ)
+      → IsDue P rank heads links k number left p h e b outer inner over now end
+      → P.place ≤ k.look → P.place ≤ end
+  pub depth : (P : Parsing) → Fit P.grammar → AreStates P.grammar P.goto → IsGrounded P
       → (rank : ℕ → ℕ) (heads : List Head) (links : List Link) → IsGraph P heads links
       → (k : Key) (number left : ℕ) (p : Production) (h e b : ℕ) (outer inner : List Link)
       (over now : List ℕ) (end : ℕ)
       → IsDue P rank heads links k number left p h e b outer inner over now end
       → tree_depth (node_made P number (reverse (way_trees inner)))
       ≤ way_depth P number left inner
-  pub deepest : (P : Parsing) → Fit P.grammar → AreStates P.grammar P.goto
+  pub deepest : (P : Parsing) → Fit P.grammar → AreStates P.grammar P.goto → IsGrounded P
       → (rank : ℕ → ℕ) (heads : List Head) (links : List Link) → IsGraph P heads links
       → (k : Key) (number left : ℕ) (p : Production) (h e b : ℕ) (outer inner : List Link)
       (over now : List ℕ) (end : ℕ)
       → IsDue P rank heads links k number left p h e b outer inner over now end
-      → way_depth P number left inner ≤ most_depth
-      → (t : Tree) × Lays (from_start P) now k.begins (t ∷ []) end (left ∷ now)
+      → P.place ≤ k.look → way_depth P number left inner ≤ most_depth
+      → (t : Tree) × Lays P now k.begins (t ∷ []) end (left ∷ now)
       × (tree_depth t ≡ way_depth P number left inner)
-  pub extras : (P : Parsing) → Fit P.grammar → AreStates P.grammar P.goto
+  pub extras : (P : Parsing) → Fit P.grammar → AreStates P.grammar P.goto → IsGrounded P
       → (rank : ℕ → ℕ) (heads : List Head) (links : List Link) → IsGraph P heads links
       → (k : Key) (number left : ℕ) (p : Production) (h e b : ℕ) (outer inner : List Link)
       (over now : List ℕ) (end : ℕ)
       → IsDue P rank heads links k number left p h e b outer inner over now end
-      → way_depth P number left inner ≤ most_depth
+      → P.place ≤ k.look → way_depth P number left inner ≤ most_depth
       → (above below : List Tree) (x : Tree) → way_trees outer ≡ above ++ x ∷ below
-      → Lays (from_start P) (left ∷ now) (end + all_spans below) (x ∷ [])
+      → Lays P (left ∷ now) (end + all_spans below) (x ∷ [])
       ((end + all_spans below) + span_of x) (left ∷ now)
-  pub extra : (P : Parsing) → Fit P.grammar → AreStates P.grammar P.goto
-      → (c : Configuration) → IsReached P.grammar P.text c → IsBegun P c
+  pub extra : (P : Parsing) → Fit P.grammar → AreStates P.grammar P.goto → IsGrounded P
       → (rank : ℕ → ℕ) (k : Key) (read : List ℕ) (from : ℕ) (s : Symbol) (pad size : ℕ)
       → P.place ≤ from → (read ≡ [] → ⊥) → PassesAt P read from s pad size
       → (place : ℕ) (now : List ℕ) (t : Tree)
       → LaysBefore P rank k read from (t ∷ []) place now
       → (t ≡ extra_tree s pad size) × (place ≡ from + (pad + size)) × (now ≡ read)
-  pub none_behind : (P : Parsing) → Fit P.grammar → AreStates P.grammar P.goto
-      → (c : Configuration) → IsReached P.grammar P.text c → IsBegun P c
+  pub none_behind : (P : Parsing) → Fit P.grammar → AreStates P.grammar P.goto → IsGrounded P
       → (read : List ℕ) (from : ℕ) (s : Symbol) (pad size : ℕ)
       → P.place ≤ from → (read ≡ [] → ⊥) → PassesAt P read from s pad size
       → (ks : List Tree) (end : ℕ) (over : List ℕ) (extras : List Tree)
       (look number left : ℕ) (p : Production)
       → CanMakeNode P read from ks end over extras look number left p → ⊥
-  pub late : (P : Parsing) → Fit P.grammar → AreStates P.grammar P.goto
-      → (c : Configuration) → IsReached P.grammar P.text c → IsBegun P c
+  pub late : (P : Parsing) → Fit P.grammar → AreStates P.grammar P.goto → IsGrounded P
       → (rank : ℕ → ℕ) (k : Key) (read : List ℕ) (from : ℕ)
       → P.place ≤ from → (read ≡ [] → ⊥) → k.look ≤ from
       → (place : ℕ) (now : List ℕ) (t : Tree)
       → LaysBefore P rank k read from (t ∷ []) place now → ⊥
-  pub late_nodes : (P : Parsing) → Fit P.grammar → AreStates P.grammar P.goto
-      → (c : Configuration) → IsReached P.grammar P.text c → IsBegun P c
+  pub late_nodes : (P : Parsing) → Fit P.grammar → AreStates P.grammar P.goto → IsGrounded P
       → (rank : ℕ → ℕ) (k : Key) (read : List ℕ) (from : ℕ)
       → P.place ≤ from → (read ≡ [] → ⊥) → k.look ≤ from
       → (ks : List Tree) (end : ℕ) (over : List ℕ) (extras : List Tree)

@@ -1,12 +1,13 @@
 //! What the reductions of one key make: a graph and what is seen at its heads go in, and a node for
 //! each reduction that is asked for comes out, or that one of them would be too deep.
-ghost use Rattle.std.specs.Prelude.{◌≡◌, ℕ, List, length, slice_get, Some, MatchOption, IfOk, OnOk};
+ghost use Rattle.std.specs.Prelude.{◌≡◌, ℕ, List, length, Some, MatchOption, IfOk};
 ghost use Rattle.ts_base.specs.Bytes.{Bytes};
 ghost use Rattle.spec_graph.specs.declared.graph.Link.{Link as AnyLink};
 ghost use Rattle.spec_runs.specs.Moves.{StandsBefore};
 ghost use Rattle.ts_graph.specs.Down.{place_at};
 ghost use Rattle.ts_graph.specs.Ways.{AreAt, TakesFilled};
 ghost use Rattle.ts_table.specs.Tables.{IsStateOf, goto_of};
+ghost use Rattle.ts_reductions.specs.Sound.{Base as AnyBase};
 ghost use Rattle.ts_reductions.specs.Asking.{HasAction, HasReduction, IsAsked, IsReadyAt, IsReady, IsMadeFor, IsAskedDeep, Adds, SomeAreDeep, AreMade, OnWay, ByNumber, ByAction, ByTop, ByTops};
 
 use crate::batch::Batch;
@@ -247,9 +248,10 @@ pub(crate) fn make_all(
     batch: Batch,
     tops: &[Top],
 ) -> Result<Option<Vec<Made>>, AllocError>
-    requires { (text : Bytes) × IsReady table.now text setting.now graph.now batch tops.now }
-    ensures { IfOk result (λ o. (text : Bytes)
-        → IsReady table.now text setting.now graph.now batch tops.now
+    requires { (text : Bytes) × (base : AnyBase)
+        × IsReady table.now text base setting.now graph.now batch tops.now }
+    ensures { IfOk result (λ o. (text : Bytes) (base : AnyBase)
+        → IsReady table.now text base setting.now graph.now batch tops.now
         → MatchOption o (SomeAreDeep table.now graph.now batch (ByTops tops.now))
         (λ mades. AreMade table.now (length text) graph.now batch (ByTops tops.now)
         mades.items)) }

@@ -1,9 +1,5 @@
-//! The laws of other crates that the proofs here rest on, and that runs begin at the empty stack.
-//! No value goes in or out.
-ghost use Rattle.ts_base.specs.Bytes.{Bytes};
-ghost use Rattle.ts_table.specs.declared.view.ParseTable.{ParseTable};
+//! The laws of other crates that the proofs here rest on. No value goes in or out.
 ghost use Rattle.ts_reductions.specs.Laws.{ReductionLaws, NodeLaws};
-ghost use Rattle.ts_reductions.specs.Sound.{empty_base, IsBegunBy};
 
 use spec_graph::{
     extras_are_passed, new_heads_have_little, reductions_are_due, reductions_are_laid, runs_lay,
@@ -35,8 +31,3 @@ pub(crate) fn node_laws_hold()
     made_nodes_are_settled();
     made_nodes_are_in_form();
 }
-
-/// Runs go on from the empty stack at the start of a text.
-pub fn texts_begin()
-    ensures { (t : ParseTable) (text : Bytes) → IsBegunBy t text empty_base }
-{}

@@ -14,7 +14,6 @@ mod setting;
 mod top;
 
 pub use batch::Batch;
-pub use laws::texts_begin;
 pub use reducing::{Reduced, reduce_all};
 pub use setting::{Setting, Wanted, setting_of};
 pub use top::Top;

@@ -1,7 +1,8 @@
 //! The reductions of one key: a graph, what is seen at its heads and the key go in, and the graph
 //! with all of them done comes out, or that a node would be too deep.
-ghost use Rattle.std.specs.Prelude.{◌≡◌, IfOk};
+ghost use Rattle.std.specs.Prelude.{IfOk};
 ghost use Rattle.ts_base.specs.Bytes.{Bytes};
+ghost use Rattle.ts_reductions.specs.Sound.{Base as AnyBase};
 ghost use Rattle.ts_reductions.specs.Asking.{IsReady, key_of};
 ghost use Rattle.ts_reductions.specs.Reducing.{Reduces};
 
@@ -38,10 +39,11 @@ pub fn reduce_all(
     batch: Batch,
     tops: &[Top],
 ) -> Result<Reduced, AllocError>
-    requires { (text : Bytes) × IsReady table.now text setting.now graph.old batch tops.now }
-    ensures { IfOk result (λ reduced. (text : Bytes)
-        → IsReady table.now text setting.now graph.old batch tops.now
-        → Reduces table.now text graph.old graph.new (key_of batch) reduced) }
+    requires { (text : Bytes) × (base : AnyBase)
+        × IsReady table.now text base setting.now graph.old batch tops.now }
+    ensures { IfOk result (λ reduced. (text : Bytes) (base : AnyBase)
+        → IsReady table.now text base setting.now graph.old batch tops.now
+        → Reduces table.now text base graph.old graph.new (key_of batch) reduced) }
 {
     laws_hold();
     node_laws_hold();

@@ -1,6 +1,6 @@
 use Rattle.std.proofs.Common.{◌∙◌, sym, length}
 use Rattle.std.proofs.lemmas.Option.{slice_get_within}
-use Rattle.ts_reductions.specs.Sound.{parsing_of}
+use Rattle.ts_reductions.specs.Sound.{parsing_from}
 use Rattle.ts_reductions.proofs.SmallLemmas.{place_is_at}
 use Rattle.ts_reductions.proofs.AddLemmas.{in_some, in_none, elsewhere, one_made, one_deep}
 use Rattle.ts_reductions.proofs.CallLemmas.{way_low}
@@ -9,7 +9,7 @@ use Rattle.ts_reductions.proofs.asking.add_way.Goals as goal
 pub head-requires : goal.head-requires
 head-requires c =
     let r = c.requires in
-    way_low (parsing_of c.args.table.now r.0) c.args.graph.now r.3.sound.laid r.1 c.args.asked.top.head c.args.way.now.below (slice_get_within c.args.graph.now.heads c.args.asked.top.head r.3.seen.at.head r.3.seen.at.is) r.5.way
+    way_low (parsing_from c.args.table.now r.0 r.3.base) c.args.graph.now r.3.sound.laid r.1 c.args.asked.top.head c.args.way.now.below (slice_get_within c.args.graph.now.heads c.args.asked.top.head r.3.seen.at.head r.3.seen.at.is) r.5.way
 
 pub returns-then-head-asked : goal.returns-then-head-asked
 returns-then-head-asked c = λ text links ready at meant.
