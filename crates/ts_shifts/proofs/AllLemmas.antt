@@ -9,6 +9,7 @@ use Rattle.spec_graph.specs.declared.graph.Head.{Head}
 use Rattle.ts_core.specs.declared.flat.Production.{Production}
 use Rattle.spec_trees.specs.declared.tree.Tree.{Tree}
 use Rattle.spec_graph.specs.Laying.{Parsing, SeesAt, CanMakeNode}
+use Rattle.spec_graph.specs.Grounded.{IsGrounded}
 use Rattle.spec_graph.specs.Keys.{Key, Earlier, LaysBefore}
 use Rattle.spec_graph.specs.Links.{IsAt, HasLink, AreAdded, IsOpened}
 use Rattle.ts_graph.specs.declared.view.GraphView.{GraphView}
@@ -17,7 +18,7 @@ use Rattle.ts_table.specs.Tables.{IsTable}
 use Rattle.ts_table.specs.Ranks.{unit_rank}
 use Rattle.ts_laying.specs.Sound.{bare_links}
 use Rattle.ts_reductions.specs.declared.top.Top.{Top}
-use Rattle.ts_reductions.specs.Sound.{Base, parsing_from, parsing_of, IsBegunBy}
+use Rattle.ts_reductions.specs.Sound.{Base, parsing_from}
 use Rattle.ts_shifts.specs.declared.sights.Span.{Span}
 use Rattle.ts_shifts.specs.declared.sights.Sights.{Sights}
 use Rattle.ts_shifts.specs.Laws.{LeafLaws}
@@ -34,9 +35,9 @@ no_top = record { head = 0; token = record { 0 = 0 }; ahead = 0 }
 abbrev pub no_span : Span
 no_span = record { pad = 0; size = 0 }
 
-module _ (laws : LeafLaws) (t : ParseTable) (table : IsTable t) (text : Bytes) (old : GraphView) (look : ℕ) (s : Sights) (all : AreAllSights t text old look s) where
+module _ (laws : LeafLaws) (t : ParseTable) (table : IsTable t) (text : Bytes) (base : Base) (old : GraphView) (look : ℕ) (s : Sights) (all : AreAllSights t text base old look s) where
   abbrev P : Parsing
-  P = parsing_of t text
+  P = parsing_from t text base
 
   abbrev tops : List Top
   tops = s.tops.items
@@ -53,7 +54,7 @@ module _ (laws : LeafLaws) (t : ParseTable) (table : IsTable t) (text : Bytes) (
 
   -- ---- the loop
 
-  pub none_done : AreShiftedUpTo t text old old look tops 0
+  pub none_done : AreShiftedUpTo t text base old old look tops 0
   none_done = record {
     sound = all.sound;
     grows = grows_none laws old;
@@ -61,15 +62,16 @@ module _ (laws : LeafLaws) (t : ParseTable) (table : IsTable t) (text : Bytes) (
     opens = λ k top low is. absurd (omega (arith, low));
   }
 
-  module _ (mid : GraphView) (k : ℕ) (done : AreShiftedUpTo t text old mid look tops k) (top : Top) (is : slice_get tops k ≡ Some top) where
-    pub can_open : (span : Span) → slice_get s.spans.items k ≡ Some span → CanOpen t text mid look top span
+  module _ (mid : GraphView) (k : ℕ) (done : AreShiftedUpTo t text base old mid look tops k) (top : Top) (is : slice_get tops k ≡ Some top) where
+    pub can_open : (span : Span) → slice_get s.spans.items k ≡ Some span → CanOpen t text base mid look top span
     can_open span span_is = record {
       table = table;
       sound = done.sound;
+      late = all.late;
       sight = sight_stays t text old mid done.grows.stay look top span (sight_at k top span is span_is);
     }
 
-    pub one_done : (new : GraphView) → IsHeadOpened t text mid new look top.head → AreShiftedUpTo t text old new look tops (k + 1)
+    pub one_done : (new : GraphView) → IsHeadOpened t text base mid new look top.head → AreShiftedUpTo t text base old new look tops (k + 1)
     one_done new o = record {
       sound = o.sound;
       grows = grows_more laws old mid new done.grows o.grows;
@@ -89,7 +91,7 @@ module _ (laws : LeafLaws) (t : ParseTable) (table : IsTable t) (text : Bytes) (
 
   -- ---- all of them
 
-  module _ (new : GraphView) (k : ℕ) (many : length tops ≤ k) (done : AreShiftedUpTo t text old new look tops k) where
+  module _ (new : GraphView) (k : ℕ) (many : length tops ≤ k) (done : AreShiftedUpTo t text base old new look tops k) where
     -- a head at the place was there
     was_there : (b : ℕ) (read : List ℕ) → IsAt P new.heads b read look → IsAt P old.heads b read look
     was_there b read a = ⊎_elim
@@ -111,35 +113,34 @@ module _ (laws : LeafLaws) (t : ParseTable) (table : IsTable t) (text : Bytes) (
       passes = λ b read symbol pad size at passes. (opens_at b read symbol pad size at passes.sees).passes read symbol pad size at passes;
     }
 
-    module _ (base : Base) (begin : IsBegunBy t text base) (early : base.place ≤ look) where
-      abbrev Q : Parsing
-      Q = parsing_from t text base
+    ground : IsGrounded P
+    ground = all.sound.laid.parsed.grounded
 
-      -- a head was there, or little is laid on it
-      abbrev HasLittle : Key → ℕ → List ℕ → ℕ → Type 0
-      HasLittle m b read from =
-          IsAt Q old.heads b read from
-          ⊎ (((u : Tree) (place : ℕ) (now : List ℕ) → LaysBefore Q (unit_rank t.grammar) m read from (u ∷ []) place now → HasLink Q new.heads (bare_links new.links) b u place now)
-          × ((ks : List Tree) (end : ℕ) (over : List ℕ) (xs : List Tree) (at number left : ℕ) (p : Production) → CanMakeNode Q read from ks end over xs at number left p
-          → Earlier (record { look = at; begins = from; rank = unit_rank t.grammar left }) m → ⊥))
+    -- a head was there, or little is laid on it
+    abbrev HasLittle : Key → ℕ → List ℕ → ℕ → Type 0
+    HasLittle m b read from =
+        IsAt P old.heads b read from
+        ⊎ (((u : Tree) (place : ℕ) (now : List ℕ) → LaysBefore P (unit_rank t.grammar) m read from (u ∷ []) place now → HasLink P new.heads (bare_links new.links) b u place now)
+        × ((ks : List Tree) (end : ℕ) (over : List ℕ) (xs : List Tree) (at number left : ℕ) (p : Production) → CanMakeNode P read from ks end over xs at number left p
+        → Earlier (record { look = at; begins = from; rank = unit_rank t.grammar left }) m → ⊥))
 
-      added : (m : Key) → m.look ≤ suc look → AreAdded Q (unit_rank t.grammar) old.heads new.heads (bare_links new.links) m
-      added m low = record { each = λ b read from a. by b read from a (done.behind b a.head a.is) }
-        where
-          by : (b : ℕ) (read : List ℕ) (from : ℕ) (a : IsAt Q new.heads b read from) → (slice_get old.heads b ≡ Some a.head) ⊎ (look < a.head.place) → HasLittle m b read from
-          by b read from a (inl was) = inl (record { head = a.head; is = was; state = a.state; place_is = a.place_is })
-          by b read from a (inr past) =
-              let p = a.place_is in inr (
-                (λ u place now l. absurd (none_before laws t table text all.sound.laid.parsed.states base begin (unit_rank t.grammar) m read from (omega (arith, past, p)) (omega (arith, past, p, early)) (omega (arith, past, p, low)) u place now l)),
-                (λ ks end over xs at number left production c earlier. no_node_before laws t table text all.sound.laid.parsed.states base begin (unit_rank t.grammar) m read from (omega (arith, past, p)) (omega (arith, past, p, early)) (omega (arith, past, p, low)) ks end over xs at number left production c earlier),
-              )
+    added : (m : Key) → m.look ≤ suc look → AreAdded P (unit_rank t.grammar) old.heads new.heads (bare_links new.links) m
+    added m low = record { each = λ b read from a. by b read from a (done.behind b a.head a.is) }
+      where
+        by : (b : ℕ) (read : List ℕ) (from : ℕ) (a : IsAt P new.heads b read from) → (slice_get old.heads b ≡ Some a.head) ⊎ (look < a.head.place) → HasLittle m b read from
+        by b read from a (inl was) = inl (record { head = a.head; is = was; state = a.state; place_is = a.place_is })
+        by b read from a (inr past) =
+            let p = a.place_is in let early = all.late in inr (
+              (λ u place now l. absurd (none_before laws t table text base ground (unit_rank t.grammar) m read from (omega (arith, past, p)) (omega (arith, past, p, early)) (omega (arith, past, p, low)) u place now l)),
+              (λ ks end over xs at number left production c earlier. no_node_before laws t table text base ground (unit_rank t.grammar) m read from (omega (arith, past, p)) (omega (arith, past, p, early)) (omega (arith, past, p, low)) ks end over xs at number left production c earlier),
+            )
 
-    pub all_done : AreShifted t text old new look
+    pub all_done : AreShifted t text base old new look
     all_done = record {
       sound = done.sound;
       grows = done.grows;
       grown = grows_grown laws P old new done.grows;
       behind = done.behind;
       opened = opened;
-      added = λ base begin early m low. added base begin early m low;
+      added = added;
     }

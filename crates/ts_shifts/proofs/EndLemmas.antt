@@ -10,15 +10,15 @@ use Rattle.spec_graph.specs.Links.{IsAt}
 use Rattle.ts_graph.specs.declared.view.GraphView.{GraphView}
 use Rattle.ts_table.specs.declared.view.ParseTable.{ParseTable}
 use Rattle.ts_laying.specs.Laying.{HasPassed}
-use Rattle.ts_reductions.specs.Sound.{parsing_of, IsSoundBy}
+use Rattle.ts_reductions.specs.Sound.{Base, parsing_from, IsSoundBy}
 use Rattle.ts_shifts.specs.Laws.{LookLaws}
 use Rattle.ts_shifts.specs.Looking.{StopsThere}
 use Rattle.ts_shifts.proofs.HeadLemmas.{one_head, share_head, head_sees, move_shared}
 use Rattle.ts_shifts.proofs.SightLemmas.{no_absent, same_token}
 
-module _ (laws : LookLaws) (t : ParseTable) (text : Bytes) (g : GraphView) (sound : IsSoundBy t text g) (h : ℕ) (p : HasPassed (parsing_of t text) g h) where
+module _ (laws : LookLaws) (t : ParseTable) (text : Bytes) (base : Base) (g : GraphView) (sound : IsSoundBy t text base g) (h : ℕ) (p : HasPassed (parsing_from t text base) g h) where
   abbrev P : Parsing
-  P = parsing_of t text
+  P = parsing_from t text base
 
   module _ (read : List ℕ) (place : ℕ) (at : IsAt P g.heads h read place) where
     place_is : p.from ≡ place
@@ -33,11 +33,11 @@ module _ (laws : LookLaws) (t : ParseTable) (text : Bytes) (g : GraphView) (soun
     -- no move stays on the token that is seen there
     pub passed_moves : (symbol : Symbol) (pad size : ℕ) → SeesAt P read place (token symbol pad size) → HasMove t.grammar read symbol.0 → ⊥
     passed_moves symbol pad size sees move =
-        let one = same_token p.symbol symbol p.pad pad p.size size (head_sees laws t text g sound h place p.read read (token p.symbol p.pad p.size) (token symbol pad size) passed_at at passed_sees sees) in
-        p.passes.none (subst (λ (x : Symbol). HasMove t.grammar p.read x.0) (sym one) (move_shared laws t text g sound read p.read symbol.0 (share_head P g.heads h read p.read place place at passed_at) move))
+        let one = same_token p.symbol symbol p.pad pad p.size size (head_sees laws t text g (base, sound) h place p.read read (token p.symbol p.pad p.size) (token symbol pad size) passed_at at passed_sees sees) in
+        p.passes.none (subst (λ (x : Symbol). HasMove t.grammar p.read x.0) (sym one) (move_shared laws t text g (base, sound) read p.read symbol.0 (share_head P g.heads h read p.read place place at passed_at) move))
 
   -- it stops nowhere
   pub passed_stops : (look stop : ℕ) → StopsThere t text g look h stop → ⊥
   passed_stops look stop s =
       no_absent p.symbol p.pad p.size s.far
-      (head_sees laws t text g sound h look p.read s.read (token p.symbol p.pad p.size) (absent s.far) (passed_at s.read look s.at) s.at (passed_sees s.read look s.at) s.sees)
+      (head_sees laws t text g (base, sound) h look p.read s.read (token p.symbol p.pad p.size) (absent s.far) (passed_at s.read look s.at) s.at (passed_sees s.read look s.at) s.sees)

@@ -11,6 +11,7 @@ use Rattle.ts_graph.specs.declared.view.GraphView.{GraphView}
 use Rattle.ts_graph.specs.Down.{KeepNumbers, place_at}
 use Rattle.ts_table.specs.declared.view.ParseTable.{ParseTable}
 use Rattle.ts_laying.specs.Sound.{bare_links}
+use Rattle.ts_reductions.specs.Sound.{parsing_of}
 use Rattle.ts_laying.specs.Laying.{Grows}
 use Rattle.ts_reductions.specs.declared.top.Top.{Top}
 use Rattle.ts_shifts.specs.declared.sights.Span.{Span}
@@ -37,7 +38,7 @@ module _ (P : Parsing) (heads heads' : List Head) (keep : KeepNumbers heads head
 pub sight_stays : (t : ParseTable) (text : Bytes) (old new : GraphView) → KeepNumbers old.heads new.heads → (look : ℕ) (top : Top) (span : Span) → IsTopWith t text old look top span → IsTopWith t text new look top span
 sight_stays t text old new keep look top span s = record {
   read = s.read;
-  at = at_stays _ old.heads new.heads keep top.head s.read look s.at;
+  at = at_stays (parsing_of t text) old.heads new.heads keep top.head s.read look s.at;
   sees = s.sees;
   past = s.past;
   reach = s.reach;

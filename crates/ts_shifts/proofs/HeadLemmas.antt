@@ -19,7 +19,7 @@ use Rattle.ts_lexer.specs.Answers.{SaysFound, extent_of, IsLexedAt}
 use Rattle.ts_lexer.specs.declared.lexed.Lexed.{Lexed}
 use Rattle.ts_lexer.specs.declared.lexed.Lexed.TheVariants.{Token, Absent}
 use Rattle.ts_laying.specs.Sound.{bare_links}
-use Rattle.ts_reductions.specs.Sound.{parsing_of, IsSoundBy}
+use Rattle.ts_reductions.specs.Sound.{parsing_from, parsing_of, IsSoundOver}
 use Rattle.ts_shifts.specs.Laws.{LookLaws}
 use Rattle.ts_shifts.specs.Looking.{IsHeadAt, SeesThere}
 use Rattle.ts_shifts.proofs.SeenLemmas.{found_token, seen_within}
@@ -54,7 +54,7 @@ share_head P heads h read other p q a b =
 
 -- ---- what is seen
 
-module _ (laws : LookLaws) (t : ParseTable) (text : Bytes) (g : GraphView) (sound : IsSoundBy t text g) where
+module _ (laws : LookLaws) (t : ParseTable) (text : Bytes) (g : GraphView) (sound : IsSoundOver t text g) where
   abbrev P : Parsing
   P = parsing_of t text
 
@@ -64,7 +64,7 @@ module _ (laws : LookLaws) (t : ParseTable) (text : Bytes) (g : GraphView) (soun
       (laws.same_tokens t.grammar a.0 b.0 (drop place text) f (λ s. ((λ w. (b.1 s).1 ((a.1 s).0 w)), (λ w. (a.1 s).1 ((b.1 s).0 w)))) a.2) b.2
 
   pub move_shared : (read other : List ℕ) (n : ℕ) → ShareState P.goto read other → HasMove t.grammar read n → HasMove t.grammar other n
-  move_shared read other n s m = (m.0, sound.laid.parsed.states.acts read other n m.0 s m.1)
+  move_shared read other n s m = (m.0, sound.1.laid.parsed.states.acts read other n m.0 s m.1)
 
   valid_shared : (read other : List ℕ) (s : Symbol) → ShareState P.goto read other → HasMove t.grammar read s.0 ⊎ (is_extra t.grammar s.0 ≡ true) → HasMove t.grammar other s.0 ⊎ (is_extra t.grammar s.0 ≡ true)
   valid_shared read other s share (inl m) = inl (move_shared read other s.0 share m)
@@ -83,7 +83,7 @@ module _ (laws : LookLaws) (t : ParseTable) (text : Bytes) (g : GraphView) (soun
 
   module _ (table : IsTable t) (h : ℕ) (head : Head) (is : slice_get g.heads h ≡ Some head) where
     reads : (read : List ℕ) × LeadsTo P.goto read head.state
-    reads = head_reads P g.heads (bare_links g.links) sound.laid.graph h head is
+    reads = head_reads (parsing_from t text sound.0) g.heads (bare_links g.links) sound.1.laid.graph h head is
 
     state_is : IsStateOf t reads.0 head.state
     state_is = leads_state t reads.0 head.state reads.1
@@ -92,7 +92,7 @@ module _ (laws : LookLaws) (t : ParseTable) (text : Bytes) (g : GraphView) (soun
     state_low = table.inside reads.0 head.state state_is
 
     pub place_low : head.place ≤ length text
-    place_low = sound.laid.within h head is
+    place_low = sound.1.laid.within h head is
 
     sees_by : (lexed : Lexed) (valid : List Symbol) (found : Found) → AreValidTokens t.grammar reads.0 valid → Lex t.grammar valid (drop head.place text) found
         → SaysFound head.place lexed found → Seen t.grammar valid (drop head.place text) (extent_of lexed) → SeesThere t text g head.place h lexed

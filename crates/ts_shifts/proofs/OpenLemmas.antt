@@ -10,7 +10,7 @@ use Rattle.spec_lexing.specs.Lexing.{token}
 use Rattle.spec_tables.specs.Actions.{Act, shift}
 use Rattle.spec_tables.specs.Items.{IsToken}
 use Rattle.spec_trees.specs.declared.tree.Tree.{Tree}
-use Rattle.spec_trees.specs.Trees.{node_extent, tree_depth, bare}
+use Rattle.spec_trees.specs.Trees.{tree_depth, bare}
 use Rattle.spec_trees.specs.Trees as trees
 use Rattle.spec_trees.specs.Made.{IsNode, leaf_of, as_extra, most_span}
 use Rattle.spec_runs.specs.Configurations.{token_tree, HasMove}
@@ -27,7 +27,7 @@ use Rattle.ts_laying.specs.Sound.{bare_links}
 use Rattle.ts_laying.specs.Laying.{CanLayOn, HasTree, head_at, IsLaid}
 use Rattle.ts_reductions.specs.declared.top.Top.{Top}
 use Rattle.ts_reductions.specs.Good.{IsGoodTree}
-use Rattle.ts_reductions.specs.Sound.{parsing_of, IsSoundBy}
+use Rattle.ts_reductions.specs.Sound.{Base, parsing_from, IsSoundBy}
 use Rattle.ts_shifts.specs.declared.sights.Span.{Span}
 use Rattle.ts_shifts.specs.Laws.{LookLaws, LeafLaws}
 use Rattle.ts_shifts.specs.Looking.{IsTopWith}
@@ -39,9 +39,9 @@ use Rattle.ts_shifts.proofs.ActionLemmas.{shift_stays, shift_leads, shift_acts, 
 use Rattle.ts_shifts.proofs.LeafLemmas.{SaysLeaf, says_leaf, says_extra, leaf_good, bare_leaf, bare_extra}
 use Rattle.ts_shifts.proofs.GrowLemmas.{place_is_at, at_stays, at_back, grows_none}
 
-module _ (look_laws : LookLaws) (laws : LeafLaws) (t : ParseTable) (text : Bytes) (old : GraphView) (look : ℕ) (top : Top) (span : Span) (can : CanOpen t text old look top span) where
+module _ (look_laws : LookLaws) (laws : LeafLaws) (t : ParseTable) (text : Bytes) (base : Base) (old : GraphView) (look : ℕ) (top : Top) (span : Span) (can : CanOpen t text base old look top span) where
   abbrev P : Parsing
-  P = parsing_of t text
+  P = parsing_from t text base
 
   abbrev s : IsTopWith t text old look top span
   s = can.sight
@@ -64,7 +64,7 @@ module _ (look_laws : LookLaws) (laws : LeafLaws) (t : ParseTable) (text : Bytes
 
   -- ---- what the head sees, after what it was laid on
 
-  module _ (new : GraphView) (sound : IsSoundBy t text new) (keep : (h : ℕ) (x : Head) → slice_get old.heads h ≡ Some x → slice_get new.heads h ≡ Some x) where
+  module _ (new : GraphView) (sound : IsSoundBy t text base new) (keep : (h : ℕ) (x : Head) → slice_get old.heads h ≡ Some x → slice_get new.heads h ≡ Some x) where
     was_at : (read : List ℕ) → IsAt P new.heads top.head read look → IsAt P old.heads top.head read look
     was_at read a = at_back P old.heads new.heads keep top.head head s.at.is read look a
 
@@ -80,7 +80,7 @@ module _ (look_laws : LookLaws) (laws : LeafLaws) (t : ParseTable) (text : Bytes
     it_is : (read : List ℕ) (symbol : Symbol) (pad size : ℕ) → IsAt P new.heads top.head read look → SeesAt P read look (token symbol pad size) → IsIt symbol pad size
     it_is read symbol pad size a sees =
         let e = parts top.token symbol span.pad pad span.size size
-        (head_sees look_laws t text new sound top.head look s.read read (token top.token span.pad span.size) (token symbol pad size) (at_stays P old.heads new.heads keep top.head s.read look s.at) a s.sees sees) in
+        (head_sees look_laws t text new (base, sound) top.head look s.read read (token top.token span.pad span.size) (token symbol pad size) (at_stays P old.heads new.heads keep top.head s.read look s.at) a s.sees sees) in
         record { token_is = e.0; pad_is = e.1; size_is = e.2 }
 
     -- a link for the tree that is seen, up to a state
@@ -143,7 +143,7 @@ module _ (look_laws : LookLaws) (laws : LeafLaws) (t : ParseTable) (text : Bytes
       good : IsGoodTree t.grammar u
       good = leaf_good t.grammar span.pad span.size top.ahead u says node some
 
-      pub sound_still : IsSoundBy t text new
+      pub sound_still : IsSoundBy t text base new
       sound_still = record { laid = laid.sound; good = λ l there. by l (laid.trees l there) }
         where
           by : (l : Link) → Contains (u ∷ []) l.tree ⊎ ((o : Link) × Contains old.links o × (l.tree ≡ o.tree)) → IsGoodTree t.grammar l.tree
@@ -160,7 +160,7 @@ module _ (look_laws : LookLaws) (laws : LeafLaws) (t : ParseTable) (text : Bytes
               let p : x.place ≡ end = ap (λ (y : Head). y.place) one in
               omega (arith, p, some)
 
-      pub opened_by : OpensHead P new.heads (bare_links new.links) look top.head → IsHeadOpened t text old new look top.head
+      pub opened_by : OpensHead P new.heads (bare_links new.links) look top.head → IsHeadOpened t text base old new look top.head
       opened_by opens = record { sound = sound_still; grows = laid.grows; behind = behind; opens = opens }
 
   -- ---- a token is shifted
@@ -191,7 +191,7 @@ module _ (look_laws : LookLaws) (laws : LeafLaws) (t : ParseTable) (text : Bytes
       bare_is = bare_leaf top.token span.pad span.size top.ahead None u is
 
       lays : Lays P s.read look (bare u ∷ []) end (top.token.0 ∷ s.read)
-      lays = subst (λ (x : Tree). Lays P s.read look (x ∷ []) end (top.token.0 ∷ s.read)) (sym bare_is) (shifted s.read look [] look s.read top.token span.pad span.size (flat s.read look) (omega arith) s.sees (stays s.read s.at))
+      lays = subst (λ (x : Tree). Lays P s.read look (x ∷ []) end (top.token.0 ∷ s.read)) (sym bare_is) (shifted s.read look [] look s.read top.token span.pad span.size (flat s.read look) can.late s.sees (stays s.read s.at))
 
       bare_depth : tree_depth (bare u) ≡ 1
       bare_depth = (laws.keeps u).depth ∙ says.depth
@@ -199,7 +199,7 @@ module _ (look_laws : LookLaws) (laws : LeafLaws) (t : ParseTable) (text : Bytes
       pub shift_can : CanLayOn P old top.head u 1 state
       shift_can = can_lay u says node some_bytes s.read (top.token.0 ∷ s.read) state s.at (leads_over s.read s.at) lays bare_depth
 
-      pub shift_done : (new : GraphView) (above : ℕ) → IsLaid P old new top.head (place_at old.heads top.head) u 1 state above → IsHeadOpened t text old new look top.head
+      pub shift_done : (new : GraphView) (above : ℕ) → IsLaid P old new top.head (place_at old.heads top.head) u 1 state above → IsHeadOpened t text base old new look top.head
       shift_done new above laid =
           let sound = sound_still u says node some_bytes s.read (top.token.0 ∷ s.read) state s.at (leads_over s.read s.at) new above laid in
           let at = at_end u says node some_bytes s.read (top.token.0 ∷ s.read) state s.at (leads_over s.read s.at) new above laid in
@@ -252,7 +252,7 @@ module _ (look_laws : LookLaws) (laws : LeafLaws) (t : ParseTable) (text : Bytes
       extra_is = bare_extra laws top.token span.pad span.size top.ahead None u is
 
       extra_lays : Lays P s.read look (bare u ∷ []) end s.read
-      extra_lays = subst (λ (x : Tree). Lays P s.read look (x ∷ []) end s.read) (sym extra_is) (passed s.read look [] look s.read top.token span.pad span.size (flat s.read look) (omega arith) own_passes)
+      extra_lays = subst (λ (x : Tree). Lays P s.read look (x ∷ []) end s.read) (sym extra_is) (passed s.read look [] look s.read top.token span.pad span.size (flat s.read look) can.late own_passes)
 
       extra_depth : tree_depth (bare u) ≡ 1
       extra_depth = (laws.keeps u).depth ∙ extra_says.depth
@@ -260,7 +260,7 @@ module _ (look_laws : LookLaws) (laws : LeafLaws) (t : ParseTable) (text : Bytes
       pub pass_can : CanLayOn P old top.head u 1 state
       pass_can = can_lay u extra_says node bytes s.read s.read state s.at (same_state s.read s.at) extra_lays extra_depth
 
-      pub pass_done : (new : GraphView) (above : ℕ) → IsLaid P old new top.head (place_at old.heads top.head) u 1 state above → IsHeadOpened t text old new look top.head
+      pub pass_done : (new : GraphView) (above : ℕ) → IsLaid P old new top.head (place_at old.heads top.head) u 1 state above → IsHeadOpened t text base old new look top.head
       pass_done new above laid =
           let sound = sound_still u extra_says node bytes s.read s.read state s.at (same_state s.read s.at) new above laid in
           let at = at_end u extra_says node bytes s.read s.read state s.at (same_state s.read s.at) new above laid in
@@ -283,7 +283,7 @@ module _ (look_laws : LookLaws) (laws : LeafLaws) (t : ParseTable) (text : Bytes
         let one : have.0 ≡ head = one_head old.heads top.head have.0 head have.1 s.at.is in
         ap (λ (x : Head). actions_of t x.state top.token.0) (sym one) ∙ have.2
 
-    pub stay_done : IsHeadOpened t text old old look top.head
+    pub stay_done : IsHeadOpened t text base old old look top.head
     stay_done = record {
       sound = can.sound;
       grows = grows_none laws old;

@@ -9,14 +9,13 @@ use Rattle.ts_graph.specs.declared.view.GraphView.{GraphView}
 use Rattle.ts_table.specs.declared.view.ParseTable.{ParseTable}
 use Rattle.ts_table.specs.Ranks.{unit_rank}
 use Rattle.ts_laying.specs.Sound.{bare_links}
-use Rattle.ts_reductions.specs.Sound.{Base, parsing_from, IsBegunBy, IsSoundBy}
-use Rattle.ts_reductions.proofs.FromLemmas.{graph_from}
+use Rattle.ts_reductions.specs.Sound.{Base, parsing_from, IsSoundBy}
 use Rattle.ts_shifts.specs.Laws.{LeafLaws, NextLaws}
 use Rattle.ts_shifts.specs.Looking.{IsHeadAt}
 use Rattle.ts_shifts.specs.Passing.{first_key}
 use Rattle.ts_shifts.proofs.GrowLemmas.{grows_none, grows_grown}
 
-module _ (laws : LeafLaws) (next_laws : NextLaws) (t : ParseTable) (text : Bytes) (base : Base) (begin : IsBegunBy t text base) (most : ℕ) (g : GraphView) (ranks : AreRanks t.grammar (unit_rank t.grammar) most) (sound : IsSoundBy t text g) where
+module _ (laws : LeafLaws) (next_laws : NextLaws) (t : ParseTable) (text : Bytes) (base : Base) (most : ℕ) (g : GraphView) (ranks : AreRanks t.grammar (unit_rank t.grammar) most) (sound : IsSoundBy t text base g) where
   abbrev P : Parsing
   P = parsing_from t text base
 
@@ -29,20 +28,20 @@ module _ (laws : LeafLaws) (next_laws : NextLaws) (t : ParseTable) (text : Bytes
 
     at_start : Whole (first_key most look) → Whole (record { look = look; begins = 0; rank = most })
     at_start whole =
-        next_laws.starts P sound.laid.parsed.fit sound.laid.parsed.states begin.configuration begin.reached begin.begun (unit_rank t.grammar) most ranks g.heads (bare_links g.links) (graph_from t text base g.heads (bare_links g.links) sound.laid.graph) look look 0
+        next_laws.starts P sound.laid.parsed.fit sound.laid.parsed.states sound.laid.parsed.grounded (unit_rank t.grammar) most ranks g.heads (bare_links g.links) sound.laid.graph look look 0
         (subst (λ (n : ℕ). Whole (record { look = look; begins = n; rank = most })) (let e : look ≡ look + 0 = omega arith in e) whole)
         (λ b i low high few. none b i)
 
     at_last : Whole (first_key most look) → Whole (record { look = look; begins = 0; rank = 0 })
     at_last whole =
-        next_laws.ranks P sound.laid.parsed.fit sound.laid.parsed.states begin.configuration begin.reached begin.begun (unit_rank t.grammar) most ranks g.heads (bare_links g.links) (graph_from t text base g.heads (bare_links g.links) sound.laid.graph) most look 0 0
+        next_laws.ranks P sound.laid.parsed.fit sound.laid.parsed.states sound.laid.parsed.grounded (unit_rank t.grammar) most ranks g.heads (bare_links g.links) sound.laid.graph most look 0 0
         (subst (λ (n : ℕ). Whole (record { look = look; begins = 0; rank = n })) (let e : most ≡ most + 0 = omega arith in e) (at_start whole))
         (λ i low high. none 0 i)
 
     one_past : Whole (first_key most look) → Whole (first_key most (suc look))
     one_past whole =
-        next_laws.next_place P sound.laid.parsed.fit sound.laid.parsed.states begin.configuration begin.reached begin.begun (unit_rank t.grammar) most ranks g.heads (bare_links g.links) g.heads (bare_links g.links)
-        (record { look = look; begins = 0; rank = 0 }) (first_key most (suc look)) (graph_from t text base g.heads (bare_links g.links) sound.laid.graph) (at_last whole)
+        next_laws.next_place P sound.laid.parsed.fit sound.laid.parsed.states sound.laid.parsed.grounded (unit_rank t.grammar) most ranks g.heads (bare_links g.links) g.heads (bare_links g.links)
+        (record { look = look; begins = 0; rank = 0 }) (first_key most (suc look)) sound.laid.graph (at_last whole)
         (λ number left p h e b outer inner over now end due. absurd (none 0 0 number left p h e b outer inner over now end due))
         (grows_grown laws P g g (grows_none laws g))
         (record { each = λ b read from a. inl a })

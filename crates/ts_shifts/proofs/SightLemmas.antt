@@ -16,11 +16,11 @@ use Rattle.ts_lexer.specs.declared.lexed.Lexed.{Lexed}
 use Rattle.ts_lexer.specs.declared.lexed.Lexed.TheVariants.{Token, Absent}
 use Rattle.ts_reductions.specs.declared.top.Top.{Top}
 use Rattle.ts_reductions.specs.Asking.{AreTops}
-use Rattle.ts_reductions.specs.Sound.{parsing_of, IsSoundBy}
+use Rattle.ts_reductions.specs.Sound.{parsing_of, IsSoundOver}
 use Rattle.ts_shifts.specs.declared.sights.Span.{Span}
 use Rattle.ts_shifts.specs.declared.sights.Sights.{Sights}
 use Rattle.ts_shifts.specs.Laws.{LookLaws}
-use Rattle.ts_shifts.specs.Looking.{IsHeadAt, AllStandAt, HasAllAt, IsTopWith, StopsThere, top_with, span_with, SeesThere, IsLastAmong, AreSights, later, AddsSight}
+use Rattle.ts_shifts.specs.Looking.{IsHeadAt, AllStandAt, HasAllAt, IsTopWith, StopsThere, SeesSome, top_with, span_with, SeesThere, IsLastAmong, AreSights, later, AddsSight}
 use Rattle.ts_shifts.proofs.SmallLemmas.{at_contained, read_at, none_contained}
 use Rattle.ts_shifts.proofs.HeadLemmas.{head_sees}
 
@@ -37,13 +37,14 @@ same_far n m e = cc
 pub none_seen : (t : ParseTable) (text : Bytes) (g : GraphView) (look : ℕ) (s : Sights) → s.tops.items ≡ [] → s.spans.items ≡ [] → s.stop ≡ None → AreSights t text g look [] s
 none_seen t text g look s tops spans stop = record {
   stand = λ h there. absurd (none_contained h there);
+  some = λ h there. absurd (none_contained h there);
   count = ap (λ (l : List Top). length l) tops ∙ sym (ap (λ (l : List Span). length l) spans);
   each = λ k top span x y. absurd (let low = slice_get_within [] k top (subst (λ (l : List Top). slice_get l k ≡ Some top) tops x) in omega (arith, low));
   all = λ h read symbol pad size there at sees. absurd (none_contained h there);
   stop = subst (λ (o : Option ℕ). IsLastAmong t text g look [] o) (sym stop) (λ h place there s. none_contained h there);
 }
 
-module _ (laws : LookLaws) (t : ParseTable) (text : Bytes) (g : GraphView) (sound : IsSoundBy t text g) (look : ℕ) where
+module _ (laws : LookLaws) (t : ParseTable) (text : Bytes) (g : GraphView) (sound : IsSoundOver t text g) (look : ℕ) where
   abbrev P : Parsing
   P = parsing_of t text
 
@@ -87,6 +88,14 @@ module _ (laws : LookLaws) (t : ParseTable) (text : Bytes) (g : GraphView) (soun
         by (inl w) = a.stand x w
         by (inr e) = subst (λ (n : ℕ). IsHeadAt g look n) e st
 
+    -- each of them sees something
+    some_more : SeesSome t text g look h → (x : ℕ) → Contains all x → SeesSome t text g look x
+    some_more sees x there = by (Contains-push_cases before h x there)
+      where
+        by : Contains before x ⊎ (h ≡ x) → SeesSome t text g look x
+        by (inl w) = a.some x w
+        by (inr e) = subst (λ (n : ℕ). SeesSome t text g look n) e sees
+
     -- a token is seen there
 
     module _ (s : Symbol) (pad size extent : ℕ) (sees : IsTopWith t text g look (top_with h s extent) (span_with pad size)) (tops : new.tops.items ≡ old.tops.items ++ top_with h s extent ∷ []) (spans : new.spans.items ≡ old.spans.items ++ span_with pad size ∷ []) (stop : new.stop ≡ old.stop) where
@@ -128,6 +137,7 @@ module _ (laws : LookLaws) (t : ParseTable) (text : Bytes) (g : GraphView) (soun
       pub token_more : AreSights t text g look all new
       token_more = record {
         stand = stand;
+        some = some_more (record { read = sees.read; at = sees.at; found = token s pad size; sees = sees.sees });
         count = let n = a.count in let x = ap (λ (l : List Top). length l) tops in let y = ap (λ (l : List Span). length l) spans in omega (arith, n, x, y, length-append old.tops.items (top_with h s extent ∷ []), length-append old.spans.items (span_with pad size ∷ []));
         each = token_each;
         all = token_all;
@@ -167,6 +177,7 @@ module _ (laws : LookLaws) (t : ParseTable) (text : Bytes) (g : GraphView) (soun
       pub stop_more : AreSights t text g look all new
       stop_more = record {
         stand = stand;
+        some = some_more (record { read = stops.read; at = stops.at; found = absent stops.far; sees = stops.sees });
         count = ap (λ (l : List Top). length l) tops ∙ a.count ∙ ap (λ (l : List Span). length l) (sym spans);
         each = λ k top span x y. let w = a.each k top span (subst (λ (l : List Top). slice_get l k ≡ Some top) tops x) (subst (λ (l : List Span). slice_get l k ≡ Some span) spans y) in (w.0, more top.head w.1);
         all = λ x read symbol p z there at seen. subst (λ (l : List Top). (top : Top) × Contains l top × (top.head ≡ x) × (top.token ≡ symbol)) (sym tops) (stop_all x read symbol p z there at seen);

@@ -30,6 +30,9 @@ module _ (t : ParseTable) (text : Bytes) (old new : GraphView) (keep : KeepNumbe
   pub sights_still : (s : Sights) → AreSights t text old look heads s → AreSights t text new look heads s
   sights_still s a = record {
     stand = λ h there. let st = a.stand h there in (st.0, keep h st.0 st.1, st.2);
+    some = λ h there.
+        let w = a.some h there in
+        record { read = w.read; at = at_stays P old.heads new.heads keep h w.read look w.at; found = w.found; sees = w.sees };
     count = a.count;
     each = λ k top span x y. let w = a.each k top span x y in (sight_stays t text old new keep look top span w.0, w.1);
     all = λ h read symbol pad size there at sees. let st = a.stand h there in a.all h read symbol pad size there (at_back P old.heads new.heads keep h st.0 st.1 read look at) sees;

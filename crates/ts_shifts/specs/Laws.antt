@@ -1,5 +1,5 @@
 -- The laws of other crates that the proofs here rest on.
-use Rattle.std.specs.Prelude.{◌≡◌, ℕ, suc, ◌+◌, ◌<◌, ◌≤◌, List, length}
+use Rattle.std.specs.Prelude.{◌≡◌, ℕ, suc, ◌+◌, ◌<◌, ◌≤◌, List, ◌∷◌, ◌++◌, length}
 use Rattle.ts_base.specs.Bytes.{Bytes}
 use Rattle.ts_core.specs.declared.flat.FlatGrammar.{FlatGrammar}
 use Rattle.ts_core.specs.declared.symbol.Symbol.{Symbol}
@@ -10,16 +10,16 @@ use Rattle.spec_tables.specs.Actions.{Act, shift}
 use Rattle.spec_tables.specs.Fit.{Fit}
 use Rattle.spec_tables.specs.Items.{IsToken}
 use Rattle.spec_trees.specs.declared.tree.Tree.{Tree}
-use Rattle.spec_trees.specs.Trees.{bare}
+use Rattle.spec_trees.specs.Trees.{all_spans, bare}
 use Rattle.spec_trees.specs.Made.{as_extra}
 use Rattle.spec_runs.specs.BareTrees.{KeepsAll}
-use Rattle.spec_runs.specs.Configurations.{Configuration, AreValidTokens}
+use Rattle.spec_runs.specs.Configurations.{AreValidTokens}
 use Rattle.spec_runs.specs.Moves.{StandsBefore}
-use Rattle.spec_runs.specs.Runs.{IsReached}
 use Rattle.spec_graph.specs.declared.graph.Head.{Head}
 use Rattle.spec_graph.specs.declared.graph.Link.{Link}
 use Rattle.spec_graph.specs.States.{AreStates, AreRanks}
-use Rattle.spec_graph.specs.Laying.{Parsing, from_start, Lays, IsBegun}
+use Rattle.spec_graph.specs.Laying.{Parsing}
+use Rattle.spec_graph.specs.Grounded.{IsGrounded}
 use Rattle.spec_graph.specs.Keys.{Key, IsNextKey}
 use Rattle.spec_graph.specs.Links.{IsGraph, IsWholeTo, HasNoneDue, AreDone, HasGrown, AreAdded, IsOpened}
 use Rattle.spec_graph.specs.Replacing.{Replaces}
@@ -41,8 +41,8 @@ pub record LookLaws : Type 0 where
   pub begins_within : (rest : Bytes) (u : List ℕ) (n : ℕ) → BeginsSpelled rest u n
       → n ≤ length rest
 
--- For proofs alone: laws of bare trees, of trees that replace others, of shifts, and of what is
--- laid.
+-- For proofs alone: laws of bare trees, of trees that replace others, of shifts, and of the stack from
+-- which runs go on.
 pub record LeafLaws : Type 0 where
   pub keeps : (t : Tree) → KeepsAll t
   pub extra : (t : Tree) → bare (as_extra t) ≡ as_extra (bare t)
@@ -50,15 +50,12 @@ pub record LeafLaws : Type 0 where
   pub through : (t u v : Tree) → Replaces t u → Replaces u v → Replaces t v
   pub shifts : (g : FlatGrammar) (read : List ℕ) (t : ℕ) → Act g read t shift
       → IsToken g t × StandsBefore g read t
-  pub embeds : (P : Parsing) → Fit P.grammar → AreStates P.grammar P.goto
-      → (c : Configuration) → IsReached P.grammar P.text c → IsBegun P c
-      → (read now : List ℕ) (from place : ℕ) (w : List Tree)
-      → Lays P read from w place now → Lays (from_start P) read from w place now
+  pub low : (P : Parsing) → IsGrounded P → (above below : List Tree) (t : Tree)
+      → P.stack ≡ above ++ t ∷ below → all_spans below < P.place
 
 -- For proofs alone: laws of graphs that are whole up to later keys, and of keys that follow others.
 pub record NextLaws : Type 0 where
-  pub next_place : (P : Parsing) → Fit P.grammar → AreStates P.grammar P.goto
-      → (c : Configuration) → IsReached P.grammar P.text c → IsBegun P c
+  pub next_place : (P : Parsing) → Fit P.grammar → AreStates P.grammar P.goto → IsGrounded P
       → (rank : ℕ → ℕ) (most : ℕ) → AreRanks P.grammar rank most
       → (heads : List Head) (links : List Link) (heads' : List Head) (links' : List Link)
       (k m : Key) → IsGraph P heads links
@@ -66,8 +63,7 @@ pub record NextLaws : Type 0 where
       → HasGrown P heads links heads' links' → AreAdded P rank heads heads' links' m
       → IsOpened P heads' links' k.look → IsNextKey most k m → m.look ≡ suc k.look
       → IsWholeTo P rank heads' links' m
-  pub ranks : (P : Parsing) → Fit P.grammar → AreStates P.grammar P.goto
-      → (c : Configuration) → IsReached P.grammar P.text c → IsBegun P c
+  pub ranks : (P : Parsing) → Fit P.grammar → AreStates P.grammar P.goto → IsGrounded P
       → (rank : ℕ → ℕ) (most : ℕ) → AreRanks P.grammar rank most
       → (heads : List Head) (links : List Link) → IsGraph P heads links
       → (n look begins r : ℕ) → IsWholeTo P rank heads links
@@ -75,8 +71,7 @@ pub record NextLaws : Type 0 where
       → ((i : ℕ) → r < i → i ≤ n + r → HasNoneDue P rank heads links
       (record { look = look; begins = begins; rank = i }))
       → IsWholeTo P rank heads links (record { look = look; begins = begins; rank = r })
-  pub starts : (P : Parsing) → Fit P.grammar → AreStates P.grammar P.goto
-      → (c : Configuration) → IsReached P.grammar P.text c → IsBegun P c
+  pub starts : (P : Parsing) → Fit P.grammar → AreStates P.grammar P.goto → IsGrounded P
       → (rank : ℕ → ℕ) (most : ℕ) → AreRanks P.grammar rank most
       → (heads : List Head) (links : List Link) → IsGraph P heads links
       → (n look begins : ℕ) → IsWholeTo P rank heads links

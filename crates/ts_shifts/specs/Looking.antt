@@ -3,7 +3,7 @@ use Rattle.std.specs.Prelude.{◌≡◌, ℕ, ◌+◌, ◌<◌, ◌≤◌, suc, 
 use Rattle.std.specs.List.{Contains}
 use Rattle.ts_base.specs.Bytes.{Bytes}
 use Rattle.ts_core.specs.declared.symbol.Symbol.{Symbol}
-use Rattle.spec_lexing.specs.Lexing.{token, absent}
+use Rattle.spec_lexing.specs.Lexing.{Found, token, absent}
 use Rattle.spec_graph.specs.declared.graph.Head.{Head}
 use Rattle.spec_graph.specs.Laying.{SeesAt}
 use Rattle.spec_graph.specs.Links.{IsAt}
@@ -62,6 +62,13 @@ pub record StopsThere (t : ParseTable) (text : Bytes) (g : GraphView) (look h st
   pub sees : SeesAt (parsing_of t text) read look (absent far)
   pub stop_is : stop ≡ look + far
 
+-- the head stands at the place and sees something there
+pub record SeesSome (t : ParseTable) (text : Bytes) (g : GraphView) (look h : ℕ) : Type 0 where
+  pub read : List ℕ
+  pub at : IsAt (parsing_of t text) g.heads h read look
+  pub found : Found
+  pub sees : SeesAt (parsing_of t text) read look found
+
 -- the token that a head sees
 abbrev pub top_with : ℕ → Symbol → ℕ → Top
 top_with h symbol ahead = record { head = h; token = symbol; ahead = ahead }
@@ -86,11 +93,12 @@ IsLastAmong t text g look heads (Some last) =
     ((h : ℕ) × Contains heads h × StopsThere t text g look h last)
     × ((h stop : ℕ) → Contains heads h → StopsThere t text g look h stop → stop ≤ last)
 
--- What these heads see, all of which stand at the place: a top for each that sees a token, with its
--- bytes, and the greatest place at which one stops that sees none.
+-- What these heads see, all of which stand at the place: something each, a top for each that sees a
+-- token, with its bytes, and the greatest place at which one stops that sees none.
 pub record AreSights (t : ParseTable) (text : Bytes) (g : GraphView) (look : ℕ) (heads : List ℕ)
     (s : Sights) : Type 0 where
   pub stand : AllStandAt g look heads
+  pub some : (h : ℕ) → Contains heads h → SeesSome t text g look h
   pub count : length s.tops.items ≡ length s.spans.items
   pub each : (k : ℕ) (top : Top) (span : Span) → slice_get s.tops.items k ≡ Some top
       → slice_get s.spans.items k ≡ Some span

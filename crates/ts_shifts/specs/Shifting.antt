@@ -20,7 +20,7 @@ use Rattle.ts_table.specs.Ranks.{unit_rank}
 use Rattle.ts_laying.specs.Sound.{bare_links}
 use Rattle.ts_laying.specs.Laying.{Grows}
 use Rattle.ts_reductions.specs.declared.top.Top.{Top}
-use Rattle.ts_reductions.specs.Sound.{Base, parsing_from, parsing_of, IsBegunBy, IsSoundBy}
+use Rattle.ts_reductions.specs.Sound.{Base, parsing_from, IsSoundBy}
 use Rattle.ts_shifts.specs.declared.sights.Span.{Span}
 use Rattle.ts_shifts.specs.declared.sights.Sights.{Sights}
 use Rattle.ts_shifts.specs.declared.shifting.Onward.{Onward}
@@ -38,11 +38,13 @@ IsOnward actions Stay = (0 < length actions) × ((state : ℕ) → Contains acti
 
 -- ---- what is known before
 
--- a sound graph, and a head that sees a token at the place
-pub record CanOpen (t : ParseTable) (text : Bytes) (g : GraphView) (look : ℕ) (top : Top)
-    (span : Span) : Type 0 where
+-- a graph that is sound over a stack, which ends at the place or before it, and a head that sees a
+-- token there
+pub record CanOpen (t : ParseTable) (text : Bytes) (base : Base) (g : GraphView) (look : ℕ)
+    (top : Top) (span : Span) : Type 0 where
   pub table : IsTable t
-  pub sound : IsSoundBy t text g
+  pub sound : IsSoundBy t text base g
+  pub late : base.place ≤ look
   pub sight : IsTopWith t text g look top span
 
 -- the actions of the head on its token
@@ -52,26 +54,28 @@ HasActions t g top actions =
     × (actions_of t head.state top.token.0 ≡ actions)
 
 -- and the token is shifted there, up to a state
-pub record CanShift (t : ParseTable) (text : Bytes) (g : GraphView) (look : ℕ) (top : Top)
-    (span : Span) (state : ℕ) : Type 0 where
-  pub can : CanOpen t text g look top span
+pub record CanShift (t : ParseTable) (text : Bytes) (base : Base) (g : GraphView) (look : ℕ)
+    (top : Top) (span : Span) (state : ℕ) : Type 0 where
+  pub can : CanOpen t text base g look top span
   pub actions : List Action
   pub have : HasActions t g top actions
   pub shifts : Contains actions (ToShift state)
 
 -- and the token has no action there, in the state of the head
-pub record CanPass (t : ParseTable) (text : Bytes) (g : GraphView) (look : ℕ) (top : Top)
-    (span : Span) (state : ℕ) : Type 0 where
-  pub can : CanOpen t text g look top span
+pub record CanPass (t : ParseTable) (text : Bytes) (base : Base) (g : GraphView) (look : ℕ)
+    (top : Top) (span : Span) (state : ℕ) : Type 0 where
+  pub can : CanOpen t text base g look top span
   pub head : Head
   pub at : slice_get g.heads top.head ≡ Some head
   pub state_is : head.state ≡ state
   pub none : actions_of t state top.token.0 ≡ []
 
--- all that is seen at the heads of the place of a sound graph
-pub record AreAllSights (t : ParseTable) (text : Bytes) (g : GraphView) (look : ℕ) (s : Sights)
-    : Type 0 where
-  pub sound : IsSoundBy t text g
+-- all that is seen at the heads of a place in a graph that is sound over a stack, which ends there or
+-- before
+pub record AreAllSights (t : ParseTable) (text : Bytes) (base : Base) (g : GraphView) (look : ℕ)
+    (s : Sights) : Type 0 where
+  pub sound : IsSoundBy t text base g
+  pub late : base.place ≤ look
   pub heads : List ℕ
   pub sights : AreSights t text g look heads s
   pub all : HasAllAt g look heads
@@ -98,35 +102,33 @@ AreBehind old new look = (h : ℕ) (head : Head) → slice_get new.heads h ≡ S
 
 -- What is seen at one head was done. The graph is sound still, and has grown by heads behind the
 -- place.
-pub record IsHeadOpened (t : ParseTable) (text : Bytes) (old new : GraphView) (look b : ℕ)
-    : Type 0 where
-  pub sound : IsSoundBy t text new
+pub record IsHeadOpened (t : ParseTable) (text : Bytes) (base : Base) (old new : GraphView)
+    (look b : ℕ) : Type 0 where
+  pub sound : IsSoundBy t text base new
   pub grows : Grows old new
   pub behind : AreBehind old new look
-  pub opens : OpensHead (parsing_of t text) new.heads (bare_links new.links) look b
+  pub opens : OpensHead (parsing_from t text base) new.heads (bare_links new.links) look b
 
 -- The same of all heads of the place. Nothing is laid on new heads before a key whose token stands
--- no later than right behind the place, from whatever stack runs go on that ends no later than the
--- place.
-pub record AreShifted (t : ParseTable) (text : Bytes) (old new : GraphView) (look : ℕ)
-    : Type 0 where
-  pub sound : IsSoundBy t text new
+-- no later than right behind the place.
+pub record AreShifted (t : ParseTable) (text : Bytes) (base : Base) (old new : GraphView)
+    (look : ℕ) : Type 0 where
+  pub sound : IsSoundBy t text base new
   pub grows : Grows old new
-  pub grown : HasGrown (parsing_of t text) old.heads (bare_links old.links)
+  pub grown : HasGrown (parsing_from t text base) old.heads (bare_links old.links)
       new.heads (bare_links new.links)
   pub behind : AreBehind old new look
-  pub opened : IsOpened (parsing_of t text) new.heads (bare_links new.links) look
-  pub added : (base : Base) → IsBegunBy t text base → base.place ≤ look
-      → (m : Key) → m.look ≤ suc look → AreAdded (parsing_from t text base) (unit_rank t.grammar)
-      old.heads new.heads (bare_links new.links) m
+  pub opened : IsOpened (parsing_from t text base) new.heads (bare_links new.links) look
+  pub added : (m : Key) → m.look ≤ suc look → AreAdded (parsing_from t text base)
+      (unit_rank t.grammar) old.heads new.heads (bare_links new.links) m
 
 -- ---- some of them
 
 -- the same of the first so many
-pub record AreShiftedUpTo (t : ParseTable) (text : Bytes) (old new : GraphView) (look : ℕ)
-    (tops : List Top) (count : ℕ) : Type 0 where
-  pub sound : IsSoundBy t text new
+pub record AreShiftedUpTo (t : ParseTable) (text : Bytes) (base : Base) (old new : GraphView)
+    (look : ℕ) (tops : List Top) (count : ℕ) : Type 0 where
+  pub sound : IsSoundBy t text base new
   pub grows : Grows old new
   pub behind : AreBehind old new look
   pub opens : (k : ℕ) (top : Top) → k < count → slice_get tops k ≡ Some top
-      → OpensHead (parsing_of t text) new.heads (bare_links new.links) look top.head
+      → OpensHead (parsing_from t text base) new.heads (bare_links new.links) look top.head

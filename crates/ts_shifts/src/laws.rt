@@ -16,7 +16,7 @@ ghost use Rattle.ts_table.specs.Tables.{IsTable};
 ghost use Rattle.ts_table.specs.Ranks.{unit_rank};
 ghost use Rattle.ts_laying.specs.Sound.{bare_links};
 ghost use Rattle.ts_laying.specs.Laying.{HasPassed};
-ghost use Rattle.ts_reductions.specs.Sound.{Base as AnyBase, parsing_from, parsing_of, IsBegunBy, IsSoundBy};
+ghost use Rattle.ts_reductions.specs.Sound.{Base as AnyBase, parsing_from, parsing_of, IsSoundBy};
 ghost use Rattle.ts_reductions.specs.Reducing.{AreReduced};
 ghost use Rattle.ts_shifts.specs.declared.sights.Sights.{Sights as AnySights};
 ghost use Rattle.ts_shifts.specs.Laws.{LookLaws, LeafLaws, NextLaws};
@@ -24,7 +24,7 @@ ghost use Rattle.ts_shifts.specs.Looking.{IsHeadAt, StopsThere, AreSights};
 ghost use Rattle.ts_shifts.specs.Passing.{first_key};
 ghost use Rattle.ts_shifts.specs.Shifting.{AreShifted};
 
-use spec_graph::{keys_follow, keys_pass, runs_lay, trees_replace, whole_to_the_next};
+use spec_graph::{keys_follow, keys_pass, stacks_are_grounded, trees_replace, whole_to_the_next};
 use spec_lexing::{beginnings, one_answer, token_within};
 use spec_runs::{bare_trees, moves_have_their_place};
 use ts_lexer::same_tokens;
@@ -48,7 +48,7 @@ pub(crate) fn leaf_laws_hold()
     bare_trees();
     trees_replace();
     moves_have_their_place();
-    runs_lay();
+    stacks_are_grounded();
 }
 
 /// The laws of graphs that are whole up to later keys hold.
@@ -70,11 +70,11 @@ pub fn sights_stay()
 /// A head at which an extra is passed stops nowhere, and no move stays on what it sees, acceptance
 /// neither: it need not be looked at.
 pub fn passed_heads_go_on()
-    ensures stops { (t : ParseTable) (text : Bytes) (g : GraphView) (h : ℕ) → IsSoundBy t text g
-        → HasPassed (parsing_of t text) g h
+    ensures stops { (t : ParseTable) (text : Bytes) (base : AnyBase) (g : GraphView) (h : ℕ)
+        → IsSoundBy t text base g → HasPassed (parsing_from t text base) g h
         → (look stop : ℕ) → StopsThere t text g look h stop → ⊥ }
-    ensures moves { (t : ParseTable) (text : Bytes) (g : GraphView) (h : ℕ) → IsSoundBy t text g
-        → HasPassed (parsing_of t text) g h
+    ensures moves { (t : ParseTable) (text : Bytes) (base : AnyBase) (g : GraphView) (h : ℕ)
+        → IsSoundBy t text base g → HasPassed (parsing_from t text base) g h
         → (read : List ℕ) (place : ℕ) (symbol : AnySymbol) (pad size : ℕ)
         → IsAt (parsing_of t text) g.heads h read place
         → SeesAt (parsing_of t text) read place (token symbol pad size)
@@ -84,14 +84,14 @@ pub fn passed_heads_go_on()
 }
 
 /// A graph that is whole up to the last key at a place is whole up to the first key at the next
-/// place, once the reductions of that key and then the shifts at the place are done: from whatever
-/// stack runs go on that ends no later than the place.
+/// place, once the reductions of that key and then the shifts at the place are done. The stack from
+/// which runs go on ends no later than the place.
 pub fn places_follow()
     ensures { (t : ParseTable) (text : Bytes) (base : AnyBase) (most : ℕ)
         (old mid new : GraphView) (k m : Key)
-        → IsTable t → AreRanks t.grammar (unit_rank t.grammar) most → IsSoundBy t text old
-        → IsBegunBy t text base → base.place ≤ k.look
-        → AreReduced t text old mid k → AreShifted t text mid new k.look
+        → IsTable t → AreRanks t.grammar (unit_rank t.grammar) most → IsSoundBy t text base old
+        → base.place ≤ k.look
+        → AreReduced t text base old mid k → AreShifted t text base mid new k.look
         → IsNextKey most k m → m.look ≡ suc k.look
         → IsWholeTo (parsing_from t text base) (unit_rank t.grammar) old.heads
         (bare_links old.links) k
@@ -103,12 +103,11 @@ pub fn places_follow()
 }
 
 /// A graph that is whole up to the first key of a place is whole up to that of a later one, where
-/// no head stands from the first place on up to the later one: from whatever stack runs go on.
+/// no head stands from the first place on up to the later one.
 pub fn empty_places_pass()
     ensures { (t : ParseTable) (text : Bytes) (base : AnyBase) (most : ℕ) (g : GraphView)
         (count look : ℕ)
-        → AreRanks t.grammar (unit_rank t.grammar) most → IsSoundBy t text g
-        → IsBegunBy t text base
+        → AreRanks t.grammar (unit_rank t.grammar) most → IsSoundBy t text base g
         → ((place h : ℕ) → look ≤ place → place < count + look → IsHeadAt g place h → ⊥)
         → IsWholeTo (parsing_from t text base) (unit_rank t.grammar) g.heads
         (bare_links g.links) (first_key most look)

@@ -1,8 +1,8 @@
 //! Looks at the heads of a place: the heads go in, and what each of them sees comes out, a token or
 //! the place at which it stops.
-ghost use Rattle.std.specs.Prelude.{ℕ, ◌++◌, List, length, IfOk, OnOk};
+ghost use Rattle.std.specs.Prelude.{ℕ, ◌++◌, List, IfOk, OnOk};
 ghost use Rattle.ts_reductions.specs.Asking.{AreTops};
-ghost use Rattle.ts_reductions.specs.Sound.{IsSoundBy};
+ghost use Rattle.ts_reductions.specs.Sound.{IsSoundOver};
 ghost use Rattle.ts_shifts.specs.Looking.{IsHeadAt, AllStandAt, HasAllAt, AreHeadsAt, SeesThere, AreSights, AddsSight};
 
 use crate::laws::look_laws_hold;
@@ -46,7 +46,7 @@ fn look<L: Tokens>(
     number: usize,
 ) -> Lexed
     requires made { L.made_for lexer.old table.now }
-    requires sound { IsSoundBy table.now (L.Text.bytes text.now) graph.now }
+    requires sound { IsSoundOver table.now (L.Text.bytes text.now) graph.now }
     requires there { (look : ℕ) × IsHeadAt graph.now look number }
     ensures made { L.made_for lexer.new table.now }
     ensures sees { (look : ℕ) → IsHeadAt graph.now look number
@@ -100,7 +100,7 @@ pub fn look_all<L: Tokens>(
     sights: &mut Sights,
 ) -> Result<(), AllocError>
     requires made { L.made_for lexer.old table.now }
-    requires sound { IsSoundBy table.now (L.Text.bytes text.now) graph.now }
+    requires sound { IsSoundOver table.now (L.Text.bytes text.now) graph.now }
     requires stand { (look : ℕ) × AllStandAt graph.now look numbers.now }
     ensures made { OnOk result (L.made_for lexer.new table.now) }
     ensures sights { OnOk result ((look : ℕ) (before : List ℕ)

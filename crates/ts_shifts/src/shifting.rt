@@ -1,8 +1,9 @@
 //! Goes on over what is seen at the heads of a place: the graph and the tokens go in, and the graph
 //! with a leaf for each that is shifted, and for each extra that is passed, comes out.
-ghost use Rattle.std.specs.Prelude.{◌≡◌, ℕ, ◌<◌, length, OnOk};
+ghost use Rattle.std.specs.Prelude.{ℕ, ◌<◌, OnOk};
 ghost use Rattle.ts_base.specs.Bytes.{Bytes};
 ghost use Rattle.ts_table.specs.declared.view.ParseTable.{ParseTable};
+ghost use Rattle.ts_reductions.specs.Sound.{Base as AnyBase};
 ghost use Rattle.ts_shifts.specs.Shifting.{IsOnward, CanOpen, CanShift, CanPass, AreAllSights, IsHeadOpened, AreShifted};
 
 use crate::laws::{leaf_laws_hold, look_laws_hold};
@@ -44,11 +45,11 @@ fn way_on(actions: &[Action]) -> Onward
 
 /// Lays the leaf of a token that is shifted on the head that sees it.
 fn shift(graph: &mut Graph, top: Top, span: Span, state: u16) -> Result<(), AllocError>
-    requires { (t : ParseTable) × (text : Bytes) × (look : ℕ)
-        × CanShift t text graph.old look top span state }
-    ensures { OnOk result ((t : ParseTable) (text : Bytes) (look : ℕ)
-        → CanShift t text graph.old look top span state
-        → IsHeadOpened t text graph.old graph.new look top.head) }
+    requires { (t : ParseTable) × (text : Bytes) × (base : AnyBase) × (look : ℕ)
+        × CanShift t text base graph.old look top span state }
+    ensures { OnOk result ((t : ParseTable) (text : Bytes) (base : AnyBase) (look : ℕ)
+        → CanShift t text base graph.old look top span state
+        → IsHeadOpened t text base graph.old graph.new look top.head) }
 {
     look_laws_hold();
     leaf_laws_hold();
@@ -65,11 +66,11 @@ fn shift(graph: &mut Graph, top: Top, span: Span, state: u16) -> Result<(), Allo
 
 /// Lays an extra that is passed on the head that sees it. The state stays.
 fn pass(graph: &mut Graph, top: Top, span: Span, state: u16) -> Result<(), AllocError>
-    requires { (t : ParseTable) × (text : Bytes) × (look : ℕ)
-        × CanPass t text graph.old look top span state }
-    ensures { OnOk result ((t : ParseTable) (text : Bytes) (look : ℕ)
-        → CanPass t text graph.old look top span state
-        → IsHeadOpened t text graph.old graph.new look top.head) }
+    requires { (t : ParseTable) × (text : Bytes) × (base : AnyBase) × (look : ℕ)
+        × CanPass t text base graph.old look top span state }
+    ensures { OnOk result ((t : ParseTable) (text : Bytes) (base : AnyBase) (look : ℕ)
+        → CanPass t text base graph.old look top span state
+        → IsHeadOpened t text base graph.old graph.new look top.head) }
 {
     look_laws_hold();
     leaf_laws_hold();
@@ -87,10 +88,11 @@ fn pass(graph: &mut Graph, top: Top, span: Span, state: u16) -> Result<(), Alloc
 
 /// Goes on over the token that a head sees.
 fn open(table: &Table, graph: &mut Graph, top: Top, span: Span) -> Result<(), AllocError>
-    requires { (text : Bytes) × (look : ℕ) × CanOpen table.now text graph.old look top span }
-    ensures { OnOk result ((text : Bytes) (look : ℕ)
-        → CanOpen table.now text graph.old look top span
-        → IsHeadOpened table.now text graph.old graph.new look top.head) }
+    requires { (text : Bytes) × (base : AnyBase) × (look : ℕ)
+        × CanOpen table.now text base graph.old look top span }
+    ensures { OnOk result ((text : Bytes) (base : AnyBase) (look : ℕ)
+        → CanOpen table.now text base graph.old look top span
+        → IsHeadOpened table.now text base graph.old graph.new look top.head) }
 {
     look_laws_hold();
     leaf_laws_hold();
@@ -115,11 +117,11 @@ fn open(table: &Table, graph: &mut Graph, top: Top, span: Span) -> Result<(), Al
 ///
 /// `AllocError` where memory runs out. Some of the leaves may be laid then.
 pub fn shift_all(table: &Table, graph: &mut Graph, sights: &Sights) -> Result<(), AllocError>
-    requires { (text : Bytes) × (look : ℕ)
-        × AreAllSights table.now text graph.old look sights.now }
-    ensures { OnOk result ((text : Bytes) (look : ℕ)
-        → AreAllSights table.now text graph.old look sights.now
-        → AreShifted table.now text graph.old graph.new look) }
+    requires { (text : Bytes) × (base : AnyBase) × (look : ℕ)
+        × AreAllSights table.now text base graph.old look sights.now }
+    ensures { OnOk result ((text : Bytes) (base : AnyBase) (look : ℕ)
+        → AreAllSights table.now text base graph.old look sights.now
+        → AreShifted table.now text base graph.old graph.new look) }
 {
     look_laws_hold();
     leaf_laws_hold();

@@ -8,8 +8,9 @@ shift-requires c =
       c.args.table.now,
       r.0,
       r.1,
+      r.2,
       record {
-        can = r.2;
+        can = r.3;
         actions = c.actions.result.now;
         have = (c.head-head.result, c.head-head.ensures, sym c.actions.ensures.list);
         shifts = c.in-Shift.ensures;
@@ -22,8 +23,9 @@ pass-requires c =
       c.args.table.now,
       r.0,
       r.1,
+      r.2,
       record {
-        can = r.2;
+        can = r.3;
         head = c.head-head.result;
         at = c.head-head.ensures;
         state_is = refl;
@@ -32,8 +34,8 @@ pass-requires c =
     )
 
 pub returns-in_ok-shift-in-Shift : goal.returns-in_ok-shift-in-Shift
-returns-in_ok-shift-in-Shift c = λ text look can.
-    c.in_ok-shift-in-Shift.ensures c.args.table.now text look (record {
+returns-in_ok-shift-in-Shift c = λ text base look can.
+    c.in_ok-shift-in-Shift.ensures c.args.table.now text base look (record {
       can = can;
       actions = c.actions.result.now;
       have = (c.head-head.result, c.head-head.ensures, sym c.actions.ensures.list);
@@ -41,8 +43,8 @@ returns-in_ok-shift-in-Shift c = λ text look can.
     })
 
 pub returns-in_ok-pass-in-Pass : goal.returns-in_ok-pass-in-Pass
-returns-in_ok-pass-in-Pass c = λ text look can.
-    c.in_ok-pass-in-Pass.ensures c.args.table.now text look (record {
+returns-in_ok-pass-in-Pass c = λ text base look can.
+    c.in_ok-pass-in-Pass.ensures c.args.table.now text base look (record {
       can = can;
       head = c.head-head.result;
       at = c.head-head.ensures;
@@ -51,6 +53,6 @@ returns-in_ok-pass-in-Pass c = λ text look can.
     })
 
 pub returns-in-Stay : goal.returns-in-Stay
-returns-in-Stay c = λ text look can.
+returns-in-Stay c = λ text base look can.
     let w = c.in-Stay.ensures in
-    stay_done c.look_laws_hold.ensures c.leaf_laws_hold.ensures c.args.table.now text c.args.graph.now look c.args.top c.args.span can c.actions.result.now (c.head-head.result, c.head-head.ensures, sym c.actions.ensures.list) w.0 w.1
+    stay_done c.look_laws_hold.ensures c.leaf_laws_hold.ensures c.args.table.now text base c.args.graph.now look c.args.top c.args.span can c.actions.result.now (c.head-head.result, c.head-head.ensures, sym c.actions.ensures.list) w.0 w.1
