@@ -16,12 +16,11 @@ use Rattle.ts_reductions.specs.declared.setting.Setting.{Setting}
 use Rattle.ts_reductions.specs.declared.top.Top.{Top}
 use Rattle.ts_reductions.specs.Asking.{IsReady, ByTops}
 use Rattle.ts_reductions.specs.Laws.{ReductionLaws, NodeLaws}
-use Rattle.ts_reductions.specs.Sound.{Base, parsing_from, parsing_of, IsBegunBy, IsSoundBy}
+use Rattle.ts_reductions.specs.Sound.{Base, parsing_from, IsSoundBy}
 use Rattle.ts_reductions.proofs.LineLemmas.{few_symbols}
 use Rattle.ts_reductions.proofs.RankLemmas.{height_most}
 use Rattle.ts_reductions.proofs.DoneLemmas.{seen_top, asked}
 use Rattle.ts_reductions.proofs.DoneLemmas as done
-use Rattle.ts_reductions.proofs.FromLemmas.{graph_from, grown_from, none_from, done_from}
 use Rattle.ts_shifts.specs.Laws.{LeafLaws}
 use Rattle.ts_shifts.specs.Passing.{first_key}
 use Rattle.ts_shifts.proofs.GrowLemmas.{grows_none, grows_grown}
@@ -36,18 +35,15 @@ apart a zero le = (a, omega arith)
 apart zero (suc b) le = absurd (omega (arith, le))
 apart (suc a) (suc b) le = let r = apart a b (omega (arith, le)) in let e = r.1 in (r.0, omega (arith, e))
 
-module _ (laws : LeafLaws) (keys : KeyLaws) (t : ParseTable) (text : Bytes) (base : Base) (begin : IsBegunBy t text base) (most : ℕ) (ranks : AreRanks t.grammar (unit_rank t.grammar) most) (g : GraphView) (sound : IsSoundBy t text g) (look : ℕ) (early : base.place ≤ look) where
+module _ (laws : LeafLaws) (keys : KeyLaws) (t : ParseTable) (text : Bytes) (base : Base) (most : ℕ) (ranks : AreRanks t.grammar (unit_rank t.grammar) most) (g : GraphView) (sound : IsSoundBy t text base g) (look : ℕ) where
   abbrev P : Parsing
   P = parsing_from t text base
 
   graph : IsGraph P g.heads (bare_links g.links)
-  graph = graph_from t text base g.heads (bare_links g.links) sound.laid.graph
+  graph = sound.laid.graph
 
   abbrev None_at : ℕ → ℕ → Type 0
-  None_at b i = HasNoneDue (parsing_of t text) (unit_rank t.grammar) g.heads (bare_links g.links) (key_at look b i)
-
-  none_at : (b i : ℕ) → None_at b i → HasNoneDue P (unit_rank t.grammar) g.heads (bare_links g.links) (key_at look b i)
-  none_at b i none = none_from t text base (unit_rank t.grammar) g.heads (bare_links g.links) (key_at look b i) none
+  None_at b i = HasNoneDue P (unit_rank t.grammar) g.heads (bare_links g.links) (key_at look b i)
 
   abbrev Whole : ℕ → ℕ → Type 0
   Whole b i = IsWholeBy t text base g (key_at look b i)
@@ -56,24 +52,24 @@ module _ (laws : LeafLaws) (keys : KeyLaws) (t : ParseTable) (text : Bytes) (bas
   lower : (b r s : ℕ) → s ≤ r → ((i : ℕ) → s < i → i ≤ r → None_at b i) → Whole b r → Whole b s
   lower b r s le none whole =
       let n = apart r s le in
-      keys.ranks P sound.laid.parsed.fit sound.laid.parsed.states begin.configuration begin.reached begin.begun (unit_rank t.grammar) most ranks g.heads (bare_links g.links) graph n.0 look b s
+      keys.ranks P sound.laid.parsed.fit sound.laid.parsed.states sound.laid.parsed.grounded (unit_rank t.grammar) most ranks g.heads (bare_links g.links) graph n.0 look b s
       (subst (λ (m : ℕ). Whole b m) n.1 whole)
-      (λ i low high. none_at b i (none i low (subst (λ (m : ℕ). i ≤ m) (sym n.1) high)))
+      (λ i low high. none i low (subst (λ (m : ℕ). i ≤ m) (sym n.1) high))
 
   -- an earlier start
   earlier : (c d : ℕ) → d ≤ c → ((b i : ℕ) → d < b → b ≤ c → i ≤ most → None_at b i) → Whole c most → Whole d most
   earlier c d le none whole =
       let n = apart c d le in
-      keys.starts P sound.laid.parsed.fit sound.laid.parsed.states begin.configuration begin.reached begin.begun (unit_rank t.grammar) most ranks g.heads (bare_links g.links) graph n.0 look d
+      keys.starts P sound.laid.parsed.fit sound.laid.parsed.states sound.laid.parsed.grounded (unit_rank t.grammar) most ranks g.heads (bare_links g.links) graph n.0 look d
       (subst (λ (m : ℕ). Whole m most) n.1 whole)
-      (λ b i low high few. none_at b i (none b i low (subst (λ (m : ℕ). b ≤ m) (sym n.1) high) few))
+      (λ b i low high few. none b i low (subst (λ (m : ℕ). b ≤ m) (sym n.1) high) few)
 
   -- the start before
   one_earlier : (c : ℕ) → None_at (suc c) 0 → Whole (suc c) 0 → Whole c most
   one_earlier c none whole =
-      keys.on P sound.laid.parsed.fit sound.laid.parsed.states begin.configuration begin.reached begin.begun (unit_rank t.grammar) most ranks g.heads (bare_links g.links) g.heads (bare_links g.links)
+      keys.on P sound.laid.parsed.fit sound.laid.parsed.states sound.laid.parsed.grounded (unit_rank t.grammar) most ranks g.heads (bare_links g.links) g.heads (bare_links g.links)
       (key_at look (suc c) 0) (key_at look c most) graph whole
-      (λ number left p h e b outer inner over now end due. absurd (none_at (suc c) 0 none number left p h e b outer inner over now end due))
+      (λ number left p h e b outer inner over now end due. absurd (none number left p h e b outer inner over now end due))
       (grows_grown laws P g g (grows_none laws g))
       (record { each = λ b read from a. inl a })
       (keys.start most look c) refl
@@ -95,11 +91,8 @@ module _ (laws : LeafLaws) (keys : KeyLaws) (t : ParseTable) (text : Bytes) (bas
   -- the key after one whose reductions were done
   next_on : (k m : Key) → k.look ≡ look → k.look ≡ m.look → IsNextKey most k m → IsDoneTo t text base g k → IsWholeBy t text base g m
   next_on k m here same next d =
-      keys.on P d.sound.laid.parsed.fit d.sound.laid.parsed.states begin.configuration begin.reached begin.begun (unit_rank t.grammar) most ranks d.before.heads (bare_links d.before.links) g.heads (bare_links g.links)
-      k m (graph_from t text base d.before.heads (bare_links d.before.links) d.sound.laid.graph) d.whole
-      (done_from t text base (unit_rank t.grammar) d.before.heads (bare_links d.before.links) k g.heads (bare_links g.links) d.reduced.done)
-      (grown_from t text base d.before.heads (bare_links d.before.links) g.heads (bare_links g.links) d.reduced.grown)
-      (d.reduced.added base begin (omega (arith, early, here)) m (sym same)) next same
+      keys.on P d.sound.laid.parsed.fit d.sound.laid.parsed.states d.sound.laid.parsed.grounded (unit_rank t.grammar) most ranks d.before.heads (bare_links d.before.links) g.heads (bare_links g.links)
+      k m d.sound.laid.graph d.whole d.reduced.done d.reduced.grown (d.reduced.added m (sym same)) next same
 
   -- from a key whose reductions were done to a later one, where nothing is due between
   pub passes : (b r b' r' : ℕ) → After b r b' r' → r' ≤ most → ((x i : ℕ) → After b r x i → After x i b' r' → None_at x i) → IsDoneTo t text base g (key_at look b r) → Whole b' r'
@@ -121,7 +114,7 @@ module _ (laws : LeafLaws) (keys : KeyLaws) (t : ParseTable) (text : Bytes) (bas
       below (inr (inr m)) = absurd (omega (arith, m, less))
 
   -- at a key at which nothing is due all is done
-  pub idle : (k : Key) → HasNoneDue (parsing_of t text) (unit_rank t.grammar) g.heads (bare_links g.links) k → IsWholeBy t text base g k → IsDoneTo t text base g k
+  pub idle : (k : Key) → HasNoneDue P (unit_rank t.grammar) g.heads (bare_links g.links) k → IsWholeBy t text base g k → IsDoneTo t text base g k
   idle k none whole = record {
     before = g;
     sound = sound;
@@ -130,9 +123,9 @@ module _ (laws : LeafLaws) (keys : KeyLaws) (t : ParseTable) (text : Bytes) (bas
       sound = sound;
       grows = grows_none laws g;
       done = λ number left p h e b outer inner over now end due. absurd (none number left p h e b outer inner over now end due);
-      grown = grows_grown laws (parsing_of t text) g g (grows_none laws g);
+      grown = grows_grown laws P g g (grows_none laws g);
       only = λ h head is. inl is;
-      added = λ other other_begin other_early m same. record { each = λ b read from a. inl a };
+      added = λ m same. record { each = λ b read from a. inl a };
     };
   }
 
@@ -152,21 +145,21 @@ module _ (laws : LeafLaws) (keys : KeyLaws) (t : ParseTable) (text : Bytes) (bas
 
 -- ---- what is due is sought
 
-module _ (laws : ReductionLaws) (nodes : NodeLaws) (t : ParseTable) (table : IsTable t) (text : Bytes) (s : Setting) (g : GraphView) (seek : Seek) (tops : List Top) (ready : CanSeek t text s g seek tops) where
-  ready_for : (b r : ℕ) → IsReady t text s g (batch_at seek.look b r) tops
-  ready_for b r = record { sound = ready.sound; setting = ready.setting; seen = ready.seen; takes_some = ready.takes_some }
+module _ (laws : ReductionLaws) (nodes : NodeLaws) (t : ParseTable) (table : IsTable t) (text : Bytes) (base : Base) (s : Setting) (g : GraphView) (seek : Seek) (tops : List Top) (ready : CanSeek t text base s g seek tops) where
+  ready_for : (b r : ℕ) → IsReady t text base s g (batch_at seek.look b r) tops
+  ready_for b r = record { sound = ready.sound; late = ready.late; setting = ready.setting; seen = ready.seen; takes_some = ready.takes_some }
 
   pub none_due : (b r : ℕ) → (IsSmall b r → turn_of b r < seek.below) → (IsSought t g seek (ByTops tops) (batch_at seek.look b r) → ⊥)
-      → HasNoneDue (parsing_of t text) (unit_rank t.grammar) g.heads (bare_links g.links) (key_at seek.look b r)
+      → HasNoneDue (parsing_from t text base) (unit_rank t.grammar) g.heads (bare_links g.links) (key_at seek.look b r)
   none_due b r after none number left p h e low outer inner over now end due =
-      let seen = seen_top laws nodes t table text s g (batch_at seek.look b r) tops (ready_for b r) number left p h e low outer inner over now end due in
+      let seen = seen_top laws nodes t table text base s g (batch_at seek.look b r) tops (ready_for b r) number left p h e low outer inner over now end due in
       none (record {
         top = seen.0;
         number = number;
-        way = (done.high laws nodes t table text s g (batch_at seek.look b r) tops (ready_for b r) number left p h e low outer inner over now end due).own ++ (done.low laws nodes t table text s g (batch_at seek.look b r) tops (ready_for b r) number left p h e low outer inner over now end due).own;
+        way = (done.high laws nodes t table text base s g (batch_at seek.look b r) tops (ready_for b r) number left p h e low outer inner over now end due).own ++ (done.low laws nodes t table text base s g (batch_at seek.look b r) tops (ready_for b r) number left p h e low outer inner over now end due).own;
         b = low;
         means = seen.1;
-        asked = asked laws nodes t table text s g (batch_at seek.look b r) tops (ready_for b r) number left p h e low outer inner over now end due;
+        asked = asked laws nodes t table text base s g (batch_at seek.look b r) tops (ready_for b r) number left p h e low outer inner over now end due;
         look_is = refl;
         after = after small;
       })

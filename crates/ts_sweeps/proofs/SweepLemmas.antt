@@ -26,7 +26,7 @@ use Rattle.ts_reductions.specs.Laws.{ReductionLaws, NodeLaws}
 use Rattle.ts_reductions.specs.declared.reducing.Reduced.{Reduced}
 use Rattle.ts_reductions.specs.declared.reducing.Reduced.TheVariants.{Done, TooDeep}
 use Rattle.ts_reductions.specs.Reducing.{IsDeepAt, AreReduced, Reduces}
-use Rattle.ts_reductions.specs.Sound.{Base, parsing_of, IsBegunBy, IsSoundBy}
+use Rattle.ts_reductions.specs.Sound.{Base, parsing_from, IsSoundBy, IsSoundOver}
 use Rattle.ts_reductions.proofs.SmallLemmas.{place_is_at, lead_once}
 use Rattle.ts_reductions.proofs.AskLemmas.{reduces_stay}
 use Rattle.ts_reductions.proofs.LineLemmas.{few_symbols}
@@ -74,27 +74,27 @@ has_all old new look from before heads from_is keep has are h st = by (cases_ord
 -- ---- tokens on which nothing is reduced over nothing
 
 -- a head that is not that of the empty stack takes some
-pub takes_behind : (keys : KeyLaws) (t : ParseTable) → IsTable t → (text : Bytes) (g : GraphView) → IsSoundBy t text g → (look : ℕ) (top : Top) → IsTop t text g look top → ((head : Head) → slice_get g.heads top.head ≡ Some head → head.state ≡ 0 → ⊥) → TakesSome t g top
+pub takes_behind : (keys : KeyLaws) (t : ParseTable) → IsTable t → (text : Bytes) (g : GraphView) → IsSoundOver t text g → (look : ℕ) (top : Top) → IsTop t text g look top → ((head : Head) → slice_get g.heads top.head ≡ Some head → head.state ≡ 0 → ⊥) → TakesSome t g top
 takes_behind keys t table text g sound look top seen full head number left p is acts at none =
     let same : seen.at.head ≡ head = one_head g.heads top.head seen.at.head head seen.at.is is in
     let leads : LeadsTo (goto_of t) seen.read head.state = subst (λ (x : Head). LeadsTo (goto_of t) seen.read x.state) same seen.at.state in
-    let empty : seen.read ≡ [] = keys.nothing t.grammar sound.laid.parsed.fit seen.read top.token.0 number left p (reduces_stay t table seen.read head.state top.token.0 number leads acts) at none in
+    let empty : seen.read ≡ [] = keys.nothing t.grammar sound.1.laid.parsed.fit seen.read top.token.0 number left p (reduces_stay t table seen.read head.state top.token.0 number leads acts) at none in
     full head is (lead_once (goto_of t) [] head.state 0 (subst (λ (r : List ℕ). LeadsTo (goto_of t) r head.state) empty leads) at_first)
 
-module _ (look_laws : LookLaws) (keys : KeyLaws) (t : ParseTable) (table : IsTable t) (text : Bytes) (look : ℕ) (old new : GraphView) (keep : KeepNumbers old.heads new.heads)
-    (only : (h : ℕ) (head : Head) → slice_get new.heads h ≡ Some head → (slice_get old.heads h ≡ Some head) ⊎ IsNewHead (parsing_of t text) new look h head)
-    (s u : Sights) (a : AreAllSights t text old look s) (some : (top : Top) → Contains s.tops.items top → TakesSome t old top) (b : AreAllSights t text new look u) where
+module _ (look_laws : LookLaws) (keys : KeyLaws) (t : ParseTable) (table : IsTable t) (text : Bytes) (base : Base) (look : ℕ) (old new : GraphView) (keep : KeepNumbers old.heads new.heads)
+    (only : (h : ℕ) (head : Head) → slice_get new.heads h ≡ Some head → (slice_get old.heads h ≡ Some head) ⊎ IsNewHead (parsing_from t text base) new look h head)
+    (s u : Sights) (a : AreAllSights t text base old look s) (some : (top : Top) → Contains s.tops.items top → TakesSome t old top) (b : AreAllSights t text base new look u) where
   pub takes_still : (top : Top) → Contains u.tops.items top → TakesSome t new top
   takes_still top there = by (only top.head seen.at.head seen.at.is)
     where
       seen : IsTop t text new look top
-      seen = (all_tops look_laws t text new b.sound look b.heads u b.sights b.all).each top there
+      seen = (all_tops look_laws t text new (base, b.sound) look b.heads u b.sights b.all).each top there
 
       one : (head : Head) → slice_get new.heads top.head ≡ Some head → seen.at.head ≡ head
       one head is = one_head new.heads top.head seen.at.head head seen.at.is is
 
-      by : (slice_get old.heads top.head ≡ Some seen.at.head) ⊎ IsNewHead (parsing_of t text) new look top.head seen.at.head → TakesSome t new top
-      by (inr n) = takes_behind keys t table text new b.sound look top seen (λ head is zero_state. n.0 (ap (λ (x : Head). x.state) (one head is) ∙ zero_state))
+      by : (slice_get old.heads top.head ≡ Some seen.at.head) ⊎ IsNewHead (parsing_from t text base) new look top.head seen.at.head → TakesSome t new top
+      by (inr n) = takes_behind keys t table text new (base, b.sound) look top seen (λ head is zero_state. n.0 (ap (λ (x : Head). x.state) (one head is) ∙ zero_state))
       by (inl was) = λ head number left p is acts at none.
           let o = a.sights.all top.head seen.read top.token seen.pad seen.size (a.all top.head (seen.at.head, was, seen.at.place_is)) (record { head = seen.at.head; is = was; state = seen.at.state; place_is = seen.at.place_is }) seen.sees in
           some o.0 o.1 head number left p
@@ -107,13 +107,13 @@ module _ (look_laws : LookLaws) (keys : KeyLaws) (t : ParseTable) (table : IsTab
 
 -- ---- graphs that grow
 
-pub more_none : LayingLaws → (t : ParseTable) (text : Bytes) (g : GraphView) (look : ℕ) → HasMore t text g g look
-more_none laws t text g look = record { grows = growing.grows_none laws g; only = λ h head is. inl is }
+pub more_none : LayingLaws → (t : ParseTable) (text : Bytes) (base : Base) (g : GraphView) (look : ℕ) → HasMore t text base g g look
+more_none laws t text base g look = record { grows = growing.grows_none laws g; only = λ h head is. inl is }
 
-pub more_on : LayingLaws → (t : ParseTable) (text : Bytes) (start old new : GraphView) (look : ℕ) → HasMore t text start old look → HasMore t text old new look → HasMore t text start new look
-more_on laws t text start old new look a b = record {
+pub more_on : LayingLaws → (t : ParseTable) (text : Bytes) (base : Base) (start old new : GraphView) (look : ℕ) → HasMore t text base start old look → HasMore t text base old new look → HasMore t text base start new look
+more_on laws t text base start old new look a b = record {
   grows = grows_on laws start old new a.grows b.grows;
-  only = λ h head is. ⊎_elim (λ was. ⊎_elim (λ w. inl w) (λ n. inr (new_stays laws (parsing_of t text) old new b.grows look h head n)) (a.only h head was)) (λ n. inr n) (b.only h head is);
+  only = λ h head is. ⊎_elim (λ was. ⊎_elim (λ w. inl w) (λ n. inr (new_stays laws (parsing_from t text base) old new b.grows look h head n)) (a.only h head was)) (λ n. inr n) (b.only h head is);
 }
 
 -- ---- keys
@@ -132,33 +132,33 @@ later_key b r x i small lt = by (cases_order x b)
     by (inr (inr m)) = absurd (let s = small.1 in omega (arith, m, lt, s))
 
 module _ (reductions : ReductionLaws) (nodes : NodeLaws) (laying : LayingLaws) (leaves : LeafLaws) (look_laws : LookLaws) (keys : KeyLaws)
-    (t : ParseTable) (table : IsTable t) (text : Bytes) (s : Setting) (g : GraphView) (seek : Seek) (sights : Sights)
-    (can : CanSweep t text s g seek.look sights) where
+    (t : ParseTable) (table : IsTable t) (text : Bytes) (base : Base) (s : Setting) (g : GraphView) (seek : Seek) (sights : Sights)
+    (can : CanSweep t text base s g seek.look sights) where
   tops_are : AreTops t text g seek.look sights.tops.items
-  tops_are = all_tops look_laws t text g can.seen.sound seek.look can.seen.heads sights can.seen.sights can.seen.all
+  tops_are = all_tops look_laws t text g (base, can.seen.sound) seek.look can.seen.heads sights can.seen.sights can.seen.all
 
-  pub ready_to : (b r : ℕ) → IsReady t text s g (batch_at seek.look b r) sights.tops.items
-  ready_to b r = record { sound = can.seen.sound; setting = can.setting; seen = tops_are; takes_some = can.takes_some }
+  pub ready_to : (b r : ℕ) → IsReady t text base s g (batch_at seek.look b r) sights.tops.items
+  ready_to b r = record { sound = can.seen.sound; late = can.seen.late; setting = can.setting; seen = tops_are; takes_some = can.takes_some }
 
-  pub can_seek : CanSeek t text s g seek sights.tops.items
+  pub can_seek : CanSeek t text base s g seek sights.tops.items
   can_seek = ready_to 0 0
 
   -- the same by another name of the tops
   module _ (tops : List Top) (same : tops ≡ sights.tops.items) where
-    pub can_seek_by : CanSeek t text s g seek tops
-    can_seek_by = subst (λ (l : List Top). CanSeek t text s g seek l) (sym same) can_seek
+    pub can_seek_by : CanSeek t text base s g seek tops
+    can_seek_by = subst (λ (l : List Top). CanSeek t text base s g seek l) (sym same) can_seek
 
-    pub heard : (o p : Option Batch) → o ≡ p → (CanSeek t text s g seek tops → IsNext t g seek tops o) → IsNext t g seek sights.tops.items p
+    pub heard : (o p : Option Batch) → o ≡ p → (CanSeek t text base s g seek tops → IsNext t g seek tops o) → IsNext t g seek sights.tops.items p
     heard o p is f = subst (λ (q : Option Batch). IsNext t g seek sights.tops.items q) is (subst (λ (l : List Top). IsNext t g seek l o) same (f can_seek_by))
 
-  module _ (base : Base) (begin : IsBegunBy t text base) (early : base.place ≤ seek.look) (most : ℕ) (ranks : AreRanks t.grammar (unit_rank t.grammar) most) (start : GraphView) (swept : IsSweptTo t text base most start g seek.look seek.below) where
+  module _ (most : ℕ) (ranks : AreRanks t.grammar (unit_rank t.grammar) most) (start : GraphView) (swept : IsSweptTo t text base most start g seek.look seek.below) where
     -- nothing was sought at a later key
     pub over : IsNext t g seek sights.tops.items None → AreSwept t text base start g seek.look sights
     over none = record {
       seen = can.seen;
       more = swept.more;
-      done = all_past leaves keys t text base begin most ranks g can.seen.sound seek.look early swept.begins swept.rank
-          (λ x i after. none_due reductions nodes t table text s g seek sights.tops.items can_seek x i (λ small. swept.covers x i small after) (none (batch_at seek.look x i)))
+      done = all_past leaves keys t text base most ranks g can.seen.sound seek.look swept.begins swept.rank
+          (λ x i after. none_due reductions nodes t table text base s g seek sights.tops.items can_seek x i (λ small. swept.covers x i small after) (none (batch_at seek.look x i)))
           swept.done;
     }
 
@@ -171,7 +171,7 @@ module _ (reductions : ReductionLaws) (nodes : NodeLaws) (laying : LayingLaws) (
 
       low : key.begins ≤ seek.look
       low =
-          let w = way_spans (parsing_of t text) g.heads g.links can.seen.sound.laid.held sought.way sought.top.head sought.b sought.asked.takes.way in
+          let w = way_spans (parsing_from t text base) g.heads g.links can.seen.sound.laid.held sought.way sought.top.head sought.b sought.asked.takes.way in
           let b = sought.asked.begins in
           let p = place_is_at g.heads sought.top.head seen.at.head seen.at.is in
           let q = seen.at.place_is in
@@ -194,15 +194,15 @@ module _ (reductions : ReductionLaws) (nodes : NodeLaws) (laying : LayingLaws) (
 
       whole : IsWholeBy t text base g (key_at seek.look key.begins key.rank)
       whole =
-          passes leaves keys t text base begin most ranks g can.seen.sound seek.look early swept.begins swept.rank key.begins key.rank after (let f = few in omega (arith, f))
-          (λ x i from to. none_due reductions nodes t table text s g seek sights.tops.items can_seek x i (λ so. swept.covers x i so from)
+          passes leaves keys t text base most ranks g can.seen.sound seek.look swept.begins swept.rank key.begins key.rank after (let f = few in omega (arith, f))
+          (λ x i from to. none_due reductions nodes t table text base s g seek sights.tops.items can_seek x i (λ so. swept.covers x i so from)
           (λ h. let m = next.1 (batch_at seek.look x i) h in let l = lower_turn x i key.begins key.rank small to in omega (arith, m, l)))
           swept.done
 
       -- the reductions of the key were done
-      pub through : (new : GraphView) → AreReduced t text g new (key_of key) → IsSweptTo t text base most start new seek.look (turn_of key.begins key.rank)
+      pub through : (new : GraphView) → AreReduced t text base g new (key_of key) → IsSweptTo t text base most start new seek.look (turn_of key.begins key.rank)
       through new r = record {
-        more = more_on laying t text start g new seek.look swept.more (record { grows = reduced.grows; only = reduced.only });
+        more = more_on laying t text base start g new seek.look swept.more (record { grows = reduced.grows; only = reduced.only });
         begins = key.begins;
         rank = key.rank;
         done = record { before = g; sound = can.seen.sound; whole = whole; reduced = reduced };
@@ -210,37 +210,38 @@ module _ (reductions : ReductionLaws) (nodes : NodeLaws) (laying : LayingLaws) (
         back = λ x i so low_x few_i lt. later_key key.begins key.rank x i small lt;
       }
         where
-          reduced : AreReduced t text g new (key_at seek.look key.begins key.rank)
-          reduced = subst (λ (n : ℕ). AreReduced t text g new (key_at n key.begins key.rank)) sought.look_is r
+          reduced : AreReduced t text base g new (key_at seek.look key.begins key.rank)
+          reduced = subst (λ (n : ℕ). AreReduced t text base g new (key_at n key.begins key.rank)) sought.look_is r
 
   -- what is known of the key that is next, whatever was done before
   module _ (key : Batch) (next : IsNext t g seek sights.tops.items (Some key)) where
-    pub next_ready : IsReady t text s g key sights.tops.items
+    pub next_ready : IsReady t text base s g key sights.tops.items
     next_ready = record {
       sound = can.seen.sound;
+      late = let h = can.seen.late in let e = next.0.look_is in omega (arith, h, e);
       setting = can.setting;
       seen = subst (λ (n : ℕ). AreTops t text g n sights.tops.items) (sym next.0.look_is) tops_are;
       takes_some = can.takes_some;
     }
 
-    pub ready_by : (tops : List Top) → tops ≡ sights.tops.items → IsReady t text s g key tops
-    ready_by tops same = subst (λ (l : List Top). IsReady t text s g key l) (sym same) next_ready
+    pub ready_by : (tops : List Top) → tops ≡ sights.tops.items → IsReady t text base s g key tops
+    ready_by tops same = subst (λ (l : List Top). IsReady t text base s g key l) (sym same) next_ready
 
-    pub next_can : (new : GraphView) (later : Sights) → AreReduced t text g new (key_of key) → AreAllSights t text new seek.look later → CanSweep t text s new seek.look later
+    pub next_can : (new : GraphView) (later : Sights) → AreReduced t text base g new (key_of key) → AreAllSights t text base new seek.look later → CanSweep t text base s new seek.look later
     next_can new later r all = record {
       setting = can.setting;
       seen = all;
-      takes_some = takes_still look_laws keys t table text seek.look g new r.grows.stay only sights later can.seen can.takes_some all;
+      takes_some = takes_still look_laws keys t table text base seek.look g new r.grows.stay only sights later can.seen can.takes_some all;
     }
       where
-        only : (h : ℕ) (head : Head) → slice_get new.heads h ≡ Some head → (slice_get g.heads h ≡ Some head) ⊎ IsNewHead (parsing_of t text) new seek.look h head
-        only h head is = subst (λ (n : ℕ). (slice_get g.heads h ≡ Some head) ⊎ IsNewHead (parsing_of t text) new n h head) next.0.look_is (r.only h head is)
+        only : (h : ℕ) (head : Head) → slice_get new.heads h ≡ Some head → (slice_get g.heads h ≡ Some head) ⊎ IsNewHead (parsing_from t text base) new seek.look h head
+        only h head is = subst (λ (n : ℕ). (slice_get g.heads h ≡ Some head) ⊎ IsNewHead (parsing_from t text base) new n h head) next.0.look_is (r.only h head is)
 
-    pub done_by : (tops : List Top) → tops ≡ sights.tops.items → (new : GraphView) (r : Reduced) → r ≡ Done → (IsReady t text s g key tops → Reduces t text g new (key_of key) r) → AreReduced t text g new (key_of key)
-    done_by tops same new r is f = subst (λ (x : Reduced). Reduces t text g new (key_of key) x) is (f (ready_by tops same))
+    pub done_by : (tops : List Top) → tops ≡ sights.tops.items → (new : GraphView) (r : Reduced) → r ≡ Done → (IsReady t text base s g key tops → Reduces t text base g new (key_of key) r) → AreReduced t text base g new (key_of key)
+    done_by tops same new r is f = subst (λ (x : Reduced). Reduces t text base g new (key_of key) x) is (f (ready_by tops same))
 
-    pub too_deep : (new : GraphView) → IsDeepAt t text g (key_of key) → new ≡ g → IsTooDeep t text new
-    too_deep new d same = subst (λ (x : GraphView). IsTooDeep t text x) (sym same) (record {
+    pub too_deep : (new : GraphView) → IsDeepAt t text base g (key_of key) → new ≡ g → IsTooDeep t text base new
+    too_deep new d same = subst (λ (x : GraphView). IsTooDeep t text base x) (sym same) (record {
       sound = can.seen.sound;
       deep = record {
         key = key_of key;
@@ -260,13 +261,13 @@ module _ (reductions : ReductionLaws) (nodes : NodeLaws) (laying : LayingLaws) (
       };
     })
 
-    pub deep_by : (tops : List Top) → tops ≡ sights.tops.items → (new : GraphView) (r : Reduced) → r ≡ TooDeep → (IsReady t text s g key tops → Reduces t text g new (key_of key) r) → IsTooDeep t text new
-    deep_by tops same new r is f = let d = subst (λ (x : Reduced). Reduces t text g new (key_of key) x) is (f (ready_by tops same)) in too_deep new d.0 d.1
+    pub deep_by : (tops : List Top) → tops ≡ sights.tops.items → (new : GraphView) (r : Reduced) → r ≡ TooDeep → (IsReady t text base s g key tops → Reduces t text base g new (key_of key) r) → IsTooDeep t text base new
+    deep_by tops same new r is f = let d = subst (λ (x : Reduced). Reduces t text base g new (key_of key) x) is (f (ready_by tops same)) in too_deep new d.0 d.1
 
 -- ---- the loop
 
-pub goes_by : (t : ParseTable) (text : Bytes) (s : Setting) (new : GraphView) (look below : ℕ) (sights : Sights) (r : Swept) (n : ℕ) → r ≡ Through n → GoesOn t text s new look below sights r → CanSweep t text s new look sights × (n < below)
-goes_by t text s new look below sights r n is h = subst (λ (x : Swept). GoesOn t text s new look below sights x) is h
+pub goes_by : (t : ParseTable) (text : Bytes) (base : Base) (s : Setting) (new : GraphView) (look below : ℕ) (sights : Sights) (r : Swept) (n : ℕ) → r ≡ Through n → GoesOn t text base s new look below sights r → CanSweep t text base s new look sights × (n < below)
+goes_by t text base s new look below sights r n is h = subst (λ (x : Swept). GoesOn t text base s new look below sights x) is h
 
 pub through_by : (t : ParseTable) (text : Bytes) (base : Base) (s : Setting) (most : ℕ) (start new : GraphView) (look below : ℕ) (sights : Sights) (r : Swept) (n : ℕ) → r ≡ Through n → SweepsOne t text base s most start new look below sights r → IsSweptTo t text base most start new look n
 through_by t text base s most start new look below sights r n is h = subst (λ (x : Swept). SweepsOne t text base s most start new look below sights x) is h
@@ -274,18 +275,18 @@ through_by t text base s most start new look below sights r n is h = subst (λ (
 pub over_by : (t : ParseTable) (text : Bytes) (base : Base) (s : Setting) (most : ℕ) (start new : GraphView) (look below : ℕ) (sights : Sights) (r : Swept) → r ≡ Over → SweepsOne t text base s most start new look below sights r → AreSwept t text base start new look sights
 over_by t text base s most start new look below sights r is h = subst (λ (x : Swept). SweepsOne t text base s most start new look below sights x) is h
 
-pub deep_by_all : (t : ParseTable) (text : Bytes) (base : Base) (s : Setting) (most : ℕ) (start new : GraphView) (look below : ℕ) (sights : Sights) (r : Swept) → r ≡ Deep → SweepsOne t text base s most start new look below sights r → IsTooDeep t text new
+pub deep_by_all : (t : ParseTable) (text : Bytes) (base : Base) (s : Setting) (most : ℕ) (start new : GraphView) (look below : ℕ) (sights : Sights) (r : Swept) → r ≡ Deep → SweepsOne t text base s most start new look below sights r → IsTooDeep t text base new
 deep_by_all t text base s most start new look below sights r is h = subst (λ (x : Swept). SweepsOne t text base s most start new look below sights x) is h
 
 -- ---- the first key
 
-pub first_swept : LayingLaws → LeafLaws → KeyLaws → (t : ParseTable) (text : Bytes) (base : Base) → IsBegunBy t text base → (most : ℕ) → AreRanks t.grammar (unit_rank t.grammar) most → (g : GraphView) → IsSoundBy t text g → (look below : ℕ) → base.place ≤ look → below ≡ 18446744073709551615
+pub first_swept : LayingLaws → LeafLaws → KeyLaws → (t : ParseTable) (text : Bytes) (base : Base) (most : ℕ) → AreRanks t.grammar (unit_rank t.grammar) most → (g : GraphView) → IsSoundBy t text base g → (look below : ℕ) → below ≡ 18446744073709551615
     → IsWholeBy t text base g (first_key most look) → IsSweptTo t text base most g g look below
-first_swept laying leaves keys t text base begin most ranks g sound look below early below_is whole = record {
-  more = more_none laying t text g look;
+first_swept laying leaves keys t text base most ranks g sound look below below_is whole = record {
+  more = more_none laying t text base g look;
   begins = look;
   rank = most;
-  done = first_done leaves keys t text base begin most ranks g sound look early whole;
+  done = first_done leaves keys t text base most ranks g sound look whole;
   covers = λ x i so after. let a = so.0 in let b = so.1 in omega (arith, a, b, below_is);
   back = λ x i so low few lt. by x i low few (cases_order x look);
 }

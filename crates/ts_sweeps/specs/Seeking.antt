@@ -1,6 +1,5 @@
 -- The first key of a place, after some turn, at which a reduction is asked for.
 use Rattle.std.specs.Prelude.{◌≡◌, ℕ, ◌<◌, ◌≤◌, ◌⊎◌, List, Option, Some, None}
-use Rattle.std.specs.List.{Contains}
 use Rattle.ts_base.specs.Bytes.{Bytes}
 use Rattle.spec_graph.specs.declared.graph.Link.{Link}
 use Rattle.ts_graph.specs.declared.view.GraphView.{GraphView}
@@ -8,6 +7,7 @@ use Rattle.ts_table.specs.declared.view.ParseTable.{ParseTable}
 use Rattle.ts_reductions.specs.declared.batch.Batch.{Batch}
 use Rattle.ts_reductions.specs.declared.setting.Setting.{Setting}
 use Rattle.ts_reductions.specs.declared.top.Top.{Top}
+use Rattle.ts_reductions.specs.Sound.{Base}
 use Rattle.ts_reductions.specs.Asking.{IsAsked, IsReadyAt, IsReady, ByTops}
 use Rattle.ts_sweeps.specs.declared.seeking.Seek.{Seek}
 use Rattle.ts_sweeps.specs.Turns.{turn_of, past}
@@ -20,8 +20,8 @@ batch_at look begins rank = record { look = look; begins = begins; rank = rank }
 abbrev pub CanSeekAt : ParseTable → Bytes → Setting → GraphView → Seek → Top → Type 0
 CanSeekAt t text s g seek top = IsReadyAt t text s g (batch_at seek.look 0 0) top
 
-abbrev pub CanSeek : ParseTable → Bytes → Setting → GraphView → Seek → List Top → Type 0
-CanSeek t text s g seek tops = IsReady t text s g (batch_at seek.look 0 0) tops
+abbrev pub CanSeek : ParseTable → Bytes → Base → Setting → GraphView → Seek → List Top → Type 0
+CanSeek t text base s g seek tops = IsReady t text base s g (batch_at seek.look 0 0) tops
 
 -- A reduction with this key is asked for, one of those that are meant. The key is one of the place,
 -- after all from the turn on.

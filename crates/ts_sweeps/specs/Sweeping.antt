@@ -18,7 +18,7 @@ use Rattle.ts_reductions.specs.declared.top.Top.{Top}
 use Rattle.ts_reductions.specs.Asking.{TakesSome}
 use Rattle.ts_reductions.specs.Lines.{IsSetting}
 use Rattle.ts_reductions.specs.Reducing.{AreReduced}
-use Rattle.ts_reductions.specs.Sound.{Base, parsing_from, parsing_of, IsSoundBy}
+use Rattle.ts_reductions.specs.Sound.{Base, parsing_from, IsSoundBy}
 use Rattle.ts_shifts.specs.declared.sights.Sights.{Sights}
 use Rattle.ts_shifts.specs.Shifting.{AreAllSights}
 use Rattle.ts_sweeps.specs.declared.sweeping.Swept.{Swept}
@@ -29,10 +29,10 @@ use Rattle.ts_sweeps.specs.Turns.{turn_of}
 
 -- A sound graph, the setting of its table, and all that is seen at the heads of the place. No
 -- reduction over nothing stays on a token that is seen.
-pub record CanSweep (t : ParseTable) (text : Bytes) (s : Setting) (g : GraphView) (look : ℕ)
-    (sights : Sights) : Type 0 where
+pub record CanSweep (t : ParseTable) (text : Bytes) (base : Base) (s : Setting) (g : GraphView)
+    (look : ℕ) (sights : Sights) : Type 0 where
   pub setting : IsSetting t (length text) s
-  pub seen : AreAllSights t text g look sights
+  pub seen : AreAllSights t text base g look sights
   pub takes_some : (top : Top) → Contains sights.tops.items top → TakesSome t g top
 
 -- the graph is whole up to the key, of all that runs lay which go on from the stack
@@ -50,35 +50,38 @@ last_key look = record { look = look; begins = 0; rank = 0 }
 pub record IsDoneTo (t : ParseTable) (text : Bytes) (base : Base) (g : GraphView) (k : Key)
     : Type 0 where
   pub before : GraphView
-  pub sound : IsSoundBy t text before
+  pub sound : IsSoundBy t text base before
   pub whole : IsWholeBy t text base before k
-  pub reduced : AreReduced t text before g k
+  pub reduced : AreReduced t text base before g k
 
 -- The graph has grown. Each new head stands at the place, or an extra is passed there.
-pub record HasMore (t : ParseTable) (text : Bytes) (old new : GraphView) (look : ℕ)
-    : Type 0 where
+pub record HasMore (t : ParseTable) (text : Bytes) (base : Base) (old new : GraphView)
+    (look : ℕ) : Type 0 where
   pub grows : Grows old new
   pub only : (h : ℕ) (head : Head) → slice_get new.heads h ≡ Some head
-      → (slice_get old.heads h ≡ Some head) ⊎ IsNewHead (parsing_of t text) new look h head
+      → (slice_get old.heads h ≡ Some head)
+      ⊎ IsNewHead (parsing_from t text base) new look h head
 
 -- All reductions of the place were done, up to those of its last key, and these are all sights
 -- there.
 pub record AreSwept (t : ParseTable) (text : Bytes) (base : Base) (old new : GraphView)
     (look : ℕ) (sights : Sights) : Type 0 where
-  pub seen : AreAllSights t text new look sights
-  pub more : HasMore t text old new look
+  pub seen : AreAllSights t text base new look sights
+  pub more : HasMore t text base old new look
   pub done : IsDoneTo t text base new (last_key look)
 
 -- The graph is sound, and some reduction in it would make a node that is too deep.
-pub record IsTooDeep (t : ParseTable) (text : Bytes) (g : GraphView) : Type 0 where
-  pub sound : IsSoundBy t text g
-  pub deep : GraphIsDeep (parsing_of t text) (unit_rank t.grammar) g.heads (bare_links g.links)
+pub record IsTooDeep (t : ParseTable) (text : Bytes) (base : Base) (g : GraphView)
+    : Type 0 where
+  pub sound : IsSoundBy t text base g
+  pub deep : GraphIsDeep (parsing_from t text base) (unit_rank t.grammar) g.heads
+      (bare_links g.links)
 
 -- what is said of the place, by the answer
 abbrev pub Sweeps : ParseTable → Bytes → Base → GraphView → GraphView → ℕ → Sights → Reduced
     → Type 0
 Sweeps t text base old new look sights Done = AreSwept t text base old new look sights
-Sweeps t text base old new look sights TooDeep = IsTooDeep t text new
+Sweeps t text base old new look sights TooDeep = IsTooDeep t text base new
 
 -- ---- between two keys
 
@@ -98,7 +101,7 @@ After b r x i = (x < b) ⊎ ((x ≡ b) × (i < r))
 -- turns below this one.
 pub record IsSweptTo (t : ParseTable) (text : Bytes) (base : Base) (most : ℕ)
     (start g : GraphView) (look below : ℕ) : Type 0 where
-  pub more : HasMore t text start g look
+  pub more : HasMore t text base start g look
   pub begins : ℕ
   pub rank : ℕ
   pub done : IsDoneTo t text base g (key_at look begins rank)
@@ -113,11 +116,12 @@ SweepsOne t text base s most start new look below sights Over =
     AreSwept t text base start new look sights
 SweepsOne t text base s most start new look below sights (Through next) =
     IsSweptTo t text base most start new look next
-SweepsOne t text base s most start new look below sights Deep = IsTooDeep t text new
+SweepsOne t text base s most start new look below sights Deep = IsTooDeep t text base new
 
 -- what the next call may rest on, whatever was known of the graph before
-abbrev pub GoesOn : ParseTable → Bytes → Setting → GraphView → ℕ → ℕ → Sights → Swept → Type 0
-GoesOn t text s new look below sights Over = Unit {0}
-GoesOn t text s new look below sights (Through next) =
-    CanSweep t text s new look sights × (next < below)
-GoesOn t text s new look below sights Deep = Unit {0}
+abbrev pub GoesOn : ParseTable → Bytes → Base → Setting → GraphView → ℕ → ℕ → Sights → Swept
+    → Type 0
+GoesOn t text base s new look below sights Over = Unit {0}
+GoesOn t text base s new look below sights (Through next) =
+    CanSweep t text base s new look sights × (next < below)
+GoesOn t text base s new look below sights Deep = Unit {0}

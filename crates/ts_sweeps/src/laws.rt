@@ -8,7 +8,7 @@ ghost use Rattle.ts_table.specs.declared.view.ParseTable.{ParseTable};
 ghost use Rattle.ts_table.specs.Tables.{IsTable};
 ghost use Rattle.ts_reductions.specs.declared.top.Top.{Top as AnyTop};
 ghost use Rattle.ts_reductions.specs.Asking.{IsTop, TakesSome};
-ghost use Rattle.ts_reductions.specs.Sound.{IsSoundBy};
+ghost use Rattle.ts_reductions.specs.Sound.{IsSoundOver};
 ghost use Rattle.ts_laying.specs.Laws.{LayingLaws};
 ghost use Rattle.ts_reductions.specs.Laws.{ReductionLaws, NodeLaws};
 ghost use Rattle.ts_shifts.specs.Laws.{LookLaws, LeafLaws};
@@ -16,7 +16,8 @@ ghost use Rattle.ts_sweeps.specs.Laws.{KeyLaws};
 
 use spec_graph::{
     extras_are_passed, keys_follow, keys_pass, links_pack, new_heads_have_little,
-    reductions_are_due, reductions_are_laid, runs_lay, trees_replace, whole_to_the_next,
+    reductions_are_due, reductions_are_laid, runs_lay, stacks_are_grounded, trees_replace,
+    whole_to_the_next,
 };
 use spec_lexing::{beginnings, one_answer, token_within};
 use spec_runs::{bare_trees, moves_have_their_place, repetitions_repeat};
@@ -53,7 +54,7 @@ pub(crate) fn graph_laws_hold()
     trees_replace();
     links_pack();
     extras_are_passed();
-    runs_lay();
+    stacks_are_grounded();
     moves_have_their_place();
     tokens_are_known();
     one_answer();
@@ -76,7 +77,7 @@ pub(crate) fn key_laws_hold()
 /// state of the empty stack.
 pub fn full_stacks_take_some()
     ensures { (t : ParseTable) (text : Bytes) (g : GraphView) (look : ℕ) (top : AnyTop)
-        → IsTable t → IsSoundBy t text g → IsTop t text g look top
+        → IsTable t → IsSoundOver t text g → IsTop t text g look top
         → ((head : AnyHead) → slice_get g.heads top.head ≡ Some head → head.state ≡ 0 → ⊥)
         → TakesSome t g top }
 {

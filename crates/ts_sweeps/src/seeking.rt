@@ -1,7 +1,8 @@
 //! The next key of a place: a graph and what is seen at its heads go in, and the first key, after
 //! those that were done, at which a reduction is asked for comes out.
 ghost use Rattle.ts_base.specs.Bytes.{Bytes};
-ghost use Rattle.std.specs.Prelude.{◌≡◌, IfOk};
+ghost use Rattle.std.specs.Prelude.{IfOk};
+ghost use Rattle.ts_reductions.specs.Sound.{Base as AnyBase};
 ghost use Rattle.ts_reductions.specs.Asking.{HasAction, HasReduction, ByNumber, ByAction, ByTop};
 ghost use Rattle.ts_sweeps.specs.Seeking.{CanSeekAt, CanSeek, Seeks, IsNext};
 
@@ -116,9 +117,10 @@ pub(crate) fn next_key(
     seek: Seek,
     tops: &[Top],
 ) -> Result<Option<Batch>, AllocError>
-    requires { (text : Bytes) × CanSeek table.now text setting.now graph.now seek tops.now }
-    ensures { IfOk result (λ next. (text : Bytes)
-        → CanSeek table.now text setting.now graph.now seek tops.now
+    requires { (text : Bytes) × (base : AnyBase)
+        × CanSeek table.now text base setting.now graph.now seek tops.now }
+    ensures { IfOk result (λ next. (text : Bytes) (base : AnyBase)
+        → CanSeek table.now text base setting.now graph.now seek tops.now
         → IsNext table.now graph.now seek tops.now next) }
 {
     let mut found = None;

@@ -1,11 +1,11 @@
 //! All reductions of a place: a graph and what is seen at its heads there go in, and both come out
 //! with all reductions done, key by key, or that a node would be too deep.
-ghost use Rattle.std.specs.Prelude.{◌≡◌, ℕ, ◌<◌, ◌≤◌, length, IfOk, OnOk};
+ghost use Rattle.std.specs.Prelude.{◌≡◌, ℕ, ◌<◌, length, IfOk, OnOk};
 ghost use Rattle.spec_graph.specs.States.{AreRanks};
 ghost use Rattle.ts_graph.specs.declared.view.GraphView.{GraphView};
 ghost use Rattle.ts_graph.specs.Down.{KeepNumbers};
 ghost use Rattle.ts_table.specs.Ranks.{unit_rank};
-ghost use Rattle.ts_reductions.specs.Sound.{Base as AnyBase, IsBegunBy, IsSoundBy};
+ghost use Rattle.ts_reductions.specs.Sound.{Base as AnyBase, IsSoundBy, IsSoundOver};
 ghost use Rattle.ts_shifts.specs.Passing.{first_key};
 ghost use Rattle.ts_shifts.specs.Shifting.{AreAllSights};
 ghost use Rattle.ts_sweeps.specs.Sweeping.{CanSweep, IsWholeBy, IsSweptTo, SweepsOne, GoesOn, Sweeps};
@@ -43,12 +43,13 @@ fn look_new<L: Tokens>(
     sights: &mut Sights,
 ) -> Result<(), AllocError>
     requires made { L.made_for lexer.old table.now }
-    requires sound { IsSoundBy table.now (L.Text.bytes text.now) graph.now }
+    requires sound { IsSoundOver table.now (L.Text.bytes text.now) graph.now }
     ensures made { OnOk result (L.made_for lexer.new table.now) }
-    ensures sights { OnOk result ((old : GraphView) → from ≡ length old.heads
+    ensures sights { OnOk result ((base : AnyBase) (old : GraphView) → from ≡ length old.heads
         → KeepNumbers old.heads graph.now.heads
-        → AreAllSights table.now (L.Text.bytes text.now) old place sights.old
-        → AreAllSights table.now (L.Text.bytes text.now) graph.now place sights.new) }
+        → IsSoundBy table.now (L.Text.bytes text.now) base graph.now
+        → AreAllSights table.now (L.Text.bytes text.now) base old place sights.old
+        → AreAllSights table.now (L.Text.bytes text.now) base graph.now place sights.new) }
 {
     graph_laws_hold();
     let heads = heads_at(alloc, graph, from, place)?;
@@ -68,18 +69,22 @@ fn sweep_one<L: Tokens>(
     sights: &mut Sights,
 ) -> Result<Swept, AllocError>
     requires made { L.made_for lexer.old table.now }
-    requires ready { CanSweep table.now (L.Text.bytes text.now) setting.now graph.old seek.look
-        sights.old }
+    requires ready { (base : AnyBase) × CanSweep table.now (L.Text.bytes text.now) base
+        setting.now graph.old seek.look sights.old }
     ensures made { OnOk result (L.made_for lexer.new table.now) }
     ensures swept { IfOk result (λ swept. (base : AnyBase) (most : ℕ) (start : GraphView)
+        → CanSweep table.now (L.Text.bytes text.now) base setting.now graph.old seek.look
+        sights.old
         → AreRanks table.now.grammar (unit_rank table.now.grammar) most
-        → IsBegunBy table.now (L.Text.bytes text.now) base → base.place ≤ seek.look
         → IsSweptTo table.now (L.Text.bytes text.now) base most start graph.old seek.look
         seek.below
         → SweepsOne table.now (L.Text.bytes text.now) base setting.now most start graph.new
         seek.look seek.below sights.new swept) }
-    ensures on { IfOk result (GoesOn table.now (L.Text.bytes text.now) setting.now graph.new
-        seek.look seek.below sights.new) }
+    ensures on { IfOk result (λ swept. (base : AnyBase)
+        → CanSweep table.now (L.Text.bytes text.now) base setting.now graph.old seek.look
+        sights.old
+        → GoesOn table.now (L.Text.bytes text.now) base setting.now graph.new seek.look
+        seek.below sights.new swept) }
 {
     graph_laws_hold();
     reduction_laws_hold();
@@ -118,12 +123,12 @@ pub fn sweep<L: Tokens>(
     sights: &mut Sights,
 ) -> Result<Reduced, AllocError>
     requires made { L.made_for lexer.old table.now }
-    requires ready { CanSweep table.now (L.Text.bytes text.now) setting.now graph.old place
-        sights.old }
+    requires ready { (base : AnyBase) × CanSweep table.now (L.Text.bytes text.now) base
+        setting.now graph.old place sights.old }
     ensures made { OnOk result (L.made_for lexer.new table.now) }
     ensures swept { IfOk result (λ reduced. (base : AnyBase) (most : ℕ)
+        → CanSweep table.now (L.Text.bytes text.now) base setting.now graph.old place sights.old
         → AreRanks table.now.grammar (unit_rank table.now.grammar) most
-        → IsBegunBy table.now (L.Text.bytes text.now) base → base.place ≤ place
         → IsWholeBy table.now (L.Text.bytes text.now) base graph.old (first_key most place)
         → Sweeps table.now (L.Text.bytes text.now) base graph.old graph.new place sights.new
         reduced) }

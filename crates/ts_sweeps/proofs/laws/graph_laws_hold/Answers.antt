@@ -19,5 +19,5 @@ returns-clause-leaves c = record {
   same = c.trees_replace.ensures.same;
   through = c.trees_replace.ensures.through;
   shifts = c.moves_have_their_place.ensures.shift;
-  embeds = c.runs_lay.ensures.embeds;
+  low = c.stacks_are_grounded.ensures.low;
 }

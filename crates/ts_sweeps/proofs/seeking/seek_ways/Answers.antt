@@ -2,7 +2,7 @@ use Rattle.std.proofs.Common.{sym, subst, List, length, arith}
 use Rattle.std.proofs.lemmas.Option.{slice_get_within}
 use Rattle.ts_graph.specs.declared.ways.Way.{Way}
 use Rattle.ts_graph.specs.Ways.{ListsWays}
-use Rattle.ts_reductions.specs.Sound.{parsing_of}
+use Rattle.ts_reductions.specs.Sound.{parsing_from}
 use Rattle.ts_reductions.proofs.CallLemmas.{ends_of, way_low}
 use Rattle.ts_sweeps.specs.Seeking.{batch_at}
 use Rattle.ts_sweeps.proofs.SeekLemmas.{no_ways, listed, ways_on, ways_end}
@@ -28,7 +28,7 @@ head-low-requires c =
     let all = c.as_slice-way-items.result.now in
     let lists : ListsWays c.args.graph.now.links c.args.top.head c.wanted-wanted.result.steps all = subst (λ (ws : List Way). ListsWays c.args.graph.now.links c.args.top.head c.wanted-wanted.result.steps ws) (sym c.as_slice-way-items.ensures.value) c.in_ok-ways.ensures in
     let x = listed c.args.table.now c.args.graph.now c.args.seek c.args.top c.args.number r.2 e.left e.production e.at c.wanted-wanted.result w all lists c.loop-way.way-index c.way-item.result c.loop-way-test.true c.way-item.is in
-    way_low (parsing_of c.args.table.now r.0) c.args.graph.now r.1.sound.laid x.0 c.args.top.head c.way-item.result.below (slice_get_within c.args.graph.now.heads c.args.top.head r.1.seen.at.head r.1.seen.at.is) x.2.way
+    way_low (parsing_from c.args.table.now r.0 r.1.base) c.args.graph.now r.1.sound.laid x.0 c.args.top.head c.way-item.result.below (slice_get_within c.args.graph.now.heads c.args.top.head r.1.seen.at.head r.1.seen.at.is) x.2.way
 
 pub loop-way-preserved : goal.loop-way-preserved
 loop-way-preserved c = λ text ready has.

@@ -9,10 +9,11 @@ look_all-requires-clause-stand g c =
     (c.args.place, listed_stand c.args.graph.now c.args.from c.args.place c.as_slice.result.now (subst (λ (l : List ℕ). AreHeadsAt c.args.graph.now c.args.from c.args.place l) (sym c.as_slice.ensures.value) c.in_ok-heads.ensures))
 
 pub returns-clause-sights : goal.returns-clause-sights
-returns-clause-sights g c = λ old from_is keep a.
+returns-clause-sights g c = λ base old from_is keep sound a.
     let are = subst (λ (l : List ℕ). AreHeadsAt c.args.graph.now c.args.from c.args.place l) (sym c.as_slice.ensures.value) c.in_ok-heads.ensures in
     record {
-      sound = c.requires.sound;
+      sound = sound;
+      late = a.late;
       heads = a.heads ++ c.as_slice.result.now;
       sights = c.in_ok-look_all.ensures.sights c.args.place a.heads (listed_stand c.args.graph.now c.args.from c.args.place c.as_slice.result.now are)
           (sights_still c.args.table.now (g.L.Text.Content.bytes c.args.text.now) old c.args.graph.now keep c.args.place a.heads a.sights.stand c.args.sights.now a.sights);
