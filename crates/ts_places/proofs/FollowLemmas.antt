@@ -12,7 +12,7 @@ use Rattle.ts_reductions.specs.declared.reducing.Reduced.TheVariants.{Done, TooD
 use Rattle.ts_reductions.specs.declared.setting.Setting.{Setting}
 use Rattle.ts_reductions.specs.declared.top.Top.{Top}
 use Rattle.ts_reductions.specs.Asking.{IsTop}
-use Rattle.ts_reductions.specs.Sound.{Base}
+use Rattle.ts_reductions.specs.Sound.{Base, IsSoundBy}
 use Rattle.ts_shifts.specs.declared.sights.Sights.{Sights}
 use Rattle.ts_shifts.specs.Looking.{AllStandAt, HasAllAt}
 use Rattle.ts_shifts.specs.Passing.{first_key}
@@ -59,12 +59,12 @@ module _ (t : ParseTable) (text : Bytes) (s : Setting) (base : Base) (most : ℕ
   module _ (tops : List Top) (same : tops ≡ sights.tops.items) where
     pub can_ask : CanAskAll t text s g place tops
     can_ask = record {
-      sound = can.whole.sound;
+      sound = (base, can.whole.sound);
       setting = can.setting;
       seen = λ top there. tops_seen top (subst (λ (l : List Top). Contains l top) same there);
     }
 
-    pub can_sweep : (SomeAsksForNothing t g tops → ⊥) → CanSweep t text s g place sights
+    pub can_sweep : (SomeAsksForNothing t g tops → ⊥) → CanSweep t text base s g place sights
     can_sweep none = record {
       setting = can.setting;
       seen = can.seen;
@@ -85,14 +85,14 @@ none_asked_by t g tops b e k a = let h : b ≡ true = k.1 a in let f : false ≡
 pub swept_by : (t : ParseTable) (text : Bytes) (base : Base) (old mid : GraphView) (place : ℕ) (sights : Sights) (r : Reduced) → r ≡ Done → Sweeps t text base old mid place sights r → AreSwept t text base old mid place sights
 swept_by t text base old mid place sights r is h = subst (λ (x : Reduced). Sweeps t text base old mid place sights x) is h
 
-pub deep_by : (t : ParseTable) (text : Bytes) (base : Base) (old mid : GraphView) (place : ℕ) (sights : Sights) (r : Reduced) → r ≡ TooDeep → Sweeps t text base old mid place sights r → IsTooDeep t text mid
+pub deep_by : (t : ParseTable) (text : Bytes) (base : Base) (old mid : GraphView) (place : ℕ) (sights : Sights) (r : Reduced) → r ≡ TooDeep → Sweeps t text base old mid place sights r → IsTooDeep t text base mid
 deep_by t text base old mid place sights r is h = subst (λ (x : Reduced). Sweeps t text base old mid place sights x) is h
 
 module _ (t : ParseTable) (text : Bytes) (base : Base) (most : ℕ) (old new : GraphView) (place : ℕ) (before after : Sights) (p : Passed) where
   pub passed_by : p ≡ Over → Passes t text base most old new place before after p → IsPassed t text base most old new place after
   passed_by is h = subst (λ (x : Passed). Passes t text base most old new place before after x) is h
 
-  pub deep_passed : p ≡ Deep → Passes t text base most old new place before after p → IsTooDeep t text new
+  pub deep_passed : p ≡ Deep → Passes t text base most old new place before after p → IsTooDeep t text base new
   deep_passed is h = subst (λ (x : Passed). Passes t text base most old new place before after x) is h
 
   pub idle_passed : p ≡ Idle → Passes t text base most old new place before after p → IsNothingAsked t text old place × (new ≡ old) × (after ≡ before)
@@ -100,18 +100,18 @@ module _ (t : ParseTable) (text : Bytes) (base : Base) (most : ℕ) (old new : G
 
 -- what is seen at all heads of the frontier that stand at the place
 module _ (t : ParseTable) (text : Bytes) (s : Setting) (base : Base) (most : ℕ) (g : GraphView) (place : ℕ) (frontier : Frontier) (can : CanFollow t text s base most g place frontier) (waiting : List ℕ) (waiting_is : waiting ≡ frontier.heads.items) (here : List ℕ) (at : AreThoseAt g place waiting here) where
-  pub can_pass : (looked : List ℕ) → looked ≡ here → (sights : Sights) → (AllStandAt g place looked → HasAllAt g place looked → AreAllSights t text g place sights) → CanPass t text s base most g place sights
+  pub can_pass : (looked : List ℕ) → looked ≡ here → (sights : Sights) → (IsSoundBy t text base g → base.place ≤ place → AllStandAt g place looked → HasAllAt g place looked → AreAllSights t text base g place sights) → CanPass t text s base most g place sights
   can_pass looked same sights f = record {
     setting = can.setting;
     whole = can.whole;
-    seen = f (subst (λ (l : List ℕ). AllStandAt g place l) (sym same) (here_stand g place frontier.heads.items waiting waiting_is can.are_open here at))
+    seen = f can.whole.sound can.whole.early (subst (λ (l : List ℕ). AllStandAt g place l) (sym same) (here_stand g place frontier.heads.items waiting waiting_is can.are_open here at))
         (subst (λ (l : List ℕ). HasAllAt g place l) (sym same) (here_all g place frontier.heads.items waiting waiting_is can.are_open here at));
   }
 
 -- ---- all that was done at a place
 
 module _ (laws : PlaceLaws) (t : ParseTable) (table : IsTable t) (text : Bytes) (s : Setting) (base : Base) (most : ℕ) (old : GraphView) (place : ℕ) (before after : Sights) (can : CanPass t text s base most old place before) where
-  module _ (mid new : GraphView) (swept : AreSwept t text base old mid place after) (shifts : AreShifted t text mid new place) where
+  module _ (mid new : GraphView) (swept : AreSwept t text base old mid place after) (shifts : AreShifted t text base mid new place) where
     grows : Grows old new
     grows = record {
       stay = λ h head is. shifts.grows.stay h head (swept.more.grows.stay h head is);
@@ -128,9 +128,10 @@ module _ (laws : PlaceLaws) (t : ParseTable) (table : IsTable t) (text : Bytes) 
         by (inl was) = swept.seen.all h (st.0, was, st.2)
         by (inr past) = absurd (let e = st.2 in omega (arith, past, e))
 
-    seen_still : AreAllSights t text new place after
+    seen_still : AreAllSights t text base new place after
     seen_still = record {
       sound = shifts.sound;
+      late = swept.seen.late;
       heads = swept.seen.heads;
       sights = laws.stay t text mid new place swept.seen.heads after shifts.grows.stay swept.seen.sights;
       all = all_still;
@@ -140,11 +141,10 @@ module _ (laws : PlaceLaws) (t : ParseTable) (table : IsTable t) (text : Bytes) 
     all_passed = record {
       followed = record { grows = grows; seen = seen_still };
       whole = record {
-        begun = can.whole.begun;
         early = let e = can.whole.early in omega (arith, e);
         ranks = can.whole.ranks;
         sound = shifts.sound;
-        whole = laws.follow t text base most swept.done.before mid new (last_key place) (first_key most (suc place)) table can.whole.ranks swept.done.sound can.whole.begun can.whole.early swept.done.reduced shifts (laws.look most place) refl swept.done.whole;
+        whole = laws.follow t text base most swept.done.before mid new (last_key place) (first_key most (suc place)) table can.whole.ranks swept.done.sound can.whole.early swept.done.reduced shifts (laws.look most place) refl swept.done.whole;
       };
     }
 
@@ -158,12 +158,11 @@ module _ (laws : PlaceLaws) (t : ParseTable) (text : Bytes) (base : Base) (most 
   whole_past next lt none =
       let n = apart next (suc place) (omega (arith, lt)) in
       record {
-        begun = w.begun;
         early = let e = w.early in omega (arith, e, lt);
         ranks = w.ranks;
         sound = w.sound;
         whole = subst (λ (k : ℕ). IsWholeBy t text base g (first_key most k)) (sym n.1)
-            (laws.empty t text base most g n.0 (suc place) w.ranks w.sound w.begun (λ other h low high st. none other h (omega (arith, low)) (let e = n.1 in omega (arith, high, e)) st) w.whole);
+            (laws.empty t text base most g n.0 (suc place) w.ranks w.sound (λ other h low high st. none other h (omega (arith, low)) (let e = n.1 in omega (arith, high, e)) st) w.whole);
       }
 
   pub goes_on : (frontier : Frontier) (next : ℕ) → IsNextPlace g place frontier.heads.items next → GoesOnAt t text base most old g place frontier sights next

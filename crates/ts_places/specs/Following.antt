@@ -10,7 +10,7 @@ use Rattle.ts_reductions.specs.declared.setting.Setting.{Setting}
 use Rattle.ts_reductions.specs.declared.top.Top.{Top}
 use Rattle.ts_reductions.specs.Asking.{IsTop}
 use Rattle.ts_reductions.specs.Lines.{IsSetting}
-use Rattle.ts_reductions.specs.Sound.{Base, IsBegunBy, IsSoundBy}
+use Rattle.ts_reductions.specs.Sound.{Base, IsSoundBy}
 use Rattle.ts_shifts.specs.declared.sights.Sights.{Sights}
 use Rattle.ts_shifts.specs.Passing.{first_key}
 use Rattle.ts_shifts.specs.Shifting.{AreAllSights}
@@ -25,14 +25,13 @@ use Rattle.ts_places.specs.Nothing.{AsksForNothing}
 
 -- ---- before
 
--- A sound graph that is whole up to the first key of a place, of all that runs lay which go on from
--- a stack that ends no later.
+-- A graph that is sound over a stack, and whole up to the first key of a place, of all that runs lay
+-- which go on from that stack. It ends no later.
 pub record IsWholeAt (t : ParseTable) (text : Bytes) (base : Base) (most : ℕ) (g : GraphView)
     (place : ℕ) : Type 0 where
-  pub begun : IsBegunBy t text base
   pub early : base.place ≤ place
   pub ranks : AreRanks t.grammar (unit_rank t.grammar) most
-  pub sound : IsSoundBy t text g
+  pub sound : IsSoundBy t text base g
   pub whole : IsWholeBy t text base g (first_key most place)
 
 -- and the setting of its table, and the heads that stand at the place or past it
@@ -45,22 +44,22 @@ pub record CanFollow (t : ParseTable) (text : Bytes) (s : Setting) (base : Base)
 -- ---- after
 
 -- All that is asked for at the place was done. These are all sights there.
-pub record IsFollowed (t : ParseTable) (text : Bytes) (old new : GraphView) (place : ℕ)
-    (sights : Sights) : Type 0 where
+pub record IsFollowed (t : ParseTable) (text : Bytes) (base : Base) (old new : GraphView)
+    (place : ℕ) (sights : Sights) : Type 0 where
   pub grows : Grows old new
-  pub seen : AreAllSights t text new place sights
+  pub seen : AreAllSights t text base new place sights
 
 -- and the graph goes on at the next place
 pub record GoesOnAt (t : ParseTable) (text : Bytes) (base : Base) (most : ℕ) (old new : GraphView)
     (place : ℕ) (frontier : Frontier) (sights : Sights) (next : ℕ) : Type 0 where
-  pub followed : IsFollowed t text old new place sights
+  pub followed : IsFollowed t text base old new place sights
   pub at : IsNextPlace new place frontier.heads.items next
   pub whole : IsWholeAt t text base most new next
 
 -- and it goes on nowhere
 pub record IsOver (t : ParseTable) (text : Bytes) (base : Base) (most : ℕ) (old new : GraphView)
     (place : ℕ) (sights : Sights) : Type 0 where
-  pub followed : IsFollowed t text old new place sights
+  pub followed : IsFollowed t text base old new place sights
   pub last : IsLastPlace new place
   pub whole : (n : ℕ) → place < n → IsWholeAt t text base most new n
 
@@ -83,7 +82,7 @@ Follows t text base most old new place before after sights (Place next) =
     GoesOnAt t text base most old new place after sights next
 Follows t text base most old new place before after sights Nowhere =
     IsOver t text base most old new place sights
-Follows t text base most old new place before after sights TooDeep = IsTooDeep t text new
+Follows t text base most old new place before after sights TooDeep = IsTooDeep t text base new
 Follows t text base most old new place before after sights Nothing =
     IsNothingAsked t text old place × (new ≡ old) × (after ≡ before)
 
@@ -94,12 +93,12 @@ pub record CanPass (t : ParseTable) (text : Bytes) (s : Setting) (base : Base) (
     (g : GraphView) (place : ℕ) (sights : Sights) : Type 0 where
   pub setting : IsSetting t (length text) s
   pub whole : IsWholeAt t text base most g place
-  pub seen : AreAllSights t text g place sights
+  pub seen : AreAllSights t text base g place sights
 
 -- all that is asked for was done
 pub record IsPassed (t : ParseTable) (text : Bytes) (base : Base) (most : ℕ) (old new : GraphView)
     (place : ℕ) (sights : Sights) : Type 0 where
-  pub followed : IsFollowed t text old new place sights
+  pub followed : IsFollowed t text base old new place sights
   pub whole : IsWholeAt t text base most new (suc place)
 
 -- what is said of the place, by the answer
@@ -107,6 +106,6 @@ abbrev pub Passes : ParseTable → Bytes → Base → ℕ → GraphView → Grap
     → Passed → Type 0
 Passes t text base most old new place before after Over =
     IsPassed t text base most old new place after
-Passes t text base most old new place before after Deep = IsTooDeep t text new
+Passes t text base most old new place before after Deep = IsTooDeep t text base new
 Passes t text base most old new place before after Idle =
     IsNothingAsked t text old place × (new ≡ old) × (after ≡ before)

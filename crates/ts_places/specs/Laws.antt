@@ -16,7 +16,7 @@ use Rattle.ts_table.specs.Tables.{IsTable}
 use Rattle.ts_table.specs.Ranks.{unit_rank}
 use Rattle.ts_laying.specs.Sound.{bare_links}
 use Rattle.ts_reductions.specs.Reducing.{AreReduced}
-use Rattle.ts_reductions.specs.Sound.{Base, parsing_from, IsBegunBy, IsSoundBy}
+use Rattle.ts_reductions.specs.Sound.{Base, parsing_from, IsSoundBy}
 use Rattle.ts_shifts.specs.declared.sights.Sights.{Sights}
 use Rattle.ts_shifts.specs.Looking.{IsHeadAt, AreSights}
 use Rattle.ts_shifts.specs.Passing.{first_key}
@@ -37,9 +37,9 @@ pub record PlaceLaws : Type 0 where
       (s : Sights) → KeepNumbers old.heads new.heads → AreSights t text old look heads s
       → AreSights t text new look heads s
   pub follow : (t : ParseTable) (text : Bytes) (base : Base) (most : ℕ) (old mid new : GraphView)
-      (k m : Key) → IsTable t → AreRanks t.grammar (unit_rank t.grammar) most → IsSoundBy t text old
-      → IsBegunBy t text base → base.place ≤ k.look
-      → AreReduced t text old mid k → AreShifted t text mid new k.look
+      (k m : Key) → IsTable t → AreRanks t.grammar (unit_rank t.grammar) most
+      → IsSoundBy t text base old → base.place ≤ k.look
+      → AreReduced t text base old mid k → AreShifted t text base mid new k.look
       → IsNextKey most k m → m.look ≡ suc k.look
       → IsWholeTo (parsing_from t text base) (unit_rank t.grammar) old.heads
       (bare_links old.links) k
@@ -47,7 +47,7 @@ pub record PlaceLaws : Type 0 where
       (bare_links new.links) m
   pub empty : (t : ParseTable) (text : Bytes) (base : Base) (most : ℕ) (g : GraphView)
       (count look : ℕ)
-      → AreRanks t.grammar (unit_rank t.grammar) most → IsSoundBy t text g → IsBegunBy t text base
+      → AreRanks t.grammar (unit_rank t.grammar) most → IsSoundBy t text base g
       → ((place h : ℕ) → look ≤ place → place < count + look → IsHeadAt g place h → ⊥)
       → IsWholeTo (parsing_from t text base) (unit_rank t.grammar) g.heads (bare_links g.links)
       (first_key most look)

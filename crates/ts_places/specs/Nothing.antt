@@ -14,7 +14,7 @@ use Rattle.ts_reductions.specs.declared.setting.Setting.{Setting}
 use Rattle.ts_reductions.specs.declared.top.Top.{Top}
 use Rattle.ts_reductions.specs.Asking.{IsTop}
 use Rattle.ts_reductions.specs.Lines.{IsSetting, HasProduction}
-use Rattle.ts_reductions.specs.Sound.{IsSoundBy}
+use Rattle.ts_reductions.specs.Sound.{IsSoundOver}
 
 -- an action that is a reduction is one by a production
 abbrev pub HasProductions : ParseTable → Action → Type 0
@@ -48,13 +48,13 @@ SomeAsksForNothing t g tops = (top : Top) × Contains tops top × AsksForNothing
 -- a sound graph, the setting of its table, and a head that sees a token at the place
 pub record CanAsk (t : ParseTable) (text : Bytes) (s : Setting) (g : GraphView) (look : ℕ)
     (top : Top) : Type 0 where
-  pub sound : IsSoundBy t text g
+  pub sound : IsSoundOver t text g
   pub setting : IsSetting t (length text) s
   pub seen : IsTop t text g look top
 
 -- the same of each of the heads
 pub record CanAskAll (t : ParseTable) (text : Bytes) (s : Setting) (g : GraphView) (look : ℕ)
     (tops : List Top) : Type 0 where
-  pub sound : IsSoundBy t text g
+  pub sound : IsSoundOver t text g
   pub setting : IsSetting t (length text) s
   pub seen : (top : Top) → Contains tops top → IsTop t text g look top

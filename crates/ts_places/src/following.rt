@@ -1,8 +1,8 @@
 //! Follows a graph of stacks over one place of a text: the graph and the heads that stand there or
 //! past it go in; the graph with all reductions, shifts and passed extras of the place comes out,
 //! with what was seen there and the next place at which a head stands.
-ghost use Rattle.std.specs.Prelude.{◌≡◌, ℕ, IfOk, OnOk};
-ghost use Rattle.ts_reductions.specs.Sound.{Base as AnyBase, IsSoundBy};
+ghost use Rattle.std.specs.Prelude.{◌≡◌, ℕ, ◌≤◌, IfOk, OnOk};
+ghost use Rattle.ts_reductions.specs.Sound.{Base as AnyBase, IsSoundBy, IsSoundOver};
 ghost use Rattle.ts_shifts.specs.Looking.{AllStandAt, HasAllAt};
 ghost use Rattle.ts_shifts.specs.Shifting.{AreAllSights};
 ghost use Rattle.ts_places.specs.Following.{CanPass, Passes, CanFollow, next_at, Follows};
@@ -61,12 +61,13 @@ fn look_at<L: Tokens>(
     heads: &[usize],
 ) -> Result<Sights, AllocError>
     requires made { L.made_for lexer.old table.now }
-    requires sound { IsSoundBy table.now (L.Text.bytes text.now) graph.now }
+    requires sound { IsSoundOver table.now (L.Text.bytes text.now) graph.now }
     requires stand { (look : ℕ) × AllStandAt graph.now look heads.now }
     ensures made { OnOk result (L.made_for lexer.new table.now) }
-    ensures sights { IfOk result (λ sights. (look : ℕ)
+    ensures sights { IfOk result (λ sights. (base : AnyBase) (look : ℕ)
+        → IsSoundBy table.now (L.Text.bytes text.now) base graph.now → base.place ≤ look
         → AllStandAt graph.now look heads.now → HasAllAt graph.now look heads.now
-        → AreAllSights table.now (L.Text.bytes text.now) graph.now look sights) }
+        → AreAllSights table.now (L.Text.bytes text.now) base graph.now look sights) }
 {
     let mut sights = Sights::new(alloc);
     look_all(table, lexer, text, graph, heads, &mut sights)?;
