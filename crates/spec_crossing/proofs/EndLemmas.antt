@@ -113,7 +113,7 @@ module _ (P : Parsing) (facts : Facts P) (base : IsBase P) (rank : ℕ → ℕ) 
         let trees_are : ts ≡ reverse after.forth ++ r.0 ∷ reverse before.forth =
         p.is ∙ ap (λ (l : List Tree). l ++ p.right) after.is ∙ ap (λ (l : List Tree). reverse after.forth ++ l) (r.2 ∙ ap (λ (l : List Tree). r.0 ∷ l) before.is) in
         let mc = root_parts P.grammar d.stack x.root x.before x.after x.stack_is (lays_made P facts base [] 0 d.stack d.place (filling d.stack) laid) in
-        let md = root_parts P.grammar ts r.0 before.forth after.forth trees_are (way_all_made P links (links_made P facts heads links graph) way.way way.head 0 way.is) in
+        let md = root_parts P.grammar ts r.0 before.forth after.forth trees_are (way_all_made P links (links_made P facts base heads links graph) way.way way.head 0 way.is) in
         let read = (facts.laws.runs.accepts P.grammar (filling d.stack) x.move.symbol.0 x.move.stays).1 in
         let start = root_symbol d.stack x.root x.before x.after (start_symbol P.grammar) x.stack_is x.after_extras x.root_fills read in
         let before_extras = same_extras before.forth x.before before.replace x.before_extras in

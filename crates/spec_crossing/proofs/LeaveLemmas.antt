@@ -24,7 +24,8 @@ use Rattle.spec_graph.proofs.EntryLemmas.{token_says, extra_says, lawful_at}
 use Rattle.spec_graph.proofs.LayLemmas.{IsBase, no_middle, begins_taken, can_make, lays_read, lays_none, run_join}
 use Rattle.spec_graph.proofs.GraphLemmas.{WayLaid, share_head, same_place, ways, way_reached}
 use Rattle.spec_graph.proofs.BaseLemmas.{start_facts, start_base, base_of, run_laid, within}
-use Rattle.spec_graph.proofs.OutcomeLemmas.{at_start, own_trees}
+use Rattle.spec_graph.proofs.OutcomeLemmas.{own_trees}
+use Rattle.spec_graph.proofs.GroundLemmas.{graph_start}
 use Rattle.spec_crossing.specs.Laws.{ServingLaws}
 use Rattle.spec_crossing.specs.Leaving.{AreExact, IsOnlyWay, EndsWithToken, StandsAlone, way_config, EndsBefore}
 use Rattle.spec_crossing.proofs.BeforeLemmas.{IsBefore, begun_before, EndsEarly, GoesPast, run_before}
@@ -100,45 +101,39 @@ leaf_shifted P facts base fresh γ q _ t _ _ (made _ _ w p δ ks end ε xs look 
 
 -- ---- the stack that is left is reached
 
-module _ (P : Parsing) (facts : Facts P) (heads : List Head) (links : List Link) (graph : IsGraph P heads links) (h place : ℕ) (read : List ℕ) (way : List Link)
+module _ (P : Parsing) (facts : Facts P) (base : IsBase P) (fresh : P.stack ≡ []) (zero_place : P.place ≡ 0) (heads : List Head) (links : List Link) (graph : IsGraph P heads links) (h place : ℕ) (read : List ℕ) (way : List Link)
     (at : IsAt P heads h read place) (one : IsOnlyWay links h way) (ends : EndsWithToken way) where
-  abbrev started : Facts (from_start P)
-  started = start_facts P facts
-
-  abbrev bottom : IsBase (from_start P)
-  bottom = start_base P facts
-
   down : IsWay links h (ends.last ∷ ends.rest) 0
   down = subst (λ (w : List Link). IsWay links h w 0) ends.way_is one.down
 
   linked : IsLinked P heads ends.last
   linked = graph.linked ends.last down.0
 
-  leaf : IsShifted (from_start P) linked.under linked.from ends.last.tree linked.to
-  leaf = leaf_shifted (from_start P) started bottom refl linked.under linked.from (ends.last.tree ∷ []) ends.last.tree linked.to linked.over linked.lays refl ends.fills ends.leaf
+  leaf : IsShifted P linked.under linked.from ends.last.tree linked.to
+  leaf = leaf_shifted P facts base fresh linked.under linked.from (ends.last.tree ∷ []) ends.last.tree linked.to linked.over linked.lays refl ends.fills ends.leaf
 
-  tail : WayLaid (from_start P) started bottom refl refl heads 0 [] 0 (way_trees ends.rest) ends.last.below linked.from
-  tail = ways (from_start P) started bottom refl refl heads links 0 [] 0 (at_start P facts heads 0 [] 0 graph.start) ends.rest (way_trees ends.rest) ends.last.below linked.from linked.under
-      (at_start P facts heads ends.last.below linked.under linked.from linked.below) down.2 (own_trees P facts heads links graph ends.rest ends.last.below 0 down.2)
+  tail : WayLaid P facts base heads 0 [] 0 (way_trees ends.rest) ends.last.below linked.from
+  tail = ways P facts base heads links 0 [] 0 graph.start ends.rest (way_trees ends.rest) ends.last.below linked.from linked.under
+      linked.below down.2 (own_trees P facts base heads links graph ends.rest ends.last.below 0 down.2)
 
   share : ShareState P.goto linked.under tail.now
-  share = share_head (from_start P) started heads ends.last.below linked.under tail.now linked.from linked.from (at_start P facts heads ends.last.below linked.under linked.from linked.below) tail.at
+  share = share_head P facts heads ends.last.below linked.under tail.now linked.from linked.from linked.below tail.at
 
-  sees : SeesAt (from_start P) tail.now linked.from (token leaf.symbol leaf.pad leaf.size)
-  sees = sees_shared (from_start P) started linked.under tail.now share linked.from (token leaf.symbol leaf.pad leaf.size) leaf.sees
+  sees : SeesAt P tail.now linked.from (token leaf.symbol leaf.pad leaf.size)
+  sees = sees_shared P facts linked.under tail.now share linked.from (token leaf.symbol leaf.pad leaf.size) leaf.sees
 
   acts : Act P.grammar tail.now leaf.symbol.0 shift
   acts = facts.states.acts linked.under tail.now leaf.symbol.0 shift share leaf.acts
 
-  goes : GoesOn (from_start P) tail.now linked.from
+  goes : GoesOn P tail.now linked.from
   goes = record { symbol = leaf.symbol; pad = leaf.pad; size = leaf.size; sees = sees; moves = (shift, acts) }
 
   tail_reached : IsReached P.grammar P.text (way_config ends.rest linked.from)
-  tail_reached = way_reached (from_start P) started bottom refl refl heads (way_trees ends.rest) ends.last.below linked.from tail
-      (λ s pad size p. clash (from_start P) started tail.now linked.from s pad size goes p)
+  tail_reached = way_reached P facts base fresh zero_place heads (way_trees ends.rest) ends.last.below linked.from tail
+      (λ s pad size p. clash P facts tail.now linked.from s pad size goes p)
 
   tail_read : tail.now ≡ filling (way_trees ends.rest)
-  tail_read = lays_read (from_start P) started [] 0 (way_trees ends.rest) linked.from tail.now tail.lays ∙ append-nil (filling (way_trees ends.rest))
+  tail_read = lays_read P facts [] 0 (way_trees ends.rest) linked.from tail.now tail.lays ∙ append-nil (filling (way_trees ends.rest))
 
   stepped : StepsOn P.grammar P.text (way_config ends.rest linked.from) (pushed (way_config ends.rest linked.from) (token_tree leaf.symbol leaf.pad leaf.size))
   stepped = shift_token leaf.symbol leaf.pad leaf.size
@@ -165,6 +160,12 @@ module _ (P : Parsing) (facts : Facts P) (heads : List Head) (links : List Link)
       (run_join P facts _ (way_config ends.rest linked.from) (pushed (way_config ends.rest linked.from) (token_tree leaf.symbol leaf.pad leaf.size)) tail_reached
       (run_on (way_config ends.rest linked.from) (pushed (way_config ends.rest linked.from) (token_tree leaf.symbol leaf.pad leaf.size)) (pushed (way_config ends.rest linked.from) (token_tree leaf.symbol leaf.pad leaf.size)) stepped
       (run_here (pushed (way_config ends.rest linked.from) (token_tree leaf.symbol leaf.pad leaf.size)))))
+
+-- the same where a run came to the stack from which runs go on
+pub left_from : (P : Parsing) (facts : Facts P) (c : Configuration) → IsReached P.grammar P.text c → IsBegun P c → (heads : List Head) (links : List Link) → IsGraph P heads links → (h place : ℕ) (read : List ℕ) (way : List Link)
+    → IsAt P heads h read place → IsOnlyWay links h way → EndsWithToken way → IsReached P.grammar P.text (way_config way place)
+left_from P facts c reached begun heads links graph h place read way at one ends =
+    left_reached (from_start P) (start_facts P facts) (start_base P facts) refl refl heads links (graph_start P facts c reached begun heads links graph) h place read way at one ends
 
 -- ---- what runs come to
 
@@ -232,7 +233,7 @@ module _ (P : Parsing) (facts : Facts P) (serving : ServingLaws) (c : Configurat
 
   module _ (h place : ℕ) (read : List ℕ) (way : List Link) (at : IsAt P heads h read place) (alone : StandsAlone heads n h) (one : IsOnlyWay links h way) (ends : EndsWithToken way) where
     left : IsReached P.grammar P.text (way_config way place)
-    left = left_reached P facts heads links graph h place read way at one ends
+    left = left_from P facts c reached begun heads links graph h place read way at one ends
 
     -- each configuration past the place is one for which the stack may stand
     past_served : (e : Configuration) → IsBefore P facts base rank most ranked n e → n ≤ e.place → ServesConfiguration (way_config way place) e

@@ -18,6 +18,7 @@ ghost use Rattle.spec_graph.specs.declared.graph.Head.{Head};
 ghost use Rattle.spec_graph.specs.declared.graph.Link.{Link};
 ghost use Rattle.spec_graph.specs.States.{AreStates, AreRanks};
 ghost use Rattle.spec_graph.specs.Laying.{Parsing, from_start, Lays, IsBegun};
+ghost use Rattle.spec_graph.specs.Grounded.{IsGrounded};
 ghost use Rattle.spec_graph.specs.Links.{IsAt, IsWay, way_trees, IsGraph, IsWholeTo};
 ghost use Rattle.spec_graph.specs.Laws.{GraphLaws};
 ghost use Rattle.spec_crossing.specs.Laws.{ServingLaws};
@@ -64,6 +65,7 @@ fn serving_laws_hold()
 /// ends are in the graph.
 pub fn one_stack_goes_on()
     ensures reached { (P : Parsing) → Fit P.grammar → AreStates P.grammar P.goto
+        → (c : Configuration) → IsReached P.grammar P.text c → IsBegun P c
         → (heads : List Head) (links : List Link) → IsGraph P heads links
         → (h place : ℕ) (read : List ℕ) (way : List Link) → IsAt P heads h read place
         → IsOnlyWay links h way → EndsWithToken way
@@ -185,11 +187,11 @@ pub fn unused_symbols_end()
 
 /// Where a way leads down to the head of the empty stack, its trees are what was read.
 pub fn ways_are_read()
-    ensures symbols { (P : Parsing) → Fit P.grammar → AreStates P.grammar P.goto
+    ensures symbols { (P : Parsing) → Fit P.grammar → AreStates P.grammar P.goto → IsGrounded P
         → (heads : List Head) (links : List Link) → IsGraph P heads links
         → (h place : ℕ) (read : List ℕ) (way : List Link) → IsAt P heads h read place
         → IsWay links h way 0 → IsAt P heads h (filling (way_trees way)) place }
-    ensures spans { (P : Parsing) → Fit P.grammar → AreStates P.grammar P.goto
+    ensures spans { (P : Parsing) → Fit P.grammar → AreStates P.grammar P.goto → IsGrounded P
         → (heads : List Head) (links : List Link) → IsGraph P heads links
         → (h place : ℕ) (read : List ℕ) (way : List Link) → IsAt P heads h read place
         → IsWay links h way 0 → all_spans (way_trees way) ≡ place }
