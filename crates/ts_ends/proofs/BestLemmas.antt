@@ -19,7 +19,7 @@ use Rattle.ts_graph.specs.Ways.{AreAt, TakesFilled, ListsWays}
 use Rattle.ts_graph.proofs.ListLemmas.{same_last}
 use Rattle.ts_table.specs.declared.view.ParseTable.{ParseTable}
 use Rattle.ts_laying.specs.Sound.{bare_link, bare_links}
-use Rattle.ts_reductions.specs.Sound.{parsing_of, IsSoundBy}
+use Rattle.ts_reductions.specs.Sound.{parsing_from, parsing_of, IsSoundOver}
 use Rattle.ts_reductions.proofs.SmallLemmas.{bare_member, filling_tree, filling_extras, extras_turned}
 use Rattle.ts_reductions.proofs.WayLemmas.{trees_append, trees_bare, way_bare, way_cut, map_turned, extras_bare, bare_extras}
 use Rattle.ts_reductions.proofs.GatherLemmas.{at_one}
@@ -30,6 +30,7 @@ use Rattle.ts_ends.specs.Laws.{EndLaws}
 use Rattle.ts_ends.specs.Choosing.{Withstands, KeepsBest, HasForm}
 use Rattle.ts_ends.specs.Ends.{Accepts}
 use Rattle.ts_ends.specs.Best.{CanChoose, AcceptsAmong, IsRootOn, IsBestOn, KeepsRoots, CanTakeRoot, IsRootBy}
+use Rattle.spec_graph.proofs.GroundLemmas.{ground_base}
 use Rattle.ts_ends.proofs.WayLemmas.{Split, split_way, same_below}
 
 -- ---- roots
@@ -57,18 +58,22 @@ root_on t g size h way u r = record {
         ∙ ap (λ (l : List Tree). l ++ r.last.tree ∷ way_trees r.below) (sym (reverse-reverse (way_trees r.above)))
         ∙ ap (λ (l : List Tree). reverse (reverse (way_trees r.above)) ++ r.last.tree ∷ l) (sym (reverse-reverse (way_trees r.below)))
 
-module _ (laws : EndLaws) (t : ParseTable) (text : Bytes) (g : GraphView) (sound : IsSoundBy t text g) where
+module _ (laws : EndLaws) (t : ParseTable) (text : Bytes) (g : GraphView) (sound : IsSoundOver t text g) where
   abbrev P : Parsing
   P = parsing_of t text
+
+  -- over the stack from which runs go on
+  abbrev Q : Parsing
+  Q = parsing_from t text sound.0
 
   abbrev links : List Link
   links = bare_links g.links
 
-  facts : Facts P
-  facts = record { laws = laws.graphs; fit = sound.laid.parsed.fit; states = sound.laid.parsed.states }
+  facts : Facts Q
+  facts = record { laws = laws.graphs; fit = sound.1.laid.parsed.fit; states = sound.1.laid.parsed.states }
 
-  graph : IsGraph P g.heads links
-  graph = sound.laid.graph
+  graph : IsGraph Q g.heads links
+  graph = sound.1.laid.graph
 
   -- a root at a head that accepts is accepted there
   pub root_accepted : (h : ℕ) (u : Tree) → Accepts P g.heads h → IsRootOn g (length text) h u → (a : GraphAccepts P g.heads links (bare u)) × (a.head ≡ h)
@@ -150,7 +155,7 @@ module _ (laws : EndLaws) (t : ParseTable) (text : Bytes) (g : GraphView) (sound
     low_at : (read : List ℕ) × (place : ℕ) × IsAt P g.heads ends.0 read place
     low_at =
         let w = last_link parts.above a.head ends.1 in
-        let k = sound.laid.graph.linked (bare_link parts.root) (bare_member g.links parts.root w.0) in (
+        let k = sound.1.laid.graph.linked (bare_link parts.root) (bare_member g.links parts.root w.0) in (
           k.under,
           k.from,
           subst (λ (n : ℕ). IsAt P g.heads n k.under k.from) w.1 (record { head = k.below.head; is = k.below.is; state = k.below.state; place_is = k.below.place_is }),
@@ -180,7 +185,7 @@ module _ (laws : EndLaws) (t : ParseTable) (text : Bytes) (g : GraphView) (sound
         below_same : map bare (way_trees r.below) ≡ map bare (way_trees parts.below)
         below_same =
             sym (trees_bare r.below)
-            ∙ same_below P facts g.heads links graph (bare_links r.below) (bare_links parts.below) ends.0 low_at.1 low_at.0 low_at.2
+            ∙ same_below Q facts (ground_base Q sound.1.laid.parsed.grounded) g.heads links graph (bare_links r.below) (bare_links parts.below) ends.0 low_at.1 low_at.0 low_at.2
             (way_bare g.links r.below ends.0 0 (subst (λ (b : ℕ). IsWay g.links b r.below 0) low r.under)) (way_bare g.links parts.below ends.0 0 ends.2)
             (subst AreExtras (sym (trees_bare r.below)) (bare_extras laws.graphs.runs.keeps (way_trees r.below) r.below_extras))
             (subst AreExtras (sym (trees_bare parts.below)) (bare_extras laws.graphs.runs.keeps (way_trees parts.below) below_extras))

@@ -20,7 +20,7 @@ use Rattle.ts_table.specs.declared.view.ParseTable.{ParseTable}
 use Rattle.ts_table.specs.Tables.{IsTable, goto_of, actions_of, ActsBy, accepts}
 use Rattle.ts_reductions.specs.declared.top.Top.{Top}
 use Rattle.ts_reductions.specs.Asking.{HasAction}
-use Rattle.ts_reductions.specs.Sound.{parsing_of}
+use Rattle.ts_reductions.specs.Sound.{Base, parsing_of}
 use Rattle.ts_reductions.proofs.AskLemmas.{leads_state}
 use Rattle.ts_shifts.specs.declared.sights.Span.{Span}
 use Rattle.ts_shifts.specs.declared.sights.Sights.{Sights}
@@ -98,7 +98,7 @@ module _ (t : ParseTable) (g : GraphView) where
 
 -- ---- all of them
 
-module _ (t : ParseTable) (table : IsTable t) (text : Bytes) (g : GraphView) (look : ℕ) (s : Sights) (a : AreAllSights t text g look s) where
+module _ (t : ParseTable) (table : IsTable t) (text : Bytes) (base : Base) (g : GraphView) (look : ℕ) (s : Sights) (a : AreAllSights t text base g look s) where
   abbrev P : Parsing
   P = parsing_of t text
 

@@ -39,7 +39,7 @@ nothing_ended t text g from ends none no_place = record {
 
 -- ---- while the graph grows
 
-module _ (t : ParseTable) (text : Bytes) (old new : GraphView) where
+module _ (t : ParseTable) (text : Bytes) (base : Base) (old new : GraphView) where
   abbrev P : Parsing
   P = parsing_of t text
 
@@ -68,14 +68,14 @@ module _ (t : ParseTable) (text : Bytes) (old new : GraphView) where
     still_stops : (look h q : ℕ) → StopsThere t text old look h q → StopsThere t text new look h q
     still_stops look h q s = record { read = s.read; at = move_at h s.read look s.at (keep h s.at.head s.at.is); far = s.far; sees = s.sees; stop_is = s.stop_is }
 
-    module _ (from to : ℕ) (ends : Ends) (later : AreLater t text old new to)
-        (quiet : (h : ℕ) → HasPassed P new h → (look stop : ℕ) → StopsThere t text new look h stop → ⊥)
-        (idle : (h : ℕ) → HasPassed P new h → (read : List ℕ) (place : ℕ) (symbol : Symbol) (pad size : ℕ) → IsAt P new.heads h read place → SeesAt P read place (token symbol pad size) → HasMove t.grammar read symbol.0 → ⊥)
+    module _ (from to : ℕ) (ends : Ends) (later : AreLater t text base old new to)
+        (quiet : (h : ℕ) → HasPassed (parsing_from t text base) new h → (look stop : ℕ) → StopsThere t text new look h stop → ⊥)
+        (idle : (h : ℕ) → HasPassed (parsing_from t text base) new h → (read : List ℕ) (place : ℕ) (symbol : Symbol) (pad size : ℕ) → IsAt P new.heads h read place → SeesAt P read place (token symbol pad size) → HasMove t.grammar read symbol.0 → ⊥)
         (e : AreEnds t text old from to ends) where
       accepts_still : (h : ℕ) (a : Accepts P new.heads h) → from ≤ a.place → a.place < to → Contains ends.accepting.items h
       accepts_still h a ge lt = by (later h a.at.head a.at.is)
         where
-          by : (slice_get old.heads h ≡ Some a.at.head) ⊎ ((to ≤ a.at.head.place) ⊎ HasPassed P new h) → Contains ends.accepting.items h
+          by : (slice_get old.heads h ≡ Some a.at.head) ⊎ ((to ≤ a.at.head.place) ⊎ HasPassed (parsing_from t text base) new h) → Contains ends.accepting.items h
           by (inl is) =
               e.all h (record {
                 read = a.read;
@@ -93,7 +93,7 @@ module _ (t : ParseTable) (text : Bytes) (old new : GraphView) where
       stops_still : (h look q : ℕ) → StopsThere t text new look h q → from ≤ look → look < to → IsPastStuck ends.stuck q
       stops_still h look q s ge lt = by (later h s.at.head s.at.is)
         where
-          by : (slice_get old.heads h ≡ Some s.at.head) ⊎ ((to ≤ s.at.head.place) ⊎ HasPassed P new h) → IsPastStuck ends.stuck q
+          by : (slice_get old.heads h ≡ Some s.at.head) ⊎ ((to ≤ s.at.head.place) ⊎ HasPassed (parsing_from t text base) new h) → IsPastStuck ends.stuck q
           by (inl is) = e.last h look q (record { read = s.read; at = back_at h s.read look s.at is; far = s.far; sees = s.sees; stop_is = s.stop_is }) ge lt
           by (inr (inl le)) = absurd (let p = s.at.place_is in omega (arith, le, p, lt))
           by (inr (inr passed)) = absurd (quiet h passed look q s)

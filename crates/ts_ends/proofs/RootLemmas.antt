@@ -28,16 +28,19 @@ use Rattle.ts_steps.proofs.NodeLemmas.{own_forms}
 use Rattle.ts_table.specs.declared.view.ParseTable.{ParseTable}
 use Rattle.ts_laying.specs.Sound.{bare_link, bare_links, IsSoundFor}
 use Rattle.ts_reductions.specs.Good.{AreGoodTrees}
-use Rattle.ts_reductions.specs.Sound.{parsing_of, IsSoundBy}
+use Rattle.ts_reductions.specs.Sound.{parsing_from, IsSoundOver}
 use Rattle.ts_reductions.proofs.SmallLemmas.{contained_at, bare_member, member_bare, all_spans-append, spans_turned, good_turned, extras_turned, filling_append, place_is_at}
 use Rattle.ts_reductions.proofs.WayLemmas.{trees_append, trees_bare, way_bare, way_join, bare_filling, way_good, way_spans, way_reach}
 use Rattle.ts_reductions.proofs.GatherLemmas.{at_long, at_take, cut_outer}
 use Rattle.ts_reductions.proofs.CallLemmas.{way_low}
 use Rattle.ts_shifts.proofs.SmallLemmas.{at_contained, read_at}
 use Rattle.ts_ends.specs.Laws.{EndLaws}
+use Rattle.ts_ends.specs.Ends.{Accepts}
 use Rattle.ts_ends.specs.Best.{CanTakeRoot, IsRootBy}
 use Rattle.ts_ends.proofs.ListLemmas.{none_fill, OneFills, one_fills, all_extra, back_again, Ended, ended, good_left, good_right, all_settled, all_in_form, few_nodes, all_few, flat_extras}
-use Rattle.ts_ends.proofs.WayLemmas.{start_made, accepting_way}
+use Rattle.spec_graph.proofs.LayLemmas.{IsBase, lays_ruled}
+use Rattle.spec_graph.proofs.GroundLemmas.{ground_base}
+use Rattle.ts_ends.proofs.WayLemmas.{accepting_way}
 
 -- ---- down to the empty stack
 
@@ -87,10 +90,10 @@ module _ (links : List Link) (heads : List Head) (once : HoldsEachOnce heads lin
         }
 
 -- where no link leads down stands the empty stack
-pub down_ends : (t : ParseTable) (text : Bytes) (g : GraphView) → IsSoundBy t text g → (at : ℕ) → at < length g.heads → links_from g.links at None ≡ links_down g.links at → at ≡ 0
+pub down_ends : (t : ParseTable) (text : Bytes) (g : GraphView) → IsSoundOver t text g → (at : ℕ) → at < length g.heads → links_from g.links at None ≡ links_down g.links at → at ≡ 0
 down_ends t text g sound at low none =
     let r = read_at g.heads at low in
-    let d = sound.laid.graph.down at r.0 r.1 in
+    let d = sound.1.laid.graph.down at r.0 r.1 in
     by d.0 d.1
   where
     by : (way : List Link) → IsWay (bare_links g.links) at way 0 → at ≡ 0
@@ -123,16 +126,24 @@ no_elements false (e ∷ es) k h = absurd (true≢false (sym h))
 
 module _ (laws : EndLaws) (t : ParseTable) (text : Bytes) (g : GraphView) (size h : ℕ) (way : Way) (can : CanTakeRoot t text g size h way) where
   abbrev P : Parsing
-  P = parsing_of t text
+  P = parsing_from t text can.sound.0
 
   abbrev links : List Link
   links = bare_links g.links
 
   laid : IsSoundFor P g
-  laid = can.sound.laid
+  laid = can.sound.1.laid
 
   facts : Facts P
   facts = record { laws = laws.graphs; fit = laid.parsed.fit; states = laid.parsed.states }
+
+  base : IsBase P
+  base = ground_base P laid.parsed.grounded
+
+  accepts_here : Accepts P g.heads h
+  accepts_here =
+      let a = can.accepts in
+      record { read = a.read; place = a.place; at = a.at; symbol = a.symbol; pad = a.pad; size = a.size; sees = a.sees; stays = a.stays }
 
   graph : IsGraph P g.heads links
   graph = laid.graph
@@ -193,7 +204,7 @@ module _ (laws : EndLaws) (t : ParseTable) (text : Bytes) (g : GraphView) (size 
     all_filled : filling (way_trees whole) ≡ start_symbol t.grammar ∷ []
     all_filled =
         sym (bare_filling laws.graphs.runs.keeps (way_trees whole)) ∙ ap filling (sym (trees_bare whole))
-        ∙ accepting_way P facts g.heads links graph (bare_links whole) h can.accepts (way_bare g.links whole h 0 whole_is)
+        ∙ accepting_way P facts base g.heads links graph (bare_links whole) h accepts_here (way_bare g.links whole h 0 whole_is)
 
     parts_filled : filling (way_trees can.taken) ++ filling (way_trees low) ≡ start_symbol t.grammar ∷ []
     parts_filled = sym (filling_append (way_trees can.taken) (way_trees low)) ∙ ap filling (sym (trees_append can.taken low)) ∙ all_filled
@@ -246,7 +257,7 @@ module _ (laws : EndLaws) (t : ParseTable) (text : Bytes) (g : GraphView) (size 
     in_order = ap (λ (l : List Tree). reverse l) trees_whole ∙ back_again before after two.last.tree
 
     good : AreGoodTrees t.grammar (before ++ two.last.tree ∷ after)
-    good = subst (λ (l : List Tree). AreGoodTrees t.grammar l) in_order (good_turned t.grammar (way_trees whole) (way_good t g.links can.sound.good whole h 0 whole_is))
+    good = subst (λ (l : List Tree). AreGoodTrees t.grammar l) in_order (good_turned t.grammar (way_trees whole) (way_good t g.links can.sound.1.good whole h 0 whole_is))
 
     good_before : AreGoodTrees t.grammar before
     good_before = good_left t.grammar before (two.last.tree ∷ after) good
@@ -284,7 +295,7 @@ module _ (laws : EndLaws) (t : ParseTable) (text : Bytes) (g : GraphView) (size 
     pub rule : IsTrue (is_some (production_of two.last.tree))
     rule =
         let k = laid.graph.linked (bare_link two.last) (bare_member g.links two.last root_there) in
-        let bared = start_made P facts laws k.under k.from (bare two.last.tree ∷ []) k.to k.over k.lays (bare two.last.tree) refl ((laws.graphs.runs.keeps two.last.tree).extra ∙ fills) keeps_root in
+        let bared = (lays_ruled P facts base k.under k.from (bare two.last.tree ∷ []) k.to k.over k.lays).0 ((laws.graphs.runs.keeps two.last.tree).extra ∙ fills) keeps_root in
         subst (λ (o : Option ℕ). IsTrue (is_some o)) (laws.graphs.runs.keeps two.last.tree).production bared
 
     plain : length (elements_of two.last.tree) ≡ 0

@@ -16,7 +16,7 @@ use Rattle.ts_graph.specs.declared.ways.Way.{Way}
 use Rattle.ts_graph.specs.Ways.{AreAt, TakesFilled}
 use Rattle.ts_table.specs.declared.view.ParseTable.{ParseTable}
 use Rattle.ts_laying.specs.Sound.{bare_links}
-use Rattle.ts_reductions.specs.Sound.{parsing_of, IsSoundBy}
+use Rattle.ts_reductions.specs.Sound.{parsing_of, IsSoundOver}
 use Rattle.ts_steps.specs.Accepting.{IsWholeRoot}
 use Rattle.ts_ends.specs.Choosing.{Withstands, HasForm}
 use Rattle.ts_ends.specs.Ends.{Accepts}
@@ -26,7 +26,7 @@ use Rattle.ts_ends.specs.Ends.{Accepts}
 -- a sound graph, the size of the text, and heads that accept
 pub record CanChoose (t : ParseTable) (text : Bytes) (g : GraphView) (size : ℕ) (heads : List ℕ)
     : Type 0 where
-  pub sound : IsSoundBy t text g
+  pub sound : IsSoundOver t text g
   pub size_is : size ≡ length text
   pub each : (h : ℕ) → Contains heads h → Accepts (parsing_of t text) g.heads h
 
@@ -66,7 +66,7 @@ pub record KeepsRoots (t : ParseTable) (text : Bytes) (g : GraphView) (heads : L
 -- a head that accepts, and a way from it as far as the root
 pub record CanTakeRoot (t : ParseTable) (text : Bytes) (g : GraphView) (size h : ℕ) (way : Way)
     : Type 0 where
-  pub sound : IsSoundBy t text g
+  pub sound : IsSoundOver t text g
   pub size_is : size ≡ length text
   pub accepts : Accepts (parsing_of t text) g.heads h
   pub taken : List Link

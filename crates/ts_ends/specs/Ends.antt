@@ -11,7 +11,7 @@ use Rattle.spec_graph.specs.Links.{IsAt}
 use Rattle.ts_graph.specs.declared.view.GraphView.{GraphView}
 use Rattle.ts_table.specs.declared.view.ParseTable.{ParseTable}
 use Rattle.ts_laying.specs.Laying.{HasPassed}
-use Rattle.ts_reductions.specs.Sound.{parsing_of}
+use Rattle.ts_reductions.specs.Sound.{Base, parsing_from, parsing_of}
 use Rattle.ts_shifts.specs.Looking.{StopsThere}
 use Rattle.ts_ends.specs.declared.ends.Ends.{Ends}
 use Rattle.ts_ends.specs.Choosing.{IsPastStuck}
@@ -41,7 +41,7 @@ pub record AreEnds (t : ParseTable) (text : Bytes) (g : GraphView) (from to : �
       → IsPastStuck ends.stuck q
 
 -- Each head was there, or stands no earlier than the place, or an extra is passed there.
-abbrev pub AreLater : ParseTable → Bytes → GraphView → GraphView → ℕ → Type 0
-AreLater t text old new to = (h : ℕ) (head : Head) → slice_get new.heads h ≡ Some head
+abbrev pub AreLater : ParseTable → Bytes → Base → GraphView → GraphView → ℕ → Type 0
+AreLater t text base old new to = (h : ℕ) (head : Head) → slice_get new.heads h ≡ Some head
     → (slice_get old.heads h ≡ Some head)
-    ⊎ ((to ≤ head.place) ⊎ HasPassed (parsing_of t text) new h)
+    ⊎ ((to ≤ head.place) ⊎ HasPassed (parsing_from t text base) new h)

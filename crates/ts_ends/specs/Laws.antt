@@ -1,10 +1,9 @@
 -- The laws of other crates that the proofs here rest on.
-use Rattle.std.specs.Prelude.{◌≡◌, ℕ, false, All, List, length, map, Option, Some}
+use Rattle.std.specs.Prelude.{◌≡◌, ℕ, All, List, length, map}
 use Rattle.ts_core.specs.declared.flat.FlatGrammar.{FlatGrammar}
-use Rattle.spec_grammar.specs.Symbols.{is_repetition}
 use Rattle.spec_trees.specs.declared.tree.Tree.{Tree}
-use Rattle.spec_trees.specs.Trees.{elements_of, production_of, bare}
-use Rattle.spec_trees.specs.Made.{IsNode, accepted, left_of, reduced}
+use Rattle.spec_trees.specs.Trees.{elements_of, bare}
+use Rattle.spec_trees.specs.Made.{IsNode, accepted}
 use Rattle.spec_trees.specs.Choice.{IsInForm}
 use Rattle.spec_graph.specs.Laws.{GraphLaws}
 use Rattle.ts_node.specs.Standing.{IsAcceptable}
@@ -17,9 +16,6 @@ pub record EndLaws : Type 0 where
       ≡ bare (accepted (bare root) (map bare before) (map bare after) 0)
   pub node : (root : Tree) (before after : List Tree) (extent : ℕ)
       → IsAcceptable root before after extent → IsNode (accepted root before after extent)
-  pub production : (g : FlatGrammar) (number extent : ℕ) (state : Option ℕ)
-      (children : List Tree) → is_repetition g (left_of g number) ≡ false
-      → production_of (reduced g number extent state children) ≡ Some number
   pub form : (g : FlatGrammar) (root : Tree) (before after : List Tree) (extent : ℕ)
       → length (elements_of root) ≡ 0
       → IsInForm g root → All (IsInForm g) before → All (IsInForm g) after

@@ -5,6 +5,7 @@ ghost use Rattle.std.specs.List.{Contains};
 ghost use Rattle.ts_base.specs.Bytes.{Bytes};
 ghost use Rattle.ts_core.specs.declared.action.Action.TheVariants.{Accept};
 ghost use Rattle.ts_reductions.specs.Asking.{HasAction};
+ghost use Rattle.ts_reductions.specs.Sound.{Base as AnyBase};
 ghost use Rattle.ts_shifts.specs.Shifting.{AreAllSights};
 ghost use Rattle.ts_ends.specs.Choosing.{IsPastStuck};
 ghost use Rattle.ts_ends.specs.Ends.{AreEnds};
@@ -86,10 +87,10 @@ pub fn see_ends(
     sights: &Sights,
     ends: &mut Ends,
 ) -> Result<(), AllocError>
-    requires { (text : Bytes) × (look : ℕ)
-        × AreAllSights table.now text graph.now look sights.now }
-    ensures { OnOk result ((text : Bytes) (from look : ℕ)
-        → AreAllSights table.now text graph.now look sights.now → from ≤ look
+    requires { (text : Bytes) × (base : AnyBase) × (look : ℕ)
+        × AreAllSights table.now text base graph.now look sights.now }
+    ensures { OnOk result ((text : Bytes) (base : AnyBase) (from look : ℕ)
+        → AreAllSights table.now text base graph.now look sights.now → from ≤ look
         → AreEnds table.now text graph.now from look ends.old
         → AreEnds table.now text graph.now from (suc look) ends.new) }
 {

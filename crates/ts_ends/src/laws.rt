@@ -25,7 +25,7 @@ use spec_runs::{
     bare_trees, empty_rules_are_unused, moves_have_their_place, repetitions_repeat,
     start_is_no_repetition,
 };
-use ts_node::{accepted_is_node, made_nodes_are_in_form, reduced_by_a_rule};
+use ts_node::{accepted_is_node, made_nodes_are_in_form};
 use ts_shifts::passed_heads_go_on;
 
 /// The laws of graphs, and of accepted roots, hold.
@@ -44,7 +44,6 @@ pub(crate) fn end_laws_hold()
     some_move_stays();
     accepted_is_node();
     made_nodes_are_in_form();
-    reduced_by_a_rule();
 }
 
 /// Bare trees keep all that counts.
@@ -65,8 +64,9 @@ pub fn ends_begin()
 /// place on up to a later one, nothing ends there.
 pub fn ends_stay()
     ensures grows { (t : ParseTable) (text : Bytes) (old new : GraphView) (from to : ℕ)
-        (ends : AnyEnds) → IsSoundBy t text new → KeepNumbers old.heads new.heads
-        → AreLater t text old new to → AreEnds t text old from to ends
+        (ends : AnyEnds) (base : AnyBase) → IsSoundBy t text base new
+        → KeepNumbers old.heads new.heads → AreLater t text base old new to
+        → AreEnds t text old from to ends
         → AreEnds t text new from to ends }
     ensures passes { (t : ParseTable) (text : Bytes) (g : GraphView) (from to next : ℕ)
         (ends : AnyEnds)

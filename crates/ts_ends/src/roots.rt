@@ -7,7 +7,7 @@ ghost use Rattle.spec_graph.specs.declared.graph.Link.{Link as AnyLink};
 ghost use Rattle.spec_graph.specs.Links.{IsWay, way_trees};
 ghost use Rattle.ts_graph.specs.Ways.{AreAt};
 ghost use Rattle.ts_table.specs.declared.view.ParseTable.{ParseTable};
-ghost use Rattle.ts_reductions.specs.Sound.{IsSoundBy};
+ghost use Rattle.ts_reductions.specs.Sound.{IsSoundOver};
 ghost use Rattle.ts_ends.specs.Best.{CanTakeRoot, IsRootBy};
 
 use crate::laws::end_laws_hold;
@@ -32,7 +32,7 @@ fn trees_up(alloc: Global, graph: &Graph, numbers: &[usize]) -> Result<Vec<Node>
 /// The links of some way from a head down to the empty stack, the topmost first.
 fn way_down(alloc: Global, graph: &Graph, head: usize) -> Result<Vec<usize>, AllocError>
     requires there { head < length graph.now.heads }
-    requires sound { (t : ParseTable) × (text : Bytes) × IsSoundBy t text graph.now }
+    requires sound { (t : ParseTable) × (text : Bytes) × IsSoundOver t text graph.now }
     ensures { IfOk result (λ numbers. (way : List AnyLink)
         × AreAt graph.now.links numbers.items way × IsWay graph.now.links head way 0) }
 {

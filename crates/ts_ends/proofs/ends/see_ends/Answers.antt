@@ -17,7 +17,7 @@ accepts-requires c =
     let x = get_or tops c.loop-top.top-index no_top in
     let low = c.loop-top-test.true in
     record {
-      there = top_low c.args.table.now c.stands.ensures r.0 c.args.graph.now r.1 c.args.sights.now r.2 x
+      there = top_low c.args.table.now c.stands.ensures r.0 r.1 c.args.graph.now r.2 c.args.sights.now r.3 x
           (subst (λ (l : List Top). Contains l x) c.as_slice-top-items.ensures.value (item_in tops c.loop-top.top-index x low (read_any tops c.loop-top.top-index no_top x low)));
     }
 
@@ -38,8 +38,8 @@ loop-top-preserved c =
     (c.accepts.ensures.0 c.if-not-accepts.false) _ c.in_ok-push.ensures.items refl
 
 pub returns : goal.returns
-returns c = λ text from look all early before.
+returns c = λ text base from look all early before.
     let tops = c.as_slice-top-items.result.now in
     let many = c.loop-top-test.false in
     let up = subst (λ (l : List Top). SeesUpTo c.args.table.now c.args.graph.now l c.args.ends.now c.loop-top.ends) (take_all c.loop-top.top-index tops (omega arith) ∙ c.as_slice-top-items.ensures.value) c.loop-top.invariant in
-    ends_more c.args.table.now c.stands.ensures text c.args.graph.now look c.args.sights.now all c.args.ends.now c.loop-top.ends _ up refl c.see_stop.ensures.mine c.see_stop.ensures.others c.see_stop.ensures.from from early before
+    ends_more c.args.table.now c.stands.ensures text base c.args.graph.now look c.args.sights.now all c.args.ends.now c.loop-top.ends _ up refl c.see_stop.ensures.mine c.see_stop.ensures.others c.see_stop.ensures.from from early before

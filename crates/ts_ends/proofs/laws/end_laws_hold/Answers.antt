@@ -23,6 +23,5 @@ returns c = record {
   };
   bared = c.bare_trees.ensures.accepted;
   node = c.accepted_is_node.ensures;
-  production = c.reduced_by_a_rule.ensures.production;
   form = c.made_nodes_are_in_form.ensures.accepted;
 }
