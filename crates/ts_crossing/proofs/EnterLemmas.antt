@@ -11,7 +11,8 @@ use Rattle.spec_graph.specs.declared.graph.Head.{Head}
 use Rattle.spec_graph.specs.declared.graph.Link.{Link}
 use Rattle.spec_graph.specs.States.{at_first}
 use Rattle.spec_graph.specs.Laying.{Parsing}
-use Rattle.spec_graph.specs.Links.{IsAt, HasStood}
+use Rattle.spec_graph.specs.Grounded.{IsGrounded}
+use Rattle.spec_graph.specs.Links.{HasStood}
 use Rattle.ts_table.specs.declared.view.ParseTable.{ParseTable}
 use Rattle.ts_table.specs.Tables.{IsTable}
 use Rattle.ts_table.specs.Ranks.{unit_rank}
@@ -21,15 +22,13 @@ use Rattle.ts_graph.specs.declared.view.GraphView.{GraphView}
 use Rattle.ts_graph.specs.Cells.{graph_of}
 use Rattle.ts_laying.specs.Sound.{bare_links, IsSoundFor}
 use Rattle.ts_laying.specs.Laying.{head_at}
-use Rattle.ts_reductions.specs.Sound.{parsing_of}
 use Rattle.ts_steps.specs.declared.head.StackHead.{StackHead}
-use Rattle.ts_steps.specs.LiveHeads.{config_of}
 use Rattle.ts_crossing.specs.Laws.{EnterLaws}
-use Rattle.ts_crossing.specs.Parsing.{parsing_from}
+use Rattle.ts_reductions.specs.Sound.{Base, base_at, parsing_from}
 use Rattle.ts_crossing.specs.Entering.{CanEnter, IsEntered, IsUnder, AreDownTo, LaidTo, CanLayTop, CanLayStacks}
 use Rattle.ts_crossing.proofs.MemberLemmas.{none_contained, member_bare}
 use Rattle.ts_crossing.proofs.TableLemmas.{table_states}
-use Rattle.ts_crossing.proofs.StandLemmas.{stands_down, begun, enter_stands, place_is, bare_low}
+use Rattle.ts_crossing.proofs.StandLemmas.{stands_down, begun, enter_stands, grounded, place_is, bare_low}
 use Rattle.ts_crossing.proofs.WalkLemmas.{LastDown, last_down}
 
 -- ---- the empty stack
@@ -42,10 +41,10 @@ opened_heads old new is added =
 pub opened_links : (old new : GraphView) → old ≡ graph_of [] [] → new.links ≡ old.links → new.links ≡ []
 opened_links old new is links = links ∙ ap (λ (g : GraphView). g.links) is
 
-module _ (laws : EnterLaws) (t : ParseTable) (text : Bytes) (table : IsTable t) (short : length text ≤ most_span) (g : GraphView) (bottom : ℕ)
+module _ (laws : EnterLaws) (t : ParseTable) (text : Bytes) (base : Base) (ground : IsGrounded (parsing_from t text base)) (table : IsTable t) (short : length text ≤ most_span) (g : GraphView) (bottom : ℕ)
     (heads_are : g.heads ≡ head_at 0 0 ∷ []) (links_are : g.links ≡ []) (at : slice_get g.heads bottom ≡ Some (head_at 0 0)) where
   abbrev P : Parsing
-  P = parsing_of t text
+  P = parsing_from t text base
 
   no_link : (l : Link) → Contains g.links l → ⊥
   no_link l there = none_contained l (subst (λ (ls : List Link). Contains ls l) links_are there)
@@ -74,7 +73,7 @@ module _ (laws : EnterLaws) (t : ParseTable) (text : Bytes) (table : IsTable t) 
 
   sound_first : IsSoundFor P g
   sound_first = record {
-    parsed = record { fit = table.fit; states = table_states laws t table; short = short };
+    parsed = record { fit = table.fit; states = table_states laws t table; grounded = ground; short = short };
     graph = record {
       start = record { head = head_at 0 0; is = first_is; state = at_first; place_is = refl };
       linked = λ l there. absurd (no_bare l there);
@@ -84,7 +83,7 @@ module _ (laws : EnterLaws) (t : ParseTable) (text : Bytes) (table : IsTable t) 
     within = λ h head is. let z = at_zero h head is in omega (arith, z);
   }
 
-  pub first_laid : LaidTo t text [] g bottom
+  pub first_laid : LaidTo t text base [] g bottom
   first_laid = record {
     sound = sound_first;
     good = λ l there. absurd (no_link l there);
@@ -101,71 +100,73 @@ take_next (x ∷ ks) zero k e = let h : Some x ≡ Some k = e in let same : x �
 take_next (x ∷ ks) (suc i) k e = ap (λ (l : List ℕ). x ∷ l) (take_next ks i k e)
 
 -- what is laid so far
-pub record LaidSoFar (t : ParseTable) (text : Bytes) (stacks : List (List Layer)) (layers : List Layer) (numbers : List ℕ) (left : ℕ) (g : GraphView) (top : ℕ) : Type 0 where
+pub record LaidSoFar (t : ParseTable) (text : Bytes) (base : Base) (stacks : List (List Layer)) (layers : List Layer) (numbers : List ℕ) (left : ℕ) (g : GraphView) (top : ℕ) : Type 0 where
   pub rest : List Layer
   pub down : AreDownTo stacks layers (take left numbers) rest
-  pub laid : LaidTo t text rest g top
+  pub laid : LaidTo t text base rest g top
 
-pub so_far_first : (t : ParseTable) (text : Bytes) (stacks : List (List Layer)) (layers : List Layer) (numbers : List ℕ) (left : ℕ) (g : GraphView) (bottom : ℕ) → CanLayStacks t text stacks layers numbers g bottom → length numbers ≤ left → LaidSoFar t text stacks layers numbers left g bottom
-so_far_first t text stacks layers numbers left g bottom can le = record {
+pub so_far_first : (t : ParseTable) (text : Bytes) (base : Base) (stacks : List (List Layer)) (layers : List Layer) (numbers : List ℕ) (left : ℕ) (g : GraphView) (bottom : ℕ) → CanLayStacks t text base stacks layers numbers g bottom → length numbers ≤ left → LaidSoFar t text base stacks layers numbers left g bottom
+so_far_first t text base stacks layers numbers left g bottom can le = record {
   rest = [];
   down = subst (λ (ks : List ℕ). AreDownTo stacks layers ks []) (sym (take_all left numbers le)) can.down;
   laid = can.laid;
 }
 
-module _ (t : ParseTable) (text : Bytes) (stacks : List (List Layer)) (layers : List Layer) (numbers : List ℕ) (left next k : ℕ) (g : GraphView) (top : ℕ) (first : GraphView) (bottom : ℕ)
-    (can : CanLayStacks t text stacks layers numbers first bottom) (so : LaidSoFar t text stacks layers numbers left g top) (left_is : left ≡ suc next) (k_is : slice_get numbers next ≡ Some k) where
+module _ (t : ParseTable) (text : Bytes) (base : Base) (stacks : List (List Layer)) (layers : List Layer) (numbers : List ℕ) (left next k : ℕ) (g : GraphView) (top : ℕ) (first : GraphView) (bottom : ℕ)
+    (can : CanLayStacks t text base stacks layers numbers first bottom) (so : LaidSoFar t text base stacks layers numbers left g top) (left_is : left ≡ suc next) (k_is : slice_get numbers next ≡ Some k) where
   last : LastDown stacks layers (take next numbers) k so.rest
   last = last_down stacks layers (take next numbers) k so.rest
       (subst (λ (ks : List ℕ). AreDownTo stacks layers ks so.rest) (ap (λ (n : ℕ). take n numbers) left_is ∙ take_next numbers next k k_is) so.down)
 
-  pub next_can : CanLayTop t text stacks k g top
+  pub next_can : CanLayTop t text base stacks k g top
   next_can = record {
     there = last.there;
     some = last.some;
-    stands = stands_down t text stacks layers (take next numbers) (stack_at stacks k) can.stands last.down;
-    laid = subst (λ (ls : List Layer). LaidTo t text ls g top) (sym last.rest_is) so.laid;
+    stands = stands_down t text base stacks layers (take next numbers) (stack_at stacks k) can.stands last.down;
+    laid = subst (λ (ls : List Layer). LaidTo t text base ls g top) (sym last.rest_is) so.laid;
   }
 
-  pub next_laid : (new : GraphView) (above : ℕ) → LaidTo t text (stack_at stacks k) new above → LaidSoFar t text stacks layers numbers next new above
+  pub next_laid : (new : GraphView) (above : ℕ) → LaidTo t text base (stack_at stacks k) new above → LaidSoFar t text base stacks layers numbers next new above
   next_laid new above laid = record { rest = stack_at stacks k; down = last.down; laid = laid }
 
-pub so_far_last : (t : ParseTable) (text : Bytes) (stacks : List (List Layer)) (layers : List Layer) (numbers : List ℕ) (left : ℕ) (g : GraphView) (top : ℕ) → LaidSoFar t text stacks layers numbers left g top → left ≡ 0 → (above : ℕ) × LaidTo t text layers g above
-so_far_last t text stacks layers numbers left g top so z =
+pub so_far_last : (t : ParseTable) (text : Bytes) (base : Base) (stacks : List (List Layer)) (layers : List Layer) (numbers : List ℕ) (left : ℕ) (g : GraphView) (top : ℕ) → LaidSoFar t text base stacks layers numbers left g top → left ≡ 0 → (above : ℕ) × LaidTo t text base layers g above
+so_far_last t text base stacks layers numbers left g top so z =
     let none : layers ≡ so.rest = subst (λ (n : ℕ). AreDownTo stacks layers (take n numbers) so.rest) z so.down in
-    (top, subst (λ (ls : List Layer). LaidTo t text ls g top) (sym none) so.laid)
+    (top, subst (λ (ls : List Layer). LaidTo t text base ls g top) (sym none) so.laid)
 
 -- ---- the whole stack
 
 module _ (laws : EnterLaws) (t : ParseTable) (text : Bytes) (stacks : List (List Layer)) (h : StackHead) (can : CanEnter t text stacks h) (under : StackHead) (is : IsUnder stacks h under) where
-  pub can_stacks : (numbers : List ℕ) (g : GraphView) (bottom : ℕ) → AreDownTo stacks (stack_at stacks under.top) numbers [] → LaidTo t text [] g bottom → CanLayStacks t text stacks (stack_at stacks under.top) numbers g bottom
+  abbrev stack : List Tree
+  stack = bare_low laws t text stacks h can under is
+
+  abbrev pub entry : Base
+  entry = base_at stack under.place
+
+  pub can_stacks : (numbers : List ℕ) (g : GraphView) (bottom : ℕ) → AreDownTo stacks (stack_at stacks under.top) numbers [] → LaidTo t text entry [] g bottom → CanLayStacks t text entry stacks (stack_at stacks under.top) numbers g bottom
   can_stacks numbers g bottom down laid = record { stands = enter_stands laws t text stacks h can under is; down = down; laid = laid }
 
-  module _ (g : GraphView) (laid : (top : ℕ) × LaidTo t text (stack_at stacks under.top) g top) where
+  pub entry_ground : IsGrounded (parsing_from t text entry)
+  entry_ground = grounded laws t text stacks h can under is
+
+  module _ (g : GraphView) (laid : (top : ℕ) × LaidTo t text entry (stack_at stacks under.top) g top) where
     abbrev low : List Layer
     low = stack_at stacks under.top
-
-    abbrev base : List Tree
-    base = bare_low laws t text stacks h can under is
 
     place_eq : under.place ≡ all_spans (trees_on low)
     place_eq = place_is laws t text stacks h can under is
 
-    start : IsAt (parsing_from t text base under.place) g.heads 0 [] 0
-    start = let a = laid.1.sound.graph.start in record { head = a.head; is = a.is; state = a.state; place_is = a.place_is }
-
-    stood : HasStood (parsing_from t text base under.place) g.heads (bare_links g.links)
-    stood = subst (λ (n : ℕ). HasStood (parsing_from t text base n) g.heads (bare_links g.links)) (sym place_eq) laid.1.stood
+    stood : HasStood (parsing_from t text entry) g.heads (bare_links g.links)
+    stood = subst (λ (n : ℕ). HasStood (parsing_from t text (base_at stack n)) g.heads (bare_links g.links)) (sym place_eq) laid.1.stood
 
     pub entered : IsEntered t text stacks h g under.place
     entered = record {
-      base = base;
+      stack = stack;
       begun = begun laws t text stacks h can under is;
       sound = record { laid = laid.1.sound; good = laid.1.good };
       stood = stood;
       whole = λ most ranked.
-          laws.begins (parsing_from t text base under.place) can.table.fit (table_states laws t can.table) (config_of stacks h) can.reached (begun laws t text stacks h can under is)
-          (unit_rank t.grammar) most ranked g.heads (bare_links g.links) start stood;
+          laws.begins (parsing_from t text entry) can.table.fit (table_states laws t can.table) entry_ground (unit_rank t.grammar) most ranked g.heads (bare_links g.links) laid.1.sound.graph.start stood;
       low = λ k head at. let w = laid.1.low k head at in omega (arith, w, place_eq);
       top = (laid.0, state_on low, subst (λ (n : ℕ). slice_get g.heads laid.0 ≡ Some (head_at (state_on low) n)) (sym place_eq) laid.1.at);
     }

@@ -11,7 +11,7 @@ use Rattle.spec_trees.specs.Made.{EndBy, filling}
 use Rattle.spec_graph.specs.declared.graph.Head.{Head}
 use Rattle.spec_graph.specs.declared.graph.Link.{Link}
 use Rattle.spec_graph.specs.States.{LeadsTo, at_first, by_goto, ShareState}
-use Rattle.spec_graph.specs.Laying.{Parsing, Lays}
+use Rattle.spec_graph.specs.Laying.{Parsing, Lays, flat, stood}
 use Rattle.spec_graph.specs.Links.{IsAt, HasLink}
 use Rattle.ts_table.specs.declared.view.ParseTable.{ParseTable}
 use Rattle.ts_table.specs.Tables.{goto_of}
@@ -22,11 +22,10 @@ use Rattle.ts_graph.specs.Down.{HoldsEachOnce, place_at}
 use Rattle.ts_laying.specs.Sound.{bare_links}
 use Rattle.ts_laying.specs.Laying.{head_at, CanLayOn, IsLaid}
 use Rattle.ts_reductions.specs.Good.{IsGoodTree}
-use Rattle.ts_reductions.specs.Sound.{parsing_of}
 use Rattle.ts_steps.specs.Good.{IsGoodTree as IsGoodOnStack}
 use Rattle.ts_steps.specs.LiveHeads.{HaveStates}
 use Rattle.ts_crossing.specs.Laws.{EnterLaws}
-use Rattle.ts_crossing.specs.Parsing.{parsing_from}
+use Rattle.ts_reductions.specs.Sound.{Base, base_at, parsing_from}
 use Rattle.ts_crossing.specs.Entering.{Stands, LaidTo, CanLayTop}
 use Rattle.ts_crossing.proofs.BareLemmas.{filling_append, filling_tree, filling_bare, span_bare, spans_bare, spans_append}
 use Rattle.ts_crossing.proofs.TableLemmas.{state_leads, lead_once, lead_from}
@@ -74,9 +73,9 @@ lead_tree t u read other n share leads = by (is_extra_node u) refl
         subst (λ (r : List ℕ). LeadsTo (goto_of t) (r ++ other) n) (sym one)
         (by_goto other share.0 (symbol_of u) n share.2 (lead_from (goto_of t) read (symbol_of u) n share.0 share.1 here))
 
-module _ (laws : EnterLaws) (t : ParseTable) (text : Bytes) (l : Layer) (lower : List Layer) (stands : Stands t text (l ∷ lower)) (g : GraphView) (top : ℕ) (laid : LaidTo t text lower g top) where
+module _ (laws : EnterLaws) (t : ParseTable) (text : Bytes) (base : Base) (l : Layer) (lower : List Layer) (stands : Stands t text base (l ∷ lower)) (g : GraphView) (top : ℕ) (laid : LaidTo t text base lower g top) where
   abbrev P : Parsing
-  P = parsing_of t text
+  P = parsing_from t text base
 
   abbrev under : List Tree
   under = map bare (trees_on lower)
@@ -104,9 +103,8 @@ module _ (laws : EnterLaws) (t : ParseTable) (text : Bytes) (l : Layer) (lower :
 
   lays_up : Lays P (filling under) from (u ∷ []) (from + span_of l.tree) (filling (u ∷ []) ++ filling under)
   lays_up =
-      let one = stands.laid [] under u refl in
       subst (λ (n : ℕ). Lays P (filling under) from (u ∷ []) (from + n) (filling (u ∷ []) ++ filling under)) (span_bare laws.keeps l.tree)
-      (subst (λ (m : ℕ). Lays P (filling under) m (u ∷ []) (m + span_of u) (filling (u ∷ []) ++ filling under)) from_is one)
+      (stood (filling under) from [] from (filling under) u stands.low.0 under (flat (filling under) from) stands.low.1 (sym from_is) (state_on lower, leads_low, leads_low))
 
   good : IsGoodTree t.grammar l.tree
   good = graph_tree t.grammar l.tree stands.good.0 stands.bytes.0
@@ -139,7 +137,7 @@ module _ (laws : EnterLaws) (t : ParseTable) (text : Bytes) (l : Layer) (lower :
     end = all_spans (trees_on (l ∷ lower))
 
     abbrev Q : Parsing
-    Q = parsing_from t text (map bare (trees_on (l ∷ lower))) end
+    Q = parsing_from t text (base_at (map bare (trees_on (l ∷ lower))) end)
 
     place_is : place_at g.heads top + span_of l.tree ≡ end
     place_is = let p = place_is_at g.heads top (head_at (state_on lower) from) laid.at in omega (arith, p)
@@ -177,7 +175,7 @@ module _ (laws : EnterLaws) (t : ParseTable) (text : Bytes) (l : Layer) (lower :
         }
 
     -- links that were there stand for what they stood for
-    stood_still : (b : ℕ) (v : Tree) (place : ℕ) (now : List ℕ) → HasLink (parsing_from t text under from) g.heads (bare_links g.links) b v place now → HasLink Q new.heads (bare_links new.links) b v place now
+    stood_still : (b : ℕ) (v : Tree) (place : ℕ) (now : List ℕ) → HasLink (parsing_from t text (base_at under from)) g.heads (bare_links g.links) b v place now → HasLink Q new.heads (bare_links new.links) b v place now
     stood_still b v place now has =
         let n = is.grows.links has.link has.there in
         record {
@@ -233,7 +231,7 @@ module _ (laws : EnterLaws) (t : ParseTable) (text : Bytes) (l : Layer) (lower :
         let e : head.place ≡ end = ap (λ (x : Head). x.place) one in
         omega (arith, e)
 
-    pub layer_laid : LaidTo t text (l ∷ lower) new above
+    pub layer_laid : LaidTo t text base (l ∷ lower) new above
     layer_laid = record {
       sound = is.sound;
       good = new_good;
@@ -244,30 +242,30 @@ module _ (laws : EnterLaws) (t : ParseTable) (text : Bytes) (l : Layer) (lower :
 
 -- ---- the same as the code has it
 
-module _ (laws : EnterLaws) (t : ParseTable) (text : Bytes) (stacks : List (List Layer)) (number : ℕ) (g : GraphView) (top : ℕ) (can : CanLayTop t text stacks number g top)
+module _ (laws : EnterLaws) (t : ParseTable) (text : Bytes) (base : Base) (stacks : List (List Layer)) (number : ℕ) (g : GraphView) (top : ℕ) (can : CanLayTop t text base stacks number g top)
     (node : Tree) (depth state : ℕ) (node_is : Some node ≡ tree_on (stack_at stacks number)) (depth_is : depth ≡ tree_depth node) (state_is : state ≡ state_on (stack_at stacks number)) where
-  can_by : (layers : List Layer) → 0 < length layers → Stands t text layers → LaidTo t text (under_top layers) g top → Some node ≡ tree_on layers → state ≡ state_on layers → CanLayOn (parsing_of t text) g top node depth state
+  can_by : (layers : List Layer) → 0 < length layers → Stands t text base layers → LaidTo t text base (under_top layers) g top → Some node ≡ tree_on layers → state ≡ state_on layers → CanLayOn (parsing_from t text base) g top node depth state
   can_by [] lt s laid n st = absurd (omega (arith, lt))
   can_by (l ∷ lower) lt s laid n st =
       let same : node ≡ l.tree = cc in
       let deep : depth ≡ tree_depth l.tree = depth_is ∙ ap tree_depth same in
-      subst (λ (x : Tree). CanLayOn (parsing_of t text) g top x depth state) (sym same)
-      (subst (λ (d : ℕ). CanLayOn (parsing_of t text) g top l.tree d state) (sym deep)
-      (subst (λ (q : ℕ). CanLayOn (parsing_of t text) g top l.tree (tree_depth l.tree) q) (sym st) (layer_can laws t text l lower s g top laid)))
+      subst (λ (x : Tree). CanLayOn (parsing_from t text base) g top x depth state) (sym same)
+      (subst (λ (d : ℕ). CanLayOn (parsing_from t text base) g top l.tree d state) (sym deep)
+      (subst (λ (q : ℕ). CanLayOn (parsing_from t text base) g top l.tree (tree_depth l.tree) q) (sym st) (layer_can laws t text base l lower s g top laid)))
 
-  pub top_can : CanLayOn (parsing_of t text) g top node depth state
+  pub top_can : CanLayOn (parsing_from t text base) g top node depth state
   top_can = can_by (stack_at stacks number) can.some can.stands can.laid node_is state_is
 
-  module _ (new : GraphView) (above : ℕ) (is : IsLaid (parsing_of t text) g new top (place_at g.heads top) node depth state above) (once : HoldsEachOnce new.heads new.links) where
-    laid_by : (layers : List Layer) → 0 < length layers → Stands t text layers → LaidTo t text (under_top layers) g top → Some node ≡ tree_on layers → state ≡ state_on layers → LaidTo t text layers new above
+  module _ (new : GraphView) (above : ℕ) (is : IsLaid (parsing_from t text base) g new top (place_at g.heads top) node depth state above) (once : HoldsEachOnce new.heads new.links) where
+    laid_by : (layers : List Layer) → 0 < length layers → Stands t text base layers → LaidTo t text base (under_top layers) g top → Some node ≡ tree_on layers → state ≡ state_on layers → LaidTo t text base layers new above
     laid_by [] lt s laid n st = absurd (omega (arith, lt))
     laid_by (l ∷ lower) lt s laid n st =
         let same : node ≡ l.tree = cc in
         let deep : depth ≡ tree_depth l.tree = depth_is ∙ ap tree_depth same in
-        layer_laid laws t text l lower s g top laid new above
-        (subst (λ (q : ℕ). IsLaid (parsing_of t text) g new top (place_at g.heads top) l.tree (tree_depth l.tree) q above) st
-        (subst (λ (d : ℕ). IsLaid (parsing_of t text) g new top (place_at g.heads top) l.tree d state above) deep
-        (subst (λ (x : Tree). IsLaid (parsing_of t text) g new top (place_at g.heads top) x depth state above) same is))) once
+        layer_laid laws t text base l lower s g top laid new above
+        (subst (λ (q : ℕ). IsLaid (parsing_from t text base) g new top (place_at g.heads top) l.tree (tree_depth l.tree) q above) st
+        (subst (λ (d : ℕ). IsLaid (parsing_from t text base) g new top (place_at g.heads top) l.tree d state above) deep
+        (subst (λ (x : Tree). IsLaid (parsing_from t text base) g new top (place_at g.heads top) x depth state above) same is))) once
 
-    pub top_laid : LaidTo t text (stack_at stacks number) new above
+    pub top_laid : LaidTo t text base (stack_at stacks number) new above
     top_laid = laid_by (stack_at stacks number) can.some can.stands can.laid node_is state_is

@@ -13,7 +13,7 @@ use Rattle.spec_graph.specs.declared.graph.Head.{Head}
 use Rattle.spec_graph.specs.declared.graph.Link.{Link}
 use Rattle.spec_graph.specs.States.{LeadsTo}
 use Rattle.spec_graph.specs.Laying.{Parsing}
-use Rattle.spec_graph.specs.Links.{IsAt, IsWay, way_trees, IsLinked, IsGraph}
+use Rattle.spec_graph.specs.Links.{IsAt, IsWay, way_trees, IsLinked}
 use Rattle.spec_crossing.specs.Leaving.{way_config}
 use Rattle.ts_table.specs.declared.view.ParseTable.{ParseTable}
 use Rattle.ts_table.specs.Tables.{goto_of, IsStateOf}
@@ -23,13 +23,12 @@ use Rattle.ts_graph.specs.declared.view.GraphView.{GraphView}
 use Rattle.ts_graph.specs.Down.{HoldsEachOnce, place_at}
 use Rattle.ts_graph.specs.Ways.{AreAt}
 use Rattle.ts_laying.specs.Sound.{bare_link, bare_links}
-use Rattle.ts_reductions.specs.Sound.{parsing_of, IsSoundBy}
 use Rattle.ts_steps.specs.declared.head.StackHead.{StackHead}
 use Rattle.ts_steps.specs.Good.{EachTree, AreGoodTrees}
 use Rattle.ts_steps.specs.LiveHeads.{config_of, HaveStates, IsGoodStack}
 use Rattle.ts_steps.specs.Heads.{IsOwnWithin, IsOwnHead}
 use Rattle.ts_crossing.specs.Laws.{LeaveLaws}
-use Rattle.ts_crossing.specs.Parsing.{parsing_from}
+use Rattle.ts_reductions.specs.Sound.{Base, parsing_from, IsSoundBy}
 use Rattle.ts_crossing.specs.Leaving.{IsStack, state_at, layers_of, IsLeft}
 use Rattle.ts_crossing.proofs.BareLemmas.{filling_bare, spans_bare}
 use Rattle.ts_crossing.proofs.MemberLemmas.{contained_at, read_at, bare_member, place_is_at}
@@ -92,39 +91,15 @@ layers_next heads way i left l old new cut is below top =
 pub layers_last : (heads : List Head) (way : List Link) (left : ℕ) (stack : List Layer) → left ≡ 0 → stack ≡ layers_of heads (drop left way) → stack ≡ layers_of heads way
 layers_last heads way left stack z e = e ∙ ap (λ (n : ℕ). layers_of heads (drop n way)) z
 
--- ---- graphs, from whatever stack runs go on
-
-pub at_from : (t : ParseTable) (text : Bytes) (base : List Tree) (from : ℕ) (heads : List Head) (h : ℕ) (read : List ℕ) (place : ℕ) → IsAt (parsing_of t text) heads h read place → IsAt (parsing_from t text base from) heads h read place
-at_from t text base from heads h read place a = record { head = a.head; is = a.is; state = a.state; place_is = a.place_is }
-
-pub graph_from : (t : ParseTable) (text : Bytes) (base : List Tree) (from : ℕ) (heads : List Head) (links : List Link) → IsGraph (parsing_of t text) heads links → IsGraph (parsing_from t text base from) heads links
-graph_from t text base from heads links g = record {
-  start = at_from t text base from heads 0 [] 0 g.start;
-  linked = λ l there.
-      let k = g.linked l there in
-      record {
-        under = k.under;
-        over = k.over;
-        from = k.from;
-        to = k.to;
-        below = at_from t text base from heads l.below k.under k.from k.below;
-        above = at_from t text base from heads l.above k.over k.to k.above;
-        lays = k.lays;
-        shallow = k.shallow;
-        deepest = k.deepest;
-      };
-  down = g.down;
-}
-
 -- ---- the trees of the stack
 
 layer_trees : (heads : List Head) (way : List Link) → map bare (trees_on (layers_of heads way)) ≡ way_trees (map bare_link way)
 layer_trees heads [] = refl
 layer_trees heads (l ∷ way) = ap (λ (ts : List Tree). bare l.tree ∷ ts) (layer_trees heads way)
 
-module _ (laws : LeaveLaws) (t : ParseTable) (text : Bytes) (g : GraphView) (sound : IsSoundBy t text g) where
+module _ (laws : LeaveLaws) (t : ParseTable) (text : Bytes) (base : Base) (g : GraphView) (sound : IsSoundBy t text base g) where
   abbrev P : Parsing
-  P = parsing_of t text
+  P = parsing_from t text base
 
   abbrev bares : List Link
   bares = bare_links g.links
@@ -139,12 +114,12 @@ module _ (laws : LeaveLaws) (t : ParseTable) (text : Bytes) (g : GraphView) (sou
   read_is h place read way at down =
       subst (λ (r : List ℕ). IsAt P g.heads h r place)
       (ap filling (sym (layer_trees g.heads way)) ∙ filling_bare laws.keeps (trees way))
-      (laws.symbols P sound.laid.parsed.fit sound.laid.parsed.states g.heads bares sound.laid.graph h place read (map bare_link way) at down)
+      (laws.symbols P sound.laid.parsed.fit sound.laid.parsed.states sound.laid.parsed.grounded g.heads bares sound.laid.graph h place read (map bare_link way) at down)
 
   spans_are : (h place : ℕ) (read : List ℕ) (way : List Link) → IsAt P g.heads h read place → IsWay bares h (map bare_link way) 0 → all_spans (trees way) ≡ place
   spans_are h place read way at down =
       sym (spans_bare laws.keeps (trees way)) ∙ ap all_spans (layer_trees g.heads way)
-      ∙ laws.spans P sound.laid.parsed.fit sound.laid.parsed.states g.heads bares sound.laid.graph h place read (map bare_link way) at down
+      ∙ laws.spans P sound.laid.parsed.fit sound.laid.parsed.states sound.laid.parsed.grounded g.heads bares sound.laid.graph h place read (map bare_link way) at down
 
   states_of : (numbers : List ℕ) (way : List Link) (h : ℕ) → AreAt g.links numbers way → IsWay bares h (map bare_link way) 0 → HaveStates t (layers_of g.heads way)
   states_of numbers [] h a w = tt

@@ -1,31 +1,34 @@
 -- What is known of a stack from which a parser goes on to a graph, and of those below it.
-use Rattle.std.proofs.Common.{◌≡◌, ◌∙◌, sym, ap, refl, subst, ℕ, zero, suc, ◌<◌, ◌⊎◌, inl, inr, List, [], ◌∷◌, ◌++◌, length, map, reverse, drop, arith}
+use Rattle.std.proofs.Common.{◌≡◌, ◌∙◌, sym, ap, refl, subst, ℕ, zero, suc, ◌<◌, ◌⊎◌, inl, inr, List, [], ◌∷◌, ◌++◌, append_assoc, length, map, reverse, drop, arith}
 use Rattle.std.proofs.lemmas.List.{map-append, reverse-append}
 use Rattle.ts_base.specs.Bytes.{Bytes}
 use Rattle.ts_core.specs.declared.flat.FlatGrammar.{FlatGrammar}
 use Rattle.spec_trees.specs.declared.tree.Tree.{Tree}
 use Rattle.spec_trees.specs.Trees.{all_spans, bare}
-use Rattle.spec_trees.specs.Made.{EndBy}
+use Rattle.spec_trees.specs.Made.{EndBy, filling}
+use Rattle.spec_graph.specs.States.{LeadsTo, at_first}
 use Rattle.spec_graph.specs.Laying.{IsBegun}
+use Rattle.spec_graph.specs.Grounded.{AreMadeTrees, HaveExtrasBytes, BeginsWithBytes, IsGrounded}
 use Rattle.ts_table.specs.declared.view.ParseTable.{ParseTable}
+use Rattle.ts_table.specs.Tables.{goto_of}
 use Rattle.ts_gss.specs.declared.layer.Layer.{Layer}
 use Rattle.ts_gss.specs.Stacks.{stack_at, trees_on, under_top}
 use Rattle.ts_steps.specs.declared.head.StackHead.{StackHead}
 use Rattle.ts_steps.specs.Good.{AreGoodTrees}
 use Rattle.ts_steps.specs.LiveHeads.{config_of, HaveStates, IsGoodStack}
 use Rattle.ts_crossing.specs.Laws.{EnterLaws}
-use Rattle.ts_crossing.specs.Parsing.{parsing_from}
+use Rattle.ts_reductions.specs.Sound.{Base, base_at, parsing_from}
 use Rattle.ts_crossing.specs.Entering.{CanEnter, HaveBytes, IsUnder, AreDownTo, Stands}
-use Rattle.ts_crossing.proofs.BareLemmas.{spans_append, extras_bare, begins_bare, spans_bare}
+use Rattle.ts_crossing.proofs.BareLemmas.{spans_append, extras_bare, begins_bare, span_bare, spans_bare, filling_bare}
 use Rattle.ts_crossing.proofs.PartLemmas.{end_by_split}
-use Rattle.ts_crossing.proofs.TableLemmas.{table_states}
+use Rattle.ts_crossing.proofs.TableLemmas.{state_leads}
 use Rattle.ts_crossing.proofs.ForkLemmas.{fork_bytes}
 
 -- ---- stacks below others
 
-stands_under : (t : ParseTable) (text : Bytes) (layers : List Layer) → 0 < length layers → Stands t text layers → Stands t text (under_top layers)
-stands_under t text [] lt s = absurd (omega (arith, lt))
-stands_under t text (l ∷ layers) lt s = record {
+stands_under : (t : ParseTable) (text : Bytes) (base : Base) (layers : List Layer) → 0 < length layers → Stands t text base layers → Stands t text base (under_top layers)
+stands_under t text base [] lt s = absurd (omega (arith, lt))
+stands_under t text base (l ∷ layers) lt s = record {
   table = s.table;
   states = s.states.1;
   good = s.good.1;
@@ -33,12 +36,12 @@ stands_under t text (l ∷ layers) lt s = record {
   reach = (end_by_split (suc (length text)) 0 (reverse (trees_on layers)) (l.tree ∷ [])
       (subst (λ (ts : List Tree). EndBy (suc (length text)) 0 ts) (reverse-append (l.tree ∷ []) (trees_on layers)) s.reach)).0;
   within = let w = s.within in omega (arith, w);
-  laid = λ above below u is. s.laid (bare l.tree ∷ above) below u (ap (λ (ts : List Tree). bare l.tree ∷ ts) is);
+  low = (s.low.0 ++ bare l.tree ∷ [], s.low.1 ∙ sym (append_assoc s.low.0 (bare l.tree ∷ []) (map bare (trees_on layers))));
 }
 
-pub stands_down : (t : ParseTable) (text : Bytes) (stacks : List (List Layer)) (layers : List Layer) (ks : List ℕ) (rest : List Layer) → Stands t text layers → AreDownTo stacks layers ks rest → Stands t text rest
-stands_down t text stacks layers [] rest s d = subst (λ (ls : List Layer). Stands t text ls) d s
-stands_down t text stacks layers (k ∷ ks) rest s d = stands_down t text stacks (under_top layers) ks rest (stands_under t text layers d.2 s) d.3
+pub stands_down : (t : ParseTable) (text : Bytes) (base : Base) (stacks : List (List Layer)) (layers : List Layer) (ks : List ℕ) (rest : List Layer) → Stands t text base layers → AreDownTo stacks layers ks rest → Stands t text base rest
+stands_down t text base stacks layers [] rest s d = subst (λ (ls : List Layer). Stands t text base ls) d s
+stands_down t text base stacks layers (k ∷ ks) rest s d = stands_down t text base stacks (under_top layers) ks rest (stands_under t text base layers d.2 s) d.3
 
 -- ---- where a parser goes on to a graph
 
@@ -58,6 +61,35 @@ bytes_right (x ∷ xs) ys a = bytes_right xs ys a.1
 some_bytes : (ts : List Tree) → HaveBytes ts → (ts ≡ []) ⊎ (0 < all_spans ts)
 some_bytes [] b = inl refl
 some_bytes (t ∷ ts) b = let h = b.0 in inr (omega (arith, h))
+
+-- each tree that is made, but for those above
+made_right : (g : FlatGrammar) (xs ys : List Tree) → AreMadeTrees g (xs ++ ys) → AreMadeTrees g ys
+made_right g [] ys a = a
+made_right g (x ∷ xs) ys a = made_right g xs ys a.1
+
+bytes_extras : (laws : EnterLaws) (ts : List Tree) → HaveBytes ts → HaveExtrasBytes (map bare ts)
+bytes_extras laws [] b = tt
+bytes_extras laws (t ∷ ts) b = ((λ e. let h = b.0 in let s = span_bare laws.keeps t in omega (arith, h, s)), bytes_extras laws ts b.1)
+
+bytes_begin : (laws : EnterLaws) (ts : List Tree) → HaveBytes ts → BeginsWithBytes (map bare ts)
+bytes_begin laws [] b = tt
+bytes_begin laws (t ∷ ts) b = let h = b.0 in let s = span_bare laws.keeps t in omega (arith, h, s)
+
+-- the symbols up to each tree of a stack lead to a state
+state_here : (laws : EnterLaws) (t : ParseTable) (ls : List Layer) → HaveStates t ls → (n : ℕ) × LeadsTo (goto_of t) (filling (map bare (trees_on ls))) n
+state_here laws t [] s = (0, at_first)
+state_here laws t (m ∷ ls) s =
+    (m.state, subst (λ (r : List ℕ). LeadsTo (goto_of t) r m.state) (sym (filling_bare laws.keeps (trees_on (m ∷ ls)))) (state_leads t (filling (trees_on (m ∷ ls))) m.state s.0))
+
+state_below : (laws : EnterLaws) (t : ParseTable) (ls : List Layer) → HaveStates t ls → (above below : List Tree) → map bare (trees_on ls) ≡ above ++ below → (n : ℕ) × LeadsTo (goto_of t) (filling below) n
+state_below laws t ls s [] below e =
+    let h = state_here laws t ls s in
+    (h.0, subst (λ (ts : List Tree). LeadsTo (goto_of t) (filling ts) h.0) e h.1)
+state_below laws t [] s (x ∷ above) below e = absurd (let h : [] ≡ x ∷ (above ++ below) = e in cc)
+state_below laws t (m ∷ ls) s (x ∷ above) below e =
+    let h : bare m.tree ∷ map bare (trees_on ls) ≡ x ∷ (above ++ below) = e in
+    let rest : map bare (trees_on ls) ≡ above ++ below = cc in
+    state_below laws t ls s.1 above below rest
 
 module _ (laws : EnterLaws) (t : ParseTable) (text : Bytes) (stacks : List (List Layer)) (h : StackHead) (can : CanEnter t text stacks h) (under : StackHead) (is : IsUnder stacks h under) where
   abbrev all : List Tree
@@ -86,7 +118,7 @@ module _ (laws : EnterLaws) (t : ParseTable) (text : Bytes) (stacks : List (List
   abbrev pub bare_low : List Tree
   bare_low = map bare low
 
-  begun_at : IsBegun (parsing_from t text bare_low (all_spans low)) (config_of stacks h)
+  begun_at : IsBegun (parsing_from t text (base_at bare_low (all_spans low))) (config_of stacks h)
   begun_at = record {
     extras = map bare is.extras;
     stack_is = ap (λ (ts : List Tree). map bare ts) is.lifted.trees ∙ map-append bare is.extras low;
@@ -100,19 +132,38 @@ module _ (laws : EnterLaws) (t : ParseTable) (text : Bytes) (stacks : List (List
       by (inl e) = inl (ap (λ (ts : List Tree). map bare ts) e)
       by (inr lt) = inr lt
 
-  pub begun : IsBegun (parsing_from t text bare_low under.place) (config_of stacks h)
-  begun = subst (λ (n : ℕ). IsBegun (parsing_from t text bare_low n) (config_of stacks h)) (sym place_is) begun_at
+  pub begun : IsBegun (parsing_from t text (base_at bare_low under.place)) (config_of stacks h)
+  begun = subst (λ (n : ℕ). IsBegun (parsing_from t text (base_at bare_low n)) (config_of stacks h)) (sym place_is) begun_at
 
-  pub enter_stands : Stands t text below
+  low_states : HaveStates t below
+  low_states = subst (λ (ls : List Layer). HaveStates t ls) (sym is.lifted.rest) (drop_states t (length is.extras) (stack_at stacks h.top) good.states)
+
+  low_made : AreMadeTrees t.grammar bare_low
+  low_made =
+      made_right t.grammar (map bare is.extras) bare_low
+      (subst (λ (ts : List Tree). AreMadeTrees t.grammar ts) (ap (λ (ts : List Tree). map bare ts) is.lifted.trees ∙ map-append bare is.extras low) can.made)
+
+  -- what lies under the extras is grounded
+  pub grounded : IsGrounded (parsing_from t text (base_at bare_low under.place))
+  grounded = record {
+    spans = spans_bare laws.keeps low ∙ sym place_is;
+    begins = begins_bare laws.keeps low is.lifted.no_more;
+    some = bytes_begin laws low bytes;
+    some_extras = bytes_extras laws low bytes;
+    made = low_made;
+    states = λ above under_it at. state_below laws t below low_states above under_it at;
+  }
+
+  pub enter_stands : Stands t text (base_at bare_low under.place) below
   enter_stands = record {
     table = can.table;
-    states = subst (λ (ls : List Layer). HaveStates t ls) (sym is.lifted.rest) (drop_states t (length is.extras) (stack_at stacks h.top) good.states);
+    states = low_states;
     good = good_right t.grammar is.extras low (subst (λ (ts : List Tree). AreGoodTrees t.grammar ts) is.lifted.trees good.good);
     bytes = bytes;
     reach = (end_by_split (suc (length text)) 0 (reverse low) (reverse is.extras)
         (subst (λ (ts : List Tree). EndBy (suc (length text)) 0 ts) (ap (λ (ts : List Tree). reverse ts) is.lifted.trees ∙ reverse-append is.extras low) good.reach)).0;
     within = let p = place_is in let q = is.place in let w = good.within in omega (arith, p, q, w);
-    laid = λ above lower u at. laws.laid (parsing_from t text bare_low (all_spans low)) can.table.fit (table_states laws t can.table) (config_of stacks h) can.reached begun_at above lower u at;
+    low = ([], refl);
   }
 
   pub low_bytes : HaveBytes low

@@ -1,28 +1,28 @@
 -- The laws of other crates that the proofs here rest on.
-use Rattle.std.specs.Prelude.{◌≡◌, ℕ, ◌+◌, List, [], ◌∷◌, ◌++◌}
+use Rattle.std.specs.Prelude.{◌≡◌, ℕ, List, [], ◌∷◌, ◌++◌}
 use Rattle.ts_core.specs.declared.flat.FlatGrammar.{FlatGrammar}
 use Rattle.ts_core.specs.declared.symbol.Symbol.{Symbol}
 use Rattle.spec_tables.specs.Actions.{Move, Act, accept}
 use Rattle.spec_tables.specs.Fit.{Fit}
 use Rattle.spec_trees.specs.declared.tree.Tree.{Tree}
-use Rattle.spec_trees.specs.Trees.{span_of, all_spans}
+use Rattle.spec_trees.specs.Trees.{all_spans}
 use Rattle.spec_trees.specs.Made.{filling}
 use Rattle.spec_runs.specs.BareTrees.{KeepsAll}
-use Rattle.spec_runs.specs.Configurations.{Configuration, AreValidTokens}
+use Rattle.spec_runs.specs.Configurations.{AreValidTokens}
 use Rattle.spec_runs.specs.Moves.{IsUnused}
-use Rattle.spec_runs.specs.Runs.{IsReached}
 use Rattle.spec_forced.specs.Forced.{HaveSameItems}
 use Rattle.spec_graph.specs.declared.graph.Head.{Head}
 use Rattle.spec_graph.specs.declared.graph.Link.{Link}
 use Rattle.spec_graph.specs.States.{AreStates, AreRanks}
-use Rattle.spec_graph.specs.Laying.{Parsing, from_start, Lays, IsBegun}
+use Rattle.spec_graph.specs.Laying.{Parsing}
+use Rattle.spec_graph.specs.Grounded.{IsGrounded}
 use Rattle.spec_graph.specs.Replacing.{Replaces}
 use Rattle.spec_graph.specs.Links.{IsAt, IsWay, way_trees, IsGraph, IsWholeTo, HasStood}
 use Rattle.ts_table.specs.declared.view.ParseTable.{ParseTable}
 use Rattle.ts_table.specs.Tables.{IsTable, IsStateOf}
 use Rattle.ts_lexer.specs.States.{AreValid}
 
--- For proofs alone: laws of the states of tables, of bare trees, and of what stands on stacks.
+-- For proofs alone: laws of the states of tables, of bare trees, and of graphs that begin.
 pub record EnterLaws : Type 0 where
   pub keeps : (t : Tree) → KeepsAll t
   pub through : (t u v : Tree) → Replaces t u → Replaces u v → Replaces t v
@@ -31,16 +31,10 @@ pub record EnterLaws : Type 0 where
   pub tokens : (t : ParseTable) (state : ℕ) → (valid : List Symbol) × AreValid t state valid
   pub known : (t : ParseTable) (read : List ℕ) (state : ℕ) (valid : List Symbol) → IsTable t
       → IsStateOf t read state → AreValid t state valid → AreValidTokens t.grammar read valid
-  pub laid : (P : Parsing) → Fit P.grammar → AreStates P.grammar P.goto → (c : Configuration)
-      → IsReached P.grammar P.text c → IsBegun P c
-      → (above below : List Tree) (t : Tree) → P.stack ≡ above ++ t ∷ below
-      → Lays (from_start P) (filling below) (all_spans below) (t ∷ [])
-      (all_spans below + span_of t) (filling (t ∷ []) ++ filling below)
   pub only_accepts : (g : FlatGrammar) (symbol : ℕ) → IsUnused g symbol
       → (above below : List ℕ) (token : ℕ) (move : Move)
       → Act g (above ++ symbol ∷ below) token move → move ≡ accept
-  pub begins : (P : Parsing) → Fit P.grammar → AreStates P.grammar P.goto
-      → (c : Configuration) → IsReached P.grammar P.text c → IsBegun P c
+  pub begins : (P : Parsing) → Fit P.grammar → AreStates P.grammar P.goto → IsGrounded P
       → (rank : ℕ → ℕ) (most : ℕ) → AreRanks P.grammar rank most
       → (heads : List Head) (links : List Link) → IsAt P heads 0 [] 0
       → HasStood P heads links
@@ -49,11 +43,11 @@ pub record EnterLaws : Type 0 where
 -- For proofs alone: laws of bare trees, and of what is read where a way leads down.
 pub record LeaveLaws : Type 0 where
   pub keeps : (t : Tree) → KeepsAll t
-  pub symbols : (P : Parsing) → Fit P.grammar → AreStates P.grammar P.goto
+  pub symbols : (P : Parsing) → Fit P.grammar → AreStates P.grammar P.goto → IsGrounded P
       → (heads : List Head) (links : List Link) → IsGraph P heads links
       → (h place : ℕ) (read : List ℕ) (way : List Link) → IsAt P heads h read place
       → IsWay links h way 0 → IsAt P heads h (filling (way_trees way)) place
-  pub spans : (P : Parsing) → Fit P.grammar → AreStates P.grammar P.goto
+  pub spans : (P : Parsing) → Fit P.grammar → AreStates P.grammar P.goto → IsGrounded P
       → (heads : List Head) (links : List Link) → IsGraph P heads links
       → (h place : ℕ) (read : List ℕ) (way : List Link) → IsAt P heads h read place
       → IsWay links h way 0 → all_spans (way_trees way) ≡ place

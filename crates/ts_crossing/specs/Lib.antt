@@ -1,4 +1,3 @@
 pub mod Laws
-pub mod Parsing
 pub mod Entering
 pub mod Leaving

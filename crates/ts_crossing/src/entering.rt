@@ -6,6 +6,7 @@ ghost use Rattle.spec_trees.specs.Trees.{all_spans};
 ghost use Rattle.ts_table.specs.declared.view.ParseTable.{ParseTable};
 ghost use Rattle.ts_gss.specs.declared.layer.Layer.{Layer};
 ghost use Rattle.ts_gss.specs.Stacks.{stack_at, trees_on};
+ghost use Rattle.ts_reductions.specs.Sound.{Base as AnyBase};
 ghost use Rattle.ts_crossing.specs.Entering.{CanEnter, IsEntered, HaveBytes, IsUnder, AreDownTo, LaidTo, CanLayTop, CanLayStacks};
 
 use crate::laws::enter_laws_hold;
@@ -67,11 +68,11 @@ fn lay_top(
     graph: &mut Graph,
     top: usize,
 ) -> Result<usize, AllocError>
-    requires { (t : ParseTable) × (text : Bytes)
-        × CanLayTop t text stacks.now number graph.old top }
-    ensures { IfOk result (λ above. (t : ParseTable) (text : Bytes)
-        → CanLayTop t text stacks.now number graph.old top
-        → LaidTo t text (stack_at stacks.now number) graph.new above) }
+    requires { (t : ParseTable) × (text : Bytes) × (base : AnyBase)
+        × CanLayTop t text base stacks.now number graph.old top }
+    ensures { IfOk result (λ above. (t : ParseTable) (text : Bytes) (base : AnyBase)
+        → CanLayTop t text base stacks.now number graph.old top
+        → LaidTo t text base (stack_at stacks.now number) graph.new above) }
 {
     enter_laws_hold();
     let node = stacks.node(number).try_clone()?;
@@ -93,11 +94,11 @@ fn lay_stacks(
     graph: &mut Graph,
     bottom: usize,
 ) -> Result<(), AllocError>
-    requires { (t : ParseTable) × (text : Bytes) × (layers : List Layer)
-        × CanLayStacks t text stacks.now layers numbers.now graph.old bottom }
-    ensures { OnOk result ((t : ParseTable) (text : Bytes) (layers : List Layer)
-        → CanLayStacks t text stacks.now layers numbers.now graph.old bottom
-        → (top : ℕ) × LaidTo t text layers graph.new top) }
+    requires { (t : ParseTable) × (text : Bytes) × (base : AnyBase) × (layers : List Layer)
+        × CanLayStacks t text base stacks.now layers numbers.now graph.old bottom }
+    ensures { OnOk result ((t : ParseTable) (text : Bytes) (base : AnyBase) (layers : List Layer)
+        → CanLayStacks t text base stacks.now layers numbers.now graph.old bottom
+        → (top : ℕ) × LaidTo t text base layers graph.new top) }
 {
     let mut top = bottom;
     let mut left = numbers.len();

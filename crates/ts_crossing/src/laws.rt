@@ -1,9 +1,8 @@
 //! The laws of other crates that the proofs here rest on, and what a parser may use of a stack that
 //! is left. No value goes in or out.
-ghost use Rattle.std.specs.Prelude.{◌≡◌, ℕ, ◌<◌, ◌⊎◌, List, length, map};
+ghost use Rattle.std.specs.Prelude.{ℕ, ◌<◌, ◌⊎◌, List, length};
 ghost use Rattle.std.specs.List.{Contains};
 ghost use Rattle.ts_base.specs.Bytes.{Bytes};
-ghost use Rattle.spec_trees.specs.declared.tree.Tree.{Tree};
 ghost use Rattle.spec_runs.specs.Configurations.{Configuration};
 ghost use Rattle.spec_runs.specs.Runs.{IsReached};
 ghost use Rattle.spec_packing.specs.Serving.{ComesToServe};
@@ -13,20 +12,18 @@ ghost use Rattle.spec_graph.specs.Laying.{IsBegun};
 ghost use Rattle.spec_graph.specs.Links.{IsWholeTo};
 ghost use Rattle.spec_crossing.specs.Leaving.{StandsAlone, EndsBefore};
 ghost use Rattle.ts_table.specs.declared.view.ParseTable.{ParseTable};
-ghost use Rattle.ts_table.specs.Tables.{IsTable};
 ghost use Rattle.ts_table.specs.Ranks.{unit_rank};
 ghost use Rattle.ts_gss.specs.declared.layer.Layer.{Layer};
 ghost use Rattle.ts_graph.specs.declared.view.GraphView.{GraphView};
 ghost use Rattle.ts_laying.specs.Sound.{bare_links};
-ghost use Rattle.ts_reductions.specs.Sound.{IsSoundBy};
 ghost use Rattle.ts_steps.specs.declared.head.StackHead.{StackHead as AnyHead};
 ghost use Rattle.ts_steps.specs.LiveHeads.{config_of};
 ghost use Rattle.ts_steps.specs.Heads.{IsOwnWithin, IsOwnHead};
 ghost use Rattle.ts_crossing.specs.Laws.{EnterLaws, LeaveLaws};
-ghost use Rattle.ts_crossing.specs.Parsing.{parsing_from};
+ghost use Rattle.ts_reductions.specs.Sound.{Base as AnyBase, parsing_from, IsSoundBy};
 ghost use Rattle.ts_crossing.specs.Leaving.{IsStack, IsLeft};
 
-use spec_crossing::{one_stack_goes_on, stacks_are_laid, unused_symbols_end, ways_are_read};
+use spec_crossing::{one_stack_goes_on, unused_symbols_end, ways_are_read};
 use spec_forced::items_decide;
 use spec_graph::{trees_replace, whole_to_the_next};
 use spec_runs::bare_trees;
@@ -42,7 +39,6 @@ pub(crate) fn enter_laws_hold()
     items_decide();
     tokens_of_states();
     tokens_are_known();
-    stacks_are_laid();
     unused_symbols_end();
     whole_to_the_next();
 }
@@ -55,28 +51,33 @@ pub(crate) fn leave_laws_hold()
     ways_are_read();
 }
 
-/// A stack that is left in a graph is reached by a run. All that runs come to from where they went
-/// on ends in the graph before a place, or is served from that stack, where its head stands alone
-/// at the place or past it. And a parser made it, if a parser made the trees of the graph.
+/// A stack that is left in a graph is reached by a run, where a run came to the stack over which the
+/// graph is sound. All that runs come to from there ends in the graph before a place, or is served
+/// from the stack that is left, where its head stands alone at the place or past it. And a parser
+/// made it, if a parser made the trees of the graph.
 pub fn left_stacks_go_on()
-    ensures reached { (t : ParseTable) (text : Bytes) (g : GraphView) (h : ℕ) (numbers : List ℕ)
-        (stacks : List (List Layer)) (k : AnyHead) → IsSoundBy t text g → h < length g.heads
+    ensures reached { (t : ParseTable) (text : Bytes) (base : AnyBase) (g : GraphView) (h : ℕ)
+        (numbers : List ℕ) (stacks : List (List Layer)) (k : AnyHead)
+        → IsSoundBy t text base g → h < length g.heads
         → (s : IsStack g h numbers) → IsLeft g h s.way stacks k
-        → IsReached t.grammar text (config_of stacks k) }
-    ensures serves { (t : ParseTable) (text : Bytes) (g : GraphView) (h : ℕ) (numbers : List ℕ)
-        (stacks : List (List Layer)) (k : AnyHead) → IsSoundBy t text g → h < length g.heads
+        → (c : Configuration) → IsReached t.grammar text c
+        → IsBegun (parsing_from t text base) c → IsReached t.grammar text (config_of stacks k) }
+    ensures serves { (t : ParseTable) (text : Bytes) (base : AnyBase) (g : GraphView) (h : ℕ)
+        (numbers : List ℕ) (stacks : List (List Layer)) (k : AnyHead)
+        → IsSoundBy t text base g → h < length g.heads
         → (s : IsStack g h numbers) → IsLeft g h s.way stacks k
-        → (base : List Tree) (place : ℕ) (c : Configuration) → IsReached t.grammar text c
-        → IsBegun (parsing_from t text base place) c
+        → (c : Configuration) → IsReached t.grammar text c
+        → IsBegun (parsing_from t text base) c
         → (most : ℕ) → AreRanks t.grammar (unit_rank t.grammar) most
-        → (n : ℕ) → IsWholeTo (parsing_from t text base place) (unit_rank t.grammar) g.heads
+        → (n : ℕ) → IsWholeTo (parsing_from t text base) (unit_rank t.grammar) g.heads
         (bare_links g.links) (record { look = n; begins = n; rank = most })
         → c.place < n → StandsAlone g.heads n h
         → (d : Configuration) → IsReached t.grammar text d → ComesToServe t.grammar text c d
-        → EndsBefore (parsing_from t text base place) g.heads (bare_links g.links) n d
+        → EndsBefore (parsing_from t text base) g.heads (bare_links g.links) n d
         ⊎ ComesToServe t.grammar text (config_of stacks k) d }
-    ensures own { (t : ParseTable) (text : Bytes) (g : GraphView) (h : ℕ) (numbers : List ℕ)
-        (stacks : List (List Layer)) (k : AnyHead) → IsSoundBy t text g → h < length g.heads
+    ensures own { (t : ParseTable) (text : Bytes) (base : AnyBase) (g : GraphView) (h : ℕ)
+        (numbers : List ℕ) (stacks : List (List Layer)) (k : AnyHead)
+        → IsSoundBy t text base g → h < length g.heads
         → (s : IsStack g h numbers) → IsLeft g h s.way stacks k
         → ((l : Link) → Contains g.links l → IsOwnWithin t.grammar l.tree)
         → IsOwnHead t (length text) stacks k }

@@ -2,7 +2,7 @@ use Rattle.std.proofs.Common.{sym, subst, ℕ, List, []}
 use Rattle.ts_gss.specs.Stacks.{stack_at}
 use Rattle.ts_crossing.specs.Entering.{AreDownTo}
 use Rattle.ts_crossing.proofs.StandLemmas.{place_is, low_bytes}
-use Rattle.ts_crossing.proofs.EnterLemmas.{opened_heads, opened_links, first_laid, can_stacks, entered}
+use Rattle.ts_crossing.proofs.EnterLemmas.{opened_heads, opened_links, first_laid, entry, entry_ground, can_stacks, entered}
 use Rattle.ts_crossing.proofs.entering.enter.Goals as goal
 
 pub under_extras-under-requires-clause-there : goal.under_extras-under-requires-clause-there
@@ -30,10 +30,11 @@ lay_stacks-requires c =
     let laws = c.enter_laws_hold.ensures in (
       r.0,
       r.1,
+      entry laws r.0 r.1 c.args.stacks.now c.args.head r.2 c.under_extras-under.result c.under_extras-under.ensures,
       stack_at c.args.stacks.now c.under_extras-under.result.top,
       can_stacks laws r.0 r.1 c.args.stacks.now c.args.head r.2 c.under_extras-under.result c.under_extras-under.ensures c.as_slice.result.now c.open.new.self c.in_ok-bottom.bottom
           (subst (λ (ks : List ℕ). AreDownTo c.args.stacks.now (stack_at c.args.stacks.now c.under_extras-under.result.top) ks []) (sym c.as_slice.ensures.value) c.in_ok-numbers.ensures)
-          (first_laid laws r.0 r.1 r.2.table r.2.short c.open.new.self c.in_ok-bottom.bottom (opened_heads c.new-graph.result c.open.new.self c.new-graph.ensures c.in_ok-bottom.ensures.added)
+          (first_laid laws r.0 r.1 (entry laws r.0 r.1 c.args.stacks.now c.args.head r.2 c.under_extras-under.result c.under_extras-under.ensures) (entry_ground laws r.0 r.1 c.args.stacks.now c.args.head r.2 c.under_extras-under.result c.under_extras-under.ensures) r.2.table r.2.short c.open.new.self c.in_ok-bottom.bottom (opened_heads c.new-graph.result c.open.new.self c.new-graph.ensures c.in_ok-bottom.ensures.added)
           (opened_links c.new-graph.result c.open.new.self c.new-graph.ensures c.in_ok-bottom.ensures.links) c.in_ok-bottom.ensures.number),
     )
 
@@ -41,8 +42,8 @@ pub returns : goal.returns
 returns c = λ t text can.
     let laws = c.enter_laws_hold.ensures in
     entered laws t text c.args.stacks.now c.args.head can c.under_extras-under.result c.under_extras-under.ensures c.lay_stacks.new.graph
-    (c.in_ok-lay_stacks.ensures t text (stack_at c.args.stacks.now c.under_extras-under.result.top)
+    (c.in_ok-lay_stacks.ensures t text (entry laws t text c.args.stacks.now c.args.head can c.under_extras-under.result c.under_extras-under.ensures) (stack_at c.args.stacks.now c.under_extras-under.result.top)
     (can_stacks laws t text c.args.stacks.now c.args.head can c.under_extras-under.result c.under_extras-under.ensures c.as_slice.result.now c.open.new.self c.in_ok-bottom.bottom
     (subst (λ (ks : List ℕ). AreDownTo c.args.stacks.now (stack_at c.args.stacks.now c.under_extras-under.result.top) ks []) (sym c.as_slice.ensures.value) c.in_ok-numbers.ensures)
-    (first_laid laws t text can.table can.short c.open.new.self c.in_ok-bottom.bottom (opened_heads c.new-graph.result c.open.new.self c.new-graph.ensures c.in_ok-bottom.ensures.added)
+    (first_laid laws t text (entry laws t text c.args.stacks.now c.args.head can c.under_extras-under.result c.under_extras-under.ensures) (entry_ground laws t text c.args.stacks.now c.args.head can c.under_extras-under.result c.under_extras-under.ensures) can.table can.short c.open.new.self c.in_ok-bottom.bottom (opened_heads c.new-graph.result c.open.new.self c.new-graph.ensures c.in_ok-bottom.ensures.added)
     (opened_links c.new-graph.result c.open.new.self c.new-graph.ensures c.in_ok-bottom.ensures.links) c.in_ok-bottom.ensures.number)))

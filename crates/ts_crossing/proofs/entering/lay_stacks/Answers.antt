@@ -6,7 +6,7 @@ use Rattle.ts_crossing.proofs.entering.lay_stacks.Goals as goal
 pub loop-left-init : goal.loop-left-init
 loop-left-init c = record {
   few = omega arith;
-  laid = λ t text layers can. so_far_first t text c.args.stacks.now layers c.args.numbers.now _ c.args.graph.now c.args.bottom can (omega arith);
+  laid = λ t text base layers can. so_far_first t text base c.args.stacks.now layers c.args.numbers.now _ c.args.graph.now c.args.bottom can (omega arith);
 }
 
 pub lay_top-requires : goal.lay_top-requires
@@ -18,8 +18,9 @@ lay_top-requires c =
     let at : slice_get c.args.numbers.now (c.loop-left.left - 1) ≡ Some (get_or c.args.numbers.now (c.loop-left.left - 1) 0) = slice_get-get_or c.args.numbers.now (c.loop-left.left - 1) 0 (omega (arith, some, few)) in (
       r.0,
       r.1,
-      next_can r.0 r.1 c.args.stacks.now r.2 c.args.numbers.now c.loop-left.left (c.loop-left.left - 1) (get_or c.args.numbers.now (c.loop-left.left - 1) 0) c.loop-left.graph c.loop-left.top c.args.graph.now c.args.bottom r.3
-          (c.loop-left.invariant.laid r.0 r.1 r.2 r.3) is at,
+      r.2,
+      next_can r.0 r.1 r.2 c.args.stacks.now r.3 c.args.numbers.now c.loop-left.left (c.loop-left.left - 1) (get_or c.args.numbers.now (c.loop-left.left - 1) 0) c.loop-left.graph c.loop-left.top c.args.graph.now c.args.bottom r.4
+          (c.loop-left.invariant.laid r.0 r.1 r.2 r.3 r.4) is at,
     )
 
 pub loop-left-preserved : goal.loop-left-preserved
@@ -30,11 +31,11 @@ loop-left-preserved c =
     let at : slice_get c.args.numbers.now (c.loop-left.left - 1) ≡ Some (get_or c.args.numbers.now (c.loop-left.left - 1) 0) = slice_get-get_or c.args.numbers.now (c.loop-left.left - 1) 0 (omega (arith, some, few)) in
     record {
       few = omega (arith, few);
-      laid = λ t text layers can.
-          let so = c.loop-left.invariant.laid t text layers can in
-          next_laid t text c.args.stacks.now layers c.args.numbers.now c.loop-left.left (c.loop-left.left - 1) (get_or c.args.numbers.now (c.loop-left.left - 1) 0) c.loop-left.graph c.loop-left.top c.args.graph.now c.args.bottom can so is at c.lay_top.new.graph c.in_ok-top.top
-          (c.in_ok-top.ensures t text (next_can t text c.args.stacks.now layers c.args.numbers.now c.loop-left.left (c.loop-left.left - 1) (get_or c.args.numbers.now (c.loop-left.left - 1) 0) c.loop-left.graph c.loop-left.top c.args.graph.now c.args.bottom can so is at));
+      laid = λ t text base layers can.
+          let so = c.loop-left.invariant.laid t text base layers can in
+          next_laid t text base c.args.stacks.now layers c.args.numbers.now c.loop-left.left (c.loop-left.left - 1) (get_or c.args.numbers.now (c.loop-left.left - 1) 0) c.loop-left.graph c.loop-left.top c.args.graph.now c.args.bottom can so is at c.lay_top.new.graph c.in_ok-top.top
+          (c.in_ok-top.ensures t text base (next_can t text base c.args.stacks.now layers c.args.numbers.now c.loop-left.left (c.loop-left.left - 1) (get_or c.args.numbers.now (c.loop-left.left - 1) 0) c.loop-left.graph c.loop-left.top c.args.graph.now c.args.bottom can so is at));
     }
 
 pub returns : goal.returns
-returns c = λ t text layers can. so_far_last t text c.args.stacks.now layers c.args.numbers.now c.loop-left.left c.loop-left.graph c.loop-left.top (c.loop-left.invariant.laid t text layers can) (let h = c.loop-left-test.false in omega (arith, h))
+returns c = λ t text base layers can. so_far_last t text base c.args.stacks.now layers c.args.numbers.now c.loop-left.left c.loop-left.graph c.loop-left.top (c.loop-left.invariant.laid t text base layers can) (let h = c.loop-left-test.false in omega (arith, h))

@@ -7,7 +7,6 @@ returns c = record {
   moves = c.items_decide.ensures.moves;
   tokens = c.tokens_of_states.ensures;
   known = c.tokens_are_known.ensures;
-  laid = c.stacks_are_laid.ensures;
   only_accepts = c.unused_symbols_end.ensures;
   begins = c.whole_to_the_next.ensures.begins;
 }

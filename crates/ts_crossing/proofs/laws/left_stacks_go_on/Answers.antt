@@ -5,26 +5,25 @@ use Rattle.spec_packing.specs.Serving.{ComesToServe}
 use Rattle.spec_crossing.specs.Leaving.{EndsBefore}
 use Rattle.ts_laying.specs.Sound.{bare_link, bare_links}
 use Rattle.ts_table.specs.Ranks.{unit_rank}
-use Rattle.ts_reductions.specs.Sound.{parsing_of}
-use Rattle.ts_crossing.specs.Parsing.{parsing_from}
-use Rattle.ts_crossing.proofs.LeftLemmas.{at_from, graph_from, reads, head_at_place, config_is, left_own}
+use Rattle.ts_reductions.specs.Sound.{parsing_from}
+use Rattle.ts_crossing.proofs.LeftLemmas.{reads, head_at_place, config_is, left_own}
 use Rattle.ts_crossing.proofs.laws.left_stacks_go_on.Goals as goal
 
 pub returns-clause-reached : goal.returns-clause-reached
-returns-clause-reached c t text g h numbers stacks k sound there s left =
+returns-clause-reached c t text base g h numbers stacks k sound there s left b reached begun =
     let laws = c.leave_laws_hold.ensures in
-    let at = head_at_place laws t text g sound h there numbers stacks k s left in
-    subst (λ (d : Configuration). IsReached t.grammar text d) (sym (config_is laws t text g sound h there numbers stacks k s left))
-    (c.one_stack_goes_on.ensures.reached (parsing_of t text) sound.laid.parsed.fit sound.laid.parsed.states g.heads (bare_links g.links) sound.laid.graph h k.place (reads laws t text g sound h there numbers stacks k s left).0 (map bare_link s.way) at s.only s.token)
+    let at = head_at_place laws t text base g sound h there numbers stacks k s left in
+    subst (λ (d : Configuration). IsReached t.grammar text d) (sym (config_is laws t text base g sound h there numbers stacks k s left))
+    (c.one_stack_goes_on.ensures.reached (parsing_from t text base) sound.laid.parsed.fit sound.laid.parsed.states b reached begun g.heads (bare_links g.links) sound.laid.graph h k.place (reads laws t text base g sound h there numbers stacks k s left).0 (map bare_link s.way) at s.only s.token)
 
 pub returns-clause-serves : goal.returns-clause-serves
-returns-clause-serves c t text g h numbers stacks k sound there s left base place b reached begun most ranked n whole early alone d rd serves =
+returns-clause-serves c t text base g h numbers stacks k sound there s left b reached begun most ranked n whole early alone d rd serves =
     let laws = c.leave_laws_hold.ensures in
-    let at = head_at_place laws t text g sound h there numbers stacks k s left in
-    subst (λ (e : Configuration). EndsBefore (parsing_from t text base place) g.heads (bare_links g.links) n d ⊎ ComesToServe t.grammar text e d) (sym (config_is laws t text g sound h there numbers stacks k s left))
-    (c.one_stack_goes_on.ensures.serves (parsing_from t text base place) sound.laid.parsed.fit sound.laid.parsed.states b reached begun (unit_rank t.grammar) most ranked g.heads (bare_links g.links)
-    (graph_from t text base place g.heads (bare_links g.links) sound.laid.graph) n whole early h k.place (reads laws t text g sound h there numbers stacks k s left).0 (map bare_link s.way)
-    (at_from t text base place g.heads h (reads laws t text g sound h there numbers stacks k s left).0 k.place at) alone s.only s.token d rd serves)
+    let at = head_at_place laws t text base g sound h there numbers stacks k s left in
+    subst (λ (e : Configuration). EndsBefore (parsing_from t text base) g.heads (bare_links g.links) n d ⊎ ComesToServe t.grammar text e d) (sym (config_is laws t text base g sound h there numbers stacks k s left))
+    (c.one_stack_goes_on.ensures.serves (parsing_from t text base) sound.laid.parsed.fit sound.laid.parsed.states b reached begun (unit_rank t.grammar) most ranked g.heads (bare_links g.links)
+    sound.laid.graph n whole early h k.place (reads laws t text base g sound h there numbers stacks k s left).0 (map bare_link s.way)
+    at alone s.only s.token d rd serves)
 
 pub returns-clause-own : goal.returns-clause-own
-returns-clause-own c t text g h numbers stacks k sound there s left own = left_own c.leave_laws_hold.ensures t text g sound h there numbers stacks k s left own
+returns-clause-own c t text base g h numbers stacks k sound there s left own = left_own c.leave_laws_hold.ensures t text base g sound h there numbers stacks k s left own
