@@ -1,6 +1,6 @@
 -- Runs lay entries one after another, and what is laid is reached.
 use Rattle.std.proofs.Common.{◌≡◌, ◌∙◌, sym, ap, refl, subst, ℕ, zero, suc, ◌+◌, ◌<◌, ◌≤◌, ◌⊎◌, inl, inr, Bool, true, false, true≢false, List, [], ◌∷◌, ◌++◌, append-nil, append_assoc, length, length-append, reverse, Option, Some, None, is_some, IsTrue, arith}
-use lib.IntN.{ℤ, ◌+ℤ◌}
+use lib.IntN.{◌+ℤ◌}
 use Rattle.std.proofs.lemmas.Bool.{cases_order}
 use Rattle.std.proofs.lemmas.List.{reverse-append, length-map, length-reverse}
 use Rattle.ts_core.specs.declared.flat.FlatGrammar.{FlatGrammar}

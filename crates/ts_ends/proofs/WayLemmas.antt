@@ -1,6 +1,6 @@
 -- Ways down from a head that accepts: what lies on them, and that extras at the start are always the
 -- same.
-use Rattle.std.proofs.Common.{◌≡◌, ◌∙◌, sym, ap, refl, subst, ℕ, suc, ◌+◌, List, [], ◌∷◌, ◌++◌, append-nil, length, map, arith}
+use Rattle.std.proofs.Common.{◌≡◌, ◌∙◌, sym, ap, refl, subst, ℕ, suc, List, [], ◌∷◌, ◌++◌, append-nil, length, map, arith}
 use Rattle.spec_grammar.specs.Symbols.{start_symbol}
 use Rattle.spec_tables.specs.Actions.{Act, accept}
 use Rattle.spec_trees.specs.declared.tree.Tree.{Tree}

@@ -1,4 +1,4 @@
-use Rattle.std.proofs.Common.{refl, true, false}
+use Rattle.std.proofs.Common.{refl}
 use Rattle.ts_places.proofs.FollowLemmas.{can_ask, can_sweep, nothing_asked, asked_by, none_asked_by, swept_by, deep_by, all_passed}
 use Rattle.ts_places.proofs.following.pass_place.Goals as goal
 
