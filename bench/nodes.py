@@ -434,7 +434,7 @@ impl Maker {
         let mut at = 0u32;
         let mut sum = 0u32;
         for _ in 0..rounds {
-            let moved = remake(alloc, &all[k], 0, all[k].size() + 1, &[(at, leaf(9, 1, 1))])?;
+            let moved = remake(alloc, &all[k], 0, all[k].size() + 1, &[(at, leaf(9, 1, 1))], &[])?;
             sum = sum.wrapping_add(moved.size());
             k = (k + 7_919) % all.len();
             at = at.wrapping_add(104_729) % count;

@@ -1,5 +1,5 @@
 -- Where one stack is left: it is reached, and what runs come to past a place is served from it.
-use Rattle.std.proofs.Common.{◌≡◌, ◌∙◌, sym, ap, refl, subst, ℕ, ◌+◌, ◌<◌, ◌≤◌, ◌⊎◌, inl, inr, false, true≢false, List, [], ◌∷◌, ◌++◌, append-nil, length, Option, Some, None, arith}
+use Rattle.std.proofs.Common.{◌≡◌, ◌∙◌, sym, ap, refl, subst, ℕ, ◌+◌, ◌-◌, ◌<◌, ◌≤◌, ◌⊎◌, inl, inr, false, true≢false, List, [], ◌∷◌, ◌++◌, append-nil, length, map, Option, Some, None, arith}
 use lib.IntN.{ℤ, ◌+ℤ◌}
 use Rattle.ts_core.specs.declared.flat.FlatGrammar.{FlatGrammar}
 use Rattle.ts_core.specs.declared.flat.Production.{Production}
@@ -7,7 +7,8 @@ use Rattle.ts_core.specs.declared.symbol.Symbol.{Symbol}
 use Rattle.spec_lexing.specs.Lexing.{token}
 use Rattle.spec_tables.specs.Actions.{Act, shift}
 use Rattle.spec_trees.specs.declared.tree.Tree.{Tree}
-use Rattle.spec_trees.specs.Trees.{production_of, is_extra_node, elements_of, children_of, total_of, all_totals, span_of, bare}
+use Rattle.spec_trees.specs.declared.tree.Element.{Element}
+use Rattle.spec_trees.specs.Trees.{production_of, is_extra_node, elements_of, children_of, total_of, all_totals, span_of, bare_element, bare}
 use Rattle.spec_trees.specs.Made.{IsLeaf, element, Form, of_rule, of_first, of_next, form_of, made_by, value_of, reduced, filling}
 use Rattle.spec_runs.specs.Configurations.{Configuration, token_tree, pushed}
 use Rattle.spec_runs.specs.Runs.{StepsOn, shift_token, Run, run_here, run_on, IsReached, ComesTooDeep}
@@ -37,28 +38,32 @@ snoc_some : {X : Type 0} (xs : List X) (x : X) → xs ++ x ∷ [] ≡ [] → ⊥
 snoc_some [] x e = cc
 snoc_some (y ∷ xs) x e = let h : y ∷ (xs ++ x ∷ []) ≡ [] = e in cc
 
+none_bared : (es : List Element) → map bare_element es ≡ [] → es ≡ []
+none_bared [] e = refl
+none_bared (x ∷ es) e = absurd (let h : bare_element x ∷ map bare_element es ≡ [] = e in cc)
+
 module _ (g : FlatGrammar) (number left : ℕ) (p : Production) (lawful : IsLawful g number left p) (ks : List Tree) (can : CanMake g number left p ks) where
   no_leaf_by : (f : Form) (value : ℤ) → form_of g left number ≡ f → production_of (made_by f left number value 0 None ks) ≡ None → elements_of (made_by f left number value 0 None ks) ≡ [] → ⊥
   no_leaf_by of_rule value e none empty =
       let o = over_says left (Some number) (value +ℤ all_totals ks) [] ks in
       let h : ◌≡◌ {A = Option ℕ} (Some number) None = sym o.production_is ∙ none in cc
   no_leaf_by (of_first a) value e none empty =
-      let o = over_says left None (value +ℤ all_totals ks) (element a (length ks) ∷ []) ks in
-      let h : element a (length ks) ∷ [] ≡ [] = sym o.elements_is ∙ empty in cc
+      let o = over_says left None (value +ℤ all_totals ks) (element a (length ks) value 0 ∷ []) ks in
+      let h : element a (length ks) value 0 ∷ [] ≡ [] = sym o.elements_is ∙ empty in cc
   no_leaf_by (of_next a) value e none empty = by ks refl
     where
       by : (us : List Tree) → ks ≡ us → ⊥
       by [] is = no_children g number left p lawful a e (subst (λ (l : List Tree). CanMake g number left p l) is can)
       by (u ∷ us) is =
-          let o = over_says left None (value +ℤ (total_of u +ℤ all_totals us)) (elements_of u ++ element a (length us) ∷ []) (children_of u ++ us) in
-          snoc_some (elements_of u) (element a (length us))
+          let o = over_says left None (value +ℤ (total_of u +ℤ all_totals us)) (elements_of u ++ element a (length us) value (0 - span_of u) ∷ []) (children_of u ++ us) in
+          snoc_some (elements_of u) (element a (length us) value (0 - span_of u))
           (sym o.elements_is ∙ subst (λ (l : List Tree). elements_of (made_by (of_next a) left number value 0 None l) ≡ []) is empty)
 
   no_leaf : RunLaws → IsLeaf (bare (reduced g number 0 None ks)) → ⊥
   no_leaf laws leaf =
       let k = laws.keeps (reduced g number 0 None ks) in
       let none : production_of (reduced g number 0 None ks) ≡ None = sym k.production ∙ leaf.production in
-      let empty : elements_of (reduced g number 0 None ks) ≡ [] = sym k.elements ∙ leaf.elements in
+      let empty : elements_of (reduced g number 0 None ks) ≡ [] = none_bared (elements_of (reduced g number 0 None ks)) (sym k.elements ∙ leaf.elements) in
       no_leaf_by (form_of g left number) (value_of g number) refl
       (subst (λ (s : ℕ). production_of (made_by (form_of g s number) s number (value_of g number) 0 None ks) ≡ None) (left_is g number left p lawful can.at) none)
       (subst (λ (s : ℕ). elements_of (made_by (form_of g s number) s number (value_of g number) 0 None ks) ≡ []) (left_is g number left p lawful can.at) empty)

@@ -1,5 +1,5 @@
 -- What reductions and acceptance leave of a stack whose trees stand.
-use Rattle.std.proofs.Common.{◌≡◌, ◌∙◌, sym, ap, refl, subst, ℕ, ◌+◌, ◌≤◌, ⊎_elim, List, [], ◌∷◌, ◌++◌, append_assoc, append-nil, length, reverse, drop, Option, Some, None, unwrap_or, option_map, arith}
+use Rattle.std.proofs.Common.{◌≡◌, ◌∙◌, sym, ap, refl, subst, ℕ, ◌+◌, ◌-◌, ◌≤◌, ⊎_elim, List, [], ◌∷◌, ◌++◌, append_assoc, append-nil, length, reverse, drop, Option, Some, None, unwrap_or, option_map, arith}
 use Rattle.std.proofs.lemmas.List.{reverse-append}
 use lib.IntN.{ℤ, ◌+ℤ◌}
 use Rattle.ts_base.specs.Bytes.{Bytes}
@@ -54,10 +54,10 @@ over_given symbol production dynamic extent state es ks =
 
 made_given : (f : Form) (symbol number : ℕ) (value : ℤ) (extent : ℕ) (state : Option ℕ) (ts : List Tree) → Given extent state (made_by f symbol number value extent state ts)
 made_given of_rule symbol number value extent state ts = over_given symbol (Some number) (value +ℤ all_totals ts) extent state [] ts
-made_given (of_first a) symbol number value extent state ts = over_given symbol None (value +ℤ all_totals ts) extent state (element a (length ts) ∷ []) ts
+made_given (of_first a) symbol number value extent state ts = over_given symbol None (value +ℤ all_totals ts) extent state (element a (length ts) value extent ∷ []) ts
 made_given (of_next a) symbol number value extent state [] = over_given symbol None value extent state [] []
 made_given (of_next a) symbol number value extent state (t ∷ ts) =
-    over_given symbol None (value +ℤ (total_of t +ℤ all_totals ts)) extent state (elements_of t ++ element a (length ts) ∷ []) (children_of t ++ ts)
+    over_given symbol None (value +ℤ (total_of t +ℤ all_totals ts)) extent state (elements_of t ++ element a (length ts) value (extent - span_of t) ∷ []) (children_of t ++ ts)
 
 module _ (g : FlatGrammar) (states : States) (text : Bytes) where
   sound_left : (xs ys : List Tree) (place : ℕ) → AllSound g states text (xs ++ ys) place → AllSound g states text xs place

@@ -72,10 +72,10 @@ kids_by (of_next a) (t ∷ ts) = children_of t ++ ts
 
 pub made_says : (f : Form) (symbol number : ℕ) (value : ℤ) (extent : ℕ) (state : Option ℕ) (ts : List Tree) → Over symbol (kids_by f ts) (made_by f symbol number value extent state ts)
 made_says of_rule symbol number value extent state ts = over_says symbol (Some number) (value +ℤ all_totals ts) extent state [] ts
-made_says (of_first a) symbol number value extent state ts = over_says symbol None (value +ℤ all_totals ts) extent state (element a (length ts) ∷ []) ts
+made_says (of_first a) symbol number value extent state ts = over_says symbol None (value +ℤ all_totals ts) extent state (element a (length ts) value extent ∷ []) ts
 made_says (of_next a) symbol number value extent state [] = over_says symbol None value extent state [] []
 made_says (of_next a) symbol number value extent state (t ∷ ts) =
-    over_says symbol None (value +ℤ (total_of t +ℤ all_totals ts)) extent state (elements_of t ++ element a (length ts) ∷ []) (children_of t ++ ts)
+    over_says symbol None (value +ℤ (total_of t +ℤ all_totals ts)) extent state (elements_of t ++ element a (length ts) value (extent - span_of t) ∷ []) (children_of t ++ ts)
 
 -- where the first child of a repetition takes the bytes of its own children
 pub kids_spans : (f : Form) (ts : List Tree) → ((a : ℕ) (t : Tree) (us : List Tree) → f ≡ of_next a → ts ≡ t ∷ us → span_of t ≡ all_spans (children_of t)) → all_spans (kids_by f ts) ≡ all_spans ts

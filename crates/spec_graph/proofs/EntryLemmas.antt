@@ -1,5 +1,5 @@
 -- The trees and extras that are laid on stacks: tokens, extras and nodes.
-use Rattle.std.proofs.Common.{◌≡◌, ◌∙◌, sym, ap, refl, subst, ℕ, ◌+◌, ◌<◌, ◌≤◌, max, Bool, true, false, true≢false, nat_eq, List, [], ◌∷◌, ◌++◌, append-nil, length, reverse, map, drop, Option, Some, None, unwrap_or, option_map, All, arith}
+use Rattle.std.proofs.Common.{◌≡◌, ◌∙◌, sym, ap, refl, subst, ℕ, ◌+◌, ◌-◌, ◌<◌, ◌≤◌, max, Bool, true, false, true≢false, nat_eq, List, [], ◌∷◌, ◌++◌, append-nil, length, reverse, map, drop, Option, Some, None, unwrap_or, option_map, All, arith}
 use Rattle.std.proofs.lemmas.List.{reverse-append, reverse-reverse, length-map, length-reverse}
 use Rattle.std.proofs.lemmas.List.Elements.{All-head, All-tail}
 use lib.IntN.{ℤ, pos, ◌+ℤ◌}
@@ -210,10 +210,10 @@ left_is g number left p at = ap (λ (o : Option (ℕ × Production)). unwrap_or 
 
 form_kind : (f : Form) (symbol number : ℕ) (value : ℤ) (ks : List Tree) → (symbol_of (made_by f symbol number value 0 None ks) ≡ symbol) × (is_extra_node (made_by f symbol number value 0 None ks) ≡ false)
 form_kind of_rule symbol number value ks = let o = over_says symbol (Some number) (value +ℤ all_totals ks) [] ks in (o.symbol_is, o.extra_is)
-form_kind (of_first a) symbol number value ks = let o = over_says symbol None (value +ℤ all_totals ks) (element a (length ks) ∷ []) ks in (o.symbol_is, o.extra_is)
+form_kind (of_first a) symbol number value ks = let o = over_says symbol None (value +ℤ all_totals ks) (element a (length ks) value 0 ∷ []) ks in (o.symbol_is, o.extra_is)
 form_kind (of_next a) symbol number value [] = let o = over_says symbol None value [] [] in (o.symbol_is, o.extra_is)
 form_kind (of_next a) symbol number value (k ∷ ks) =
-    let o = over_says symbol None (value +ℤ (total_of k +ℤ all_totals ks)) (elements_of k ++ element a (length ks) ∷ []) (children_of k ++ ks) in (o.symbol_is, o.extra_is)
+    let o = over_says symbol None (value +ℤ (total_of k +ℤ all_totals ks)) (elements_of k ++ element a (length ks) value (0 - span_of k) ∷ []) (children_of k ++ ks) in (o.symbol_is, o.extra_is)
 
 -- the symbol of the node of a reduction, which fills a step
 pub node_kind : RunLaws → (g : FlatGrammar) (number left : ℕ) (p : Production) → production_at g number ≡ Some (left, p) → (ks : List Tree) → (symbol_of (bare (reduced g number 0 None ks)) ≡ left) × (is_extra_node (bare (reduced g number 0 None ks)) ≡ false)
@@ -231,14 +231,14 @@ module _ (g : FlatGrammar) (number left : ℕ) (p : Production) (lawful : IsLawf
       let o = over_says left (Some number) (value_of g number +ℤ all_totals ks) [] ks in
       (o.symbol_is, o.extra_is, o.pad_is, omega (arith, o.pad_is, o.size_is, first_pad_within ks), omega (arith, o.depth_is))
   form_says (of_first a) ks e c =
-      let o = over_says left None (value_of g number +ℤ all_totals ks) (element a (length ks) ∷ []) ks in
+      let o = over_says left None (value_of g number +ℤ all_totals ks) (element a (length ks) (value_of g number) 0 ∷ []) ks in
       (o.symbol_is, o.extra_is, o.pad_is, omega (arith, o.pad_is, o.size_is, first_pad_within ks), omega (arith, o.depth_is))
   form_says (of_next a) [] e c = absurd (no_children g number left p lawful a e c)
   form_says (of_next a) (before ∷ more) e c =
       let x = before_flat g number left p lawful a before more e (next_is_flat g number left p lawful a e) c in
       let some : 0 < all_spans (children_of before) = omega (arith, first_some g number left p before more c, x.whole.span) in
       let all : List Tree = children_of before ++ more in
-      let o = over_says left None (value_of g number +ℤ (total_of before +ℤ all_totals more)) (elements_of before ++ element a (length more) ∷ []) all in
+      let o = over_says left None (value_of g number +ℤ (total_of before +ℤ all_totals more)) (elements_of before ++ element a (length more) (value_of g number) (0 - span_of before) ∷ []) all in
       let deep : tree_depth before ≡ 1 + greatest_depth (children_of before) = fold_out-Tree ℕ depth_step before in (
         o.symbol_is,
         o.extra_is,

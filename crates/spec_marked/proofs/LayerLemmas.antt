@@ -1,5 +1,5 @@
 -- The parts of a marked node, and what is added up over it.
-use Rattle.std.proofs.Common.{◌≡◌, ◌∙◌, sym, ap, refl, ℕ, zero, suc, ◌+◌, ◌-◌, ◌≤◌, arith, false, not, ◌&&◌, List, [], ◌∷◌, length}
+use Rattle.std.proofs.Common.{◌≡◌, ◌∙◌, sym, ap, refl, ℕ, zero, suc, ◌+◌, ◌-◌, ◌≤◌, arith, false, not, ◌&&◌, List, [], ◌∷◌, length, map}
 use Rattle.ts_text.specs.declared.edit.Edit.{Edit}
 use Rattle.spec_trees.specs.declared.tree.Tree.{Tree}
 use Rattle.spec_trees.specs.declared.tree.Element.{Element}
@@ -9,7 +9,8 @@ use Rattle.spec_trees.specs.declared.tree.Tree.TheFolds.{para-roll-Tree, fold_ou
 use Rattle.spec_trees.specs.Trees.{children_of, elements_of, pad_of, size_of, span_of, all_spans, node_extent, is_settled, total_of, node_count, nodes_step, all_nodes, tree_depth, depth_step, greatest_depth}
 use Rattle.spec_reuse.specs.Places.{lead_of}
 use Rattle.spec_reuse.specs.Changes.{is_met, moved}
-use Rattle.spec_reuse.specs.Marked.{Marking, marked_step, marked_below, all_marked, marked}
+use Rattle.spec_reuse.specs.Marked.{Marking, marked_step, marked_below, all_marked, marked_elements, marked}
+use Rattle.ts_marks.proofs.ElementLemmas.{length-marked}
 use Rattle.spec_marked.proofs.MovedLemmas.{moved_rises}
 
 -- ---- below the root
@@ -19,11 +20,18 @@ layer e t place = record (out-Tree t) {
   pad = moved e (place + pad_of t) - moved e place;
   size = moved e (place + span_of t) - moved e (place + pad_of t);
   settled = is_settled t && not (is_met e.parts place (node_extent t));
+  elements = marked_elements e (elements_of t) (children_of t) place;
   children = all_marked e (children_of t) place;
 }
 
+firsts : (e : Edit) (ts : List Tree) → map (λ (c : Tree × Marking). c.0) (map (λ (t : Tree). (t, marked_below e t)) ts) ≡ ts
+firsts e [] = refl
+firsts e (t ∷ ts) = ap (λ (xs : List Tree). t ∷ xs) (firsts e ts)
+
 below_is : (e : Edit) (t : Tree) (place : ℕ) → marked_below e t place ≡ roll-Tree (layer e t place)
-below_is e t place = ap (λ (f : Marking). f place) (ap (marked_below e) (sym (roll-out-Tree t)) ∙ para-roll-Tree Marking (marked_step e) (out-Tree t))
+below_is e t place =
+    ap (λ (f : Marking). f place) (ap (marked_below e) (sym (roll-out-Tree t)) ∙ para-roll-Tree Marking (marked_step e) (out-Tree t))
+    ∙ ap (λ (ks : List Tree). roll-Tree (record (layer e t place) { elements = marked_elements e (elements_of t) ks place })) (firsts e (children_of t))
 
 out_is : (e : Edit) (t : Tree) (place : ℕ) → out-Tree (marked_below e t place) ≡ layer e t place
 out_is e t place = ap out-Tree (below_is e t place) ∙ out-roll-Tree (layer e t place)
@@ -31,7 +39,7 @@ out_is e t place = ap out-Tree (below_is e t place) ∙ out-roll-Tree (layer e t
 pub children_are : (e : Edit) (t : Tree) (place : ℕ) → children_of (marked_below e t place) ≡ all_marked e (children_of t) place
 children_are e t place = ap (λ (x : Tree-F Tree). x.children) (out_is e t place)
 
-pub elements_are : (e : Edit) (t : Tree) (place : ℕ) → elements_of (marked_below e t place) ≡ elements_of t
+pub elements_are : (e : Edit) (t : Tree) (place : ℕ) → elements_of (marked_below e t place) ≡ marked_elements e (elements_of t) (children_of t) place
 elements_are e t place = ap (λ (x : Tree-F Tree). x.elements) (out_is e t place)
 
 pub total_is : (e : Edit) (t : Tree) (place : ℕ) → total_of (marked_below e t place) ≡ total_of t
@@ -73,6 +81,7 @@ top_layer e t = record (out-Tree t) {
   pad = moved e (pad_of t);
   size = moved e (span_of t) - moved e (pad_of t);
   settled = false;
+  elements = marked_elements e (elements_of t) (children_of t) (lead_of t);
   children = all_marked e (children_of t) (lead_of t);
 }
 
@@ -82,7 +91,7 @@ root_is e t = out-roll-Tree (top_layer e t)
 pub root_children : (e : Edit) (t : Tree) → children_of (marked e t) ≡ all_marked e (children_of t) (lead_of t)
 root_children e t = ap (λ (x : Tree-F Tree). x.children) (root_is e t)
 
-pub root_elements : (e : Edit) (t : Tree) → elements_of (marked e t) ≡ elements_of t
+pub root_elements : (e : Edit) (t : Tree) → elements_of (marked e t) ≡ marked_elements e (elements_of t) (children_of t) (lead_of t)
 root_elements e t = ap (λ (x : Tree-F Tree). x.elements) (root_is e t)
 
 pub root_total : (e : Edit) (t : Tree) → total_of (marked e t) ≡ total_of t
@@ -116,10 +125,15 @@ abbrev AreAsGreat : List Tree → List Tree → Type 0
 AreAsGreat us ts = (all_nodes us ≡ all_nodes ts) × (greatest_depth us ≡ greatest_depth ts)
 
 -- two nodes with as many elements, over children that are as great
-great_over : (u t : Tree) → elements_of u ≡ elements_of t → AreAsGreat (children_of u) (children_of t) → IsAsGreat u t
-great_over u t same great =
-    let l : length (elements_of u) ≡ length (elements_of t) = ap (λ (es : List Element). length es) same in
-    (omega (arith, count_is u, count_is t, l, great.0), omega (arith, depth_is u, depth_is t, great.1))
+great_over : (u t : Tree) → length (elements_of u) ≡ length (elements_of t) → AreAsGreat (children_of u) (children_of t) → IsAsGreat u t
+great_over u t many great =
+    (omega (arith, count_is u, count_is t, many, great.0), omega (arith, depth_is u, depth_is t, great.1))
+
+many_below : (e : Edit) (t : Tree) (place : ℕ) → length (elements_of (marked_below e t place)) ≡ length (elements_of t)
+many_below e t place = ap (λ (es : List Element). length es) (elements_are e t place) ∙ length-marked e (elements_of t) (children_of t) place
+
+many_root : (e : Edit) (t : Tree) → length (elements_of (marked e t)) ≡ length (elements_of t)
+many_root e t = ap (λ (es : List Element). length es) (root_elements e t) ∙ length-marked e (elements_of t) (children_of t) (lead_of t)
 
 great_by : (us ts over : List Tree) → us ≡ over → AreAsGreat over ts → AreAsGreat us ts
 great_by us ts over is great = (ap all_nodes is ∙ great.0, ap greatest_depth is ∙ great.1)
@@ -134,7 +148,7 @@ great_list n e below (t ∷ ts) place h =
 great_below : (n : ℕ) (e : Edit) (t : Tree) (place : ℕ) → tree_depth t ≤ n → IsAsGreat (marked_below e t place) t
 great_below zero e t place h = absurd (omega (arith, h, depth_is t))
 great_below (suc n) e t place h =
-    great_over (marked_below e t place) t (elements_are e t place)
+    great_over (marked_below e t place) t (many_below e t place)
     (great_by (children_of (marked_below e t place)) (children_of t) (all_marked e (children_of t) place) (children_are e t place)
     (great_list n e (great_below n e) (children_of t) place (omega (arith, h, depth_is t))))
 
@@ -143,6 +157,6 @@ as_great e t place = great_below (tree_depth t) e t place (omega arith)
 
 pub root_as_great : (e : Edit) (t : Tree) → IsAsGreat (marked e t) t
 root_as_great e t =
-    great_over (marked e t) t (root_elements e t)
+    great_over (marked e t) t (many_root e t)
     (great_by (children_of (marked e t)) (children_of t) (all_marked e (children_of t) (lead_of t)) (root_children e t)
     (great_list (greatest_depth (children_of t)) e (λ u place h. as_great e u place) (children_of t) (lead_of t) (omega arith)))

@@ -1,21 +1,23 @@
 -- What an edit leaves of a whole tree is whole.
-use Rattle.std.proofs.Common.{◌≡◌, ◌∙◌, sym, ap, subst, refl, ℕ, zero, suc, ◌+◌, ◌-◌, ◌*◌, ◌^◌, ◌<◌, ◌≤◌, ◌⊎◌, inl, inr, ⊎_elim, arith, Bool, true, false, true≢false, List, [], ◌∷◌, length, slice_get, Some}
+use Rattle.std.proofs.Common.{◌≡◌, ◌∙◌, sym, ap, subst, refl, ℕ, zero, suc, ◌+◌, ◌-◌, ◌*◌, ◌^◌, ◌<◌, ◌≤◌, ◌⊎◌, inl, inr, ⊎_elim, arith, Bool, true, false, true≢false, List, [], ◌∷◌, slice_get, Some}
 use Rattle.std.proofs.lemmas.Option.{slice_get_within}
 use Rattle.std.specs.Int.RustNames.{unsigned_abs}
 use lib.IntN.{ℤ}
 use Rattle.ts_text.specs.declared.edit.Edit.{Edit}
 use Rattle.spec_trees.specs.declared.tree.Tree.{Tree}
-use Rattle.spec_trees.specs.declared.tree.Element.{Element}
-use Rattle.spec_trees.specs.Trees.{children_of, elements_of, span_of, all_spans, is_settled, total_of, node_count}
-use Rattle.spec_trees.specs.Made.{IsNode, AreCounted, node_limit, most_span, most_depth}
+use Rattle.spec_trees.specs.Trees.{children_of, span_of, all_spans, is_settled, total_of, node_count}
+use Rattle.spec_trees.specs.Made.{IsNode, node_limit, most_span, most_depth}
 use Rattle.spec_trees.specs.Inside.{IsNodeIn}
 use Rattle.spec_trees.specs.Inside as nodes
 use Rattle.spec_reuse.specs.Places.{IsIn, here, inside, later, IsInTree, IsWhole, lead_of}
 use Rattle.spec_reuse.specs.Changes.{moved, IsEditOver}
 use Rattle.spec_reuse.specs.Marked.{marked_below, all_marked, marked}
+use Rattle.ts_marks.specs.Parts.{AreOrdered}
+use Rattle.ts_marks.proofs.RemadeLemmas.{edit_ordered}
+use Rattle.ts_marks.proofs.ElementLemmas.{SaysOfElements, elements_say}
 use Rattle.spec_marked.specs.Laws.{MarkedLaws}
 use Rattle.spec_marked.proofs.MovedLemmas.{moved_rises, moved_within}
-use Rattle.spec_marked.proofs.LayerLemmas.{IsAsGreat, children_are, elements_are, total_is, span_is, spans_are, root_children, root_elements, root_total, root_unsettled, root_span, length_is, as_great, root_as_great}
+use Rattle.spec_marked.proofs.LayerLemmas.{IsAsGreat, children_are, elements_are, total_is, span_is, spans_are, root_children, root_elements, root_total, root_unsettled, root_span, as_great, root_as_great}
 
 -- ---- the place of a node
 
@@ -95,52 +97,57 @@ came e t m _ w is (nodes.inside u v k h at) = by (came e t m u w is h)
 
 -- ---- nodes that are not settled
 
-counted_so : (es : List Element) (ts us : List Tree) → length us ≡ length ts → AreCounted es ts → AreCounted es us
-counted_so [] ts us l c = tt
-counted_so (e ∷ es) ts us l c = c ∙ sym l
-
-counted_as : (fs es : List Element) (ts us : List Tree) → fs ≡ es → length us ≡ length ts → AreCounted es ts → AreCounted fs us
-counted_as fs es ts us same l c = subst (λ (x : List Element). AreCounted x us) (sym same) (counted_so es ts us l c)
-
--- a node that is not settled, over another node's elements and as many children
-node_like : (u t : Tree) → IsNode t → IsAsGreat u t → elements_of u ≡ elements_of t → length (children_of u) ≡ length (children_of t) → total_of u ≡ total_of t → span_of u ≤ most_span → all_spans (children_of u) ≤ span_of u → is_settled u ≡ false → IsNode u
-node_like u t n great elements many total short within loose = record {
+-- a node that is not settled, as great as another one
+node_like : (u t : Tree) → IsNode t → IsAsGreat u t → SaysOfElements u → total_of u ≡ total_of t → span_of u ≤ most_span → all_spans (children_of u) ≤ span_of u → is_settled u ≡ false → IsNode u
+node_like u t n great says total short within loose = record {
   sized = record {
     few = subst (λ (m : ℕ). m < node_limit) (sym great.0) n.sized.few;
     short = short;
     within = within;
     shallow = subst (λ (m : ℕ). m ≤ most_depth) (sym great.1) n.sized.shallow;
   };
-  counted = counted_as (elements_of u) (elements_of t) (children_of t) (children_of u) elements many n.counted;
+  counted = says.counted;
   modest = subst (λ (m : ℕ). unsigned_abs (total_of u) ≤ 2 ^ 31 * m) (sym great.0) (subst (λ (z : ℤ). unsigned_abs z ≤ 2 ^ 31 * node_count t) (sym total) n.modest);
+  totalled = says.totalled;
   settled = λ s. absurd (true≢false (sym s ∙ loose));
+  elements = says.elements;
 }
 
-below_node : (e : Edit) (t : Tree) (place most : ℕ) → IsNode t → place + span_of t ≤ most → moved e most ≤ most_span → is_settled (marked_below e t place) ≡ false → IsNode (marked_below e t place)
-below_node e t place most n far short loose =
+below_node : (e : Edit) (t : Tree) (place most : ℕ) → AreOrdered 0 e.parts → IsWhole t → place + span_of t ≤ most → moved e most ≤ most_span → is_settled (marked_below e t place) ≡ false → IsNode (marked_below e t place)
+below_node e t place most o w far short loose =
     let u : Tree = marked_below e t place in
+    let n : IsNode t = w t nodes.itself in
     let c : children_of u ≡ all_marked e (children_of t) place = children_are e t place in
     let a : all_spans (children_of u) ≡ moved e (place + all_spans (children_of t)) - moved e place = ap all_spans c ∙ spans_are e (children_of t) place in
     let s : span_of u ≡ moved e (place + span_of t) - moved e place = span_is e t place in
-    node_like u t n (as_great e t place) (elements_are e t place)
-    (ap (λ (ts : List Tree). length ts) c ∙ length_is e (children_of t) place)
+    node_like u t n (as_great e t place)
+    (elements_say e t u place o w (elements_are e t place) c (total_is e t place))
     (total_is e t place)
     (omega (arith, s, short, moved_rises e (place + span_of t) most far))
     (omega (arith, a, s, moved_rises e (place + all_spans (children_of t)) (place + span_of t) (omega (arith, n.sized.within))))
     loose
 
-root_node : (e : Edit) (t : Tree) → IsNode t → moved e (span_of t) ≤ most_span → IsNode (marked e t)
-root_node e t n short =
+root_node : (e : Edit) (t : Tree) → AreOrdered 0 e.parts → IsWhole t → moved e (span_of t) ≤ most_span → IsNode (marked e t)
+root_node e t o w short =
     let u : Tree = marked e t in
+    let n : IsNode t = w t nodes.itself in
     let c : children_of u ≡ all_marked e (children_of t) (lead_of t) = root_children e t in
     let a : all_spans (children_of u) ≡ moved e (lead_of t + all_spans (children_of t)) - moved e (lead_of t) = ap all_spans c ∙ spans_are e (children_of t) (lead_of t) in
     let s : span_of u ≡ moved e (span_of t) = root_span e t in
-    node_like u t n (root_as_great e t) (root_elements e t)
-    (ap (λ (ts : List Tree). length ts) c ∙ length_is e (children_of t) (lead_of t))
+    node_like u t n (root_as_great e t)
+    (elements_say e t u (lead_of t) o w (root_elements e t) c (root_total e t))
     (root_total e t)
     (omega (arith, s, short))
     (omega (arith, a, s, moved_rises e (lead_of t + all_spans (children_of t)) (span_of t) (omega (arith, n.sized.within))))
     (root_unsettled e t)
+
+-- the nodes in a node of a whole tree are nodes
+through : (a b c : Tree) → IsNodeIn a b → IsNodeIn b c → IsNodeIn a c
+through a b _ h nodes.itself = h
+through a b c h (nodes.inside d _ k i e) = nodes.inside d c k (through a b d h i) e
+
+whole_in : (t u : Tree) → IsWhole t → IsNodeIn t u → IsWhole u
+whole_in t u w there v h = w v (through t u v there h)
 
 -- ---- the whole tree
 
@@ -156,7 +163,7 @@ stays_whole laws e t w over u h = by (is_settled u) refl
         let was = laws.was_clear e t u p.0 w over p.1 s in
         w u (node_of t u was.place was.there)
     by false s = ⊎_elim
-        (λ r. subst (λ (x : Tree). IsNode x) (sym r) (root_node e t (w t nodes.itself) (still_short e t over)))
+        (λ r. subst (λ (x : Tree). IsNode x) (sym r) (root_node e t (edit_ordered (span_of t) e over) w (still_short e t over)))
         (λ f. subst (λ (x : Tree). IsNode x) (sym f.is)
-        (below_node e f.node f.place (span_of t) (w f.node f.there) f.within (still_short e t over) (sym (ap is_settled f.is) ∙ s)))
+        (below_node e f.node f.place (span_of t) (edit_ordered (span_of t) e over) (whole_in t f.node w f.there) f.within (still_short e t over) (sym (ap is_settled f.is) ∙ s)))
         (came e t (marked e t) u w refl h)

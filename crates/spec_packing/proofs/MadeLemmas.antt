@@ -15,7 +15,7 @@ use Rattle.spec_trees.specs.declared.tree.Element.{Element}
 use Rattle.spec_trees.specs.declared.tree.Tree.TheOpen.{Tree-F}
 use Rattle.spec_trees.specs.declared.tree.Tree.TheViews.{roll-Tree, out-roll-Tree}
 use Rattle.spec_trees.specs.declared.tree.Tree.TheFolds.{fold_out-Tree, fold-roll-Tree}
-use Rattle.spec_trees.specs.Trees.{symbol_of, production_of, pad_of, size_of, is_extra_node, elements_of, children_of, total_of, all_totals, span_of, all_spans, first_pad, tree_depth, depth_step, greatest_depth, bare}
+use Rattle.spec_trees.specs.Trees.{symbol_of, production_of, pad_of, size_of, is_extra_node, elements_of, children_of, total_of, all_totals, span_of, all_spans, first_pad, tree_depth, depth_step, greatest_depth, bare_element, bare}
 use Rattle.spec_trees.specs.Made.{leaf_of, as_extra, node_over, element, Form, of_rule, of_first, of_next, repetition_form, form_of, made_by, left_of, value_of, reduced, filling, step_symbols, BeginsFilled, children_count, AreCounted}
 use Rattle.spec_trees.specs.Choice.{code_of, code_step, inner_code, element_codes, has_form}
 use Rattle.spec_runs.specs.BareTrees.{KeepsAll}
@@ -201,9 +201,18 @@ module _ (keeps : (t : Tree) → KeepsAll t) where
   bare_spans [] = refl
   bare_spans (k ∷ ks) = let p = (keeps k).pad in let s = (keeps k).size in omega (arith, p, s, bare_spans ks)
 
-  bare_counted : (es : List Element) (ks : List Tree) → AreCounted es ks → AreCounted es (map bare ks)
+  bare_counts : (es : List Element) → children_count (map bare_element es) ≡ children_count es
+  bare_counts [] = refl
+  bare_counts (e ∷ es) = ap (λ (n : ℕ). e.children + n) (bare_counts es)
+
+  bare_counted : (es : List Element) (ks : List Tree) → AreCounted es ks → AreCounted (map bare_element es) (map bare ks)
   bare_counted [] ks h = tt
-  bare_counted (e ∷ es) ks h = h ∙ sym (length-map ks bare)
+  bare_counted (e ∷ es) ks h = bare_counts (e ∷ es) ∙ h ∙ sym (length-map ks bare)
+
+  bare_form : (b : Bool) (es : List Element) → has_form b es ≡ true → has_form b (map bare_element es) ≡ true
+  bare_form b [] h = h
+  bare_form true (e ∷ es) h = refl
+  bare_form false (e ∷ es) h = absurd (true≢false (sym h))
 
   pub made_bare : (g : FlatGrammar) (t : Tree) → IsMade g t → IsMade g (bare t)
   made_bare g t m =
@@ -212,10 +221,10 @@ module _ (keeps : (t : Tree) → KeepsAll t) where
       record {
         spelled = subst (λ (l : List ℕ). Words g false 1 l) (sym k.code) m.spelled;
         form = subst (λ (n : ℕ). has_form (is_repetition g n) (elements_of (bare t)) ≡ true) (sym k.symbol)
-            (subst (λ (l : List Element). has_form (is_repetition g (symbol_of t)) l ≡ true) (sym k.elements) m.form);
+            (subst (λ (l : List Element). has_form (is_repetition g (symbol_of t)) l ≡ true) (sym k.elements) (bare_form (is_repetition g (symbol_of t)) (elements_of t) m.form));
         counted = subst (λ (l : List Element). AreCounted l (children_of (bare t))) (sym k.elements)
-            (subst (λ (l : List Tree). AreCounted (elements_of t) l) (sym k.children) (bare_counted (elements_of t) (children_of t) m.counted));
-        numberless = λ h. k.production ∙ m.numberless (subst (λ (l : List Element). 0 < length l) k.elements h);
+            (subst (λ (l : List Tree). AreCounted (map bare_element (elements_of t)) l) (sym k.children) (bare_counted (elements_of t) (children_of t) m.counted));
+        numberless = λ h. k.production ∙ m.numberless (subst (λ (n : ℕ). 0 < n) (length-map (elements_of t) bare_element) (subst (λ (l : List Element). 0 < length l) k.elements h));
         whole = λ h.
             let w = m.whole (subst (λ (n : ℕ). start_symbol g ≤ n) k.symbol h) in
             record {
@@ -226,7 +235,7 @@ module _ (keeps : (t : Tree) → KeepsAll t) where
             (λ u. inr (subst (λ (n : ℕ). IsUnused g n) (sym k.symbol) u.0, k.children ∙ ap (map bare) u.1)) m.some;
         extra = λ h. let p = m.extra (sym k.extra ∙ h) in record {
           production = k.production ∙ p.production;
-          elements = k.elements ∙ p.elements;
+          elements = k.elements ∙ ap (map bare_element) p.elements;
           children = k.children ∙ ap (map bare) p.children;
         };
       }
@@ -248,8 +257,8 @@ all_words g (t ∷ ts) a =
     (words_append g false 1 (length ts) (code_of t) (concat (map code_of ts)) a.0.spelled (all_words g ts a.1))
 
 -- the code of one element, and of one more
-pub last_code : (a n : ℕ) (codes : List (List ℕ)) → length codes ≡ n → element_codes (element a n ∷ []) codes ≡ a ∷ n ∷ concat codes
-last_code a n codes e =
+pub last_code : (a n : ℕ) (value : ℤ) (extent : ℕ) (codes : List (List ℕ)) → length codes ≡ n → element_codes (element a n value extent ∷ []) codes ≡ a ∷ n ∷ concat codes
+last_code a n value extent codes e =
     ap (λ (l : List (List ℕ)). a ∷ n ∷ (concat l ++ [])) (take_all n codes (omega (arith, e)))
     ∙ ap (λ (l : List ℕ). a ∷ n ∷ l) (append-nil (concat codes))
 
@@ -378,30 +387,30 @@ map_append [] ys = refl
 map_append (x ∷ xs) ys = ap (λ (l : List (List ℕ)). code_of x ∷ l) (map_append xs ys)
 
 -- the codes of a repetition with one more element
-pub next_codes : (g : FlatGrammar) (symbol a : ℕ) (before : Tree) (more : List Tree) → IsFlat g symbol before
-    → inner_code (elements_of before ++ element a (length more) ∷ []) (map code_of (children_of before ++ more))
+pub next_codes : (g : FlatGrammar) (symbol a : ℕ) (value : ℤ) (extent : ℕ) (before : Tree) (more : List Tree) → IsFlat g symbol before
+    → inner_code (elements_of before ++ element a (length more) value extent ∷ []) (map code_of (children_of before ++ more))
     ≡ (1 + length (elements_of before)) ∷ (element_codes (elements_of before) (map code_of (children_of before)) ++ a ∷ length more ∷ concat (map code_of more))
-next_codes g symbol a before more f =
+next_codes g symbol a value extent before more f =
     let es = elements_of before in
     let cs : List (List ℕ) = map code_of (children_of before) in
     let ds : List (List ℕ) = map code_of more in
-    let last : Element = element a (length more) in
+    let last : Element = element a (length more) value extent in
     let many : length (es ++ last ∷ []) ≡ 1 + length es = omega (arith, length-append es (last ∷ [])) in
     inner_of_some (es ++ last ∷ []) (map code_of (children_of before ++ more)) (omega (arith, many))
     ∙ ap (λ (n : ℕ). n ∷ element_codes (es ++ last ∷ []) (map code_of (children_of before ++ more))) many
     ∙ ap (λ (l : List ℕ). (1 + length es) ∷ l)
     (ap (λ (l : List (List ℕ)). element_codes (es ++ last ∷ []) l) (map_append (children_of before) more)
     ∙ longer_codes es last cs ds (f.counted ∙ sym (length-map (children_of before) code_of))
-    ∙ ap (λ (l : List ℕ). element_codes es cs ++ l) (last_code a (length more) ds (length-map more code_of)))
+    ∙ ap (λ (l : List ℕ). element_codes es cs ++ l) (last_code a (length more) value extent ds (length-map more code_of)))
 
 -- the codes of a repetition of one element
-pub first_codes : (a : ℕ) (ks : List Tree) → inner_code (element a (length ks) ∷ []) (map code_of ks) ≡ 1 ∷ a ∷ length ks ∷ concat (map code_of ks)
-first_codes a ks =
-    let es : List Element = element a (length ks) ∷ [] in
+pub first_codes : (a : ℕ) (value : ℤ) (extent : ℕ) (ks : List Tree) → inner_code (element a (length ks) value extent ∷ []) (map code_of ks) ≡ 1 ∷ a ∷ length ks ∷ concat (map code_of ks)
+first_codes a value extent ks =
+    let es : List Element = element a (length ks) value extent ∷ [] in
     let single : length es ≡ 1 = omega arith in
     inner_of_some es (map code_of ks) (omega arith)
     ∙ ap (λ (n : ℕ). n ∷ element_codes es (map code_of ks)) single
-    ∙ ap (λ (l : List ℕ). 1 ∷ l) (last_code a (length ks) (map code_of ks) (length-map ks code_of))
+    ∙ ap (λ (l : List ℕ). 1 ∷ l) (last_code a (length ks) value extent (map code_of ks) (length-map ks code_of))
 
 -- ---- the node of a reduction
 
@@ -452,32 +461,32 @@ module _ (g : FlatGrammar) (number left : ℕ) (p : Production) (lawful : IsLawf
     some = children_some ks c;
   }
 
-  first_fit : (a : ℕ) (ks : List Tree) → is_repetition g left ≡ true → CanMake g number left p ks → OverFit g left None (element a (length ks) ∷ []) ks
+  first_fit : (a : ℕ) (ks : List Tree) → is_repetition g left ≡ true → CanMake g number left p ks → OverFit g left None (element a (length ks) (value_of g number) 0 ∷ []) ks
   first_fit a ks rep c = record {
     count = 1;
     inner = a ∷ length ks ∷ concat (map code_of ks);
-    inner_is = first_codes a ks;
+    inner_is = first_codes a (value_of g number) 0 ks;
     words = subst (λ (b : Bool). Words g b 1 (a ∷ length ks ∷ concat (map code_of ks))) (sym rep)
         (one_element g a (length ks) (concat (map code_of ks)) (all_words g ks c.made));
-    form = form_of_some (is_repetition g left) (element a (length ks) ∷ []) rep (omega arith);
+    form = form_of_some (is_repetition g left) (element a (length ks) (value_of g number) 0 ∷ []) rep (omega arith);
     counted = omega arith;
     numberless = λ h. refl;
     some = inl (flat_some ks rep c);
   }
 
   next_fit : (a : ℕ) (before : Tree) (more : List Tree) → form_of g left number ≡ of_next a → is_repetition g left ≡ true → CanMake g number left p (before ∷ more)
-      → OverFit g left None (elements_of before ++ element a (length more) ∷ []) (children_of before ++ more)
+      → OverFit g left None (elements_of before ++ element a (length more) (value_of g number) (0 - span_of before) ∷ []) (children_of before ++ more)
   next_fit a before more form rep c =
       let f = before_flat a before more form rep c in
       let es = elements_of before in
       let ks = children_of before in
-      let last : List Element = element a (length more) ∷ [] in
+      let last : List Element = element a (length more) (value_of g number) (0 - span_of before) ∷ [] in
       let own : List ℕ = element_codes es (map code_of ks) in
       let added : List ℕ = a ∷ length more ∷ concat (map code_of more) in
       record {
         count = 1 + length es;
         inner = own ++ added;
-        inner_is = next_codes g left a before more f;
+        inner_is = next_codes g left a (value_of g number) (0 - span_of before) before more f;
         words = subst (λ (b : Bool). Words g b (1 + length es) (own ++ added)) (sym rep)
             (words_counted g true (length es + 1) (1 + length es) (own ++ added) (omega arith)
             (words_append g true (length es) 1 own added f.words (one_element g a (length more) (concat (map code_of more)) (all_words g more c.made.1))));
@@ -493,12 +502,12 @@ module _ (g : FlatGrammar) (number left : ℕ) (p : Production) (lawful : IsLawf
       made_over g left (Some number) total [] ks (node_over left (Some number) total 0 None [] ks) (over_says left (Some number) total [] ks) (rule_fit ks (rule_is_plain e) c)
   made_by_form (of_first a) ks e c =
       let total = value_of g number +ℤ all_totals ks in
-      let es : List Element = element a (length ks) ∷ [] in
+      let es : List Element = element a (length ks) (value_of g number) 0 ∷ [] in
       made_over g left None total es ks (node_over left None total 0 None es ks) (over_says left None total es ks) (first_fit a ks (first_is_flat a e) c)
   made_by_form (of_next a) [] e c = absurd (no_children a e c)
   made_by_form (of_next a) (before ∷ more) e c =
       let total = value_of g number +ℤ (total_of before +ℤ all_totals more) in
-      let es : List Element = elements_of before ++ element a (length more) ∷ [] in
+      let es : List Element = elements_of before ++ element a (length more) (value_of g number) (0 - span_of before) ∷ [] in
       let ks : List Tree = children_of before ++ more in
       made_over g left None total es ks (node_over left None total 0 None es ks) (over_says left None total es ks) (next_fit a before more e (next_is_flat a e) c)
 

@@ -8,7 +8,7 @@ use Rattle.ts_core.specs.declared.flat.Production.{Production}
 use Rattle.spec_trees.specs.declared.tree.Tree.{Tree}
 use Rattle.spec_trees.specs.declared.tree.Element.{Element}
 use Rattle.spec_trees.specs.declared.tree.Tree.TheFolds.{fold_out-Tree}
-use Rattle.spec_trees.specs.Trees.{pad_of, size_of, elements_of, children_of, total_of, all_totals, all_spans, first_pad, tree_depth, depth_step, greatest_depth}
+use Rattle.spec_trees.specs.Trees.{pad_of, size_of, elements_of, children_of, total_of, all_totals, span_of, all_spans, first_pad, tree_depth, depth_step, greatest_depth}
 use Rattle.spec_trees.specs.Made.{node_over, element, Form, of_rule, of_first, of_next, form_of, made_by, value_of, reduced}
 use Rattle.spec_trees.specs.Choice.{code_of, inner_code, element_codes}
 use Rattle.spec_packing.specs.Serving.{ServesFor, AllServe}
@@ -92,13 +92,13 @@ module _ (g : FlatGrammar) (number left : ℕ) (p : Production) (lawful : IsLawf
       let v = value_of g number in
       let d = v +ℤ all_totals ts in
       let e = v +ℤ all_totals us in
-      let es : List Element = element k (length ts) ∷ [] in
-      let fs : List Element = element k (length us) ∷ [] in
+      let es : List Element = element k (length ts) v 0 ∷ [] in
+      let fs : List Element = element k (length us) v 0 ∷ [] in
       let xs : List ℕ = concat (map code_of ts) in
       let ys : List ℕ = concat (map code_of us) in
       serves_over left None d e es fs ts us (node_over left None d 0 None es ts) (node_over left None e 0 None fs us)
       (over_says left None d es ts) (over_says left None e fs us) (same_pad ts us a) (same_spans ts us a) (no_shallower ts us a)
-      (ranks_same d e (inner_code es (map code_of ts)) (inner_code fs (map code_of us)) (1 ∷ k ∷ length ts ∷ xs) (1 ∷ k ∷ length us ∷ ys) (first_codes k ts) (first_codes k us)
+      (ranks_same d e (inner_code es (map code_of ts)) (inner_code fs (map code_of us)) (1 ∷ k ∷ length ts ∷ xs) (1 ∷ k ∷ length us ∷ ys) (first_codes k v 0 ts) (first_codes k v 0 us)
       (ranks_by d e xs ys (1 ∷ k ∷ length ts ∷ xs) (1 ∷ k ∷ length us ∷ ys)
       (λ l. leads_head 1 1 (k ∷ length ts ∷ xs) (k ∷ length us ∷ ys) refl (element_leads k (length ts) (length us) xs ys (same_length ts us a) l))
       (ranks_value v (all_totals ts) (all_totals us) xs ys (all_ranks g ts us c.made b.made a))))
@@ -112,8 +112,8 @@ module _ (g : FlatGrammar) (number left : ℕ) (p : Production) (lawful : IsLawf
       let v = value_of g number in
       let d = v +ℤ (total_of t +ℤ all_totals ts) in
       let e = v +ℤ (total_of u +ℤ all_totals us) in
-      let es : List Element = elements_of t ++ element k (length ts) ∷ [] in
-      let fs : List Element = elements_of u ++ element k (length us) ∷ [] in
+      let es : List Element = elements_of t ++ element k (length ts) v (0 - span_of t) ∷ [] in
+      let fs : List Element = elements_of u ++ element k (length us) v (0 - span_of u) ∷ [] in
       let ks : List Tree = children_of t ++ ts in
       let ms : List Tree = children_of u ++ us in
       let some_t : 0 < all_spans (children_of t) = omega (arith, first_some g number left p t ts c, x.whole.span) in
@@ -144,7 +144,7 @@ module _ (g : FlatGrammar) (number left : ℕ) (p : Production) (lawful : IsLawf
       serves_over left None d e es fs ks ms (node_over left None d 0 None es ks) (node_over left None e 0 None fs ms)
       (over_says left None d es ks) (over_says left None e fs ms) pads spans depths
       (ranks_same d e (inner_code es (map code_of ks)) (inner_code fs (map code_of ms)) ((1 + n) ∷ (xs ++ k ∷ length ts ∷ vs)) ((1 + m) ∷ (ys ++ k ∷ length us ∷ ws))
-      (next_codes g left k t ts x) (next_codes g left k u us y)
+      (next_codes g left k v (0 - span_of t) t ts x) (next_codes g left k v (0 - span_of u) u us y)
       (ranks_by d e (n ∷ (xs ++ k ∷ length ts ∷ vs)) (m ∷ (ys ++ k ∷ length us ∷ ws)) ((1 + n) ∷ (xs ++ k ∷ length ts ∷ vs)) ((1 + m) ∷ (ys ++ k ∷ length us ∷ ws))
       (λ l. leads_raised 1 n m (xs ++ k ∷ length ts ∷ vs) (ys ++ k ∷ length us ∷ ws) l)
       (ranks_value v (total_of t +ℤ all_totals ts) (total_of u +ℤ all_totals us) (n ∷ (xs ++ k ∷ length ts ∷ vs)) (m ∷ (ys ++ k ∷ length us ∷ ws)) both)))

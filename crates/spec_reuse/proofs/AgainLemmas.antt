@@ -13,7 +13,7 @@ use Rattle.spec_trees.specs.declared.tree.Tree.{Tree}
 use Rattle.spec_trees.specs.declared.tree.Element.{Element}
 use Rattle.spec_trees.specs.declared.tree.Tree.TheOpen.{Tree-F}
 use Rattle.spec_trees.specs.declared.tree.Tree.TheViews.{out-roll-Tree}
-use Rattle.spec_trees.specs.Trees.{symbol_of, is_extra_node, first_pad, all_spans, total_of, all_totals, elements_of, children_of, bare}
+use Rattle.spec_trees.specs.Trees.{symbol_of, is_extra_node, first_pad, span_of, all_spans, total_of, all_totals, elements_of, children_of, bare}
 use Rattle.spec_trees.specs.Made.{filling, step_symbols, node_over, element, Form, of_rule, of_first, of_next, form_of, made_by, left_of, value_of, reduced}
 use Rattle.spec_runs.specs.Configurations.{stack_symbols, AreExtras, AreValidTokens, HasMove, IsReduction}
 use Rattle.spec_runs.specs.Moves.{EndsWithProduction}
@@ -103,9 +103,9 @@ over_symbol symbol production dynamic es ks =
 
 made_symbol : (f : Form) (symbol number : ℕ) (value : ℤ) (ts : List Tree) → (symbol_of (made_by f symbol number value 0 None ts) ≡ symbol) × (is_extra_node (made_by f symbol number value 0 None ts) ≡ false)
 made_symbol of_rule symbol number value ts = over_symbol symbol (Some number) (value +ℤ all_totals ts) [] ts
-made_symbol (of_first a) symbol number value ts = over_symbol symbol None (value +ℤ all_totals ts) (element a (length ts) ∷ []) ts
+made_symbol (of_first a) symbol number value ts = over_symbol symbol None (value +ℤ all_totals ts) (element a (length ts) value 0 ∷ []) ts
 made_symbol (of_next a) symbol number value [] = over_symbol symbol None value [] []
-made_symbol (of_next a) symbol number value (t ∷ ts) = over_symbol symbol None (value +ℤ (total_of t +ℤ all_totals ts)) (elements_of t ++ element a (length ts) ∷ []) (children_of t ++ ts)
+made_symbol (of_next a) symbol number value (t ∷ ts) = over_symbol symbol None (value +ℤ (total_of t +ℤ all_totals ts)) (elements_of t ++ element a (length ts) value (0 - span_of t) ∷ []) (children_of t ++ ts)
 
 -- what a reduction leaves: its rule's symbol above what was read before
 pub record Left (g : FlatGrammar) (number : ℕ) (stack after : List Tree) : Type 0 where

@@ -1,17 +1,19 @@
 -- A bare tree is a tree without extents, states and marks, and is all else that the tree is.
-use Rattle.std.proofs.Common.{◌≡◌, ◌∙◌, sym, ap, refl, ℕ, zero, suc, ◌+◌, ◌-◌, ◌≤◌, max, true, false, List, [], ◌∷◌, ◌++◌, length, map, Option, Some, None, unwrap_or, ℤ, arith}
+use Rattle.std.proofs.Common.{◌≡◌, ◌∙◌, sym, ap, refl, ℕ, zero, suc, ◌+◌, ◌-◌, ◌≤◌, max, true, false, List, [], ◌∷◌, ◌++◌, length, map, take, drop, Option, Some, None, unwrap_or, ℤ, arith}
 use Rattle.std.proofs.Math.Nat.{le-max_left, le-max_right}
-use Rattle.std.proofs.lemmas.List.{length-map}
+use Rattle.std.proofs.lemmas.List.{length-map, map-append}
+use Rattle.std.specs.List.{concat}
 use lib.IntN.{◌+ℤ◌}
 use Rattle.ts_core.specs.declared.flat.FlatGrammar.{FlatGrammar}
 use Rattle.spec_trees.specs.declared.tree.Tree.{Tree}
 use Rattle.spec_trees.specs.declared.tree.Element.{Element}
+use Rattle.spec_trees.specs.declared.tree.Stretch.{Stretch}
 use Rattle.spec_trees.specs.declared.tree.Tree.TheOpen.{Tree-F}
 use Rattle.spec_trees.specs.declared.tree.Tree.TheViews.{out-Tree, roll-Tree, out-roll-Tree}
 use Rattle.spec_trees.specs.declared.tree.Tree.TheFolds.{fold_out-Tree, fold-roll-Tree}
-use Rattle.spec_trees.specs.Trees.{symbol_of, production_of, pad_of, size_of, elements_of, children_of, total_of, is_extra_node, span_of, all_spans, all_totals, first_pad, tree_depth, depth_step, greatest_depth, bare, bare_node}
-use Rattle.spec_trees.specs.Made.{as_extra, node_over, element, Form, of_rule, of_first, of_next, made_by, form_of, left_of, value_of, reduced, accepted}
-use Rattle.spec_trees.specs.Choice.{code_of, code_step, inner_code}
+use Rattle.spec_trees.specs.Trees.{symbol_of, production_of, pad_of, size_of, elements_of, children_of, total_of, is_extra_node, span_of, all_spans, all_totals, all_values, first_pad, tree_depth, depth_step, greatest_depth, bare, bare_element, bare_node}
+use Rattle.spec_trees.specs.Made.{as_extra, node_over, element, Form, of_rule, of_first, of_next, made_by, form_of, left_of, value_of, reduced, accepted, lengthened, bare_stretch}
+use Rattle.spec_trees.specs.Choice.{code_of, code_step, inner_code, element_codes}
 use Rattle.spec_runs.specs.BareTrees.{KeepsAll}
 
 -- ---- induction over a tree
@@ -46,7 +48,7 @@ bare_layer t = record {
   state = None;
   settled = false;
   extra = is_extra_node t;
-  elements = elements_of t;
+  elements = map bare_element (elements_of t);
   children = map bare (children_of t);
 }
 
@@ -56,13 +58,13 @@ bare_is t = fold_out-Tree Tree bare_node t
 pub bare_out : (t : Tree) → out-Tree (bare t) ≡ bare_layer t
 bare_out t = ap out-Tree (bare_is t) ∙ out-roll-Tree (bare_layer t)
 
-pub bare_roll : (o : Tree-F Tree) → bare (roll-Tree o) ≡ roll-Tree (record o { extent = 0; state = None; settled = false; children = map bare o.children })
+pub bare_roll : (o : Tree-F Tree) → bare (roll-Tree o) ≡ roll-Tree (record o { extent = 0; state = None; settled = false; elements = map bare_element o.elements; children = map bare o.children })
 bare_roll o = fold-roll-Tree Tree bare_node o
 
 pub bare_children : (t : Tree) → children_of (bare t) ≡ map bare (children_of t)
 bare_children t = ap (λ (o : Tree-F Tree). o.children) (bare_out t)
 
-pub bare_elements : (t : Tree) → elements_of (bare t) ≡ elements_of t
+pub bare_elements : (t : Tree) → elements_of (bare t) ≡ map bare_element (elements_of t)
 bare_elements t = ap (λ (o : Tree-F Tree). o.elements) (bare_out t)
 
 pub bare_total : (t : Tree) → total_of (bare t) ≡ total_of t
@@ -106,9 +108,20 @@ codes_same (t ∷ ts) e = let h = e.0 in let k = codes_same ts e.1 in cc
 code_is : (t : Tree) → code_of t ≡ symbol_of t ∷ unwrap_or (production_of t) 0 ∷ pad_of t ∷ size_of t ∷ inner_code (elements_of t) (map code_of (children_of t))
 code_is t = fold_out-Tree (List ℕ) code_step t
 
-same_code : (s s' : ℕ) (p p' : Option ℕ) (d d' z z' : ℕ) (es es' : List Element) (cs cs' : List (List ℕ)) → s ≡ s' → p ≡ p' → d ≡ d' → z ≡ z' → es ≡ es' → cs ≡ cs'
+bare_element_codes : (es : List Element) (cs : List (List ℕ)) → element_codes (map bare_element es) cs ≡ element_codes es cs
+bare_element_codes [] cs = refl
+bare_element_codes (e ∷ es) cs = ap (λ (l : List ℕ). e.alternative ∷ e.children ∷ (concat (take e.children cs) ++ l)) (bare_element_codes es (drop e.children cs))
+
+bare_inner_code : (es : List Element) (cs : List (List ℕ)) → inner_code (map bare_element es) cs ≡ inner_code es cs
+bare_inner_code [] cs = refl
+bare_inner_code (e ∷ es) cs =
+    let l : length (map bare_element (e ∷ es)) ≡ length (e ∷ es) = length-map (e ∷ es) bare_element in
+    let k = bare_element_codes (e ∷ es) cs in
+    cc
+
+same_code : (s s' : ℕ) (p p' : Option ℕ) (d d' z z' : ℕ) (es es' : List Element) (cs cs' : List (List ℕ)) → s ≡ s' → p ≡ p' → d ≡ d' → z ≡ z' → es ≡ map bare_element es' → cs ≡ cs'
     → s ∷ unwrap_or p 0 ∷ d ∷ z ∷ inner_code es cs ≡ s' ∷ unwrap_or p' 0 ∷ d' ∷ z' ∷ inner_code es' cs'
-same_code s s' p p' d d' z z' es es' cs cs' a b c e f h = cc
+same_code s s' p p' d d' z z' es es' cs cs' a b c e f h = let k = bare_inner_code es' cs' in cc
 
 pub bare_code : (t : Tree) → code_of (bare t) ≡ code_of t
 bare_code = over_tree (λ t. code_of (bare t) ≡ code_of t) (λ t e.
@@ -137,9 +150,14 @@ all_once : (ts : List Tree) → Each (λ t. bare (bare t) ≡ bare t) ts → map
 all_once [] e = refl
 all_once (t ∷ ts) e = let h = e.0 in let k = all_once ts e.1 in cc
 
+elements_once : (es : List Element) → map bare_element (map bare_element es) ≡ map bare_element es
+elements_once [] = refl
+elements_once (e ∷ es) = ap (λ (l : List Element). bare_element e ∷ l) (elements_once es)
+
 pub bare_once : (t : Tree) → bare (bare t) ≡ bare t
 bare_once = over_tree (λ t. bare (bare t) ≡ bare t) (λ t e.
     ap bare (bare_is t) ∙ bare_roll (bare_layer t)
+    ∙ ap (λ (es : List Element). roll-Tree (record (bare_layer t) { elements = es; children = map bare (map bare (children_of t)) })) (elements_once (elements_of t))
     ∙ ap (λ (ts : List Tree). roll-Tree (record (bare_layer t) { children = ts })) (all_once (children_of t) e)
     ∙ sym (bare_is t))
 
@@ -177,7 +195,7 @@ over_by symbol production pad size dynamic elements children = roll-Tree (record
 })
 
 over_is : (symbol : ℕ) (production : Option ℕ) (dynamic : ℤ) (extent : ℕ) (state : Option ℕ) (es : List Element) (ks : List Tree)
-    → bare (node_over symbol production dynamic extent state es ks) ≡ over_by symbol production (first_pad ks) (all_spans ks - first_pad ks) dynamic es (map bare ks)
+    → bare (node_over symbol production dynamic extent state es ks) ≡ over_by symbol production (first_pad ks) (all_spans ks - first_pad ks) dynamic (map bare_element es) (map bare ks)
 over_is symbol production dynamic extent state es ks = bare_roll (record {
   symbol = record { 0 = symbol };
   production = production;
@@ -196,13 +214,13 @@ same_over : (symbol : ℕ) (production : Option ℕ) (p q z y : ℕ) (d e : ℤ)
     → over_by symbol production p z d es ks ≡ over_by symbol production q y e fs ms
 same_over symbol production p q z y d e es fs ks ms a b c f h = cc
 
-pub node_over_bare : (symbol : ℕ) (production : Option ℕ) (d e : ℤ) (extent : ℕ) (state : Option ℕ) (es fs : List Element) (ks ms : List Tree) → d ≡ e → es ≡ fs → ms ≡ map bare ks
+pub node_over_bare : (symbol : ℕ) (production : Option ℕ) (d e : ℤ) (extent : ℕ) (state : Option ℕ) (es fs : List Element) (ks ms : List Tree) → d ≡ e → map bare_element es ≡ map bare_element fs → ms ≡ map bare ks
     → bare (node_over symbol production d extent state es ks) ≡ bare (node_over symbol production e 0 None fs ms)
 node_over_bare symbol production d e extent state es fs ks ms same els children =
     let p : first_pad ks ≡ first_pad ms = sym (ap first_pad children ∙ bare_first_pad ks) in
     let s : all_spans ks ≡ all_spans ms = sym (ap all_spans children ∙ bare_spans ks) in
     over_is symbol production d extent state es ks
-    ∙ same_over symbol production (first_pad ks) (first_pad ms) (all_spans ks - first_pad ks) (all_spans ms - first_pad ms) d e es fs (map bare ks) (map bare ms)
+    ∙ same_over symbol production (first_pad ks) (first_pad ms) (all_spans ks - first_pad ks) (all_spans ms - first_pad ms) d e (map bare_element es) (map bare_element fs) (map bare ks) (map bare ms)
     p (let a = p in let b = s in cc) same els (sym (ap (λ (l : List Tree). map bare l) children ∙ bare_all_once ks))
     ∙ sym (over_is symbol production e 0 None fs ms)
 
@@ -210,19 +228,27 @@ map_append : (ts us : List Tree) → map bare (ts ++ us) ≡ map bare ts ++ map 
 map_append [] us = refl
 map_append (t ∷ ts) us = ap (λ (l : List Tree). bare t ∷ l) (map_append ts us)
 
+elements_after : (es fs : List Element) (e f : Element) → fs ≡ map bare_element es → bare_element e ≡ bare_element f → map bare_element (es ++ e ∷ []) ≡ map bare_element (fs ++ f ∷ [])
+elements_after es fs e f is last =
+    map-append bare_element es (e ∷ [])
+    ∙ ap (λ (x : Element). map bare_element es ++ x ∷ []) last
+    ∙ ap (λ (l : List Element). l ++ bare_element f ∷ []) (sym (ap (map bare_element) is ∙ elements_once es))
+    ∙ sym (map-append bare_element fs (f ∷ []))
+
 made_bare : (form : Form) (symbol number : ℕ) (value : ℤ) (extent : ℕ) (state : Option ℕ) (ks : List Tree) → bare (made_by form symbol number value extent state ks) ≡ bare (made_by form symbol number value 0 None (map bare ks))
 made_bare of_rule symbol number value extent state ks =
     node_over_bare symbol (Some number) (value +ℤ all_totals ks) (value +ℤ all_totals (map bare ks)) extent state [] [] ks (map bare ks) (ap (λ (n : ℤ). value +ℤ n) (sym (bare_totals ks))) refl refl
 made_bare (of_first alternative) symbol number value extent state ks =
-    node_over_bare symbol None (value +ℤ all_totals ks) (value +ℤ all_totals (map bare ks)) extent state (element alternative (length ks) ∷ []) (element alternative (length (map bare ks)) ∷ []) ks (map bare ks)
-    (ap (λ (n : ℤ). value +ℤ n) (sym (bare_totals ks))) (ap (λ (n : ℕ). element alternative n ∷ []) (sym (length-map ks bare))) refl
+    node_over_bare symbol None (value +ℤ all_totals ks) (value +ℤ all_totals (map bare ks)) extent state (element alternative (length ks) value extent ∷ []) (element alternative (length (map bare ks)) value 0 ∷ []) ks (map bare ks)
+    (ap (λ (n : ℤ). value +ℤ n) (sym (bare_totals ks))) (ap (λ (n : ℕ). bare_element (element alternative n value 0) ∷ []) (sym (length-map ks bare))) refl
 made_bare (of_next alternative) symbol number value extent state [] =
     node_over_bare symbol None value value extent state [] [] [] [] refl refl refl
 made_bare (of_next alternative) symbol number value extent state (k ∷ ks) =
     node_over_bare symbol None (value +ℤ (total_of k +ℤ all_totals ks)) (value +ℤ (total_of (bare k) +ℤ all_totals (map bare ks))) extent state
-    (elements_of k ++ element alternative (length ks) ∷ []) (elements_of (bare k) ++ element alternative (length (map bare ks)) ∷ []) (children_of k ++ ks) (children_of (bare k) ++ map bare ks)
+    (elements_of k ++ element alternative (length ks) value (extent - span_of k) ∷ []) (elements_of (bare k) ++ element alternative (length (map bare ks)) value (0 - span_of (bare k)) ∷ []) (children_of k ++ ks) (children_of (bare k) ++ map bare ks)
     (let a = bare_total k in let b = bare_totals ks in cc)
-    (let a = bare_elements k in let b = length-map ks bare in cc)
+    (elements_after (elements_of k) (elements_of (bare k)) (element alternative (length ks) value (extent - span_of k)) (element alternative (length (map bare ks)) value (0 - span_of (bare k)))
+    (bare_elements k) (ap (λ (n : ℕ). bare_element (element alternative n value 0)) (sym (length-map ks bare))))
     (ap (λ (l : List Tree). l ++ map bare ks) (bare_children k) ∙ sym (map_append (children_of k) ks))
 
 pub reduced_bare : (g : FlatGrammar) (number extent : ℕ) (state : Option ℕ) (ks : List Tree) → bare (reduced g number extent state ks) ≡ bare (reduced g number 0 None (map bare ks))
@@ -240,6 +266,29 @@ accepted_bare root before after extent =
   where
     same_parts : (s t : ℕ) (p q : Option ℕ) (d : ℤ) (ks : List Tree) → s ≡ t → p ≡ q → bare (node_over s p d 0 None [] ks) ≡ bare (node_over t q d 0 None [] ks)
     same_parts s t p q d ks a b = ap (λ (x : ℕ). bare (node_over x p d 0 None [] ks)) a ∙ ap (λ (x : Option ℕ). bare (node_over t x d 0 None [] ks)) b
+
+bare_values : (es : List Element) → all_values (map bare_element es) ≡ all_values es
+bare_values [] = refl
+bare_values (e ∷ es) = ap (λ (n : ℤ). e.dynamic +ℤ n) (bare_values es)
+
+pub lengthened_bare : (before : Tree) (more : Stretch) (extent : ℕ) (state : Option ℕ) → bare (lengthened before more extent state) ≡ bare (lengthened (bare before) (bare_stretch more) 0 None)
+lengthened_bare before more extent state =
+    let b = bare_total before in
+    let v = bare_values more.elements in
+    let t = bare_totals more.children in
+    let d : ℤ = total_of before +ℤ (all_values more.elements +ℤ all_totals more.children) in
+    let e : ℤ = total_of (bare before) +ℤ (all_values (map bare_element more.elements) +ℤ all_totals (map bare more.children)) in
+    let same : d ≡ e = cc in
+    node_over_bare (symbol_of before) None d e extent state
+    (elements_of before ++ more.elements) (elements_of (bare before) ++ map bare_element more.elements)
+    (children_of before ++ more.children) (children_of (bare before) ++ map bare more.children)
+    same
+    (map-append bare_element (elements_of before) more.elements
+    ∙ ap (λ (l : List Element). l ++ map bare_element more.elements) (sym (ap (map bare_element) (bare_elements before) ∙ elements_once (elements_of before)))
+    ∙ ap (λ (l : List Element). map bare_element (elements_of (bare before)) ++ l) (sym (elements_once more.elements))
+    ∙ sym (map-append bare_element (elements_of (bare before)) (map bare_element more.elements)))
+    (ap (λ (l : List Tree). l ++ map bare more.children) (bare_children before) ∙ sym (map_append (children_of before) more.children))
+    ∙ ap (λ (x : ℕ). bare (node_over x None e 0 None (elements_of (bare before) ++ map bare_element more.elements) (children_of (bare before) ++ map bare more.children))) (sym (bare_symbol before))
 
 pub extra_bare : (t : Tree) → bare (as_extra t) ≡ as_extra (bare t)
 extra_bare t =

@@ -10,8 +10,9 @@ ghost use Rattle.spec_tables.specs.Actions.{Act, shift, reduce, accept};
 ghost use Rattle.spec_tables.specs.Fit.{Fit};
 ghost use Rattle.spec_tables.specs.Items.{end_token, IsToken};
 ghost use Rattle.spec_trees.specs.declared.tree.Tree.{Tree};
+ghost use Rattle.spec_trees.specs.declared.tree.Stretch.{Stretch};
 ghost use Rattle.spec_trees.specs.Trees.{bare};
-ghost use Rattle.spec_trees.specs.Made.{as_extra, reduced, accepted, form_of, of_next};
+ghost use Rattle.spec_trees.specs.Made.{as_extra, reduced, accepted, lengthened, bare_stretch, form_of, of_next};
 ghost use Rattle.spec_runs.specs.BareTrees.{KeepsAll};
 ghost use Rattle.spec_runs.specs.Configurations.{Configuration, NextIs, IsReduction};
 ghost use Rattle.spec_runs.specs.Moves.{StandsBefore, EndsWithProduction, RepeatsItself, IsUnused};
@@ -51,6 +52,9 @@ pub fn bare_trees()
     ensures accepted { (root : Tree) (before after : List Tree) (extent : ℕ)
         → bare (accepted root before after extent)
         ≡ bare (accepted (bare root) (map bare before) (map bare after) 0) }
+    ensures lengthened { (before : Tree) (more : Stretch) (extent : ℕ) (state : Option ℕ)
+        → bare (lengthened before more extent state)
+        ≡ bare (lengthened (bare before) (bare_stretch more) 0 None) }
 {}
 
 /// Where each move stands: what was read, and what may come after it.

@@ -1,6 +1,6 @@
 -- The nodes that a parser makes: leaves, nodes of productions, flat nodes of repetitions, the
 -- accepted root; and what an edit leaves of a node.
-use Rattle.std.specs.Prelude.{◌≡◌, ℕ, suc, ◌+◌, ◌-◌, ◌*◌, ◌<◌, ◌≤◌, ◌^◌, true, false, nat_lt, if◌then◌else◌, List, [], ◌∷◌, ◌++◌, length, map, take, drop, set, Option, Some, None, option_map, unwrap_or, All}
+use Rattle.std.specs.Prelude.{◌≡◌, ℕ, zero, suc, ◌+◌, ◌-◌, ◌*◌, ◌<◌, ◌≤◌, ◌^◌, max, true, false, nat_lt, if◌then◌else◌, List, [], ◌∷◌, ◌++◌, length, map, take, drop, set, Option, Some, None, option_map, unwrap_or, All}
 use Rattle.std.specs.Int.RustNames.{unsigned_abs}
 use lib.IntN.{ℤ, pos, ◌+ℤ◌}
 use Rattle.ts_core.specs.declared.flat.FlatGrammar.{FlatGrammar}
@@ -8,8 +8,9 @@ use Rattle.ts_core.specs.declared.flat.Production.{Production}
 use Rattle.spec_grammar.specs.Symbols.{production_at, first_production, alternative_count, is_repetition}
 use Rattle.spec_trees.specs.declared.tree.Tree.{Tree}
 use Rattle.spec_trees.specs.declared.tree.Element.{Element}
+use Rattle.spec_trees.specs.declared.tree.Stretch.{Stretch}
 use Rattle.spec_trees.specs.declared.tree.Tree.TheViews.{roll-Tree, out-Tree}
-use Rattle.spec_trees.specs.Trees.{symbol_of, production_of, node_extent, is_settled, is_extra_node, elements_of, children_of, total_of, all_totals, span_of, all_spans, first_pad, node_count, tree_depth}
+use Rattle.spec_trees.specs.Trees.{symbol_of, production_of, node_extent, is_settled, is_extra_node, elements_of, children_of, total_of, all_totals, all_values, span_of, all_spans, first_pad, node_count, tree_depth, bare_element, bare}
 
 -- ---- leaves
 
@@ -56,29 +57,36 @@ node_over symbol production dynamic extent state elements children = roll-Tree (
   children = children;
 })
 
--- an element of this alternative with so many children
-abbrev pub element : ℕ → ℕ → Element
-element alternative children = record { alternative = alternative; children = children }
+-- an element of this alternative with so many children, of a production with this value
+abbrev pub element : ℕ → ℕ → ℤ → ℕ → Element
+element alternative children value extent = record {
+  alternative = alternative;
+  children = children;
+  dynamic = value;
+  extent = extent;
+  settled = true;
+}
 
 -- the node of a rule's production with this value
 abbrev pub rule_node : ℕ → ℕ → ℤ → ℕ → Option ℕ → List Tree → Tree
 rule_node symbol number value extent state children =
     node_over symbol (Some number) (value +ℤ all_totals children) extent state [] children
 
--- a repetition of one element
+-- a repetition of one element, for which all was examined that was for the node
 abbrev pub first_element : ℕ → ℕ → ℤ → ℕ → Option ℕ → List Tree → Tree
 first_element symbol alternative value extent state children =
     node_over symbol None (value +ℤ all_totals children) extent state
-    (element alternative (length children) ∷ []) children
+    (element alternative (length children) value extent ∷ []) children
 
 -- A repetition with one more element: the first child is the repetition so far, whose elements are
--- taken over, and the others are those of the new element.
+-- taken over, and the others are those of the new element. For this all was examined that was for
+-- the node, from where the repetition so far ends.
 abbrev pub next_element : ℕ → ℕ → ℤ → ℕ → Option ℕ → List Tree → Tree
 next_element symbol alternative value extent state [] =
     node_over symbol None value extent state [] []
 next_element symbol alternative value extent state (before ∷ more) =
     node_over symbol None (value +ℤ (total_of before +ℤ all_totals more)) extent state
-    (elements_of before ++ element alternative (length more) ∷ [])
+    (elements_of before ++ element alternative (length more) value (extent - span_of before) ∷ [])
     (children_of before ++ more)
 
 -- what the productions of a grammar make of their children
@@ -219,12 +227,35 @@ abbrev pub EndBy : ℕ → ℕ → List Tree → Type 0
 EndBy end place [] = Unit {0}
 EndBy end place (t ∷ ts) = (place + node_extent t ≤ end) × EndBy end (place + span_of t) ts
 
--- A settled node examined more than its own bytes, its children are settled, and no child's
--- examined range ends past its own.
+-- Where elements one after another end with all that was examined for them, counted from where the
+-- first of them begins: no element's bytes and no element's examined range end later.
+abbrev pub reach_of : List Element → List Tree → ℕ
+reach_of [] ts = 0
+reach_of (e ∷ es) ts =
+    max e.extent (all_spans (take e.children ts) + reach_of es (drop e.children ts))
+
+-- A settled node examined more than its own bytes, its children and elements are settled, and the
+-- examined range of none of them ends past its own.
 pub record IsSettledWell (t : Tree) : Type 0 where
   pub past : span_of t < node_extent t
   pub inner : All (λ child. is_settled child ≡ true) (children_of t)
   pub covers : EndBy (node_extent t) 0 (children_of t)
+  pub elements : All (λ e. e.settled ≡ true) (elements_of t)
+  pub reach : reach_of (elements_of t) (children_of t) ≤ node_extent t
+
+-- An element over its children examined more than their bytes, they are settled, and the examined
+-- range of none of them ends past its own.
+pub record IsElementWell (e : Element) (ts : List Tree) : Type 0 where
+  pub past : all_spans ts < e.extent
+  pub inner : All (λ child. is_settled child ≡ true) ts
+  pub covers : EndBy e.extent 0 ts
+
+-- each settled element of a node, whether the node is settled or not
+abbrev pub AreElementsWell : List Element → List Tree → Type 0
+AreElementsWell [] ts = Unit {0}
+AreElementsWell (e ∷ es) ts =
+    (e.settled ≡ true → IsElementWell e (take e.children ts))
+    × AreElementsWell es (drop e.children ts)
 
 -- Each production in a tree has a value of 32 bits, and each is a node or an element of it.
 abbrev pub IsModest : Tree → Type 0
@@ -240,12 +271,19 @@ abbrev pub AreCounted : List Element → List Tree → Type 0
 AreCounted [] ts = Unit {0}
 AreCounted (e ∷ es) ts = children_count (e ∷ es) ≡ length ts
 
+-- where there are elements, the total is that of their values and of the children
+abbrev pub IsTotalOf : ℤ → List Element → List Tree → Type 0
+IsTotalOf total [] ts = Unit {0}
+IsTotalOf total (e ∷ es) ts = total ≡ all_values (e ∷ es) +ℤ all_totals ts
+
 -- what a node keeps in its type
 pub record IsNode (t : Tree) : Type 0 where
   pub sized : IsSized t
   pub counted : AreCounted (elements_of t) (children_of t)
   pub modest : IsModest t
+  pub totalled : IsTotalOf (total_of t) (elements_of t) (children_of t)
   pub settled : is_settled t ≡ true → IsSettledWell t
+  pub elements : AreElementsWell (elements_of t) (children_of t)
 
 -- ---- what an edit leaves
 
@@ -254,11 +292,76 @@ abbrev pub replaced : List (ℕ × Tree) → List Tree → List Tree
 replaced [] ts = ts
 replaced (change ∷ changes) ts = replaced changes (set ts change.0 change.1)
 
--- the node with another pad and size, these children replaced, and not settled
-abbrev pub remade : Tree → ℕ → ℕ → List (ℕ × Tree) → Tree
-remade t pad size changes = roll-Tree (record (out-Tree t) {
+-- an element that is not settled
+abbrev pub loose_element : Element → Element
+loose_element e = record e { settled = false }
+
+-- elements of which the one of this number is not settled
+abbrev pub loosened_at : ℕ → List Element → List Element
+loosened_at k [] = []
+loosened_at zero (e ∷ es) = loose_element e ∷ es
+loosened_at (suc k) (e ∷ es) = e ∷ loosened_at k es
+
+-- elements of which those of these numbers are not settled
+abbrev pub loosened : List ℕ → List Element → List Element
+loosened [] es = es
+loosened (k ∷ ks) es = loosened ks (loosened_at k es)
+
+-- the node with another pad and size, these children replaced, and not settled, nor these elements
+abbrev pub remade : Tree → ℕ → ℕ → List (ℕ × Tree) → List ℕ → Tree
+remade t pad size changes loose = roll-Tree (record (out-Tree t) {
   pad = pad;
   size = size;
   settled = false;
+  elements = loosened loose (elements_of t);
   children = replaced changes (children_of t);
 })
+
+-- ---- a repetition that is lengthened by elements of another
+
+-- the first elements of a repetition, so many, with their children
+abbrev pub first_elements : ℕ → Stretch → Stretch
+first_elements k s = record {
+  elements = take k s.elements;
+  children = take (children_count (take k s.elements)) s.children;
+}
+
+-- the elements of a repetition from the one of this number on, with their children
+abbrev pub elements_from : ℕ → Stretch → Stretch
+elements_from k s = record {
+  elements = drop k s.elements;
+  children = drop (children_count (take k s.elements)) s.children;
+}
+
+-- the elements of a node, with its children
+abbrev pub stretch_in : Tree → Stretch
+stretch_in t = record { elements = elements_of t; children = children_of t }
+
+-- the elements of a node from this number on, up to another, with their children
+abbrev pub elements_between : ℕ → ℕ → Tree → Stretch
+elements_between from to t = elements_from from (first_elements to (stretch_in t))
+
+-- a repetition with these elements behind its own
+abbrev pub lengthened : Tree → Stretch → ℕ → Option ℕ → Tree
+lengthened before more extent state =
+    node_over (symbol_of before) None
+    (total_of before +ℤ (all_values more.elements +ℤ all_totals more.children)) extent state
+    (elements_of before ++ more.elements) (children_of before ++ more.children)
+
+-- elements without extents and marks of edits, over bare children
+abbrev pub bare_stretch : Stretch → Stretch
+bare_stretch s = record {
+  elements = map bare_element s.elements;
+  children = map bare s.children;
+}
+
+-- ---- where an element begins
+
+-- how many bytes the elements before the one of this number take
+abbrev pub bytes_before : ℕ → Stretch → ℕ
+bytes_before k s = all_spans (first_elements k s).children
+
+-- how many elements are settled, from the first on
+abbrev pub settled_first : List Element → ℕ
+settled_first [] = 0
+settled_first (e ∷ es) = if e.settled then suc (settled_first es) else 0

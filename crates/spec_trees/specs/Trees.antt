@@ -74,6 +74,10 @@ add_all (n ∷ ns) = n +ℤ add_all ns
 abbrev pub all_totals : List Tree → ℤ
 all_totals ts = add_all (map total_of ts)
 
+-- the values of the productions that added elements, added up
+abbrev pub all_values : List Element → ℤ
+all_values es = add_all (map (λ e. e.dynamic) es)
+
 -- how many bytes a node takes, its pad among them
 abbrev pub span_of : Tree → ℕ
 span_of t = pad_of t + size_of t
@@ -113,9 +117,18 @@ greatest_depth ts = maximum (map tree_depth ts)
 
 -- ---- the tree that outcomes compare
 
+-- an element without its extent and marks of edits
+abbrev pub bare_element : Element → Element
+bare_element e = record e { extent = 0; settled = false }
+
 -- a node over bare children, bare itself
 abbrev pub bare_node : Tree-F Tree → Tree
-bare_node t = roll-Tree (record t { extent = 0; state = None; settled = false })
+bare_node t = roll-Tree (record t {
+  extent = 0;
+  state = None;
+  settled = false;
+  elements = map bare_element t.elements;
+})
 
 -- The tree without extents, states and marks of edits. Two nodes are the same node of a parse tree
 -- where their bare trees are equal.

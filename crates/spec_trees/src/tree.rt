@@ -9,6 +9,13 @@ pub struct Element {
     pub alternative: u32,
     /// How many of the node's children are its own, the extras before them among them.
     pub children: u32,
+    /// The dynamic value of the production that added it.
+    pub dynamic: i32,
+    /// How many bytes were examined until it was added, from its first byte on. The end of the text
+    /// counts as one.
+    pub extent: u32,
+    /// Whether no edit has reached it.
+    pub settled: bool,
 }
 
 /// A node of a parse tree: a leaf, a node of a production, or the flat node of a repetition.

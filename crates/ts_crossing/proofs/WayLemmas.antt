@@ -3,7 +3,8 @@ use Rattle.std.proofs.Common.{◌≡◌, ◌∙◌, sym, ap, refl, subst, ℕ, �
 use Rattle.std.specs.List.{Contains}
 use Rattle.std.proofs.lemmas.List.{map-append}
 use Rattle.spec_trees.specs.declared.tree.Tree.{Tree}
-use Rattle.spec_trees.specs.Trees.{production_of, elements_of, is_extra_node, tree_depth, bare}
+use Rattle.spec_trees.specs.declared.tree.Element.{Element}
+use Rattle.spec_trees.specs.Trees.{production_of, elements_of, is_extra_node, tree_depth, bare_element, bare}
 use Rattle.spec_runs.specs.BareTrees.{KeepsAll}
 use Rattle.spec_graph.specs.declared.graph.Head.{Head}
 use Rattle.spec_graph.specs.declared.graph.Link.{Link}
@@ -16,6 +17,10 @@ use Rattle.ts_graph.specs.Ways.{AreAt}
 use Rattle.ts_laying.specs.Sound.{bare_link, bare_links, IsSoundFor}
 use Rattle.ts_crossing.proofs.MemberLemmas.{contained_at, at_contained, bare_member, member_bare, place_is_at}
 use Rattle.ts_crossing.specs.Leaving.{IsStack, HasNoStack, IsOnlyDown, IsLastToken, LeadsDown, StartsWith}
+
+none_bared : (es : List Element) → map bare_element es ≡ [] → es ≡ []
+none_bared [] e = refl
+none_bared (x ∷ es) e = absurd (let h : bare_element x ∷ map bare_element es ≡ [] = e in cc)
 
 way_more : (links : List Link) (h b c : ℕ) (way : List Link) (l : Link) → IsWay links h way b → Contains links l → l.above ≡ b → l.below ≡ c → IsWay links h (way ++ l ∷ []) c
 way_more links h b c [] l is there above below = (there, above ∙ sym is, below)
@@ -192,7 +197,7 @@ module _ (keeps : (t : Tree) → KeepsAll t) (g : GraphView) (P : Parsing) (soun
         way_is = refl;
         leaf = record {
           production = kept.production ∙ subst (λ (x : Link). production_of x.tree ≡ None) (sym same) last.token.leaf.production;
-          elements = kept.elements ∙ subst (λ (x : Link). elements_of x.tree ≡ []) (sym same) last.token.leaf.elements;
+          elements = kept.elements ∙ ap (map bare_element) (subst (λ (x : Link). elements_of x.tree ≡ []) (sym same) last.token.leaf.elements);
         };
         fills = kept.extra ∙ ap (λ (x : Link). is_extra_node x.tree) same ∙ last.token.fills;
       }
@@ -235,7 +240,7 @@ module _ (keeps : (t : Tree) → KeepsAll t) (g : GraphView) (P : Parsing) (soun
             token = record {
               leaf = record {
                 production = sym kept.production ∙ ap production_of tree ∙ token.leaf.production;
-                elements = sym kept.elements ∙ ap elements_of tree ∙ token.leaf.elements;
+                elements = none_bared (elements_of down.link.tree) (sym kept.elements ∙ ap elements_of tree ∙ token.leaf.elements);
               };
               fills = sym kept.extra ∙ ap is_extra_node tree ∙ token.fills;
             };

@@ -1,5 +1,5 @@
 -- The settled nodes of a marked tree are nodes of the old one that no part of the edit met.
-use Rattle.std.proofs.Common.{◌≡◌, ℕ, suc, ◌+◌, ◌-◌, inl, inr, sym, ap, subst, ◌∙◌, refl, arith, Bool, true, false, true≢false, not, ◌&&◌, List, [], ◌∷◌, length}
+use Rattle.std.proofs.Common.{◌≡◌, ℕ, suc, ◌+◌, ◌-◌, inl, inr, sym, ap, subst, ◌∙◌, refl, arith, true, false, true≢false, List, [], ◌∷◌, length}
 use Rattle.ts_text.specs.declared.edit.Edit.{Edit}
 use Rattle.spec_trees.specs.declared.tree.Tree.{Tree}
 use Rattle.spec_trees.specs.declared.tree.Tree.TheOpen.{Tree-F}
@@ -13,6 +13,7 @@ use Rattle.ts_marks.specs.Parts.{AreOrdered}
 use Rattle.ts_marks.specs.Kept.{WasClear}
 use Rattle.ts_marks.proofs.MovedLemmas.{moved_rises}
 use Rattle.ts_marks.proofs.MarkedLemmas.{stays, span_is, spans_are, settled_is, children_are, whole_children, AllWhole}
+use Rattle.ts_marks.proofs.ElementLemmas.{both_true}
 use Rattle.ts_marks.proofs.RemadeLemmas.{edit_ordered}
 
 -- where a settled node among marked ones was before
@@ -21,11 +22,6 @@ pub record WasIn (e : Edit) (ts : List Tree) (place : ℕ) (u : Tree) (at : ℕ)
   pub there : IsIn ts place u was
   pub clear : is_met e.parts was (node_extent u) ≡ false
   pub moves : at ≡ moved e was
-
-both_true : (a b : Bool) → (a && not b) ≡ true → (a ≡ true) × (b ≡ false)
-both_true true false e = (refl, refl)
-both_true true true e = absurd (true≢false (sym e))
-both_true false b e = absurd (true≢false (sym e))
 
 first_was : (e : Edit) (t : Tree) (ts : List Tree) (place : ℕ) (u : Tree) (at : ℕ) → AreOrdered 0 e.parts → IsWhole t → u ≡ marked_below e t place → at ≡ moved e place → is_settled u ≡ true → WasIn e (t ∷ ts) place u at
 first_was e t ts place u at o w is from s =

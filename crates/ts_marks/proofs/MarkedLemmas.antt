@@ -1,19 +1,20 @@
 -- What becomes of a tree at an edit, node by node.
-use Rattle.std.proofs.Common.{◌≡◌, ℕ, zero, suc, ◌+◌, ◌-◌, ◌<◌, ◌≤◌, sym, ap, subst, ◌∙◌, refl, arith, Bool, true, false, not, ◌&&◌, List, [], ◌∷◌, ◌++◌, length, append_assoc, drop, set, slice_get, Some, All}
+use Rattle.std.proofs.Common.{◌≡◌, ℕ, zero, suc, ◌+◌, ◌-◌, ◌<◌, ◌≤◌, sym, ap, subst, ◌∙◌, refl, arith, Bool, true, false, not, ◌&&◌, List, [], ◌∷◌, ◌++◌, length, append_assoc, map, take, drop, set, slice_get, Some, All}
 use Rattle.std.proofs.lemmas.List.Elements.{All-head, All-tail}
 use Rattle.std.proofs.lemmas.Option.{slice_get_within}
 use Rattle.ts_text.specs.declared.edit.Edit.{Edit}
 use Rattle.spec_trees.specs.declared.tree.Tree.{Tree}
+use Rattle.spec_trees.specs.declared.tree.Element.{Element}
 use Rattle.spec_trees.specs.declared.tree.Tree.TheOpen.{Tree-F}
 use Rattle.spec_trees.specs.declared.tree.Tree.TheViews.{roll-Tree, out-Tree, roll-out-Tree, out-roll-Tree}
 use Rattle.spec_trees.specs.declared.tree.Tree.TheFolds.{para-roll-Tree, fold_out-Tree}
-use Rattle.spec_trees.specs.Trees.{children_of, elements_of, pad_of, size_of, span_of, all_spans, node_extent, is_settled, node_count, nodes_step, all_nodes, tree_depth, depth_step, greatest_depth}
-use Rattle.spec_trees.specs.Made.{IsNode, EndBy, replaced}
+use Rattle.spec_trees.specs.Trees.{children_of, elements_of, pad_of, size_of, span_of, all_spans, node_extent, is_settled, total_of, node_count, nodes_step, all_nodes, tree_depth, depth_step, greatest_depth}
+use Rattle.spec_trees.specs.Made.{IsNode, EndBy, reach_of, replaced}
 use Rattle.spec_trees.specs.Inside.{IsNodeIn}
 use Rattle.spec_trees.specs.Inside as nodes
 use Rattle.spec_reuse.specs.Places.{IsWhole}
 use Rattle.spec_reuse.specs.Changes.{is_met, moved}
-use Rattle.spec_reuse.specs.Marked.{Marking, marked_step, marked_below, all_marked}
+use Rattle.spec_reuse.specs.Marked.{Marking, marked_step, marked_below, all_marked, marked_element, marked_elements}
 use Rattle.ts_marks.specs.Parts.{AreOrdered}
 use Rattle.ts_marks.specs.Passing.{AreDone}
 use Rattle.ts_marks.proofs.MovedLemmas.{AreClear, moved_rises, clear, unmet, clear_inside, shifted}
@@ -26,11 +27,18 @@ layer e t place = record (out-Tree t) {
   pad = moved e (place + pad_of t) - moved e place;
   size = moved e (place + span_of t) - moved e (place + pad_of t);
   settled = is_settled t && not (is_met e.parts place (node_extent t));
+  elements = marked_elements e (elements_of t) (children_of t) place;
   children = all_marked e (children_of t) place;
 }
 
+firsts : (e : Edit) (ts : List Tree) → map (λ (c : Tree × Marking). c.0) (map (λ (t : Tree). (t, marked_below e t)) ts) ≡ ts
+firsts e [] = refl
+firsts e (t ∷ ts) = ap (λ (xs : List Tree). t ∷ xs) (firsts e ts)
+
 pub marked_is : (e : Edit) (t : Tree) (place : ℕ) → marked_below e t place ≡ roll-Tree (layer e t place)
-marked_is e t place = ap (λ (f : Marking). f place) (ap (marked_below e) (sym (roll-out-Tree t)) ∙ para-roll-Tree Marking (marked_step e) (out-Tree t))
+marked_is e t place =
+    ap (λ (f : Marking). f place) (ap (marked_below e) (sym (roll-out-Tree t)) ∙ para-roll-Tree Marking (marked_step e) (out-Tree t))
+    ∙ ap (λ (ks : List Tree). roll-Tree (record (layer e t place) { elements = marked_elements e (elements_of t) ks place })) (firsts e (children_of t))
 
 out_is : (e : Edit) (t : Tree) (place : ℕ) → out-Tree (marked_below e t place) ≡ layer e t place
 out_is e t place = ap out-Tree (marked_is e t place) ∙ out-roll-Tree (layer e t place)
@@ -40,6 +48,12 @@ settled_is e t place = ap (λ (x : Tree-F Tree). x.settled) (out_is e t place)
 
 pub children_are : (e : Edit) (t : Tree) (place : ℕ) → children_of (marked_below e t place) ≡ all_marked e (children_of t) place
 children_are e t place = ap (λ (x : Tree-F Tree). x.children) (out_is e t place)
+
+pub elements_are : (e : Edit) (t : Tree) (place : ℕ) → elements_of (marked_below e t place) ≡ marked_elements e (elements_of t) (children_of t) place
+elements_are e t place = ap (λ (x : Tree-F Tree). x.elements) (out_is e t place)
+
+pub total_is : (e : Edit) (t : Tree) (place : ℕ) → total_of (marked_below e t place) ≡ total_of t
+total_is e t place = ap (λ (x : Tree-F Tree). x.dynamic) (out_is e t place)
 
 pub span_is : (e : Edit) (t : Tree) (place : ℕ) → span_of (marked_below e t place) ≡ moved e (place + span_of t) - moved e place
 span_is e t place =
@@ -78,6 +92,10 @@ depth_is t = fold_out-Tree ℕ depth_step t
 count_is : (t : Tree) → node_count t ≡ 1 + (length (elements_of t) + all_nodes (children_of t))
 count_is t = fold_out-Tree ℕ nodes_step t
 
+many_marked : (e : Edit) (es : List Element) (ks : List Tree) (place : ℕ) → length (marked_elements e es ks place) ≡ length es
+many_marked e [] ks place = refl
+many_marked e (d ∷ es) ks place = ap suc (many_marked e es (drop d.children ks) (place + all_spans (take d.children ks)))
+
 abbrev pub Same : Tree → Tree → Type 0
 Same t u = (node_count t ≡ node_count u) × (tree_depth t ≡ tree_depth u)
 
@@ -88,7 +106,7 @@ same_node : (e : Edit) (t : Tree) (place : ℕ) → AllSame (all_marked e (child
 same_node e t place h =
     let u : Tree = marked_below e t place in
     let c : children_of u ≡ all_marked e (children_of t) place = ap (λ (x : Tree-F Tree). x.children) (out_is e t place) in
-    let l : length (elements_of u) ≡ length (elements_of t) = ap (λ (x : Tree-F Tree). length x.elements) (out_is e t place) in
+    let l : length (elements_of u) ≡ length (elements_of t) = ap (λ (x : List Element). length x) (elements_are e t place) ∙ many_marked e (elements_of t) (children_of t) place in
     let n : all_nodes (children_of u) ≡ all_nodes (all_marked e (children_of t) place) = ap all_nodes c in
     let d : greatest_depth (children_of u) ≡ greatest_depth (all_marked e (children_of t) place) = ap greatest_depth c in
     (omega (arith, count_is u, count_is t, l, n, h.0), omega (arith, depth_is u, depth_is t, d, h.1))
@@ -120,8 +138,25 @@ pub whole_children : (t : Tree) → IsWhole t → AllWhole (children_of t)
 whole_children t w k c e u h = w u (deeper t c u k e h)
 
 -- a layer with the fields that it has
-same_layer : (o : Tree-F Tree) (pad size : ℕ) (settled : Bool) (children : List Tree) → pad ≡ o.pad → size ≡ o.size → settled ≡ o.settled → children ≡ o.children → record o { pad = pad; size = size; settled = settled; children = children } ≡ o
-same_layer o pad size settled children a b c d = rw (a, b, c, d) refl
+same_layer : (o : Tree-F Tree) (pad size : ℕ) (settled : Bool) (elements : List Element) (children : List Tree) → pad ≡ o.pad → size ≡ o.size → settled ≡ o.settled → elements ≡ o.elements → children ≡ o.children → record o { pad = pad; size = size; settled = settled; elements = elements; children = children } ≡ o
+same_layer o pad size settled elements children a b c f d = rw (a, b, c, f, d) refl
+
+and_true : (b c : Bool) → c ≡ false → (b && not c) ≡ b
+and_true true c h = rw h refl
+and_true false c h = refl
+
+-- elements whose examined ranges no part of the edit meets stay as they are
+elements_stay : (e : Edit) (es : List Element) (ks : List Tree) (base extent off : ℕ) → off + reach_of es ks ≤ extent → AreClear e.parts base extent → marked_elements e es ks (base + off) ≡ es
+elements_stay e [] ks base extent off h c = refl
+elements_stay e (d ∷ es) ks base extent off h c =
+    let n = all_spans (take d.children ks) in
+    let m : is_met e.parts (base + off) d.extent ≡ false = unmet e.parts (base + off) d.extent (clear_inside e.parts base extent (base + off) d.extent (omega arith) (omega (arith, h)) c) in
+    let own : marked_element e d (base + off) ≡ d = ap (λ (b : Bool). record d { settled = b }) (and_true d.settled (is_met e.parts (base + off) d.extent) m) in
+    let p : base + off + n ≡ base + (off + n) = omega arith in
+    let rest : marked_elements e es (drop d.children ks) (base + (off + n)) ≡ es = elements_stay e es (drop d.children ks) base extent (off + n) (omega (arith, h)) c in
+    ap (λ (x : Element). x ∷ marked_elements e es (drop d.children ks) (base + off + n)) own
+    ∙ ap (λ (q : ℕ). d ∷ marked_elements e es (drop d.children ks) q) p
+    ∙ ap (λ (xs : List Element). d ∷ xs) rest
 
 stays_node : (e : Edit) (t : Tree) (place : ℕ) → AreOrdered 0 e.parts → IsNode t → is_settled t ≡ true → AreClear e.parts place (node_extent t) → all_marked e (children_of t) place ≡ children_of t → marked_below e t place ≡ t
 stays_node e t place o n s c same =
@@ -132,8 +167,11 @@ stays_node e t place o n s c same =
     let b : moved e (place + span_of t) - moved e (place + pad_of t) ≡ size_of t = omega (arith, p, q) in
     let m : is_met e.parts place (node_extent t) ≡ false = unmet e.parts place (node_extent t) c in
     let d : (is_settled t && not (is_met e.parts place (node_extent t))) ≡ is_settled t = rw (m, s) refl in
+    let z : place + 0 ≡ place = omega arith in
+    let parts : marked_elements e (elements_of t) (children_of t) place ≡ elements_of t =
+    subst (λ (q : ℕ). marked_elements e (elements_of t) (children_of t) q ≡ elements_of t) z (elements_stay e (elements_of t) (children_of t) place (node_extent t) 0 (omega (arith, w.reach)) c) in
     marked_is e t place
-    ∙ ap roll-Tree (same_layer (out-Tree t) _ _ _ _ a b d same)
+    ∙ ap roll-Tree (same_layer (out-Tree t) _ _ _ _ _ a b d parts same)
     ∙ roll-out-Tree t
 
 stay_list : (n : ℕ) (e : Edit) → ((t : Tree) (place : ℕ) → tree_depth t ≤ n → IsWhole t → is_settled t ≡ true → AreClear e.parts place (node_extent t) → marked_below e t place ≡ t)
@@ -159,6 +197,13 @@ stays_by (suc n) e t place o h w s c =
     let kids : all_marked e (children_of t) (place + 0) ≡ children_of t =
     stay_list n e (λ u q d x y v. stays_by n e u q o d x y v) (children_of t) place (node_extent t) 0 (omega (arith, h, depth_is t)) (whole_children t w) well.inner well.covers c in
     stays_node e t place o node s c (subst (λ (q : ℕ). all_marked e (children_of t) q ≡ children_of t) z kids)
+
+-- settled nodes whose examined ranges no part of the edit meets stay as they are
+pub stay_all : (e : Edit) (ts : List Tree) (place extent : ℕ) → AreOrdered 0 e.parts → AllWhole ts → All (λ child. is_settled child ≡ true) ts → EndBy extent 0 ts → AreClear e.parts place extent → all_marked e ts place ≡ ts
+stay_all e ts place extent o w s b c =
+    let z : place + 0 ≡ place = omega arith in
+    subst (λ (q : ℕ). all_marked e ts q ≡ ts) z
+    (stay_list (greatest_depth ts) e (λ u q d x y v. stays_by (greatest_depth ts) e u q o d x y v) ts place extent 0 (omega arith) w s b c)
 
 -- a settled node that no part of the edit meets stays as it is
 pub stays : (e : Edit) (t : Tree) (place : ℕ) → AreOrdered 0 e.parts → IsWhole t → is_settled t ≡ true → is_met e.parts place (node_extent t) ≡ false → marked_below e t place ≡ t

@@ -8,18 +8,21 @@ use Rattle.ts_text.specs.declared.edit.Part.{Part}
 use Rattle.ts_text.specs.Edit.{IsPartOf, replaced_from}
 use Rattle.std.specs.List.{slice_range}
 use Rattle.spec_trees.specs.declared.tree.Tree.{Tree}
+use Rattle.spec_trees.specs.declared.tree.Element.{Element}
 use Rattle.spec_trees.specs.declared.tree.Tree.TheOpen.{Tree-F}
 use Rattle.spec_trees.specs.declared.tree.Tree.TheViews.{roll-Tree, out-Tree}
-use Rattle.spec_trees.specs.Trees.{children_of, pad_of, span_of, all_spans, node_extent, is_settled, all_nodes, greatest_depth}
-use Rattle.spec_trees.specs.Made.{IsNode, remade, replaced, most_span}
+use Rattle.spec_trees.specs.Trees.{children_of, elements_of, pad_of, span_of, all_spans, all_totals, node_extent, is_settled, all_nodes, greatest_depth}
+use Rattle.spec_trees.specs.Made.{IsNode, AreElementsWell, remade, loosened, replaced, most_span}
+use Rattle.spec_trees.specs.Inside as nodes
 use Rattle.ts_node.specs.Standing.{CanBeRemade}
-use Rattle.spec_reuse.specs.Places.{lead_of}
+use Rattle.spec_reuse.specs.Places.{lead_of, IsWhole}
 use Rattle.spec_reuse.specs.Changes.{is_met, moved, moved_from, IsEditOver}
-use Rattle.spec_reuse.specs.Marked.{marked_below, all_marked, marked}
+use Rattle.spec_reuse.specs.Marked.{marked_below, all_marked, marked_elements, marked}
 use Rattle.ts_marks.specs.Parts.{AreOrdered}
 use Rattle.ts_marks.specs.Passing.{Adds, AreDone}
 use Rattle.ts_marks.proofs.MovedLemmas.{ordered, moved_rises, moved_high}
-use Rattle.ts_marks.proofs.MarkedLemmas.{marked_is, spans_are, same_all, one_shared, one_changed}
+use Rattle.ts_marks.proofs.MarkedLemmas.{marked_is, spans_are, same_all, whole_children, one_shared, one_changed}
+use Rattle.ts_marks.proofs.ElementLemmas.{totals-marked, well-marked}
 
 -- ---- one node
 
@@ -30,28 +33,30 @@ unsettled e t place h = by (is_settled t) refl
     by true s = rw (s, h s) refl
     by false s = rw s refl
 
-same_layer : (o : Tree-F Tree) (pad pad' size size' : ℕ) (settled settled' : Bool) (children children' : List Tree) → pad ≡ pad' → size ≡ size' → settled ≡ settled' → children ≡ children'
-    → record o { pad = pad; size = size; settled = settled; children = children } ≡ record o { pad = pad'; size = size'; settled = settled'; children = children' }
-same_layer o pad pad' size size' settled settled' children children' a b c d = rw (a, b, c, d) refl
+same_layer : (o : Tree-F Tree) (pad pad' size size' : ℕ) (settled settled' : Bool) (elements elements' : List Element) (children children' : List Tree) → pad ≡ pad' → size ≡ size' → settled ≡ settled' → elements ≡ elements' → children ≡ children'
+    → record o { pad = pad; size = size; settled = settled; elements = elements; children = children } ≡ record o { pad = pad'; size = size'; settled = settled'; elements = elements'; children = children' }
+same_layer o pad pad' size size' settled settled' elements elements' children children' a b c f d = rw (a, b, c, f, d) refl
 
-pub below_is : (e : Edit) (t : Tree) (place start own end : ℕ) (changes : List (ℕ × Tree)) → start ≡ moved e place → own ≡ moved e (place + pad_of t) → end ≡ moved e (place + span_of t)
-    → replaced changes (children_of t) ≡ all_marked e (children_of t) place → (is_settled t ≡ true → is_met e.parts place (node_extent t) ≡ true)
-    → remade t (own - start) (end - own) changes ≡ marked_below e t place
-below_is e t place start own end changes a b c d h =
+pub below_is : (e : Edit) (t : Tree) (place start own end : ℕ) (changes : List (ℕ × Tree)) (loose : List ℕ) → start ≡ moved e place → own ≡ moved e (place + pad_of t) → end ≡ moved e (place + span_of t)
+    → replaced changes (children_of t) ≡ all_marked e (children_of t) place → loosened loose (elements_of t) ≡ marked_elements e (elements_of t) (children_of t) place → (is_settled t ≡ true → is_met e.parts place (node_extent t) ≡ true)
+    → remade t (own - start) (end - own) changes loose ≡ marked_below e t place
+below_is e t place start own end changes loose a b c d f h =
     ap roll-Tree (same_layer (out-Tree t) (own - start) (moved e (place + pad_of t) - moved e place) (end - own) (moved e (place + span_of t) - moved e (place + pad_of t))
-    false (is_settled t && not (is_met e.parts place (node_extent t))) (replaced changes (children_of t)) (all_marked e (children_of t) place)
-    (omega (arith, a, b)) (omega (arith, b, c)) (sym (unsettled e t place h)) d)
+    false (is_settled t && not (is_met e.parts place (node_extent t))) (loosened loose (elements_of t)) (marked_elements e (elements_of t) (children_of t) place) (replaced changes (children_of t)) (all_marked e (children_of t) place)
+    (omega (arith, a, b)) (omega (arith, b, c)) (sym (unsettled e t place h)) f d)
     ∙ sym (marked_is e t place)
 
-pub root_is : (e : Edit) (t : Tree) (own end : ℕ) (changes : List (ℕ × Tree)) → own ≡ moved e (pad_of t) → end ≡ moved e (span_of t)
-    → replaced changes (children_of t) ≡ all_marked e (children_of t) (lead_of t) → remade t own (end - own) changes ≡ marked e t
-root_is e t own end changes b c d =
-    ap roll-Tree (same_layer (out-Tree t) own (moved e (pad_of t)) (end - own) (moved e (span_of t) - moved e (pad_of t)) false false (replaced changes (children_of t)) (all_marked e (children_of t) (lead_of t)) b (omega (arith, b, c)) refl d)
+pub root_is : (e : Edit) (t : Tree) (own end : ℕ) (changes : List (ℕ × Tree)) (loose : List ℕ) → own ≡ moved e (pad_of t) → end ≡ moved e (span_of t)
+    → replaced changes (children_of t) ≡ all_marked e (children_of t) (lead_of t) → loosened loose (elements_of t) ≡ marked_elements e (elements_of t) (children_of t) (lead_of t) → remade t own (end - own) changes loose ≡ marked e t
+root_is e t own end changes loose b c d f =
+    ap roll-Tree (same_layer (out-Tree t) own (moved e (pad_of t)) (end - own) (moved e (span_of t) - moved e (pad_of t)) false false (loosened loose (elements_of t)) (marked_elements e (elements_of t) (children_of t) (lead_of t)) (replaced changes (children_of t)) (all_marked e (children_of t) (lead_of t)) b (omega (arith, b, c)) refl f d)
 
 -- a node whose children are as they become can be remade, where they have room
-can : (e : Edit) (t : Tree) (place pad size : ℕ) (changes : List (ℕ × Tree)) → IsNode t → replaced changes (children_of t) ≡ all_marked e (children_of t) place
-    → pad + size ≤ most_span → moved e (place + all_spans (children_of t)) - moved e place ≤ pad + size → CanBeRemade t pad size changes
-can e t place pad size changes n d short room =
+can : (e : Edit) (t : Tree) (place pad size : ℕ) (changes : List (ℕ × Tree)) (loose : List ℕ) → AreOrdered 0 e.parts → IsWhole t → replaced changes (children_of t) ≡ all_marked e (children_of t) place
+    → loosened loose (elements_of t) ≡ marked_elements e (elements_of t) (children_of t) place
+    → pad + size ≤ most_span → moved e (place + all_spans (children_of t)) - moved e place ≤ pad + size → CanBeRemade t pad size changes loose
+can e t place pad size changes loose o w d f short room =
+    let n : IsNode t = w t nodes.itself in
     let same = same_all e (children_of t) place in
     let a : all_spans (replaced changes (children_of t)) ≡ all_spans (all_marked e (children_of t) place) = ap all_spans d in
     let b : all_nodes (replaced changes (children_of t)) ≡ all_nodes (all_marked e (children_of t) place) = ap all_nodes d in
@@ -62,22 +67,29 @@ can e t place pad size changes n d short room =
       within = omega (arith, a, spans_are e (children_of t) place, room);
       nodes = omega (arith, b, same.0);
       shallow = omega (arith, g, same.1);
+      totals = ap all_totals d ∙ totals-marked e (children_of t) place;
+      elements = subst (λ (x : List Element). AreElementsWell x (replaced changes (children_of t))) (sym f)
+          (subst (λ (x : List Tree). AreElementsWell (marked_elements e (elements_of t) (children_of t) place) x) (sym d)
+          (well-marked e (elements_of t) (children_of t) place o (whole_children t w) n.elements));
     }
 
-pub below_can : (e : Edit) (t : Tree) (place start own end : ℕ) (changes : List (ℕ × Tree)) → IsNode t → start ≡ moved e place → own ≡ moved e (place + pad_of t) → end ≡ moved e (place + span_of t)
-    → replaced changes (children_of t) ≡ all_marked e (children_of t) place → moved e (place + span_of t) ≤ most_span → CanBeRemade t (own - start) (end - own) changes
-below_can e t place start own end changes n a b c d short =
+pub below_can : (e : Edit) (t : Tree) (place start own end : ℕ) (changes : List (ℕ × Tree)) (loose : List ℕ) → AreOrdered 0 e.parts → IsWhole t → start ≡ moved e place → own ≡ moved e (place + pad_of t) → end ≡ moved e (place + span_of t)
+    → replaced changes (children_of t) ≡ all_marked e (children_of t) place → loosened loose (elements_of t) ≡ marked_elements e (elements_of t) (children_of t) place → moved e (place + span_of t) ≤ most_span
+    → CanBeRemade t (own - start) (end - own) changes loose
+below_can e t place start own end changes loose o w a b c d f short =
+    let n : IsNode t = w t nodes.itself in
     let r = moved_rises 0 e.parts place (place + pad_of t) (omega arith) in
     let s = moved_rises 0 e.parts (place + pad_of t) (place + span_of t) (omega arith) in
     let k = moved_rises 0 e.parts (place + all_spans (children_of t)) (place + span_of t) (omega (arith, n.sized.within)) in
-    can e t place (own - start) (end - own) changes n d (omega (arith, a, b, c, r, s, short)) (omega (arith, a, b, c, r, s, k))
+    can e t place (own - start) (end - own) changes loose o w d f (omega (arith, a, b, c, r, s, short)) (omega (arith, a, b, c, r, s, k))
 
-pub root_can : (e : Edit) (t : Tree) (own end : ℕ) (changes : List (ℕ × Tree)) → IsNode t → own ≡ moved e (pad_of t) → end ≡ moved e (span_of t)
-    → replaced changes (children_of t) ≡ all_marked e (children_of t) (lead_of t) → moved e (span_of t) ≤ most_span → CanBeRemade t own (end - own) changes
-root_can e t own end changes n b c d short =
+pub root_can : (e : Edit) (t : Tree) (own end : ℕ) (changes : List (ℕ × Tree)) (loose : List ℕ) → AreOrdered 0 e.parts → IsWhole t → own ≡ moved e (pad_of t) → end ≡ moved e (span_of t)
+    → replaced changes (children_of t) ≡ all_marked e (children_of t) (lead_of t) → loosened loose (elements_of t) ≡ marked_elements e (elements_of t) (children_of t) (lead_of t) → moved e (span_of t) ≤ most_span → CanBeRemade t own (end - own) changes loose
+root_can e t own end changes loose o w b c d f short =
+    let n : IsNode t = w t nodes.itself in
     let s = moved_rises 0 e.parts (pad_of t) (span_of t) (omega arith) in
     let k = moved_rises 0 e.parts (lead_of t + all_spans (children_of t)) (span_of t) (omega (arith, n.sized.within)) in
-    can e t (lead_of t) own (end - own) changes n d (omega (arith, b, c, s, short)) (omega (arith, b, c, s, k))
+    can e t (lead_of t) own (end - own) changes loose o w d f (omega (arith, b, c, s, short)) (omega (arith, b, c, s, k))
 
 pub edges_short : (e : Edit) (t : Tree) (place : ℕ) → moved e (place + span_of t) ≤ most_span → (moved e place ≤ most_span) × (moved e (place + pad_of t) ≤ most_span)
 edges_short e t place short = (

@@ -3,9 +3,10 @@ use Rattle.std.specs.Prelude.{◌≡◌, ℕ, ◌+◌, ◌-◌, ◌≤◌, ◌�
 use Rattle.ts_text.specs.declared.edit.Edit.{Edit}
 use Rattle.ts_text.specs.declared.edit.Part.{Part}
 use Rattle.spec_trees.specs.declared.tree.Tree.{Tree}
-use Rattle.spec_trees.specs.Made.{replaced, most_span}
+use Rattle.spec_trees.specs.declared.tree.Element.{Element}
+use Rattle.spec_trees.specs.Made.{loose_element, loosened, replaced, most_span}
 use Rattle.spec_reuse.specs.Changes.{moved, moved_from}
-use Rattle.spec_reuse.specs.Marked.{all_marked, marked_below}
+use Rattle.spec_reuse.specs.Marked.{all_marked, marked_below, marked_element, marked_elements}
 use Rattle.ts_marks.specs.declared.passed.Passed.{Passed}
 use Rattle.ts_marks.specs.Parts.{AreOrdered}
 
@@ -49,6 +50,24 @@ abbrev pub Adds : Edit → Tree → ℕ → ℕ → List (ℕ × Tree) → List 
 Adds edit child k place old new =
     ((marked_below edit child place ≡ child) × (new ≡ old))
     ⊎ (new ≡ old ++ (k, marked_below edit child place) ∷ [])
+
+-- an element stays as it is, or its number is added to those that are no longer settled
+abbrev pub Loosens : Edit → Element → ℕ → ℕ → List ℕ → List ℕ → Type 0
+Loosens edit e k place old new =
+    ((marked_element edit e place ≡ e) × (new ≡ old))
+    ⊎ ((marked_element edit e place ≡ loose_element e) × (new ≡ old ++ k ∷ []))
+
+-- The first k elements are done, and they have the first c children: with those of these numbers
+-- not settled the elements are those done and the others as they were, and those done are as they
+-- become.
+pub record AreLoosened
+    (edit : Edit) (es : List Element) (ts : List Tree) (base : ℕ) (loose : List ℕ) (k c place : ℕ)
+    : Type 0 where
+  pub done : List Element
+  pub many : length done ≡ k
+  pub changed : loosened loose es ≡ done ++ drop k es
+  pub all : marked_elements edit es ts base
+      ≡ done ++ marked_elements edit (drop k es) (drop c ts) place
 
 -- The first k children are done: with the changes so far the children are those done and the others
 -- as they were, and those done are as they become.

@@ -1,23 +1,24 @@
 //! Marking a tree: a tree and an edit go in, and the tree as the edit leaves it comes out.
 ghost use Rattle.std.specs.Prelude.{◌≡◌, ◌+◌, ◌<◌, ◌≤◌, true, false, All, IfOk, OnOk, length};
-ghost use Rattle.spec_trees.specs.Trees.{children_of, is_settled, node_extent, span_of, all_spans};
-ghost use Rattle.spec_trees.specs.Made.{most_span, replaced};
+ghost use Rattle.spec_trees.specs.Trees.{children_of, elements_of, is_settled, node_extent, span_of, all_spans};
+ghost use Rattle.spec_trees.specs.Made.{loosened, most_span, replaced};
 ghost use Rattle.spec_reuse.specs.Changes.{is_met, moved, IsEditOver};
-ghost use Rattle.spec_reuse.specs.Marked.{marked, marked_below, all_marked};
-ghost use Rattle.ts_marks.specs.Passing.{EndsBy, Adds, left_of};
+ghost use Rattle.spec_reuse.specs.Marked.{marked, marked_below, all_marked, marked_elements};
+ghost use Rattle.ts_marks.specs.Passing.{EndsBy, Adds, Loosens, left_of};
 
 use crate::passed::Passed;
 use crate::spans::{lead, span};
+use spec_trees::Element;
 use std::alloc::{AllocError, Global};
 use ts_node::{Node, remade_is_node, remake};
 use ts_text::Edit;
 
-/// The tree of a text after an edit: the root and all nodes that a part of the edit met are not
-/// settled, sizes follow the edit, and all nodes that it did not reach are shared.
+/// The tree of a text after an edit: the root and all nodes and elements that a part of the edit
+/// met are not settled, sizes follow the edit, and all nodes that it did not reach are shared.
 ///
 /// A settled node that no part meets costs one look, whatever is in it. So it takes time by the
 /// nodes that are made anew and their children. Of a repetition that is made anew each child is
-/// looked at, and for each child that changes a leaf of the repetition is copied.
+/// looked at, and each element; and for each that changes a leaf of the repetition is copied.
 ///
 /// # Errors
 ///
@@ -31,8 +32,17 @@ pub fn mark(alloc: Global, tree: &Node, edit: &Edit) -> Result<Node, AllocError>
     let start = Passed::start(edit);
     let own = start.moved(tree.pad());
     let end = start.moved(whole);
-    let changed = changed_children(alloc, tree, lead(tree), start)?;
-    remake(alloc, tree, own, end - own, changed.as_slice())
+    let first = lead(tree);
+    let changed = changed_children(alloc, tree, first, start)?;
+    let loose = loose_elements(alloc, tree, first, start)?;
+    remake(
+        alloc,
+        tree,
+        own,
+        end - own,
+        changed.as_slice(),
+        loose.as_slice(),
+    )
 }
 
 /// The children of a node that the edit reached, by their numbers, as they become.
@@ -61,6 +71,65 @@ fn changed_children<'e>(
         at += span(child);
     }
     Ok(changed)
+}
+
+/// The numbers of the elements of a node that were settled, and that the edit reached.
+fn loose_elements<'e>(
+    alloc: Global,
+    node: &Node,
+    place: u32,
+    passed: Passed<'e>,
+) -> Result<Vec<u32>, AllocError>
+    requires from { passed.from ≤ place }
+    requires short { place + all_spans (children_of node.now) ≤ most_span }
+    requires moved { moved passed.edit.now (place + all_spans (children_of node.now)) ≤ most_span }
+    ensures loose { IfOk result (λ loose. loosened loose.items (elements_of node.now)
+        ≡ marked_elements passed.entry.edit.now (elements_of node.now) (children_of node.now)
+        place) }
+    ensures known { IfOk result (λ loose.
+        All (λ k. k < length (elements_of node.now)) loose.items) }
+{
+    let mut loose = Vec::new(alloc);
+    let mut passed = passed;
+    for k in 0..node.elements() {
+        let at = place + node.offset(k);
+        passed = passed.up_to(at);
+        add_loose(node.element(k), k, at, passed, &mut loose)?;
+    }
+    Ok(loose)
+}
+
+/// Adds the number of an element to those that the edit reached, where it did.
+#[tactic(auto, using(crate::proofs::ElementLemmas::element_stays, crate::proofs::ElementLemmas::element_loosens))]
+fn add_loose<'e>(
+    element: Element,
+    number: u32,
+    place: u32,
+    passed: Passed<'e>,
+    loose: &mut Vec<u32>,
+) -> Result<(), AllocError>
+    requires from { passed.from ≤ place }
+    requires behind { EndsBy (left_of passed) place → ⊥ }
+    ensures { OnOk result (Loosens passed.entry.edit.now element number place
+        loose.old.items loose.new.items) }
+{
+    if !is_loosened(element, place, passed) {
+        return Ok(());
+    }
+    loose.push(number)?;
+    Ok(())
+}
+
+/// Whether an element is not settled any more: it was, and a part meets what was examined for it.
+fn is_loosened<'e>(element: Element, place: u32, passed: Passed<'e>) -> bool
+    requires from { passed.from ≤ place }
+    requires behind { EndsBy (left_of passed) place → ⊥ }
+    ensures met { result ≡ true
+        → is_met passed.entry.edit.now.parts place element.extent ≡ true }
+    ensures stays { result ≡ false → element.settled ≡ true
+        → is_met passed.entry.edit.now.parts place element.extent ≡ false }
+{
+    element.settled && passed.meets(place, element.extent)
 }
 
 /// Adds a child to those that the edit reached, where it did.
@@ -123,5 +192,13 @@ fn remade<'e>(
     let own = passed.moved(place + node.pad());
     let end = passed.moved(place + whole);
     let changed = changed_children(alloc, node, place, passed)?;
-    remake(alloc, node, own - start, end - own, changed.as_slice())
+    let loose = loose_elements(alloc, node, place, passed)?;
+    remake(
+        alloc,
+        node,
+        own - start,
+        end - own,
+        changed.as_slice(),
+        loose.as_slice(),
+    )
 }

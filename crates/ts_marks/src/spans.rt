@@ -2,7 +2,7 @@
 ghost use Rattle.std.specs.Prelude.{◌≡◌};
 ghost use Rattle.spec_trees.specs.Trees.{span_of};
 ghost use Rattle.spec_trees.specs.Made.{IsNode};
-ghost use Rattle.spec_reuse.specs.Places.{lead_of};
+ghost use Rattle.spec_reuse.specs.Places.{lead_of, IsWhole};
 
 use ts_node::Node;
 
@@ -10,6 +10,7 @@ use ts_node::Node;
 pub(crate) fn span(node: &Node) -> u32
     ensures span { result ≡ span_of node.now }
     ensures node { IsNode node.now }
+    ensures whole { IsWhole node.now }
 {
     let _ = node.nodes();
     node.pad() + node.size()

@@ -8,8 +8,9 @@ use Rattle.spec_trees.specs.Trees.{symbol_of, production_of, elements_of, childr
 use Rattle.spec_trees.specs.Made.{IsNode, IsSettledWell, accepted, EndBy}
 use Rattle.ts_node.specs.Standing.{IsAcceptable}
 use Rattle.ts_node.specs.Falls.{all_nodes-append}
-use Rattle.ts_node.proofs.RunLemmas.{all_spans-append, greatest_depth-append}
-use Rattle.ts_node.proofs.ReducedLemmas.{IsFit, fit_is_node, end_by_wider, end_by_both}
+use Rattle.ts_node.proofs.RunLemmas.{greatest_depth-append}
+use Rattle.ts_node.proofs.ElementLemmas.{all_spans-append}
+use Rattle.ts_node.proofs.ReducedLemmas.{IsFit, none_has, fit_is_node, end_by_wider, end_by_both, end_by_moved}
 
 end_by_left : (end place : ℕ) (xs ys : List Tree) → EndBy end place (xs ++ ys) → EndBy end place xs
 end_by_left end place [] ys e = tt
@@ -19,11 +20,6 @@ end_by_right : (end place : ℕ) (xs ys : List Tree) → EndBy end place (xs ++ 
 end_by_right end place [] ys e = end_by_wider end end place (place + 0) ys (omega arith) (omega arith) e
 end_by_right end place (x ∷ xs) ys e =
     end_by_wider end end (place + span_of x + all_spans xs) (place + (span_of x + all_spans xs)) ys (omega arith) (omega arith) (end_by_right end (place + span_of x) xs ys e.1)
-
-end_by_moved : (by end place : ℕ) (ks : List Tree) → EndBy end place ks → EndBy (by + end) (by + place) ks
-end_by_moved by end place [] e = tt
-end_by_moved by end place (k ∷ ks) e =
-    (omega (arith, e.0), end_by_wider (by + end) (by + end) (by + (place + span_of k)) (by + place + span_of k) ks (omega arith) (omega arith) (end_by_moved by end (place + span_of k) ks e.1))
 
 around_covers : (root : Tree) (before after : List Tree) (extent : ℕ) → IsAcceptable root before after extent → EndBy extent 0 ((before ++ children_of root) ++ after)
 around_covers root before after extent a =
@@ -52,6 +48,7 @@ accepted_fits root before after extent a =
       short = omega (arith, spans, within, a.short);
       shallow = omega (arith, d, a.node.sized.shallow, a.before_shallow, a.after_shallow, greatest_depth-append (before ++ ks) after, greatest_depth-append before ks);
       counted = tt;
+      elements = none_has (total_of root) extent ((before ++ ks) ++ after);
       modest = omega (arith, n, nodes, a.plain, a.node.modest);
       past = omega (arith, spans, within, a.past);
       inner = All-append (λ child. is_settled child ≡ true) (before ++ ks) after (All-append (λ child. is_settled child ≡ true) before ks a.before_settled (a.node.settled a.whole).inner) a.after_settled;

@@ -84,6 +84,9 @@ leaf_children l t e = ap (λ (x : Tree-F Tree). x.children) (out_leaf l t e)
 pub leaf_elements : (l : Leaf) (t : Tree) → leaf_tree l ≡ t → elements_of t ≡ []
 leaf_elements l t e = ap (λ (x : Tree-F Tree). x.elements) (out_leaf l t e)
 
+pub leaf_none : (l : Leaf) (t : Tree) → leaf_tree l ≡ t → length (elements_of t) ≡ 0
+leaf_none l t e = ap (λ (es : List Element). length es) (leaf_elements l t e)
+
 pub no_elements : (es : List Element) → length es ≡ 0 → es ≡ []
 no_elements [] none = refl
 no_elements (e ∷ es) none = let f : ⊥ = omega (arith, none) in elim f [ ]

@@ -10,6 +10,7 @@ use Rattle.spec_trees.specs.declared.tree.Stretch.{Stretch}
 use Rattle.ts_node.specs.Held.{joined_stretch}
 use Rattle.spec_trees.specs.Trees.{is_extra_node}
 use Rattle.spec_trees.specs.Made.{children_count, fills_from, fills_in}
+use Rattle.ts_node.proofs.ElementLemmas.{blank}
 
 -- ---- elements
 
@@ -99,32 +100,29 @@ fill_right s t w k x e h past there =
 
 -- ---- elements one after another
 
-abbrev none : Element
-none = record { alternative = 0; children = 0 }
-
-pub count_drop : (es : List Element) (i : ℕ) → i < length es → children_count (drop i es) ≡ (get_or es i none).children + children_count (drop (i + 1) es)
+pub count_drop : (es : List Element) (i : ℕ) → i < length es → children_count (drop i es) ≡ (get_or es i blank).children + children_count (drop (i + 1) es)
 count_drop es i there =
     let q : suc i ≡ i + 1 = omega arith in
-    ap children_count (drop-cons es i none there)
-    ∙ ap (λ (j : ℕ). (get_or es i none).children + children_count (drop j es)) q
+    ap children_count (drop-cons es i blank there)
+    ∙ ap (λ (j : ℕ). (get_or es i blank).children + children_count (drop j es)) q
 
 -- within the element at hand
-pub fill_element : (es : List Element) (ts : List Tree) (i from k : ℕ) (x : Option ℕ) → i < length es → from ≤ k → k < length ts → k - from < (get_or es i none).children
+pub fill_element : (es : List Element) (ts : List Tree) (i from k : ℕ) (x : Option ℕ) → i < length es → from ≤ k → k < length ts → k - from < (get_or es i blank).children
     → slice_get (fills_from 0 (drop from ts)) (k - from) ≡ Some x → slice_get (fills_in (drop i es) (drop from ts)) (k - from) ≡ Some x
 fill_element es ts i from k x there past within inside is =
-    ap (λ (v : List Element). slice_get (fills_in v (drop from ts)) (k - from)) (drop-cons es i none there)
-    ∙ fills_first (get_or es i none) (drop (suc i) es) (drop from ts) (k - from) inside (omega (arith, length-drop from ts, past, within))
+    ap (λ (v : List Element). slice_get (fills_in v (drop from ts)) (k - from)) (drop-cons es i blank there)
+    ∙ fills_first (get_or es i blank) (drop (suc i) es) (drop from ts) (k - from) inside (omega (arith, length-drop from ts, past, within))
     ∙ is
 
 -- past it
-pub skip_element : (es : List Element) (ts : List Tree) (i from k : ℕ) → i < length es → from + (get_or es i none).children ≤ k → k < length ts
-    → slice_get (fills_in (drop (i + 1) es) (drop (from + (get_or es i none).children) ts)) (k - (from + (get_or es i none).children)) ≡ slice_get (fills_in (drop i es) (drop from ts)) (k - from)
+pub skip_element : (es : List Element) (ts : List Tree) (i from k : ℕ) → i < length es → from + (get_or es i blank).children ≤ k → k < length ts
+    → slice_get (fills_in (drop (i + 1) es) (drop (from + (get_or es i blank).children) ts)) (k - (from + (get_or es i blank).children)) ≡ slice_get (fills_in (drop i es) (drop from ts)) (k - from)
 skip_element es ts i from k there past within =
-    let c : ℕ = (get_or es i none).children in
+    let c : ℕ = (get_or es i blank).children in
     let p : k - (from + c) ≡ k - from - c = omega arith in
     let q : i + 1 ≡ suc i = omega arith in
-    sym (ap (λ (v : List Element). slice_get (fills_in v (drop from ts)) (k - from)) (drop-cons es i none there)
-    ∙ fills_past (get_or es i none) (drop (suc i) es) (drop from ts) (k - from) (omega (arith, past)) (omega (arith, length-drop from ts, past, within))
+    sym (ap (λ (v : List Element). slice_get (fills_in v (drop from ts)) (k - from)) (drop-cons es i blank there)
+    ∙ fills_past (get_or es i blank) (drop (suc i) es) (drop from ts) (k - from) (omega (arith, past)) (omega (arith, length-drop from ts, past, within))
     ∙ ap (λ (us : List Tree). slice_get (fills_in (drop (suc i) es) us) (k - from - c)) (drop-drop c from ts)
     ∙ ap (slice_get (fills_in (drop (suc i) es) (drop (from + c) ts))) (sym p)
     ∙ ap (λ (j : ℕ). slice_get (fills_in (drop j es) (drop (from + c) ts)) (k - (from + c))) (sym q))

@@ -1,5 +1,5 @@
 -- Nodes that are made by one grammar are in its form.
-use Rattle.std.proofs.Common.{◌≡◌, ℕ, ◌-◌, ◌<◌, sym, ap, ◌∙◌, refl, subst, arith, Bool, true, false, ◌&&◌, List, [], ◌∷◌, ◌++◌, length, map, set, Option, Some, None}
+use Rattle.std.proofs.Common.{◌≡◌, ℕ, zero, suc, ◌-◌, ◌<◌, sym, ap, ◌∙◌, refl, subst, arith, Bool, true, false, true≢false, ◌&&◌, List, [], ◌∷◌, ◌++◌, length, map, set, Option, Some, None}
 use Rattle.std.specs.Prelude.{All, nat_le, nat_lt, if◌then◌else◌, option_map, unwrap_or}
 use Rattle.std.specs.List.{list_all}
 use Rattle.std.proofs.lemmas.Bool.{lt-leb}
@@ -14,8 +14,8 @@ use Rattle.spec_trees.specs.declared.tree.Element.{Element}
 use Rattle.spec_trees.specs.declared.tree.Tree.TheOpen.{Tree-F}
 use Rattle.spec_trees.specs.declared.tree.Tree.TheViews.{out-Tree, out-roll-Tree}
 use Rattle.spec_trees.specs.declared.tree.Tree.TheFolds.{fold-Tree, fold-roll-Tree, fold_out-Tree}
-use Rattle.spec_trees.specs.Trees.{symbol_of, production_of, elements_of, children_of, total_of, all_totals}
-use Rattle.spec_trees.specs.Made.{leaf_of, as_extra, node_over, element, Form, of_rule, of_first, of_next, repetition_form, form_of, left_of, value_of, made_by, reduced, accepted, replaced, remade, FitsProduction, Lengthens}
+use Rattle.spec_trees.specs.Trees.{symbol_of, production_of, elements_of, children_of, span_of, total_of, all_totals}
+use Rattle.spec_trees.specs.Made.{leaf_of, as_extra, node_over, element, Form, of_rule, of_first, of_next, repetition_form, form_of, left_of, value_of, made_by, reduced, accepted, loosened, loosened_at, replaced, remade, FitsProduction, Lengthens}
 use Rattle.spec_trees.specs.Choice.{form_step, has_form, IsInForm}
 use Rattle.ts_node.specs.Standing.{IsMadeWith}
 use Rattle.ts_node.proofs.ReducedLemmas.{over_layer}
@@ -85,12 +85,12 @@ made_form : (f : Form) (g : FlatGrammar) (symbol number : ℕ) (value : ℤ) (ex
 made_form of_rule g symbol number value extent state ks e l a =
     form_over g symbol (Some number) (value +ℤ all_totals ks) extent state [] ks (subst (λ (b : Bool). has_form b [] ≡ true) e refl) a
 made_form (of_first alternative) g symbol number value extent state ks e l a =
-    form_over g symbol None (value +ℤ all_totals ks) extent state (element alternative (length ks) ∷ []) ks
-    (subst (λ (b : Bool). has_form b (element alternative (length ks) ∷ []) ≡ true) e refl) a
+    form_over g symbol None (value +ℤ all_totals ks) extent state (element alternative (length ks) value extent ∷ []) ks
+    (subst (λ (b : Bool). has_form b (element alternative (length ks) value extent ∷ []) ≡ true) e refl) a
 made_form (of_next alternative) g symbol number value extent state [] e l a = elim l [ ]
 made_form (of_next alternative) g symbol number value extent state (before ∷ more) e l a =
-    form_over g symbol None (value +ℤ (total_of before +ℤ all_totals more)) extent state (elements_of before ++ element alternative (length more) ∷ []) (children_of before ++ more)
-    (subst (λ (b : Bool). has_form b (elements_of before ++ element alternative (length more) ∷ []) ≡ true) e (some_longer (elements_of before) (element alternative (length more))))
+    form_over g symbol None (value +ℤ (total_of before +ℤ all_totals more)) extent state (elements_of before ++ element alternative (length more) value (extent - span_of before) ∷ []) (children_of before ++ more)
+    (subst (λ (b : Bool). has_form b (elements_of before ++ element alternative (length more) value (extent - span_of before) ∷ []) ≡ true) e (some_longer (elements_of before) (element alternative (length more) value (extent - span_of before))))
     (All-append (IsInForm g) (children_of before) more (form_children g before (All-head (IsInForm g) before more a)) (All-tail (IsInForm g) before more a))
 
 pub form_reduced : (g : FlatGrammar) (number extent : ℕ) (state : Option ℕ) (children : List Tree) → FitsProduction g number children → All (IsInForm g) children → IsInForm g (reduced g number extent state children)
@@ -175,8 +175,19 @@ form_replaced g (change ∷ changes) ts c a =
     form_replaced g changes (set ts change.0 change.1) (All-tail (λ (x : ℕ × Tree). IsInForm g x.1) change changes c)
     (All-set (IsInForm g) ts change.0 change.1 (All-head (λ (x : ℕ × Tree). IsInForm g x.1) change changes c) a)
 
-pub form_remade : (g : FlatGrammar) (t : Tree) (pad size : ℕ) (changes : List (ℕ × Tree)) → IsInForm g t → All (λ (change : ℕ × Tree). IsInForm g change.1) changes → IsInForm g (remade t pad size changes)
-form_remade g t pad size changes h c =
-    fold-roll-Tree Bool (form_step g) (record (out-Tree t) { pad = pad; size = size; settled = false; children = replaced changes (children_of t) })
-    ∙ both (has_form (is_repetition g (symbol_of t)) (elements_of t)) (all_forms g (replaced changes (children_of t))) (form_out g t h).0
+form_loosened : (b : Bool) (ks : List ℕ) (es : List Element) → has_form b es ≡ true → has_form b (loosened ks es) ≡ true
+form_loosened b [] es h = h
+form_loosened b (k ∷ ks) es h = form_loosened b ks (loosened_at k es) (one b k es h)
+  where
+    one : (c : Bool) (i : ℕ) (ds : List Element) → has_form c ds ≡ true → has_form c (loosened_at i ds) ≡ true
+    one c i [] h = h
+    one true zero (d ∷ ds) h = refl
+    one true (suc i) (d ∷ ds) h = refl
+    one false i (d ∷ ds) h = absurd (true≢false (sym h))
+
+pub form_remade : (g : FlatGrammar) (t : Tree) (pad size : ℕ) (changes : List (ℕ × Tree)) (loose : List ℕ) → IsInForm g t → All (λ (change : ℕ × Tree). IsInForm g change.1) changes → IsInForm g (remade t pad size changes loose)
+form_remade g t pad size changes loose h c =
+    fold-roll-Tree Bool (form_step g) (record (out-Tree t) { pad = pad; size = size; settled = false; elements = loosened loose (elements_of t); children = replaced changes (children_of t) })
+    ∙ both (has_form (is_repetition g (symbol_of t)) (loosened loose (elements_of t))) (all_forms g (replaced changes (children_of t)))
+    (form_loosened (is_repetition g (symbol_of t)) loose (elements_of t) (form_out g t h).0)
     (all_in g (replaced changes (children_of t)) (form_replaced g changes (children_of t) c (form_children g t h)))

@@ -10,7 +10,7 @@ use Rattle.spec_trees.specs.declared.tree.Tree.TheOpen.{Tree-F}
 use Rattle.spec_trees.specs.declared.tree.Tree.TheViews.{out-Tree, roll-Tree, out-roll-Tree}
 use Rattle.spec_trees.specs.declared.tree.Tree.TheFolds.{fold-roll-Tree}
 use Rattle.spec_trees.specs.Trees.{pad_of, size_of, span_of, node_extent, is_settled, total_of, children_of, elements_of, node_count, nodes_step, tree_depth, depth_step, all_spans}
-use Rattle.spec_trees.specs.Made.{IsNode, IsLeaf, AreCounted, EndBy, most_span, as_extra}
+use Rattle.spec_trees.specs.Made.{IsNode, IsLeaf, AreCounted, AreElementsWell, IsTotalOf, reach_of, EndBy, most_span, as_extra}
 use Rattle.ts_node.specs.declared.node.Leaf.{Leaf}
 use Rattle.ts_node.specs.Held.{leaf_tree, extra_leaf, HoldsNodes, Tells}
 use Rattle.ts_node.proofs.WholeLemmas.{holds}
@@ -55,11 +55,15 @@ leaf_node l short past = record {
     shallow = omega (arith, depth_of_leaf l);
   };
   counted = subst (λ (es : List Element). AreCounted es (children_of (leaf_tree l))) (sym (elements_are l)) tt;
+  totalled = subst (λ (es : List Element). IsTotalOf (total_of (leaf_tree l)) es (children_of (leaf_tree l))) (sym (elements_are l)) tt;
+  elements = subst (λ (es : List Element). AreElementsWell es (children_of (leaf_tree l))) (sym (elements_are l)) tt;
   modest = rw (total_is l) (none_is_modest (node_count (leaf_tree l)));
   settled = λ h. record {
     past = let p : l.pad + l.size < l.extent = past (sym (settled_is l) ∙ h) in omega (arith, p, pad_is l, size_is l, extent_is l);
     inner = subst (λ (ks : List Tree). All (λ child. is_settled child ≡ true) ks) (sym (children_are l)) (All-nil (λ child. is_settled child ≡ true));
     covers = subst (λ (ks : List Tree). EndBy (node_extent (leaf_tree l)) 0 ks) (sym (children_are l)) tt;
+    elements = subst (λ (es : List Element). All (λ e. e.settled ≡ true) es) (sym (elements_are l)) (All-nil (λ (e : Element). e.settled ≡ true));
+    reach = let r : reach_of (elements_of (leaf_tree l)) (children_of (leaf_tree l)) ≡ 0 = ap (λ (es : List Element). reach_of es (children_of (leaf_tree l))) (elements_are l) in omega (arith, r);
   };
 }
 

@@ -1,9 +1,11 @@
 pub mod AcceptedLemmas
 pub mod BodyLemmas
+pub mod ElementLemmas
 pub mod FillLemmas
 pub mod FormLemmas
 pub mod LeafLemmas
 pub mod LeavesLemmas
+pub mod LengthenLemmas
 pub mod ProductionLemmas
 pub mod ReducedLemmas
 pub mod RemadeLemmas

@@ -5,7 +5,7 @@ use Rattle.std.specs.Int.RustNames.{FitsSigned, unsigned_abs}
 use lib.IntN.{ℤ, pos, negsuc, ◌+ℤ◌, sub_ℕ}
 use lib.Dec.{ltb}
 use mathlib.Core.Bool.{cond}
-use mir.Syntax.{w32, w64}
+use mir.Syntax.{w32, w64, w128}
 
 abs_difference : (a b : ℕ) → unsigned_abs (sub_ℕ a (suc b)) ≤ a + suc b
 abs_difference a b = by (ltb a (suc b))
@@ -23,7 +23,10 @@ abs_sum (negsuc a) (negsuc b) = omega arith
 pub sum_fits : (a b : ℤ) → unsigned_abs a + unsigned_abs b < 2 ^ 63 → FitsSigned w64 (a +ℤ b)
 sum_fits a b h = fits_signed_from_abs w64 (a +ℤ b) (omega (arith, h, abs_sum a b))
 
-abs_small : (v : ℤ) → FitsSigned w32 v → unsigned_abs v ≤ 2 ^ 31
+pub wide_sum_fits : (a b : ℤ) → unsigned_abs a + unsigned_abs b < 2 ^ 127 → FitsSigned w128 (a +ℤ b)
+wide_sum_fits a b h = fits_signed_from_abs w128 (a +ℤ b) (omega (arith, h, abs_sum a b))
+
+pub abs_small : (v : ℤ) → FitsSigned w32 v → unsigned_abs v ≤ 2 ^ 31
 abs_small (pos n) f = grind arith
 abs_small (negsuc n) f = grind arith
 

@@ -1,12 +1,13 @@
 -- What the parts of a node hold.
-use Rattle.std.specs.Prelude.{◌≡◌, ◌++◌, ◌*◌, ◌≤◌, ◌<◌, ℕ, All, List, [], length, set, Option, None, true, false}
+use Rattle.std.specs.Prelude.{◌≡◌, ◌++◌, ◌*◌, ◌^◌, ◌≤◌, ◌<◌, ℕ, ◌+◌, All, List, [], ◌∷◌, length, set, Option, None, Bool, true, false, ◌&&◌}
+use Rattle.std.specs.Int.RustNames.{unsigned_abs}
 use lib.IntN.{pos}
 use Rattle.spec_trees.specs.declared.tree.Tree.{Tree}
 use Rattle.spec_trees.specs.declared.tree.Element.{Element}
 use Rattle.spec_trees.specs.declared.tree.Stretch.{Stretch}
 use Rattle.spec_trees.specs.declared.tree.Tree.TheViews.{roll-Tree}
-use Rattle.spec_trees.specs.Trees.{node_count, tree_depth, all_nodes, all_spans, greatest_depth, symbol_of, pad_of, size_of, node_extent, state_of, is_settled, total_of}
-use Rattle.spec_trees.specs.Made.{IsNode, children_count, most_span, node_limit}
+use Rattle.spec_trees.specs.Trees.{node_count, tree_depth, all_nodes, all_spans, all_totals, all_values, greatest_depth, symbol_of, pad_of, size_of, node_extent, state_of, is_settled, total_of}
+use Rattle.spec_trees.specs.Made.{IsNode, children_count, reach_of, loosened_at, most_span, node_limit}
 use Rattle.spec_trees.specs.Inside.{IsNodeIn}
 use Rattle.ts_node.specs.declared.node.Leaf.{Leaf}
 use Rattle.ts_node.specs.declared.node.Summary.{Summary}
@@ -127,6 +128,10 @@ stretch elements children = record { elements = elements; children = children }
 abbrev pub changed : Stretch → ℕ → Tree → Stretch
 changed s k t = record { elements = s.elements; children = set s.children k t }
 
+-- a stretch with one element not settled
+abbrev pub loosened_stretch : Stretch → ℕ → Stretch
+loosened_stretch s k = record { elements = loosened_at k s.elements; children = s.children }
+
 -- what a run holds
 abbrev pub stretch_of : Shape → Stretch
 stretch_of (shape.Leaf elements children) = stretch elements children
@@ -142,14 +147,26 @@ pub record IsSum (s : Sums) (ts : List Tree) : Type 0 where
   pub nodes : s.nodes ≡ all_nodes ts
   pub spans : s.spans ≡ all_spans ts
   pub depth : s.depth ≡ greatest_depth ts
+  pub totals : s.totals ≡ all_totals ts
   pub few : all_nodes ts ≤ node_limit * length ts
   pub short : all_spans ts ≤ most_span * length ts
+  pub modest : unsigned_abs (all_totals ts) ≤ 2 ^ 31 * all_nodes ts
   pub whole : All HoldsNodes ts
+
+-- whether all elements are settled
+abbrev pub all_settled : List Element → Bool
+all_settled [] = true
+all_settled (e ∷ es) = e.settled && all_settled es
 
 -- what is counted of a stretch, whose elements have just its children
 pub record IsCount (c : Counts) (s : Stretch) : Type 0 where
   pub elements : c.elements ≡ length s.elements
   pub children : c.children ≡ length s.children
+  pub settled : c.settled ≡ all_settled s.elements
+  pub values : c.values ≡ all_values s.elements
+  pub small : unsigned_abs (all_values s.elements) ≤ 2 ^ 31 * length s.elements
+  pub reach : c.reach ≡ reach_of s.elements s.children
+  pub near : reach_of s.elements s.children ≤ most_span * length s.children + 2 ^ 32
   pub sums : IsSum c.sums s.children
   pub own : children_count s.elements ≡ length s.children
   pub some : 0 < length s.elements

@@ -4,3 +4,4 @@ pub mod Falls
 pub mod Standing
 pub mod Leaves
 pub mod Kinds
+pub mod Places

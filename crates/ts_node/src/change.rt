@@ -1,8 +1,8 @@
 //! What an edit leaves of a node: a node, its new pad and size and its changed children go in, and
 //! the node with these, not settled, comes out.
 ghost use Rattle.std.specs.Prelude.{◌≡◌, ◌+◌, ◌<◌, ◌^◌, false, All, IfOk, length};
-ghost use Rattle.spec_trees.specs.Trees.{children_of};
-ghost use Rattle.spec_trees.specs.Made.{remade, replaced, IsNode};
+ghost use Rattle.spec_trees.specs.Trees.{children_of, elements_of};
+ghost use Rattle.spec_trees.specs.Made.{loosened, remade, replaced, IsNode};
 ghost use Rattle.ts_node.specs.Held.{stretch};
 
 use crate::node::{Kind, Node, Repetition, RuleNode, Run, Summary, Sums};
@@ -10,8 +10,9 @@ use crate::sums::{copy, sums};
 use std::alloc::{AllocError, Global};
 use ts_base::{List, Shared};
 
-/// The node with another pad and size, its children of these numbers replaced, and not settled. All
-/// else stays, its dynamic total too. It shares all other children.
+/// The node with another pad and size, its children of these numbers replaced, and not settled, nor
+/// its elements of these numbers. All else stays, its dynamic total too. It shares all other
+/// children.
 ///
 /// # Errors
 ///
@@ -23,17 +24,19 @@ pub fn remake(
     pad: u32,
     size: u32,
     changed: &[(u32, Node)],
+    loose: &[u32],
 ) -> Result<Node, AllocError>
     requires within { All (λ change. change.0 < length (children_of node.now)) changed.now }
-    requires node { IsNode (remade node.now pad size changed.now) }
-    ensures { IfOk result (λ new. new ≡ remade node.now pad size changed.now) }
+    requires known { All (λ k. k < length (elements_of node.now)) loose.now }
+    requires node { IsNode (remade node.now pad size changed.now loose.now) }
+    ensures { IfOk result (λ new. new ≡ remade node.now pad size changed.now loose.now) }
 {
     match &node.kind {
         Kind::Leaf(leaf) => Ok(Node {
             kind: Kind::Leaf(leaf.remade(pad, size)),
         }),
-        Kind::Rule(rule) => rule.get().remake(alloc, pad, size, changed),
-        Kind::Repetition(repetition) => repetition.get().remake(alloc, pad, size, changed),
+        Kind::Rule(rule) => rule.get().remake(alloc, pad, size, changed, loose),
+        Kind::Repetition(repetition) => repetition.get().remake(alloc, pad, size, changed, loose),
     }
 }
 
@@ -72,10 +75,11 @@ impl RuleNode {
         pad: u32,
         size: u32,
         changed: &[(u32, Node)],
+        loose: &[u32],
     ) -> Result<Node, AllocError>
         requires within { All (λ change. change.0 < length (children_of self.now)) changed.now }
-        requires node { IsNode (remade self.now pad size changed.now) }
-        ensures { IfOk result (λ new. new ≡ remade self.now pad size changed.now) }
+        requires node { IsNode (remade self.now pad size changed.now loose.now) }
+        ensures { IfOk result (λ new. new ≡ remade self.now pad size changed.now loose.now) }
     {
         let children = with_changes(alloc, self.children.as_slice(), changed)?;
         let summary = self.summary.remade(pad, size, 0, sums(children.as_slice()));
@@ -100,12 +104,14 @@ impl Repetition {
         pad: u32,
         size: u32,
         changed: &[(u32, Node)],
+        loose: &[u32],
     ) -> Result<Node, AllocError>
         requires within { All (λ change. change.0 < length (children_of self.now)) changed.now }
-        requires node { IsNode (remade self.now pad size changed.now) }
-        ensures { IfOk result (λ new. new ≡ remade self.now pad size changed.now) }
+        requires known { All (λ k. k < length (elements_of self.now)) loose.now }
+        requires node { IsNode (remade self.now pad size changed.now loose.now) }
+        ensures { IfOk result (λ new. new ≡ remade self.now pad size changed.now loose.now) }
     {
-        let run = run_with_changes(alloc, &self.run, changed)?;
+        let run = remade_run(alloc, &self.run, changed, loose)?;
         let counts = run.get().counts();
         let summary = self.summary.remade(pad, size, counts.elements, counts.sums);
         let body = Shared::new(alloc, Repetition { summary, run })?;
@@ -133,6 +139,22 @@ fn with_changes(
     Ok(List::from_vec(kept))
 }
 
+/// The run with those of its children replaced, and those of its elements not settled.
+fn remade_run(
+    alloc: Global,
+    run: &Shared<Run>,
+    changed: &[(u32, Node)],
+    loose: &[u32],
+) -> Result<Shared<Run>, AllocError>
+    requires within { All (λ change. change.0 < length run.now.children) changed.now }
+    requires known { All (λ k. k < length run.now.elements) loose.now }
+    ensures { IfOk result (λ new. new
+        ≡ stretch (loosened loose.now run.now.elements) (replaced changed.now run.now.children)) }
+{
+    let over = run_with_changes(alloc, run, changed)?;
+    run_loosened(alloc, &over, loose)
+}
+
 /// The run with those of its children replaced.
 fn run_with_changes(
     alloc: Global,
@@ -146,6 +168,19 @@ fn run_with_changes(
     let mut run = run.try_clone()?;
     for (k, node) in changed {
         run = Run::with_child(alloc, &run, *k, node.try_clone()?)?;
+    }
+    Ok(run)
+}
+
+/// The run with those of its elements not settled.
+fn run_loosened(alloc: Global, run: &Shared<Run>, loose: &[u32]) -> Result<Shared<Run>, AllocError>
+    requires { All (λ k. k < length run.now.elements) loose.now }
+    ensures { IfOk result
+        (λ new. new ≡ stretch (loosened loose.now run.now.elements) run.now.children) }
+{
+    let mut run = run.try_clone()?;
+    for k in loose {
+        run = Run::with_loose(alloc, &run, *k)?;
     }
     Ok(run)
 }

@@ -1,14 +1,17 @@
 //! Laws of nodes: no value goes in or out, and what is said of definitions holds.
-ghost use Rattle.std.specs.Prelude.{◌≡◌, ◌<◌, ℕ, All, List, Option, None, Some, false, length, take};
+ghost use Rattle.std.specs.Prelude.{◌≡◌, ◌-◌, ◌<◌, ◌∷◌, [], ℕ, All, List, Option, None, Some, false, length, take};
+ghost use lib.IntN.{ℤ};
 ghost use Rattle.ts_base.specs.Bytes.{Bytes};
 ghost use Rattle.ts_core.specs.declared.flat.FlatGrammar.{FlatGrammar};
 ghost use Rattle.spec_grammar.specs.Symbols.{is_repetition, start_symbol};
 ghost use Rattle.spec_trees.specs.declared.tree.Tree.{Tree};
+ghost use Rattle.spec_trees.specs.declared.tree.Stretch.{Stretch};
 ghost use Rattle.spec_trees.specs.Trees.{children_of, elements_of, production_of, span_of, symbol_of, tree_depth};
-ghost use Rattle.spec_trees.specs.Made.{leaf_of, as_extra, reduced, accepted, remade, form_of, left_of, IsNode, FitsProduction};
+ghost use Rattle.spec_trees.specs.Made.{leaf_of, as_extra, element, next_element, reduced, accepted, remade, lengthened, elements_between, form_of, left_of, IsNode, FitsProduction};
 ghost use Rattle.spec_trees.specs.Reducible.{IsReducible};
 ghost use Rattle.spec_trees.specs.Choice.{IsInForm};
-ghost use Rattle.ts_node.specs.Standing.{depth_by, CanBeReduced, CanBeRemade, IsAcceptable, IsMadeWith};
+ghost use Rattle.ts_node.specs.Standing.{depth_by, CanBeReduced, CanBeRemade, CanBeLengthened, IsAcceptable, IsMadeWith, IsPartOf};
+ghost use Rattle.ts_node.specs.Held.{joined_stretch, stretch};
 ghost use Rattle.ts_node.specs.Leaves.{IsGapless, leaves_from, leaves_bytes};
 
 /// What a reduction makes of children that can be reduced is a node, as `reduce` asks.
@@ -50,8 +53,35 @@ pub fn accepted_is_node()
 
 /// What an edit leaves of a node that can be remade is a node, as `remake` asks.
 pub fn remade_is_node()
-    ensures { (t : Tree) (pad size : ℕ) (changes : List (ℕ × Tree))
-        → CanBeRemade t pad size changes → IsNode (remade t pad size changes) }
+    ensures { (t : Tree) (pad size : ℕ) (changes : List (ℕ × Tree)) (loose : List ℕ)
+        → CanBeRemade t pad size changes loose → IsNode (remade t pad size changes loose) }
+{}
+
+/// Elements that are cut out of a node: the settled ones are so over their children, and they are
+/// no more and no deeper than the node has them.
+pub fn sections_stand()
+    ensures { (t : Tree) (from to : ℕ) → IsNode t → IsPartOf t (elements_between from to t) }
+{}
+
+/// A repetition that can be lengthened by elements is a node then, as `lengthen` asks.
+pub fn lengthened_is_node()
+    ensures { (before : Tree) (more : Stretch) (extent : ℕ) (state : Option ℕ)
+        → CanBeLengthened before more extent → IsNode (lengthened before more extent state) }
+{}
+
+/// A repetition that is lengthened by one element that was examined as a reduction says is what the
+/// reduction makes, and to lengthen it by several is to lengthen it by one after another.
+pub fn lengthened_in_turn()
+    ensures one { (before : Tree) (alternative : ℕ) (value : ℤ) (extent : ℕ) (state : Option ℕ)
+        (children : List Tree)
+        → lengthened before (stretch
+        (element alternative (length children) value (extent - span_of before) ∷ []) children)
+        extent state
+        ≡ next_element (symbol_of before) alternative value extent state (before ∷ children) }
+    ensures several { (before : Tree) (first more : Stretch) (extent last : ℕ)
+        (state below : Option ℕ)
+        → lengthened (lengthened before first extent state) more last below
+        ≡ lengthened before (joined_stretch first more) last below }
 {}
 
 /// A node of a rule that is no repetition has its production and no elements, as acceptance asks
@@ -79,8 +109,8 @@ pub fn made_nodes_are_in_form()
         → IsInForm g root → All (IsInForm g) before → All (IsInForm g) after
         → IsInForm g (accepted root before after extent) }
     ensures remade { (g : FlatGrammar) (t : Tree) (pad size : ℕ) (changes : List (ℕ × Tree))
-        → IsInForm g t → All (λ change. IsInForm g change.1) changes
-        → IsInForm g (remade t pad size changes) }
+        (loose : List ℕ) → IsInForm g t → All (λ change. IsInForm g change.1) changes
+        → IsInForm g (remade t pad size changes loose) }
     ensures children { (g : FlatGrammar) (t : Tree) → IsInForm g t
         → All (IsInForm g) (children_of t) }
 {}

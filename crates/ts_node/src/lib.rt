@@ -3,22 +3,27 @@
 #![tactic(auto)]
 
 mod change;
+mod counts;
+mod cut;
 mod fills;
 mod kind;
 mod laws;
 mod make;
 mod node;
+mod places;
 mod productions;
 mod run;
+mod section;
 mod sums;
 
 pub use change::remake;
 pub use kind::NodeKind;
 pub use laws::{
-    accepted_is_node, leaves_spell_the_text, made_nodes_are_gapless, made_nodes_are_in_form,
-    made_nodes_are_settled, reduced_by_a_rule, reduced_is_node, reduced_is_node_of_its_depth,
-    remade_is_node,
+    accepted_is_node, leaves_spell_the_text, lengthened_in_turn, lengthened_is_node,
+    made_nodes_are_gapless, made_nodes_are_in_form, made_nodes_are_settled, reduced_by_a_rule,
+    reduced_is_node, reduced_is_node_of_its_depth, remade_is_node, sections_stand,
 };
 pub use make::{accept, reduce};
 pub use node::Node;
 pub use productions::Productions;
+pub use section::{Section, lengthen};

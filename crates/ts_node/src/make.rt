@@ -2,7 +2,7 @@
 //! or a node as an edit leaves it comes out.
 ghost use Rattle.std.specs.Prelude.{◌≡◌, ◌+◌, ◌<◌, ◌≤◌, ◌++◌, ◌^◌, ◌-◌, ◌∷◌, [], true, All, IfOk, Some, None, length, IsTrue};
 ghost use Rattle.std.proofs.Common.{is_some};
-ghost use Rattle.spec_trees.specs.Trees.{children_of, elements_of, is_extra_node, production_of};
+ghost use Rattle.spec_trees.specs.Trees.{children_of, elements_of, is_extra_node, production_of, span_of};
 ghost use Rattle.spec_trees.specs.Made.{leaf_of, node_over, rule_node, first_element, next_element, accepted, reduced, made_by, most_span, IsNode, IsLeaf, Lengthens, FitsProduction};
 ghost use Rattle.spec_trees.specs.Made as made;
 ghost use Rattle.ts_node.specs.Entries.{form_is};
@@ -10,17 +10,18 @@ ghost use Rattle.ts_node.specs.Entries.{form_is};
 use crate::node::{Kind, Leaf, Node, Repetition, RuleNode, Run, Summary, Sums};
 use crate::productions::{Entry, Form, Productions};
 use crate::sums::{copy, pad_of_first, plus, sums, totals, with_value};
+use spec_trees::Element;
 use std::alloc::{AllocError, Global};
 use ts_base::{List, Shared};
 use ts_core::Symbol;
 
 /// What a node is given beside its children.
 #[derive(Clone, Copy)]
-struct Head {
-    symbol: Symbol,
-    dynamic: i64,
-    extent: u32,
-    state: Option<u16>,
+pub(crate) struct Head {
+    pub symbol: Symbol,
+    pub dynamic: i64,
+    pub extent: u32,
+    pub state: Option<u16>,
 }
 
 impl Node {
@@ -120,7 +121,7 @@ fn over(alloc: Global, head: Head, number: u32, children: List<Node>) -> Result<
 }
 
 /// A repetition of these elements.
-fn over_run(alloc: Global, head: Head, run: Shared<Run>) -> Result<Node, AllocError>
+pub(crate) fn over_run(alloc: Global, head: Head, run: Shared<Run>) -> Result<Node, AllocError>
     requires { IsNode (node_over head.symbol.0 None head.dynamic head.extent head.state
         run.elements run.children) }
     ensures { IfOk result (λ node. node ≡ node_over head.symbol.0 None head.dynamic head.extent
@@ -159,6 +160,27 @@ fn rule(
     over(alloc, head, number, children)
 }
 
+/// What a repetition says of an element that it gets.
+fn added(entry: Entry, alternative: u32, children: u32, extent: u32) -> Element
+    ensures { result ≡ made.element alternative children entry.dynamic extent }
+{
+    Element {
+        alternative,
+        children,
+        dynamic: entry.dynamic,
+        extent,
+        settled: true,
+    }
+}
+
+/// How many of the bytes from the first one of a node on stand behind the node.
+fn bytes_behind(before: &Node, extent: u32) -> u32
+    ensures { result ≡ extent - span_of before.now }
+{
+    let summary = before.summary();
+    extent.saturating_sub(summary.pad + summary.size)
+}
+
 /// A repetition of one element.
 fn first(
     alloc: Global,
@@ -181,7 +203,8 @@ fn first(
         extent,
         state,
     };
-    let run = Run::single(alloc, alternative, children)?;
+    let element = added(entry, alternative, children.len() as u32, extent);
+    let run = Run::single(alloc, element, children)?;
     over_run(alloc, head, run)
 }
 
@@ -231,7 +254,9 @@ fn longer(
         extent,
         state,
     };
-    let run = lengthened(alloc, before, alternative, more)?;
+    let behind = bytes_behind(&before, extent);
+    let element = added(entry, alternative, more.len() as u32, behind);
+    let run = longer_run(alloc, before, element, more)?;
     over_run(alloc, head, run)
 }
 
@@ -247,17 +272,17 @@ fn parted(children: List<Node>) -> (Node, List<Node>)
 
 /// The run of a repetition with one more element of these children.
 #[tactic(auto, using(crate::proofs::BodyLemmas::leaf_elements))]
-fn lengthened(
+fn longer_run(
     alloc: Global,
     before: Node,
-    alternative: u32,
+    element: Element,
     more: List<Node>,
 ) -> Result<Shared<Run>, AllocError>
     requires repetition { 0 < length (elements_of before) }
     requires wide { length (children_of before) + length more < 2 ^ 32 }
     requires fits { length (elements_of before) + 1 < 2 ^ 32 }
-    ensures elements { IfOk result (λ run. run.elements
-        ≡ elements_of before ++ made.element alternative (length more) ∷ []) }
+    requires own { element.children ≡ length more }
+    ensures elements { IfOk result (λ run. run.elements ≡ elements_of before ++ element ∷ []) }
     ensures children { IfOk result (λ run. run.children ≡ children_of before ++ more) }
 {
     let Node { kind } = before;
@@ -269,7 +294,7 @@ fn lengthened(
         }
         Kind::Repetition(repetition) => {
             let run = run_of(repetition)?;
-            Run::with_element(alloc, run, alternative, more)
+            Run::with_element(alloc, run, element, more)
         }
     }
 }

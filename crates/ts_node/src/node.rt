@@ -93,6 +93,12 @@ pub(crate) struct Run {
 pub(crate) struct Counts {
     pub elements: u32,
     pub children: u32,
+    /// Whether all elements are settled.
+    pub settled: bool,
+    /// The values of the productions that added the elements together.
+    pub values: i64,
+    /// Where the elements end with all that was examined for them, from where they begin.
+    pub reach: u64,
     pub sums: Sums,
 }
 
@@ -105,6 +111,8 @@ pub(crate) struct Sums {
     pub spans: u64,
     /// The depth of the deepest child, 0 without one.
     pub depth: u16,
+    /// The dynamic totals of all children together.
+    pub totals: i128,
 }
 
 #[cycle(node)]

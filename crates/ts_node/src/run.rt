@@ -3,11 +3,12 @@
 ghost use Rattle.std.specs.Prelude.{◌≡◌, ◌+◌, ◌<◌, ◌^◌, ◌++◌, ◌∷◌, [], IfOk, IfErr, OnOk, ℕ, length, set, slice_get, Some};
 ghost use Rattle.spec_trees.specs.declared.tree.Stretch.{Stretch};
 ghost use Rattle.spec_trees.specs.Trees.{first_pad};
-ghost use Rattle.spec_trees.specs.Made.{children_count, element};
-ghost use Rattle.ts_node.specs.Held.{joined_stretch, stretch, changed, IsCount};
+ghost use Rattle.spec_trees.specs.Made.{children_count, loose_element, loosened_at};
+ghost use Rattle.ts_node.specs.Held.{joined_stretch, stretch, changed, loosened_stretch, IsCount};
 
-use crate::node::{Counts, Node, Run, Shape, Sums};
-use crate::sums::{appended, copy, sums};
+use crate::counts::{both, count, counts_of_one, together};
+use crate::node::{Counts, Node, Run, Shape};
+use crate::sums::{appended, copy};
 use spec_trees::Element;
 use std::alloc::{AllocError, Global};
 use ts_base::{List, Shared};
@@ -81,7 +82,7 @@ impl Run {
     }
 
     /// A run of one leaf.
-    fn leaf(
+    pub(crate) fn leaf(
         alloc: Global,
         elements: List<Element>,
         children: List<Node>,
@@ -92,11 +93,7 @@ impl Run {
         requires wide { length children < 2 ^ 32 }
         ensures { IfOk result (λ run. run ≡ stretch elements children) }
     {
-        let counts = Counts {
-            elements: elements.len() as u32,
-            children: children.len() as u32,
-            sums: sums(children.as_slice()),
-        };
+        let counts = count(elements.as_slice(), children.as_slice());
         Run::counted_leaf(alloc, counts, elements, children)
     }
 
@@ -202,21 +199,19 @@ impl Run {
         }
     }
 
-    /// The elements of two leaves, with their children, in one.
+    /// The elements of two leaves, with their children, in one, of which this is counted.
     fn merge(
         alloc: Global,
+        counts: Counts,
         low: &[Element],
         low_children: &[Node],
         high: &[Element],
         high_children: &[Node],
     ) -> Result<Shared<Run>, AllocError>
-        requires some { 0 < length low.now }
-        requires low { children_count low.now ≡ length low_children.now }
-        requires high { children_count high.now ≡ length high_children.now }
-        requires fits { length low.now + length high.now < 2 ^ 32 }
-        requires wide { length low_children.now + length high_children.now < 2 ^ 32 }
-        ensures { IfOk result (λ run. run
-            ≡ stretch (low.now ++ high.now) (low_children.now ++ high_children.now)) }
+        requires { IsCount counts
+            (stretch (low.now ++ high.now) (low_children.now ++ high_children.now)) }
+        ensures { IfOk result
+            (λ run. run ≡ stretch (low.now ++ high.now) (low_children.now ++ high_children.now)) }
     {
         let mut elements = List::with_capacity(alloc, low.len() + high.len())?;
         copy_elements(low, &mut elements)?;
@@ -224,7 +219,7 @@ impl Run {
         let mut children = List::with_capacity(alloc, low_children.len() + high_children.len())?;
         copy(low_children, &mut children)?;
         copy(high_children, &mut children)?;
-        Run::leaf(alloc, elements, children)
+        Run::counted_leaf(alloc, counts, elements, children)
     }
 
     /// Both, one after the other.
@@ -251,6 +246,7 @@ impl Run {
                 if fit_one_leaf(first, second) => {
                 Run::merge(
                     alloc,
+                    both(first, second),
                     low.as_slice(),
                     low_children.as_slice(),
                     high.as_slice(),
@@ -266,18 +262,15 @@ impl Run {
     /// A run of one element.
     pub(crate) fn single(
         alloc: Global,
-        alternative: u32,
+        element: Element,
         children: List<Node>,
     ) -> Result<Shared<Run>, AllocError>
         requires wide { length children < 2 ^ 32 }
-        ensures { IfOk result
-            (λ run. run ≡ stretch (element alternative (length children) ∷ []) children) }
+        requires own { element.children ≡ length children }
+        ensures { IfOk result (λ run. run ≡ stretch (element ∷ []) children) }
     {
         let mut elements = List::with_capacity(alloc, 1)?;
-        elements.push(Element {
-            alternative,
-            children: children.len() as u32,
-        })?;
+        elements.push(element)?;
         Run::leaf(alloc, elements, children)
     }
 
@@ -287,18 +280,19 @@ impl Run {
     pub(crate) fn with_element(
         alloc: Global,
         run: Shared<Run>,
-        alternative: u32,
+        element: Element,
         more: List<Node>,
     ) -> Result<Shared<Run>, AllocError>
         requires fits { length run.elements + 1 < 2 ^ 32 }
         requires wide { length run.children + length more < 2 ^ 32 }
+        requires own { element.children ≡ length more }
         ensures { IfOk result (λ new. new ≡ joined_stretch run
-            (stretch (element alternative (length more) ∷ []) more)) }
+            (stretch (element ∷ []) more)) }
     {
         match run.try_unwrap() {
-            Ok(run) => run.lengthened(alloc, alternative, more),
+            Ok(run) => run.lengthened(alloc, element, more),
             Err(run) => {
-                let last = Run::single(alloc, alternative, more)?;
+                let last = Run::single(alloc, element, more)?;
                 Run::with_leaf(alloc, &run, &last)
             }
         }
@@ -308,26 +302,27 @@ impl Run {
     fn lengthened(
         self,
         alloc: Global,
-        alternative: u32,
+        element: Element,
         more: List<Node>,
     ) -> Result<Shared<Run>, AllocError>
         requires fits { length self.elements + 1 < 2 ^ 32 }
         requires wide { length self.children + length more < 2 ^ 32 }
+        requires own { element.children ≡ length more }
         ensures { IfOk result (λ run. run ≡ joined_stretch self
-            (stretch (element alternative (length more) ∷ []) more)) }
+            (stretch (element ∷ []) more)) }
     {
         let counts = self.counts();
         match self.into_leaf() {
             Ok((elements, children)) => {
                 if has_room_alone(counts, more.len()) {
-                    Run::leaf_lengthened(alloc, counts, elements, children, alternative, more)
+                    Run::leaf_lengthened(alloc, counts, elements, children, element, more)
                 } else {
                     let leaf = Run::counted_leaf(alloc, counts, elements, children)?;
-                    let last = Run::single(alloc, alternative, more)?;
+                    let last = Run::single(alloc, element, more)?;
                     Run::branch(alloc, leaf, last)
                 }
             }
-            Err((before, end)) => Run::end_lengthened(alloc, before, end, alternative, more),
+            Err((before, end)) => Run::end_lengthened(alloc, before, end, element, more),
         }
     }
 
@@ -336,21 +331,22 @@ impl Run {
         alloc: Global,
         before: Shared<Run>,
         end: Shared<Run>,
-        alternative: u32,
+        element: Element,
         more: List<Node>,
     ) -> Result<Shared<Run>, AllocError>
         requires fits { length before.elements + length end.elements + 1 < 2 ^ 32 }
         requires wide { length before.children + length end.children + length more < 2 ^ 32 }
+        requires own { element.children ≡ length more }
         ensures { IfOk result (λ new. new ≡ joined_stretch (joined_stretch before end)
-            (stretch (element alternative (length more) ∷ []) more)) }
+            (stretch (element ∷ []) more)) }
     {
         match Run::leaf_alone(end, more.len()) {
             Ok(end) => {
-                let longer = end.last_lengthened(alloc, alternative, more)?;
+                let longer = end.last_lengthened(alloc, element, more)?;
                 Run::branch(alloc, before, longer)
             }
             Err(end) => {
-                let last = Run::single(alloc, alternative, more)?;
+                let last = Run::single(alloc, element, more)?;
                 Run::with_last(alloc, &before, &end, &last)
             }
         }
@@ -375,22 +371,23 @@ impl Run {
     fn last_lengthened(
         self,
         alloc: Global,
-        alternative: u32,
+        element: Element,
         more: List<Node>,
     ) -> Result<Shared<Run>, AllocError>
         requires fits { length self.elements + 1 < 2 ^ 32 }
         requires wide { length self.children + length more < 2 ^ 32 }
+        requires own { element.children ≡ length more }
         ensures { IfOk result (λ run. run ≡ joined_stretch self
-            (stretch (element alternative (length more) ∷ []) more)) }
+            (stretch (element ∷ []) more)) }
     {
         let counts = self.counts();
         match self.into_leaf() {
             Ok((elements, children)) => {
-                Run::leaf_lengthened(alloc, counts, elements, children, alternative, more)
+                Run::leaf_lengthened(alloc, counts, elements, children, element, more)
             }
             Err((before, end)) => {
                 let run = Run::branch(alloc, before, end)?;
-                let last = Run::single(alloc, alternative, more)?;
+                let last = Run::single(alloc, element, more)?;
                 Run::branch(alloc, run, last)
             }
         }
@@ -403,21 +400,19 @@ impl Run {
         counts: Counts,
         elements: List<Element>,
         children: List<Node>,
-        alternative: u32,
+        element: Element,
         more: List<Node>,
     ) -> Result<Shared<Run>, AllocError>
         requires counts { IsCount counts (stretch elements children) }
         requires fits { length elements + 1 < 2 ^ 32 }
         requires wide { length children + length more < 2 ^ 32 }
+        requires own { element.children ≡ length more }
         ensures { IfOk result (λ run. run ≡ joined_stretch (stretch elements children)
-            (stretch (element alternative (length more) ∷ []) more)) }
+            (stretch (element ∷ []) more)) }
     {
-        let added = counts_of_one(more.as_slice());
+        let added = counts_of_one(element, more.as_slice());
         let mut elements = elements;
-        elements.push(Element {
-            alternative,
-            children: added.children,
-        })?;
+        elements.push(element)?;
         let children = appended(children, more)?;
         Run::counted_leaf(alloc, together(counts, added), elements, children)
     }
@@ -480,6 +475,7 @@ impl Run {
                 if has_room_as_copy(first, second) => {
                 Run::merge(
                     alloc,
+                    both(first, second),
                     low.as_slice(),
                     low_children.as_slice(),
                     high.as_slice(),
@@ -520,6 +516,69 @@ impl Run {
         }
     }
 
+    /// The run with the element at `k` not settled. It shares all parts but those on the way to it.
+    pub(crate) fn with_loose(
+        alloc: Global,
+        run: &Shared<Run>,
+        k: u32,
+    ) -> Result<Shared<Run>, AllocError>
+        requires { k < length run.now.elements }
+        ensures { IfOk result (λ new. new ≡ loosened_stretch run.now k) }
+    {
+        let _ = run.get().counts();
+        match &run.get().shape {
+            Shape::Leaf(elements, children) => {
+                Run::leaf_loosened(alloc, elements.as_slice(), children.as_slice(), k)
+            }
+            Shape::Branch(left, right) => {
+                let middle = left.get().counts().elements;
+                let _ = right.get().counts();
+                if k < middle {
+                    let low = Run::with_loose(alloc, left, k)?;
+                    Run::branch(alloc, low, right.try_clone()?)
+                } else {
+                    let high = Run::with_loose(alloc, right, k - middle)?;
+                    Run::branch(alloc, left.try_clone()?, high)
+                }
+            }
+        }
+    }
+
+    /// A leaf of these, with the element at `k` not settled.
+    fn leaf_loosened(
+        alloc: Global,
+        elements: &[Element],
+        children: &[Node],
+        k: u32,
+    ) -> Result<Shared<Run>, AllocError>
+        requires within { k < length elements.now }
+        requires own { children_count elements.now ≡ length children.now }
+        requires fits { length elements.now < 2 ^ 32 }
+        requires wide { length children.now < 2 ^ 32 }
+        ensures { IfOk result
+            (λ run. run ≡ stretch (loosened_at k elements.now) children.now) }
+    {
+        let kept = with_other(alloc, elements, k, loose(elements[k as usize]))?;
+        Run::leaf_beside(alloc, kept, children)
+    }
+
+    /// A leaf of these elements and copies of these children.
+    fn leaf_beside(
+        alloc: Global,
+        elements: List<Element>,
+        children: &[Node],
+    ) -> Result<Shared<Run>, AllocError>
+        requires some { 0 < length elements }
+        requires own { children_count elements ≡ length children.now }
+        requires fits { length elements < 2 ^ 32 }
+        requires wide { length children.now < 2 ^ 32 }
+        ensures { IfOk result (λ run. run ≡ stretch elements children.now) }
+    {
+        let mut nodes = List::with_capacity(alloc, children.len())?;
+        copy(children, &mut nodes)?;
+        Run::leaf(alloc, elements, nodes)
+    }
+
     /// A leaf of these, with another child at `k`.
     fn leaf_with(
         alloc: Global,
@@ -542,51 +601,6 @@ impl Run {
         let mut nodes = nodes.into_vec();
         nodes[k as usize] = child;
         Run::leaf(alloc, kept, List::from_vec(nodes))
-    }
-}
-
-/// What is counted of both, one after the other.
-fn both(left: &Run, right: &Run) -> Counts
-    requires fits { length left.now.elements + length right.now.elements < 2 ^ 32 }
-    requires wide { length left.now.children + length right.now.children < 2 ^ 32 }
-    ensures both { IsCount result (joined_stretch left.now right.now) }
-    ensures left { 0 < length left.now.elements }
-    ensures right { 0 < length right.now.elements }
-{
-    let (low, high) = (left.counts(), right.counts());
-    together(low, high)
-}
-
-/// What is counted of two parts, one after the other, by what is counted of each.
-fn together(low: Counts, high: Counts) -> Counts
-    requires elements { low.elements + high.elements < 2 ^ 32 }
-    requires children { low.children + high.children < 2 ^ 32 }
-    requires nodes { low.sums.nodes + high.sums.nodes < 2 ^ 64 }
-    requires spans { low.sums.spans + high.sums.spans < 2 ^ 64 }
-    ensures { (s t : Stretch) → IsCount low s → IsCount high t
-        → IsCount result (joined_stretch s t) }
-{
-    Counts {
-        elements: low.elements + high.elements,
-        children: low.children + high.children,
-        sums: Sums {
-            nodes: low.sums.nodes + high.sums.nodes,
-            spans: low.sums.spans + high.sums.spans,
-            depth: low.sums.depth.max(high.sums.depth),
-        },
-    }
-}
-
-/// What is counted of one element of these children.
-fn counts_of_one(children: &[Node]) -> Counts
-    requires { length children.now < 2 ^ 32 }
-    ensures { (alternative : ℕ) → IsCount result
-        (stretch (element alternative (length children.now) ∷ []) children.now) }
-{
-    Counts {
-        elements: 1,
-        children: children.len() as u32,
-        sums: sums(children),
     }
 }
 
@@ -633,8 +647,38 @@ fn is_deeper(high: u8, low: u8) -> bool {
     high > low.saturating_add(1) || (low == 0 && high > 0)
 }
 
+/// The elements, with another at `k`.
+fn with_other(
+    alloc: Global,
+    elements: &[Element],
+    k: u32,
+    other: Element,
+) -> Result<List<Element>, AllocError>
+    requires { k < length elements.now }
+    ensures { IfOk result (λ new. new ≡ set elements.now k other) }
+{
+    let mut kept = List::with_capacity(alloc, elements.len())?;
+    copy_elements(elements, &mut kept)?;
+    let mut kept = kept.into_vec();
+    kept[k as usize] = other;
+    Ok(List::from_vec(kept))
+}
+
+/// The element, not settled.
+fn loose(element: Element) -> Element
+    ensures { result ≡ loose_element element }
+{
+    Element {
+        alternative: element.alternative,
+        children: element.children,
+        dynamic: element.dynamic,
+        extent: element.extent,
+        settled: false,
+    }
+}
+
 /// Puts the elements at the end of the list.
-fn copy_elements(elements: &[Element], to: &mut List<Element>) -> Result<(), AllocError>
+pub(crate) fn copy_elements(elements: &[Element], to: &mut List<Element>) -> Result<(), AllocError>
     ensures { OnOk result (to.new ≡ to.old ++ elements.now) }
 {
     for element in elements {

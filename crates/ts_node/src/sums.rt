@@ -10,7 +10,7 @@ use crate::node::{Node, Sums};
 use std::alloc::AllocError;
 use ts_base::List;
 
-/// The nodes and bytes of all children together, and the greatest depth.
+/// The nodes, bytes and totals of all children together, and the greatest depth.
 #[tactic(auto, using(crate::proofs::WholeLemmas::whole_more))]
 pub(crate) fn sums(children: &[Node]) -> Sums
     requires { length children.now < 2 ^ 32 }
@@ -19,16 +19,19 @@ pub(crate) fn sums(children: &[Node]) -> Sums
     let mut nodes = 0u64;
     let mut spans = 0u64;
     let mut depth = 0u16;
+    let mut totals = 0i128;
     for child in children {
         let summary = child.summary();
         nodes += summary.nodes as u64;
         spans += summary.pad as u64 + summary.size as u64;
         depth = depth.max(summary.depth);
+        totals = with_total(totals, summary.dynamic);
     }
     Sums {
         nodes,
         spans,
         depth,
+        totals,
     }
 }
 
@@ -54,6 +57,25 @@ pub(crate) fn plus(first: i64, second: i64) -> i64
     ensures modest { unsigned_abs result ≤ unsigned_abs first + unsigned_abs second }
 {
     first + second
+}
+
+/// The sum of two totals that may be those of more nodes than a tree has.
+#[tactic(auto, using(crate::proofs::TotalLemmas::wide_sum_fits, crate::proofs::TotalLemmas::abs_sum))]
+pub(crate) fn wide_plus(first: i128, second: i128) -> i128
+    requires { unsigned_abs first + unsigned_abs second < 2 ^ 127 }
+    ensures sum { result ≡ first +ℤ second }
+    ensures modest { unsigned_abs result ≤ unsigned_abs first + unsigned_abs second }
+{
+    first + second
+}
+
+/// A total of many nodes and that of one more.
+fn with_total(total: i128, one: i64) -> i128
+    requires { unsigned_abs total + unsigned_abs one < 2 ^ 127 }
+    ensures sum { result ≡ total +ℤ one }
+    ensures modest { unsigned_abs result ≤ unsigned_abs total + unsigned_abs one }
+{
+    wide_plus(total, one as i128)
 }
 
 /// A total and the value of one more production.

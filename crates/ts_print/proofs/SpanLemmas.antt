@@ -175,14 +175,14 @@ made_fits : (form : Form) (symbol number : ℕ) (value : ℤ) (ks : List Tree) �
 made_fits of_rule symbol number value ks h =
     fits_by _ (all_spans ks) (all_spans ks) (over_takes symbol (Some number) (value +ℤ all_totals ks) 0 None [] ks) (omega arith)
 made_fits (of_first a) symbol number value ks h =
-    fits_by _ (all_spans ks) (all_spans ks) (over_takes symbol None (value +ℤ all_totals ks) 0 None (element a (length ks) ∷ []) ks) (omega arith)
+    fits_by _ (all_spans ks) (all_spans ks) (over_takes symbol None (value +ℤ all_totals ks) 0 None (element a (length ks) value 0 ∷ []) ks) (omega arith)
 made_fits (of_next a) symbol number value [] h =
     fits_by _ 0 0 (over_takes symbol None value 0 None [] []) (omega arith)
 made_fits (of_next a) symbol number value (before ∷ more) h =
     let all = spans_append (children_of before) more in
     let room : all_spans (children_of before) ≤ span_of before = h.0 in
     fits_by _ (all_spans (children_of before ++ more)) (all_spans (before ∷ more))
-    (over_takes symbol None (value +ℤ (total_of before +ℤ all_totals more)) 0 None (elements_of before ++ element a (length more) ∷ []) (children_of before ++ more))
+    (over_takes symbol None (value +ℤ (total_of before +ℤ all_totals more)) 0 None (elements_of before ++ element a (length more) value (0 - span_of before) ∷ []) (children_of before ++ more))
     (omega arith)
 
 -- ---- runs

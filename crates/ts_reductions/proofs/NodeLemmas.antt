@@ -131,13 +131,13 @@ made_few g of_rule left number value extent state ks l good some_bytes more_byte
     let n = over_count left (Some number) (value +ℤ all_totals ks) extent state [] ks in
     one_more (node_count (made_by of_rule left number value extent state ks)) (all_nodes ks) (greatest_depth ks) (all_spans ks) (omega (arith, n)) (few_each g ks good) some_bytes
 made_few g (of_first a) left number value extent state ks l good some_bytes more_bytes =
-    let n = over_count left None (value +ℤ all_totals ks) extent state (element a (length ks) ∷ []) ks in
+    let n = over_count left None (value +ℤ all_totals ks) extent state (element a (length ks) value extent ∷ []) ks in
     one_more (node_count (made_by (of_first a) left number value extent state ks)) (all_nodes ks) (greatest_depth ks) (all_spans ks) (omega (arith, n)) (few_each g ks good) some_bytes
 made_few g (of_next a) left number value extent state [] l good some_bytes more_bytes = absurd l
 made_few g (of_next a) left number value extent state (k ∷ ks) l good some_bytes more_bytes =
-    let n = over_count left None (value +ℤ (total_of k +ℤ all_totals ks)) extent state (elements_of k ++ element a (length ks) ∷ []) (children_of k ++ ks) in
+    let n = over_count left None (value +ℤ (total_of k +ℤ all_totals ks)) extent state (elements_of k ++ element a (length ks) value (extent - span_of k) ∷ []) (children_of k ++ ks) in
     let own : node_count k ≡ 1 + (length (elements_of k) + all_nodes (children_of k)) = fold_out-Tree ℕ nodes_step k in
-    let es = length-append (elements_of k) (element a (length ks) ∷ []) in
+    let es = length-append (elements_of k) (element a (length ks) value (extent - span_of k) ∷ []) in
     let cs = all_nodes-append (children_of k) ks in
     let count : node_count (made_by (of_next a) left number value extent state (k ∷ ks)) ≡ 1 + (node_count k + all_nodes ks) = omega (arith, n, own, es, cs) in
     longer (node_count (made_by (of_next a) left number value extent state (k ∷ ks))) (node_count k) (all_nodes ks) (tree_depth k) (greatest_depth ks) (span_of k) (all_spans ks) count good.0.few (few_each g ks good.1) (more_bytes a k ks refl refl)

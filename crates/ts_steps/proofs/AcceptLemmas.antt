@@ -23,9 +23,10 @@ use Rattle.ts_gss.specs.Paths.{IsLifted}
 use Rattle.ts_steps.specs.MoveLaws.{Laws}
 use Rattle.ts_steps.specs.Good.{IsGoodTree, AreGoodTrees}
 use Rattle.ts_steps.specs.LiveHeads.{IsGoodStack, IsRootOf}
-use Rattle.ts_steps.proofs.NodeLemmas.{filling_fills, all_spans-append, greatest_depth-append, end_by_wider, end_by_both, each_left, each_right, each_turned, each_settled, fit_is_node, over_layer, forms, own_forms, forms_append, forms_each, both, form_of_none}
+use Rattle.ts_steps.proofs.NodeLemmas.{filling_fills, all_spans-append, greatest_depth-append, end_by_wider, end_by_both, each_left, each_right, each_turned, each_settled, over_layer, forms, own_forms, forms_append, forms_each, both, form_of_none}
 use Rattle.ts_steps.proofs.StackLemmas.{turned_bare, end_by_split, turned, spans_turned, extras_turned, filling_extras, extras_bare}
 use Rattle.ts_node.specs.Falls.{all_nodes-append}
+use Rattle.ts_node.proofs.ReducedLemmas.{fit_is_node, none_has}
 
 -- what lies under the extras on top: the root, and extras
 pub record Rooted (under : List Layer) (start : ℕ) : Type 0 where
@@ -192,6 +193,7 @@ module _ (laws : Laws) (t : ParseTable) (size place : ℕ) (stack under low rest
           modest = omega arith;
           past = omega arith;
           inner = All-append (λ child. is_settled child ≡ true) (before ++ ks) after (All-append (λ child. is_settled child ≡ true) before ks (each_settled g before good_before) own.inner) (each_settled g after good_rest.1);
+          elements = none_has (total_of root) (suc size) ((before ++ ks) ++ after);
           covers = end_by_both (suc size) 0 (before ++ ks) after
               (end_by_both (suc size) 0 before ks parts.0
               (end_by_wider (all_spans before + node_extent root) (suc size) (all_spans before + 0) (0 + all_spans before) ks (let h = parts.1.0 in omega arith) (omega arith) (end_by_shift (all_spans before) (node_extent root) 0 ks own.covers)))

@@ -1,5 +1,5 @@
 -- Sums over the nodes of a reduction.
-use Rattle.std.proofs.Common.{◌≡◌, ◌∙◌, sym, ap, refl, subst, ℕ, suc, ◌+◌, ◌<◌, ◌≤◌, max, Bool, true, true≢false, List, [], ◌∷◌, ◌++◌, length, drop, drop-cons, get_or, Some, None, arith, Option}
+use Rattle.std.proofs.Common.{◌≡◌, ◌∙◌, sym, ap, refl, subst, ℕ, suc, ◌+◌, ◌-◌, ◌<◌, ◌≤◌, max, Bool, true, true≢false, List, [], ◌∷◌, ◌++◌, length, drop, drop-cons, get_or, Some, None, arith, Option}
 use Rattle.ts_core.specs.declared.flat.FlatGrammar.{FlatGrammar}
 use Rattle.ts_core.specs.declared.flat.Production.{Production}
 use Rattle.spec_trees.specs.declared.tree.Tree.{Tree}
@@ -50,11 +50,11 @@ over_depth symbol production dynamic extent state es ks = fold-roll-Tree ℕ dep
 
 made_depth : (f : Form) (left number : ℕ) (value : _) (extent : ℕ) (state : _) (ks : List Tree) → (lengthens_by f ≡ true → 0 < length ks) → tree_depth (made_by f left number value extent state ks) ≡ depth_when (lengthens_by f) ks
 made_depth of_rule left number value extent state ks some = over_depth left (Some number) (value +ℤ all_totals ks) extent state [] ks
-made_depth (of_first a) left number value extent state ks some = over_depth left None (value +ℤ all_totals ks) extent state (element a (length ks) ∷ []) ks
+made_depth (of_first a) left number value extent state ks some = over_depth left None (value +ℤ all_totals ks) extent state (element a (length ks) value extent ∷ []) ks
 made_depth (of_next a) left number value extent state [] some = absurd (let h = some refl in omega arith)
 made_depth (of_next a) left number value extent state (k ∷ ks) some =
     let d : tree_depth k ≡ 1 + greatest_depth (children_of k) = fold_out-Tree ℕ depth_step k in
-    omega (arith, over_depth left None (value +ℤ (total_of k +ℤ all_totals ks)) extent state (elements_of k ++ element a (length ks) ∷ []) (children_of k ++ ks), greatest_depth-append (children_of k) ks, d)
+    omega (arith, over_depth left None (value +ℤ (total_of k +ℤ all_totals ks)) extent state (elements_of k ++ element a (length ks) value (extent - span_of k) ∷ []) (children_of k ++ ks), greatest_depth-append (children_of k) ks, d)
 
 some_child : (laws : Laws) (g : FlatGrammar) (number left : ℕ) (p : Production) (extent : ℕ) (f : Form) (ks : List Tree) → form_of g left number ≡ f → CanReduce g number left p extent ks → lengthens_by f ≡ true → 0 < length ks
 some_child laws g number left p extent of_rule ks e c h = absurd (true≢false (sym h))

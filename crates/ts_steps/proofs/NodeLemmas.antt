@@ -19,10 +19,12 @@ use Rattle.spec_trees.specs.declared.tree.Tree.TheOpen.{Tree-F}
 use Rattle.spec_trees.specs.declared.tree.Tree.TheViews.{out-roll-Tree}
 use Rattle.spec_trees.specs.declared.tree.Tree.TheFolds.{fold-Tree, fold-roll-Tree, fold_out-Tree}
 use Rattle.spec_trees.specs.Trees.{symbol_of, production_of, elements_of, children_of, is_settled, is_extra_node, total_of, all_totals, pad_of, size_of, span_of, node_extent, all_spans, first_pad, node_count, nodes_step, all_nodes, tree_depth, depth_step, greatest_depth}
-use Rattle.spec_trees.specs.Made.{IsNode, IsSettledWell, node_over, element, made_by, reduced, Form, of_rule, of_first, of_next, form_of, repetition_form, left_of, value_of, filling, step_symbols, BeginsFilled, Lengthens, FitsProduction, EndBy, AreCounted, children_count, most_span, most_depth, node_limit}
+use Rattle.spec_trees.specs.Made.{IsSettledWell, node_over, element, made_by, reduced, Form, of_rule, of_first, of_next, form_of, repetition_form, left_of, value_of, filling, step_symbols, BeginsFilled, Lengthens, FitsProduction, EndBy, AreCounted, children_count, most_span, most_depth, node_limit}
 use Rattle.spec_trees.specs.Choice.{IsInForm, form_step, has_form}
 use Rattle.spec_runs.specs.Moves.{IsUnused}
 use Rattle.ts_node.specs.Falls.{all_nodes-append}
+use Rattle.ts_node.proofs.ElementLemmas.{children_count_append, counted_by, some_counted}
+use Rattle.ts_node.proofs.ReducedLemmas.{HasElements, fit_is_node, none_has, first_has, next_has}
 use Rattle.ts_steps.specs.MoveLaws.{Laws}
 use Rattle.ts_steps.specs.Good.{EachTree, IsLight, IsGoodTree, AreGoodTrees, CanReduce}
 
@@ -35,10 +37,6 @@ all_spans-append (x ∷ xs) ys = omega (arith, all_spans-append xs ys)
 pub greatest_depth-append : (xs ys : List Tree) → greatest_depth (xs ++ ys) ≡ max (greatest_depth xs) (greatest_depth ys)
 greatest_depth-append [] ys = omega arith
 greatest_depth-append (x ∷ xs) ys = omega (arith, greatest_depth-append xs ys)
-
-children_count_append : (xs ys : List Element) → children_count (xs ++ ys) ≡ children_count xs + children_count ys
-children_count_append [] ys = omega arith
-children_count_append (x ∷ xs) ys = omega (arith, children_count_append xs ys)
 
 abs_difference : (a b : ℕ) → unsigned_abs (sub_ℕ a (suc b)) ≤ a + suc b
 abs_difference a b = by (ltb a (suc b))
@@ -73,47 +71,6 @@ over_layer symbol production dynamic extent state es ks = record {
 first_pad_within : (ks : List Tree) → first_pad ks ≤ all_spans ks
 first_pad_within [] = omega arith
 first_pad_within (k ∷ ks) = omega arith
-
--- what is asked of children and elements for a node over them
-pub record IsFit (dynamic : ℤ) (extent : ℕ) (es : List Element) (ks : List Tree) : Type 0 where
-  pub few : 1 + (length es + all_nodes ks) < node_limit
-  pub short : all_spans ks ≤ most_span
-  pub shallow : 1 + greatest_depth ks ≤ most_depth
-  pub counted : AreCounted es ks
-  pub modest : unsigned_abs dynamic ≤ 2 ^ 31 * (1 + (length es + all_nodes ks))
-  pub past : all_spans ks < extent
-  pub inner : All (λ child. is_settled child ≡ true) ks
-  pub covers : EndBy extent 0 ks
-
-pub fit_is_node : (symbol : ℕ) (production : Option ℕ) (dynamic : ℤ) (extent : ℕ) (state : Option ℕ) (es : List Element) (ks : List Tree) → IsFit dynamic extent es ks → IsNode (node_over symbol production dynamic extent state es ks)
-fit_is_node symbol production dynamic extent state es ks f =
-    let layer = over_layer symbol production dynamic extent state es ks in
-    let t = node_over symbol production dynamic extent state es ks in
-    let o = out-roll-Tree layer in
-    let n : node_count t ≡ 1 + (length es + all_nodes ks) = fold-roll-Tree ℕ nodes_step layer in
-    let d : tree_depth t ≡ 1 + greatest_depth ks = fold-roll-Tree ℕ depth_step layer in
-    let p : pad_of t ≡ first_pad ks = ap (λ (x : Tree-F Tree). x.pad) o in
-    let z : size_of t ≡ all_spans ks - first_pad ks = ap (λ (x : Tree-F Tree). x.size) o in
-    let e : node_extent t ≡ extent = ap (λ (x : Tree-F Tree). x.extent) o in
-    let c : children_of t ≡ ks = ap (λ (x : Tree-F Tree). x.children) o in
-    let es' : elements_of t ≡ es = ap (λ (x : Tree-F Tree). x.elements) o in
-    let v : total_of t ≡ dynamic = ap (λ (x : Tree-F Tree). x.dynamic) o in
-    let s : span_of t ≡ all_spans ks = omega (arith, p, z, first_pad_within ks) in
-    record {
-      sized = record {
-        few = omega (arith, n, f.few);
-        short = omega (arith, s, f.short);
-        within = let w : all_spans (children_of t) ≡ all_spans ks = ap all_spans c in omega (arith, w, s);
-        shallow = omega (arith, d, f.shallow);
-      };
-      counted = subst (λ (x : List Element). AreCounted x (children_of t)) (sym es') (subst (λ (x : List Tree). AreCounted es x) (sym c) f.counted);
-      modest = let m : unsigned_abs (total_of t) ≡ unsigned_abs dynamic = ap unsigned_abs v in omega (arith, m, n, f.modest);
-      settled = λ h. record {
-        past = omega (arith, s, e, f.past);
-        inner = subst (λ (x : List Tree). All (λ child. is_settled child ≡ true) x) (sym c) f.inner;
-        covers = subst (λ (x : List Tree). EndBy (node_extent t) 0 x) (sym c) (subst (λ (x : ℕ). EndBy x 0 ks) (sym e) f.covers);
-      };
-    }
 
 -- ---- each of some trees
 
@@ -232,16 +189,6 @@ few_enough d s n e shallow short small parts =
     let x : d * s ≤ 999 * s = mul-le-mul_right s (omega (arith, shallow)) in
     omega (arith, x, short, small, parts)
 
--- ---- counted elements
-
-counted_by : (es : List Element) (ks : List Tree) → children_count es ≡ length ks → AreCounted es ks
-counted_by [] ks h = tt
-counted_by (e ∷ es) ks h = h
-
-some_counted : (es : List Element) (ks : List Tree) → 0 < length es → AreCounted es ks → children_count es ≡ length ks
-some_counted [] ks some h = let f : ⊥ = omega (arith, some) in elim f [ ]
-some_counted (e ∷ es) ks some h = h
-
 -- ---- all children have bytes
 
 pub filling_extra : (k : Tree) (ks : List Tree) → is_extra_node k ≡ true → filling (k ∷ ks) ≡ filling ks
@@ -284,6 +231,7 @@ pub record Shape (g : FlatGrammar) (left extent : ℕ) (state : Option ℕ) (spa
   pub modest : unsigned_abs dynamic ≤ 2 ^ 31 * (1 + (length elements + all_nodes children))
   pub settled : All (λ child. is_settled child ≡ true) children
   pub covers : EndBy extent 0 children
+  pub has : HasElements dynamic extent elements children
 
 all_start : (g : FlatGrammar) (left : ℕ) (production : Option ℕ) → is_repetition g (start_symbol g) ≡ false → is_repetition g left ≡ true → left ≡ start_symbol g → IsTrue (is_some production)
 all_start g left production plain rep is = absurd (true≢false (sym rep ∙ ap (is_repetition g) is ∙ plain))
@@ -306,6 +254,7 @@ module _ (laws : Laws) (g : FlatGrammar) (number left : ℕ) (p : Production) (e
     modest = omega (arith, v, abs_sum value (all_totals ks), modest_totals g ks c.good);
     settled = each_settled g ks c.good;
     covers = c.covers;
+    has = none_has (value +ℤ all_totals ks) extent ks;
   }
 
   -- a production that is not empty has a child with bytes
@@ -326,19 +275,20 @@ module _ (laws : Laws) (g : FlatGrammar) (number left : ℕ) (p : Production) (e
   first_shape state value alternative ks v c rep = record {
     production = None;
     dynamic = value +ℤ all_totals ks;
-    elements = element alternative (length ks) ∷ [];
+    elements = element alternative (length ks) value extent ∷ [];
     children = ks;
     is = refl;
     same = refl;
     small = small_each ks (each_some g number left p ks [] c.at c.filled c.good);
     parts = omega (arith, some_span ks (not_empty c.fit c.at rep) c);
-    form = form_of_some (is_repetition g left) (element alternative (length ks) ∷ []) rep (omega arith);
+    form = form_of_some (is_repetition g left) (element alternative (length ks) value extent ∷ []) rep (omega arith);
     inner = forms_each g ks c.good;
     rule = all_start g left None (laws.start_rule g c.fit) rep;
     counted = omega arith;
     modest = omega (arith, v, abs_sum value (all_totals ks), modest_totals g ks c.good);
     settled = each_settled g ks c.good;
     covers = c.covers;
+    has = first_has value extent alternative ks c.past (each_settled g ks c.good) c.covers;
   }
 
   -- what a production that lengthens a repetition has of it
@@ -369,7 +319,7 @@ module _ (laws : Laws) (g : FlatGrammar) (number left : ℕ) (p : Production) (e
   next_shape state value alternative before more v c rep b =
       let es = elements_of before in
       let ks = children_of before in
-      let last = element alternative (length more) ∷ [] in
+      let last = element alternative (length more) value (extent - span_of before) ∷ [] in
       let good = c.good.0 in
       let w : IsSettledWell before = good.node.settled good.settled in
       let whole : all_spans ks ≡ span_of before = good.whole b.some in
@@ -396,6 +346,7 @@ module _ (laws : Laws) (g : FlatGrammar) (number left : ℕ) (p : Production) (e
         covers = end_by_both extent 0 ks more
             (end_by_wider (node_extent before) extent 0 0 ks (omega (arith, c.covers.0)) (omega arith) w.covers)
             (end_by_wider extent extent (0 + span_of before) (0 + all_spans ks) more (omega arith) (omega (arith, whole)) c.covers.1);
+        has = next_has value extent alternative before more good.node w b.some c.covers.0 (omega (arith, c.past)) (each_settled g more c.good.1) c.covers.1;
       }
 
   rep_of : (rep : Bool) (count place : ℕ) (f : Form) → (if rep then repetition_form count place else of_rule) ≡ f → (f ≡ of_rule → ⊥) → rep ≡ true
@@ -471,10 +422,10 @@ pub record Says (left extent spans : ℕ) (t : Tree) : Type 0 where
 module _ (g : FlatGrammar) (left extent spans : ℕ) (state : Option ℕ) where
   over_good : (production : Option ℕ) (dynamic : ℤ) (es : List Element) (ks : List Tree)
       → all_spans ks ≡ spans → all_nodes ks ≤ 2 * (greatest_depth ks * all_spans ks) → length es ≤ spans → has_form (is_repetition g left) es ≡ true → forms g ks ≡ true → (left ≡ start_symbol g → IsTrue (is_some production))
-      → AreCounted es ks → unsigned_abs dynamic ≤ 2 ^ 31 * (1 + (length es + all_nodes ks)) → All (λ child. is_settled child ≡ true) ks → EndBy extent 0 ks
+      → AreCounted es ks → unsigned_abs dynamic ≤ 2 ^ 31 * (1 + (length es + all_nodes ks)) → All (λ child. is_settled child ≡ true) ks → EndBy extent 0 ks → HasElements dynamic extent es ks
       → spans ≤ most_span → spans < extent → tree_depth (node_over left production dynamic extent state es ks) ≤ most_depth → (0 < spans) ⊎ IsUnused g left
       → IsGoodTree g (node_over left production dynamic extent state es ks) × Says left extent spans (node_over left production dynamic extent state es ks)
-  over_good production dynamic es ks same small parts form inner rule counted modest settled covers short past shallow some =
+  over_good production dynamic es ks same small parts form inner rule counted modest settled covers has short past shallow some =
       let layer = over_layer left production dynamic extent state es ks in
       let t = node_over left production dynamic extent state es ks in
       let o = out-roll-Tree layer in
@@ -502,6 +453,7 @@ module _ (g : FlatGrammar) (left extent spans : ℕ) (state : Option ℕ) where
             past = omega (arith, same, past);
             inner = settled;
             covers = covers;
+            elements = has;
           });
           settled = st;
           form = fold-roll-Tree Bool (form_step g) layer ∙ both (has_form (is_repetition g left) es) (forms g ks) form inner;
@@ -527,7 +479,7 @@ module _ (g : FlatGrammar) (left extent spans : ℕ) (state : Option ℕ) where
 
   pub shape_good : (t : Tree) → Shape g left extent state spans t → spans ≤ most_span → spans < extent → tree_depth t ≤ most_depth → (0 < spans) ⊎ IsUnused g left → IsGoodTree g t × Says left extent spans t
   shape_good t s short past shallow some =
-      let good = over_good s.production s.dynamic s.elements s.children s.same s.small s.parts s.form s.inner s.rule s.counted s.modest s.settled s.covers short past
+      let good = over_good s.production s.dynamic s.elements s.children s.same s.small s.parts s.form s.inner s.rule s.counted s.modest s.settled s.covers s.has short past
       (subst (λ (x : Tree). tree_depth x ≤ most_depth) s.is shallow) some in
       subst (λ (x : Tree). IsGoodTree g x × Says left extent spans x) (sym s.is) good
 

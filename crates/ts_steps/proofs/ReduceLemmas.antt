@@ -1,5 +1,5 @@
 -- What a reduction of the only stack comes to: its node has its state, and its trees stand.
-use Rattle.std.proofs.Common.{◌≡◌, ◌∙◌, sym, ap, refl, subst, ℕ, ◌+◌, ◌<◌, ◌≤◌, ◌↔◌, Bool, true, false, IsTrue, is_some, List, [], ◌∷◌, ◌++◌, append_assoc, length, map, reverse, drop, get_or, Option, Some, None, arith}
+use Rattle.std.proofs.Common.{◌≡◌, ◌∙◌, sym, ap, refl, subst, ℕ, ◌+◌, ◌-◌, ◌<◌, ◌≤◌, ◌↔◌, Bool, true, false, IsTrue, is_some, List, [], ◌∷◌, ◌++◌, append_assoc, length, map, reverse, drop, get_or, Option, Some, None, arith}
 use Rattle.std.proofs.lemmas.List.{map-append, reverse-append, reverse-reverse, drop-drop, drop_all}
 use lib.IntN.{ℤ, ◌+ℤ◌}
 use Rattle.ts_base.specs.Bytes.{Bytes}
@@ -122,11 +122,11 @@ made_own : (g : FlatGrammar) (f : Form) (symbol number : ℕ) (value : ℤ) (ext
 made_own g of_rule symbol number value extent s ks each =
     subst (λ (l : List Tree). EachTree (IsOwnWithin g) l) (sym (over_children symbol (Some number) (value +ℤ all_totals ks) extent s [] ks)) each
 made_own g (of_first a) symbol number value extent s ks each =
-    subst (λ (l : List Tree). EachTree (IsOwnWithin g) l) (sym (over_children symbol None (value +ℤ all_totals ks) extent s (element a (length ks) ∷ []) ks)) each
+    subst (λ (l : List Tree). EachTree (IsOwnWithin g) l) (sym (over_children symbol None (value +ℤ all_totals ks) extent s (element a (length ks) value extent ∷ []) ks)) each
 made_own g (of_next a) symbol number value extent s [] each =
     subst (λ (l : List Tree). EachTree (IsOwnWithin g) l) (sym (over_children symbol None value extent s [] [])) tt
 made_own g (of_next a) symbol number value extent s (k ∷ ks) each =
-    subst (λ (l : List Tree). EachTree (IsOwnWithin g) l) (sym (over_children symbol None (value +ℤ (total_of k +ℤ all_totals ks)) extent s (elements_of k ++ element a (length ks) ∷ []) (children_of k ++ ks)))
+    subst (λ (l : List Tree). EachTree (IsOwnWithin g) l) (sym (over_children symbol None (value +ℤ (total_of k +ℤ all_totals ks)) extent s (elements_of k ++ element a (length ks) value (extent - span_of k) ∷ []) (children_of k ++ ks)))
     (each_append (IsOwnWithin g) (children_of k) ks (own_children g k each.0) each.1)
 
 module _ (laws : Laws) (g : FlatGrammar) (number left : ℕ) (p : Production) (extent : ℕ) (ks : List Tree) (c : CanReduce g number left p extent ks) where

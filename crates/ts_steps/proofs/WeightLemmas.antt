@@ -120,9 +120,9 @@ over_names symbol production dynamic extent state es ks =
 
 made_names : (f : Form) (symbol number : ℕ) (value : ℤ) (ks : List Tree) → (symbol_of (made_by f symbol number value 0 None ks) ≡ symbol) × (is_extra_node (made_by f symbol number value 0 None ks) ≡ false)
 made_names of_rule symbol number value ks = over_names symbol (Some number) (value +ℤ all_totals ks) 0 None [] ks
-made_names (of_first a) symbol number value ks = over_names symbol None (value +ℤ all_totals ks) 0 None (element a (length ks) ∷ []) ks
+made_names (of_first a) symbol number value ks = over_names symbol None (value +ℤ all_totals ks) 0 None (element a (length ks) value 0 ∷ []) ks
 made_names (of_next a) symbol number value [] = over_names symbol None value 0 None [] []
-made_names (of_next a) symbol number value (k ∷ ks) = over_names symbol None (value +ℤ (total_of k +ℤ all_totals ks)) 0 None (elements_of k ++ element a (length ks) ∷ []) (children_of k ++ ks)
+made_names (of_next a) symbol number value (k ∷ ks) = over_names symbol None (value +ℤ (total_of k +ℤ all_totals ks)) 0 None (elements_of k ++ element a (length ks) value (0 - span_of k) ∷ []) (children_of k ++ ks)
 
 module _ (laws : Laws) where
   token_names : (s : Symbol) (pad size : ℕ) → (symbol_of (token_tree s pad size) ≡ s.0) × (is_extra_node (token_tree s pad size) ≡ false) × (span_of (token_tree s pad size) ≡ pad + size)

@@ -1,4 +1,4 @@
-use Rattle.spec_runs.proofs.BareLemmas.{keeps_all, bare_once, extra_bare, reduced_bare, accepted_bare}
+use Rattle.spec_runs.proofs.BareLemmas.{keeps_all, bare_once, extra_bare, reduced_bare, accepted_bare, lengthened_bare}
 use Rattle.spec_runs.proofs.laws.bare_trees.Goals as goal
 
 pub returns-clause-keeps : goal.returns-clause-keeps
@@ -15,3 +15,6 @@ returns-clause-reduced c = reduced_bare
 
 pub returns-clause-accepted : goal.returns-clause-accepted
 returns-clause-accepted c = accepted_bare
+
+pub returns-clause-lengthened : goal.returns-clause-lengthened
+returns-clause-lengthened c = lengthened_bare

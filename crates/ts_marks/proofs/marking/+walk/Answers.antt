@@ -2,10 +2,10 @@ use Rattle.std.proofs.Common.{◌≡◌, ◌+◌, ◌-◌, ◌≤◌, ◌∙◌,
 use Rattle.std.proofs.lemmas.Result.{IfOk-weaker}
 use Rattle.ts_text.specs.declared.edit.Edit.{Edit}
 use Rattle.spec_trees.specs.declared.tree.Tree.{Tree}
-use Rattle.spec_trees.specs.Trees.{children_of, pad_of, span_of, all_spans}
-use Rattle.spec_trees.specs.Made.{most_span, remade, replaced}
+use Rattle.spec_trees.specs.Trees.{children_of, elements_of, pad_of, span_of, all_spans}
+use Rattle.spec_trees.specs.Made.{most_span, loosened, remade, replaced}
 use Rattle.spec_reuse.specs.Changes.{moved}
-use Rattle.spec_reuse.specs.Marked.{all_marked, marked_below}
+use Rattle.spec_reuse.specs.Marked.{all_marked, marked_below, marked_elements}
 use Rattle.ts_marks.specs.Passing.{Adds}
 use Rattle.ts_marks.proofs.MovedLemmas.{moved_rises}
 use Rattle.ts_marks.proofs.MarkedLemmas.{stays, spans_at, child_depth}
@@ -73,6 +73,13 @@ remade-changed_children-requires t c = (
   ),
 )
 
+pub remade-loose_elements-requires-clause-short : goal.remade-loose_elements-requires-clause-short
+remade-loose_elements-requires-clause-short t c = omega (arith, c.requires.short, c.span-whole.ensures.node.sized.within)
+
+pub remade-loose_elements-requires-clause-moved : goal.remade-loose_elements-requires-clause-moved
+remade-loose_elements-requires-clause-moved t c =
+    moved_short c.args.passed.edit.now (c.args.place + all_spans (children_of c.args.node.now)) (c.args.place + span_of c.args.node.now) (omega (arith, c.span-whole.ensures.node.sized.within)) c.requires.moved
+
 pub remade-overflow_sub-own : goal.remade-overflow_sub-own
 remade-overflow_sub-own t c =
     let o : c.moved-own.result ≡ moved c.args.passed.edit.now (c.args.place + pad_of c.args.node.now) = c.moved-own.ensures ∙ ap (λ (n : ℕ). moved c.args.passed.edit.now (c.args.place + n)) c.pad.ensures in
@@ -90,8 +97,10 @@ remade-remake-requires-clause-node t c =
     let e : c.moved-end.result ≡ moved c.args.passed.edit.now (c.args.place + span_of c.args.node.now) = c.moved-end.ensures ∙ ap (λ (n : ℕ). moved c.args.passed.edit.now (c.args.place + n)) c.span-whole.ensures.span in
     let d : replaced c.as_slice.result.now (children_of c.args.node.now) ≡ all_marked c.args.passed.edit.now (children_of c.args.node.now) c.args.place =
     ap (λ (cs : List (ℕ × Tree)). replaced cs (children_of c.args.node.now)) c.as_slice.ensures.value ∙ c.in_ok-changed.ensures.changes in
-    c.remade_is_node.ensures c.args.node.now (c.moved-own.result - c.moved-start.result) (c.moved-end.result - c.moved-own.result) c.as_slice.result.now
-    (below_can c.args.passed.edit.now c.args.node.now c.args.place c.moved-start.result c.moved-own.result c.moved-end.result c.as_slice.result.now c.span-whole.ensures.node c.moved-start.ensures o e d c.requires.moved)
+    let f : loosened c.as_slice-2.result.now (elements_of c.args.node.now) ≡ marked_elements c.args.passed.edit.now (elements_of c.args.node.now) (children_of c.args.node.now) c.args.place =
+    ap (λ (ks : List ℕ). loosened ks (elements_of c.args.node.now)) c.as_slice-2.ensures.value ∙ c.in_ok-loose.ensures.loose in
+    c.remade_is_node.ensures c.args.node.now (c.moved-own.result - c.moved-start.result) (c.moved-end.result - c.moved-own.result) c.as_slice.result.now c.as_slice-2.result.now
+    (below_can c.args.passed.edit.now c.args.node.now c.args.place c.moved-start.result c.moved-own.result c.moved-end.result c.as_slice.result.now c.as_slice-2.result.now c.args.passed.passed.whole c.span-whole.ensures.whole c.moved-start.ensures o e d f c.requires.moved)
 
 pub remade-returns : goal.remade-returns
 remade-returns t c =
@@ -99,6 +108,8 @@ remade-returns t c =
     let e : c.moved-end.result ≡ moved c.args.passed.edit.now (c.args.place + span_of c.args.node.now) = c.moved-end.ensures ∙ ap (λ (n : ℕ). moved c.args.passed.edit.now (c.args.place + n)) c.span-whole.ensures.span in
     let d : replaced c.as_slice.result.now (children_of c.args.node.now) ≡ all_marked c.args.passed.edit.now (children_of c.args.node.now) c.args.place =
     ap (λ (cs : List (ℕ × Tree)). replaced cs (children_of c.args.node.now)) c.as_slice.ensures.value ∙ c.in_ok-changed.ensures.changes in
-    let is : remade c.args.node.now (c.moved-own.result - c.moved-start.result) (c.moved-end.result - c.moved-own.result) c.as_slice.result.now ≡ marked_below c.args.passed.edit.now c.args.node.now c.args.place =
-    below_is c.args.passed.edit.now c.args.node.now c.args.place c.moved-start.result c.moved-own.result c.moved-end.result c.as_slice.result.now c.moved-start.ensures o e d c.requires.reached in
+    let f : loosened c.as_slice-2.result.now (elements_of c.args.node.now) ≡ marked_elements c.args.passed.edit.now (elements_of c.args.node.now) (children_of c.args.node.now) c.args.place =
+    ap (λ (ks : List ℕ). loosened ks (elements_of c.args.node.now)) c.as_slice-2.ensures.value ∙ c.in_ok-loose.ensures.loose in
+    let is : remade c.args.node.now (c.moved-own.result - c.moved-start.result) (c.moved-end.result - c.moved-own.result) c.as_slice.result.now c.as_slice-2.result.now ≡ marked_below c.args.passed.edit.now c.args.node.now c.args.place =
+    below_is c.args.passed.edit.now c.args.node.now c.args.place c.moved-start.result c.moved-own.result c.moved-end.result c.as_slice.result.now c.as_slice-2.result.now c.moved-start.ensures o e d f c.requires.reached in
     IfOk-weaker c.remake.result _ _ (λ x h. h ∙ is) c.remake.ensures

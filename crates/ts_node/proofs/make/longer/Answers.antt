@@ -1,4 +1,4 @@
-use Rattle.std.proofs.Common.{ℕ, IfOk, arith, rules, ◌≡◌, ◌<◌, ◌≤◌, ◌+◌, ◌*◌, ◌^◌, ◌++◌, ◌∷◌, ◌∙◌, ap, sym, subst, length, List, [], Option, None, length-append}
+use Rattle.std.proofs.Common.{ℕ, IfOk, arith, rules, ◌≡◌, ◌<◌, ◌≤◌, ◌+◌, ◌-◌, ◌*◌, ◌^◌, ◌++◌, ◌∷◌, ◌∙◌, ap, sym, subst, length, List, [], Option, None, length-append}
 use Rattle.std.specs.Int.RustNames.{unsigned_abs}
 use Rattle.std.proofs.lemmas.Int.{ints}
 use mir.Syntax.{w32, w64}
@@ -6,7 +6,7 @@ use mir.Val.{SFits, to_z, of_z}
 use lib.IntN.{ℤ, ◌+ℤ◌}
 use Rattle.spec_trees.specs.declared.tree.Tree.{Tree}
 use Rattle.spec_trees.specs.declared.tree.Element.{Element}
-use Rattle.spec_trees.specs.Trees.{all_totals, all_nodes, total_of, children_of, elements_of}
+use Rattle.spec_trees.specs.Trees.{all_totals, all_nodes, span_of, total_of, children_of, elements_of}
 use Rattle.spec_trees.specs.Made.{node_over, node_limit, element, IsNode}
 use Rattle.ts_node.specs.Held.{Tells}
 use Rattle.ts_node.specs.Falls.{all_nodes-append}
@@ -15,7 +15,7 @@ use Rattle.ts_node.proofs.make.longer.Goals as goal
 
 pub totals-others-requires : goal.totals-others-requires
 totals-others-requires c =
-    let r : HasRoom (elements_of c.args.before ++ element c.args.alternative (length c.args.more) ∷ []) (children_of c.args.before ++ c.args.more) = room _ _ _ _ _ _ _ c.requires.node in
+    let r : HasRoom (elements_of c.args.before ++ element c.args.alternative (length c.args.more) c.args.entry.dynamic (c.args.extent - span_of c.args.before) ∷ []) (children_of c.args.before ++ c.args.more) = room _ _ _ _ _ _ _ c.requires.node in
     let b : c.as_slice.result.now ≡ c.args.more = c.as_slice.ensures in
     let e : all_nodes c.as_slice.result.now ≡ all_nodes c.args.more = ap all_nodes b in
     let g : all_nodes c.as_slice.result.now < node_limit = omega (arith, r.few, e, all_nodes-append (children_of c.args.before) c.args.more) in
@@ -23,7 +23,7 @@ totals-others-requires c =
 
 pub plus-total-requires : goal.plus-total-requires
 plus-total-requires c =
-    let r : HasRoom (elements_of c.args.before ++ element c.args.alternative (length c.args.more) ∷ []) (children_of c.args.before ++ c.args.more) = room _ _ _ _ _ _ _ c.requires.node in
+    let r : HasRoom (elements_of c.args.before ++ element c.args.alternative (length c.args.more) c.args.entry.dynamic (c.args.extent - span_of c.args.before) ∷ []) (children_of c.args.before ++ c.args.more) = room _ _ _ _ _ _ _ c.requires.node in
     let b : c.as_slice.result.now ≡ c.args.more = c.as_slice.ensures in
     let e : all_nodes c.as_slice.result.now ≡ all_nodes c.args.more = ap all_nodes b in
     let t : Tells c.summary-summary.result c.args.before = c.summary-summary.ensures in
@@ -38,7 +38,7 @@ plus-total-requires c =
 
 pub with_value-dynamic-requires : goal.with_value-dynamic-requires
 with_value-dynamic-requires c =
-    let r : HasRoom (elements_of c.args.before ++ element c.args.alternative (length c.args.more) ∷ []) (children_of c.args.before ++ c.args.more) = room _ _ _ _ _ _ _ c.requires.node in
+    let r : HasRoom (elements_of c.args.before ++ element c.args.alternative (length c.args.more) c.args.entry.dynamic (c.args.extent - span_of c.args.before) ∷ []) (children_of c.args.before ++ c.args.more) = room _ _ _ _ _ _ _ c.requires.node in
     let b : c.as_slice.result.now ≡ c.args.more = c.as_slice.ensures in
     let e : all_nodes c.as_slice.result.now ≡ all_nodes c.args.more = ap all_nodes b in
     let t : Tells c.summary-summary.result c.args.before = c.summary-summary.ensures in
@@ -55,13 +55,20 @@ with_value-dynamic-requires c =
     let g : unsigned_abs c.plus-total.result + 2 ^ 31 < 2 ^ 63 = omega (arith, r.few, e, v, m, p, t.node.modest, t.node.sized.few, all_nodes-append (children_of c.args.before) c.args.more) in
     rw z3 g
 
-pub lengthened-requires : goal.lengthened-requires
-lengthened-requires c =
-    let r : HasRoom (elements_of c.args.before ++ element c.args.alternative (length c.args.more) ∷ []) (children_of c.args.before ++ c.args.more) = room _ _ _ _ _ _ _ c.requires.node in
+pub overflow_cast-len : goal.overflow_cast-len
+overflow_cast-len c =
+    let r : HasRoom (elements_of c.args.before ++ element c.args.alternative (length c.args.more) c.args.entry.dynamic (c.args.extent - span_of c.args.before) ∷ []) (children_of c.args.before ++ c.args.more) = room _ _ _ _ _ _ _ c.requires.node in
+    let many : c.len.result ≡ length c.args.more = c.len.ensures in
+    record { fits = omega (arith, many, r.wide, length-append (children_of c.args.before) c.args.more) }
+
+pub longer_run-requires : goal.longer_run-requires
+longer_run-requires c =
+    let r : HasRoom (elements_of c.args.before ++ element c.args.alternative (length c.args.more) c.args.entry.dynamic (c.args.extent - span_of c.args.before) ∷ []) (children_of c.args.before ++ c.args.more) = room _ _ _ _ _ _ _ c.requires.node in
     record {
       repetition = c.requires.repetition;
       wide = omega (arith, r.wide, length-append (children_of c.args.before) c.args.more);
-      fits = omega (arith, r.few, length-append (elements_of c.args.before) (element c.args.alternative (length c.args.more) ∷ []));
+      own = let many : c.len.result ≡ length c.args.more = c.len.ensures in let e : c.added-element.result ≡ element c.args.alternative (length c.args.more) c.args.entry.dynamic (c.args.extent - span_of c.args.before) = c.added-element.ensures ∙ ap (λ (n : ℕ). element c.args.alternative n c.args.entry.dynamic c.bytes_behind-behind.result) many ∙ ap (λ (n : ℕ). element c.args.alternative (length c.args.more) c.args.entry.dynamic n) c.bytes_behind-behind.ensures in ap (λ (x : Element). x.children) e;
+      fits = omega (arith, r.few, length-append (elements_of c.args.before) (element c.args.alternative (length c.args.more) c.args.entry.dynamic (c.args.extent - span_of c.args.before) ∷ []));
     }
 
 over_with : (symbol : ℕ) (d d' : ℤ) (extent : ℕ) (state : Option ℕ) (es es' : List Element) (ks ks' : List Tree) → d ≡ d' → es ≡ es' → ks ≡ ks' → IsNode (node_over symbol None d extent state es ks) → IsNode (node_over symbol None d' extent state es' ks')
@@ -95,7 +102,9 @@ over_run-requires c =
     let f4 : SFits w64 c.with_value-dynamic.result = search rules in
     let z4 : to_z w64 (of_z w64 c.with_value-dynamic.result) ≡ c.with_value-dynamic.result = omega (arith, ints) in
     let d4 : to_z w64 (of_z w64 c.with_value-dynamic.result) ≡ c.args.entry.dynamic +ℤ (total_of c.args.before +ℤ all_totals c.args.more) = z4 ∙ d in
-    let es : c.in_ok-run.run'.elements ≡ elements_of c.args.before ++ element c.args.alternative (length c.args.more) ∷ [] = c.in_ok-run.ensures.elements in
+    let many : c.len.result ≡ length c.args.more = c.len.ensures in
+    let e : c.added-element.result ≡ element c.args.alternative (length c.args.more) c.args.entry.dynamic (c.args.extent - span_of c.args.before) = c.added-element.ensures ∙ ap (λ (n : ℕ). element c.args.alternative n c.args.entry.dynamic c.bytes_behind-behind.result) many ∙ ap (λ (n : ℕ). element c.args.alternative (length c.args.more) c.args.entry.dynamic n) c.bytes_behind-behind.ensures in
+    let es : c.in_ok-run.run'.elements ≡ elements_of c.args.before ++ element c.args.alternative (length c.args.more) c.args.entry.dynamic (c.args.extent - span_of c.args.before) ∷ [] = c.in_ok-run.ensures.elements ∙ ap (λ (x : Element). elements_of c.args.before ++ x ∷ []) e in
     let ks : c.in_ok-run.run'.children ≡ children_of c.args.before ++ c.args.more = c.in_ok-run.ensures.children in
     over_with c.args.entry.symbol.0 _ _ c.args.extent c.args.state _ _ _ _ (sym d4) (sym es) (sym ks) c.requires.node
 
@@ -121,8 +130,10 @@ returns c =
     let f4 : SFits w64 c.with_value-dynamic.result = search rules in
     let z4 : to_z w64 (of_z w64 c.with_value-dynamic.result) ≡ c.with_value-dynamic.result = omega (arith, ints) in
     let d4 : to_z w64 (of_z w64 c.with_value-dynamic.result) ≡ c.args.entry.dynamic +ℤ (total_of c.args.before +ℤ all_totals c.args.more) = z4 ∙ d in
-    let es : c.in_ok-run.run'.elements ≡ elements_of c.args.before ++ element c.args.alternative (length c.args.more) ∷ [] = c.in_ok-run.ensures.elements in
+    let many : c.len.result ≡ length c.args.more = c.len.ensures in
+    let e : c.added-element.result ≡ element c.args.alternative (length c.args.more) c.args.entry.dynamic (c.args.extent - span_of c.args.before) = c.added-element.ensures ∙ ap (λ (n : ℕ). element c.args.alternative n c.args.entry.dynamic c.bytes_behind-behind.result) many ∙ ap (λ (n : ℕ). element c.args.alternative (length c.args.more) c.args.entry.dynamic n) c.bytes_behind-behind.ensures in
+    let es : c.in_ok-run.run'.elements ≡ elements_of c.args.before ++ element c.args.alternative (length c.args.more) c.args.entry.dynamic (c.args.extent - span_of c.args.before) ∷ [] = c.in_ok-run.ensures.elements ∙ ap (λ (x : Element). elements_of c.args.before ++ x ∷ []) e in
     let ks : c.in_ok-run.run'.children ≡ children_of c.args.before ++ c.args.more = c.in_ok-run.ensures.children in
-    subst (λ (x : ℤ). IfOk c.over_run.result (λ node. node ≡ node_over c.args.entry.symbol.0 None x c.args.extent c.args.state (elements_of c.args.before ++ element c.args.alternative (length c.args.more) ∷ []) (children_of c.args.before ++ c.args.more))) d4
+    subst (λ (x : ℤ). IfOk c.over_run.result (λ node. node ≡ node_over c.args.entry.symbol.0 None x c.args.extent c.args.state (elements_of c.args.before ++ element c.args.alternative (length c.args.more) c.args.entry.dynamic (c.args.extent - span_of c.args.before) ∷ []) (children_of c.args.before ++ c.args.more))) d4
     (subst (λ (x : List Element). IfOk c.over_run.result (λ node. node ≡ node_over c.args.entry.symbol.0 None (to_z w64 (of_z w64 c.with_value-dynamic.result)) c.args.extent c.args.state x (children_of c.args.before ++ c.args.more))) es
     (subst (λ (x : List Tree). IfOk c.over_run.result (λ node. node ≡ node_over c.args.entry.symbol.0 None (to_z w64 (of_z w64 c.with_value-dynamic.result)) c.args.extent c.args.state c.in_ok-run.run'.elements x)) ks c.over_run.ensures))
