@@ -52,7 +52,7 @@ module _ (laws : ForcedLaws) (g : FlatGrammar) (read : List ℕ) (rest : Bytes) 
 -- ---- an extra after a reduction
 
 module _ (laws : ForcedLaws) (g : FlatGrammar) (fit : Fit g) (number left : ℕ) (p : Production) (at : production_at g number ≡ Some (left, p)) (earlier : List ℕ) where
-  narrow : Narrows g (reverse (step_symbols p) ++ earlier) (left ∷ earlier)
+  pub narrow : Narrows g (reverse (step_symbols p) ++ earlier) (left ∷ earlier)
   narrow t move none = laws.some_move_stays g (reverse (step_symbols p) ++ earlier) t _ (laws.no_new_tokens g fit number left t p earlier at move) none
 
   heads : (a b : Tree) (xs ys : List Tree) → a ∷ xs ≡ b ∷ ys → a ≡ b

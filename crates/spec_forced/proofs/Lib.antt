@@ -11,5 +11,13 @@ pub mod LeafLemmas
 pub mod OnlyLemmas
 pub mod RunLemmas
 pub mod SoundLemmas
-pub mod KeepLemmas
+pub mod LeapLemmas
 pub mod TakingLemmas
+pub mod BehindLemmas
+pub mod ElementLemmas
+pub mod KeepLemmas
+pub mod LengthLemmas
+pub mod StretchLemmas
+pub mod LongerLemmas
+pub mod OfferLemmas
+pub mod PassLemmas

@@ -142,15 +142,30 @@ module _ (laws : ForcedLaws) (g : FlatGrammar) (fit : Fit g) (read : List ℕ) (
 
 -- ---- the node
 
-map_append : (xs ys : List Tree) → map bare (xs ++ ys) ≡ map bare xs ++ map bare ys
+pub map_append : (xs ys : List Tree) → map bare (xs ++ ys) ≡ map bare xs ++ map bare ys
 map_append [] ys = refl
 map_append (x ∷ xs) ys = ap (λ (l : List Tree). bare x ∷ l) (map_append xs ys)
 
-map_turned : (xs : List Tree) → map bare (reverse xs) ≡ reverse (map bare xs)
+pub map_turned : (xs : List Tree) → map bare (reverse xs) ≡ reverse (map bare xs)
 map_turned [] = refl
 map_turned (x ∷ xs) =
     ap (λ (l : List Tree). map bare l) (reverse-append (x ∷ []) xs) ∙ map_append (reverse xs) (x ∷ []) ∙ ap (λ (l : List Tree). l ++ bare x ∷ []) (map_turned xs)
     ∙ sym (reverse-append (bare x ∷ []) (map bare xs))
+
+-- what lies above the stack before a reduction: the children, and above them the extras that are to be lifted
+abbrev pub laid_stack : List Tree → List Tree → List Tree
+laid_stack children lifted = map bare lifted ++ (reverse (map bare children) ++ [])
+
+pub turned_stack : (children : List Tree) → reverse (map bare children) ++ [] ≡ map bare (reverse children)
+turned_stack children = append-nil (reverse (map bare children)) ∙ sym (map_turned children)
+
+-- a forced run has put them there, and sees the token behind them
+pub record Laid (g : FlatGrammar) (read : List ℕ) (rest : Bytes) (extent : ℕ) (children lifted : List Tree) (s : Symbol) (pad size ahead : ℕ) : Type 0 where
+  pub symbols : stack_symbols (reverse children) ++ read ≡ stack_symbols (laid_stack children lifted) ++ read
+  pub spans : all_spans children + all_spans lifted ≡ all_spans (laid_stack children lifted)
+  pub all_extras : AreExtras (map bare lifted)
+  pub seen : IsDecided g (stack_symbols (laid_stack children lifted) ++ read) (drop (all_spans (laid_stack children lifted)) rest) (token s pad size) ahead
+  pub run : ForcedRun g read rest extent (laid_stack children lifted) (all_spans (laid_stack children lifted))
 
 module _ (laws : ForcedLaws) where
   bare_extras : (xs : List Tree) → AreExtras xs → AreExtras (map bare xs)
@@ -161,20 +176,22 @@ module _ (laws : ForcedLaws) where
   bare_begins [] h = tt
   bare_begins (x ∷ xs) h = (laws.keeps x).extra ∙ h
 
-  pub made_forced : (g : FlatGrammar) → Fit g → (read : List ℕ) (rest : Bytes) (number : ℕ) (children lifted : List Tree) (extent e : ℕ) (state : Option ℕ) → MakesNode g read rest number children lifted extent → tree_depth (reduced g number e state children) ≤ most_depth
-      → IsForced g read rest (reduced g number e state children) extent
-  made_forced g fit read rest number children lifted extent e state m shallow =
-      let node : Tree = bare (reduced g number 0 None (map bare children)) in
-      let done : List Tree = map bare lifted ++ (reverse (map bare children) ++ []) in
+  pub begins_laid : (children : List Tree) → BeginsFilled (reverse children) → BeginsFilled (reverse (map bare children) ++ [])
+  begins_laid children ends = subst (λ (l : List Tree). BeginsFilled l) (sym (turned_stack children)) (bare_begins (reverse children) ends)
+
+  pub laid : (g : FlatGrammar) → Fit g → (read : List ℕ) (rest : Bytes) (extent : ℕ) (children lifted : List Tree) (s : Symbol) (pad size ahead : ℕ) → AreExtras lifted → StandInTurn g read rest (children ++ reverse lifted) → EndBy extent 0 (children ++ reverse lifted)
+      → IsDecided g (stack_symbols (reverse children) ++ read) (drop (all_spans children + all_spans lifted) rest) (token s pad size) ahead → HasMove g (stack_symbols (reverse children) ++ read) s.0 → Laid g read rest extent children lifted s pad size ahead
+  laid g fit read rest extent children lifted s pad size ahead all_extras stand covers seen move =
+      let done : List Tree = laid_stack children lifted in
       let nothing : Pending g read rest extent [] = record { ahead = []; all_extras = tt; bytes = 0; run = run_begins } in
-      let p = in_turn laws g fit read rest extent (children ++ reverse lifted) [] nothing m.stand m.covers in
+      let p = in_turn laws g fit read rest extent (children ++ reverse lifted) [] nothing stand covers in
       let turned : reverse (map bare (children ++ reverse lifted)) ++ [] ≡ done =
       append-nil (reverse (map bare (children ++ reverse lifted)))
       ∙ ap (λ (l : List Tree). reverse l) (map_append children (reverse lifted) ∙ ap (λ (l : List Tree). map bare children ++ l) (map_turned lifted))
       ∙ reverse-append (map bare children) (reverse (map bare lifted)) ∙ ap (λ (l : List Tree). l ++ reverse (map bare children)) (reverse-reverse (map bare lifted))
       ∙ ap (λ (l : List Tree). map bare lifted ++ l) (sym (append-nil (reverse (map bare children)))) in
-      let kids : reverse (map bare children) ++ [] ≡ map bare (reverse children) = append-nil (reverse (map bare children)) ∙ sym (map_turned children) in
-      let extras : AreExtras (map bare lifted) = bare_extras lifted m.all_extras in
+      let kids : reverse (map bare children) ++ [] ≡ map bare (reverse children) = turned_stack children in
+      let extras : AreExtras (map bare lifted) = bare_extras lifted all_extras in
       let symbols : stack_symbols (reverse children) ++ read ≡ filling done ++ read =
       ap (λ (l : List ℕ). l ++ read) (sym (filling_extras (map bare lifted) (reverse (map bare children) ++ []) extras ∙ ap filling kids ∙ bare_fillings laws (reverse children))) in
       let at : all_spans children + all_spans lifted ≡ all_spans done =
@@ -186,14 +203,26 @@ module _ (laws : ForcedLaws) where
         bare_spans laws (reverse children),
         spans_turned children,
       ) in
-      let seen : IsDecided g (filling done ++ read) (drop (all_spans done) rest) (token m.symbol m.pad m.size) m.ahead =
-      subst (λ (n : ℕ). IsDecided g (filling done ++ read) (drop n rest) (token m.symbol m.pad m.size) m.ahead) at
-      (subst (λ (l : List ℕ). IsDecided g l (drop (all_spans children + all_spans lifted) rest) (token m.symbol m.pad m.size) m.ahead) symbols m.seen) in
-      let only : IsOnlyMove g (filling done ++ read) m.symbol.0 (reduce number) = subst (λ (l : List ℕ). IsOnlyMove g l m.symbol.0 (reduce number)) symbols m.only in
-      let run : ForcedRun g read rest extent done (all_spans done) =
-      all_done laws g fit read rest extent done m.symbol m.pad m.size m.ahead (subst (λ (l : List Tree). Pending g read rest extent l) turned p) seen (reduce number, only.stays) in
+      let seen_done : IsDecided g (filling done ++ read) (drop (all_spans done) rest) (token s pad size) ahead =
+      subst (λ (n : ℕ). IsDecided g (filling done ++ read) (drop n rest) (token s pad size) ahead) at
+      (subst (λ (l : List ℕ). IsDecided g l (drop (all_spans children + all_spans lifted) rest) (token s pad size) ahead) symbols seen) in
+      record {
+        symbols = symbols;
+        spans = at;
+        all_extras = extras;
+        seen = seen_done;
+        run = all_done laws g fit read rest extent done s pad size ahead (subst (λ (l : List Tree). Pending g read rest extent l) turned p) seen_done (subst (λ (l : List ℕ). HasMove g l s.0) symbols move);
+      }
+
+  pub made_forced : (g : FlatGrammar) → Fit g → (read : List ℕ) (rest : Bytes) (number : ℕ) (children lifted : List Tree) (extent e : ℕ) (state : Option ℕ) → MakesNode g read rest number children lifted extent → tree_depth (reduced g number e state children) ≤ most_depth
+      → IsForced g read rest (reduced g number e state children) extent
+  made_forced g fit read rest number children lifted extent e state m shallow =
+      let node : Tree = bare (reduced g number 0 None (map bare children)) in
+      let stack : List Tree = laid_stack children lifted in
+      let l = laid g fit read rest extent children lifted m.symbol m.pad m.size m.ahead m.all_extras m.stand m.covers m.seen (reduce number, m.only.stays) in
+      let only : IsOnlyMove g (filling stack ++ read) m.symbol.0 (reduce number) = subst (λ (x : List ℕ). IsOnlyMove g x m.symbol.0 (reduce number)) l.symbols m.only in
       let same : bare (reduced g number e state children) ≡ node = laws.reduced_bare g number e state children in
-      let reduction : IsReduction g number done node (map bare lifted ++ node ∷ []) = record {
+      let reduction : IsReduction g number stack node (map bare lifted ++ node ∷ []) = record {
         left = m.left;
         production = m.production;
         at = m.at;
@@ -201,19 +230,19 @@ module _ (laws : ForcedLaws) where
         children = map bare children;
         below = [];
         stack_is = refl;
-        extras = extras;
-        all_lifted = subst (λ (l : List Tree). BeginsFilled l) (sym kids) (bare_begins (reverse children) m.ends);
-        count = ap (λ (l : List ℕ). length l) (bare_fillings laws children) ∙ m.count;
+        extras = l.all_extras;
+        all_lifted = begins_laid children m.ends;
+        count = ap (λ (x : List ℕ). length x) (bare_fillings laws children) ∙ m.count;
         first_fills = bare_begins children m.begins;
         node_is = refl;
         after_is = refl;
       } in
       let depth : tree_depth node ≤ most_depth = omega (arith, shallow, (laws.keeps (reduced g number e state children)).depth, ap tree_depth same) in
-      let after : ForcedRun g read rest extent (map bare lifted ++ node ∷ []) (all_spans done) =
-      run_reduces done (all_spans done) m.symbol m.pad m.size m.ahead number node (map bare lifted ++ node ∷ []) run seen (omega (arith, at, m.reach)) only (m.left, m.production, m.at, m.some) reduction depth in
+      let after : ForcedRun g read rest extent (map bare lifted ++ node ∷ []) (all_spans stack) =
+      run_reduces stack (all_spans stack) m.symbol m.pad m.size m.ahead number node (map bare lifted ++ node ∷ []) l.run l.seen (omega (arith, l.spans, m.reach)) only (m.left, m.production, m.at, m.some) reduction depth in
       record {
         extras = map bare lifted;
-        all_extras = extras;
-        bytes = all_spans done;
-        run = subst (λ (t : Tree). ForcedRun g read rest extent (map bare lifted ++ t ∷ []) (all_spans done)) (sym same) after;
+        all_extras = l.all_extras;
+        bytes = all_spans stack;
+        run = subst (λ (t : Tree). ForcedRun g read rest extent (map bare lifted ++ t ∷ []) (all_spans stack)) (sym same) after;
       }

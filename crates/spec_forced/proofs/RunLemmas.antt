@@ -28,17 +28,17 @@ above c up m = record { stack = up ++ c.stack; place = c.place + m }
 
 module _ (laws : ForcedLaws) (g : FlatGrammar) (text : Bytes) where
   module _ (c : Configuration) where
-    symbols_above : (up : List Tree) → stack_symbols up ++ stack_symbols c.stack ≡ stack_symbols (up ++ c.stack)
+    pub symbols_above : (up : List Tree) → stack_symbols up ++ stack_symbols c.stack ≡ stack_symbols (up ++ c.stack)
     symbols_above up = sym (filling_append up c.stack)
 
-    next_above : (up : List Tree) (m : ℕ) (f : Found) (e : ℕ) → IsDecided g (stack_symbols up ++ stack_symbols c.stack) (drop m (drop c.place text)) f e → NextIs g text (above c up m) f
+    pub next_above : (up : List Tree) (m : ℕ) (f : Found) (e : ℕ) → IsDecided g (stack_symbols up ++ stack_symbols c.stack) (drop m (drop c.place text)) f e → NextIs g text (above c up m) f
     next_above up m f e d = (
       d.0,
       subst (λ (l : List ℕ). AreValidTokens g l d.0) (symbols_above up) d.1,
       subst (λ (x : Bytes). Lex g d.0 x f) (drop-drop m c.place text) (d.2 (drop m (drop c.place text)) (agree_self e (drop m (drop c.place text)))),
     )
 
-    only_above : (up : List Tree) (t : ℕ) (move : Move) → IsOnlyMove g (stack_symbols up ++ stack_symbols c.stack) t move → IsOnlyMove g (stack_symbols (up ++ c.stack)) t move
+    pub only_above : (up : List Tree) (t : ℕ) (move : Move) → IsOnlyMove g (stack_symbols up ++ stack_symbols c.stack) t move → IsOnlyMove g (stack_symbols (up ++ c.stack)) t move
     only_above up t move o = subst (λ (l : List ℕ). IsOnlyMove g l t move) (symbols_above up) o
 
     placed : (x : Configuration) (stack : List Tree) (a b : ℕ) → a ≡ b → IsOnlyStep g text x (record { stack = stack; place = a }) → IsOnlyStep g text x (record { stack = stack; place = b })
@@ -70,7 +70,7 @@ module _ (laws : ForcedLaws) (g : FlatGrammar) (text : Bytes) where
   strays_extras read rest extent _ _ (one_more xs m s pad size e d found fits extra idle) = (as_extra_is (token_tree s pad size), strays_extras read rest extent xs m d)
 
   -- extras that are passed are a forced run, where the valid tokens are listed
-  strays_run : (read : List ℕ) (rest : Bytes) (extent : ℕ) (valid : List Symbol) → AreValidTokens g read valid → (xs : List Tree) (m : ℕ) → Strays g read rest extent xs m → ForcedRun g read rest extent xs m
+  pub strays_run : (read : List ℕ) (rest : Bytes) (extent : ℕ) (valid : List Symbol) → AreValidTokens g read valid → (xs : List Tree) (m : ℕ) → Strays g read rest extent xs m → ForcedRun g read rest extent xs m
   strays_run read rest extent valid are _ _ no_more = run_begins
   strays_run read rest extent valid are _ _ (one_more xs m s pad size e d found fits extra idle) =
       let symbols : read ≡ stack_symbols xs ++ read = ap (λ (l : List ℕ). l ++ read) (sym (filling_none xs (strays_extras read rest extent xs m d))) in

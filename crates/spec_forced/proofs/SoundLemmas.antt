@@ -9,7 +9,7 @@ use Rattle.spec_runs.specs.Configurations.{stack_symbols}
 use Rattle.spec_reuse.specs.Places.{IsIn, here, inside, later, lead_of}
 use Rattle.spec_reuse.specs.Offered.{IsTopmost}
 use Rattle.spec_forced.specs.Forced.{HaveSameItems, Stands, StandInTurn}
-use Rattle.spec_forced.specs.Sound.{States, IsStateAfter, StandsForState, AllSound, IsSound, IsHonest, EachHasState, StandOnStack}
+use Rattle.spec_forced.specs.Sound.{States, IsStateAfter, StandsForState, IsSoundNode, AllSound, IsSound, IsHonest, EachHasState, StandOnStack}
 use Rattle.spec_forced.proofs.ItemLemmas.{same_back}
 use Rattle.spec_forced.proofs.SeenLemmas.{agree_self}
 use Rattle.spec_forced.proofs.ForcedLemmas.{stands_again}
@@ -77,19 +77,19 @@ module _ (g : FlatGrammar) (states : States) (text : Bytes) where
   pub sound_none : (place : ℕ) → AllSound g states text [] place
   sound_none place u at state h = absurd (in_none [] place u at h refl)
 
-  pub sound_one : (t : Tree) (place : ℕ) → ((state : ℕ) → is_settled t ≡ true → state_of t ≡ Some state → StandsForState g states text place state t) → AllSound g states text (children_of t) place → AllSound g states text (t ∷ []) place
-  sound_one t place own kids u at state h settled has = ⊎_elim
+  pub sound_one : (t : Tree) (place : ℕ) → ((state : ℕ) → state_of t ≡ Some state → IsSoundNode g states text place state t) → AllSound g states text (children_of t) place → AllSound g states text (t ∷ []) place
+  sound_one t place own kids u at state h has = ⊎_elim
       (λ w.
-      let f = own state (ap is_settled (sym w.0) ∙ settled) (ap state_of (sym w.0) ∙ has) in
-      subst (λ (n : ℕ). StandsForState g states text n state u) (sym w.1) (subst (λ (y : Tree). StandsForState g states text place state y) (sym w.0) f))
-      (λ w. ⊎_elim (λ k. kids u at state k settled has) (λ k. absurd (in_none [] (place + span_of t) u at k refl)) w)
+      let f = own state (ap state_of (sym w.0) ∙ has) in
+      subst (λ (n : ℕ). IsSoundNode g states text n state u) (sym w.1) (subst (λ (y : Tree). IsSoundNode g states text place state y) (sym w.0) f))
+      (λ w. ⊎_elim (λ k. kids u at state k has) (λ k. absurd (in_none [] (place + span_of t) u at k refl)) w)
       (in_cons t [] (t ∷ []) place u at h refl)
 
   pub sound_inside : (t : Tree) (place : ℕ) → AllSound g states text (t ∷ []) place → AllSound g states text (children_of t) place
   sound_inside t place all u at state h = all u at state (inside t [] place u at h)
 
   pub sound_append : (xs ys : List Tree) (place : ℕ) → AllSound g states text xs place → AllSound g states text ys (place + all_spans xs) → AllSound g states text (xs ++ ys) place
-  sound_append xs ys place a b u at state h settled has = ⊎_elim (λ k. a u at state k settled has) (λ k. b u at state k settled has) (in_append xs ys place u at h)
+  sound_append xs ys place a b u at state h has = ⊎_elim (λ k. a u at state k has) (λ k. b u at state k has) (in_append xs ys place u at h)
 
   pub sound_tail : (t : Tree) (ts : List Tree) (place : ℕ) → AllSound g states text (t ∷ ts) place → AllSound g states text ts (place + span_of t)
   sound_tail t ts place all u at state h = all u at state (later t ts place u at h)
@@ -101,23 +101,26 @@ module _ (g : FlatGrammar) (states : States) (text : Bytes) where
     where
       by : ((t ≡ tree) × (place ≡ 0)) ⊎ IsIn (children_of tree) (lead_of tree) t place → IsHonest g states text place state t
       by (inl w) =
-          let lead : lead_of tree ≡ 0 = s.begins (ap is_settled (sym w.0) ∙ top.fit.settled) in
-          let all : AllSound g states text (tree ∷ []) 0 = sound_one tree 0 (λ n settled has. s.nodes tree 0 n (inl (refl, refl)) settled has)
-          (λ u at n h. s.nodes u at n (inr (subst (λ (m : ℕ). IsIn (children_of tree) m u at) (sym lead) h))) in
+          let settled : is_settled tree ≡ true = ap is_settled (sym w.0) ∙ top.fit.settled in
+          let has : state_of tree ≡ Some state = ap state_of (sym w.0) ∙ top.fit.below in
+          let all : AllSound g states text (tree ∷ []) 0 = sound_one tree 0 (s.own settled) (subst (λ (m : ℕ). AllSound g states text (children_of tree) m) (s.begins settled) s.inner) in
+          let stands : StandsForState g states text 0 state tree = (s.own settled state has).stands settled in
           record {
-            stands = s.nodes t place state (inl w) top.fit.settled top.fit.below;
+            below = top.fit.below;
+            stands = subst (λ (n : ℕ). StandsForState g states text n state t) (sym w.1) (subst (λ (y : Tree). StandsForState g states text 0 state y) (sym w.0) stands);
             inner = subst (λ (n : ℕ). AllSound g states text (t ∷ []) n) (sym w.1) (subst (λ (y : Tree). AllSound g states text (y ∷ []) 0) (sym w.0) all);
           }
       by (inr w) = record {
-        stands = s.nodes t place state (inr w) top.fit.settled top.fit.below;
-        inner = λ u at n h. s.nodes u at n (inr (in_in (children_of tree) (lead_of tree) t u place at w h));
+        below = top.fit.below;
+        stands = (s.inner t place state w top.fit.below).stands top.fit.settled;
+        inner = λ u at n h. s.inner u at n (in_in (children_of tree) (lead_of tree) t u place at w h);
       }
 
   -- ---- stacks
 
   pub stack_lower : (xs ys : List Tree) → StandOnStack g states text (xs ++ ys) → StandOnStack g states text ys
   stack_lower [] ys s = s
-  stack_lower (x ∷ xs) ys s = stack_lower xs ys s.2
+  stack_lower (x ∷ xs) ys s = stack_lower xs ys s.3
 
   turned_onto : (t : Tree) (ts below : List Tree) → reverse (t ∷ ts) ++ below ≡ reverse ts ++ t ∷ below
   turned_onto t ts below = ap (λ (l : List Tree). l ++ below) (reverse-append (t ∷ []) ts) ∙ append_assoc (reverse ts) (t ∷ []) below
@@ -128,7 +131,7 @@ module _ (g : FlatGrammar) (states : States) (text : Bytes) where
   sound_in_turn (t ∷ ts) below s =
       let s' : StandOnStack g states text (reverse ts ++ t ∷ below) = subst (λ (l : List Tree). StandOnStack g states text l) (turned_onto t ts below) s in
       let own = stack_lower (reverse ts) (t ∷ below) s' in
-      sound_append (t ∷ []) ts (all_spans below) own.1
+      sound_append (t ∷ []) ts (all_spans below) own.2
       (subst (λ (n : ℕ). AllSound g states text ts n) (let e : all_spans (t ∷ below) ≡ all_spans below + all_spans (t ∷ []) = omega arith in e) (sound_in_turn ts (t ∷ below) s'))
 
   pub stand_in_turn : (ts below : List Tree) → EachHasState ts → StandOnStack g states text (reverse ts ++ below) → StandInTurn g (stack_symbols below) (drop (all_spans below) text) ts

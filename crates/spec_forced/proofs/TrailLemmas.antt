@@ -86,7 +86,7 @@ pub data Strays (g : FlatGrammar) (read : List ℕ) (rest : Bytes) (extent : ℕ
   one_more : (xs : List Tree) (m : ℕ) (s : Symbol) (pad size e : ℕ) → Strays g read rest extent xs m → FoundAmong g read (drop m rest) (token s pad size) e → m + e ≤ extent
       → is_extra g s.0 ≡ true → (HasMove g read s.0 → ⊥) → Strays g read rest extent (as_extra (token_tree s pad size) ∷ xs) (m + (pad + size))
 
-strays_fewer : (g : FlatGrammar) (inner outer : List ℕ) (rest : Bytes) (extent : ℕ) (xs : List Tree) (m : ℕ) → Narrows g inner outer → Strays g inner rest extent xs m → Strays g outer rest extent xs m
+pub strays_fewer : (g : FlatGrammar) (inner outer : List ℕ) (rest : Bytes) (extent : ℕ) (xs : List Tree) (m : ℕ) → Narrows g inner outer → Strays g inner rest extent xs m → Strays g outer rest extent xs m
 strays_fewer g inner outer rest extent _ _ narrow no_more = no_more
 strays_fewer g inner outer rest extent _ _ narrow (one_more xs m s pad size e d found fits extra idle) =
     one_more xs m s pad size e (strays_fewer g inner outer rest extent xs m narrow d) (found_fewer g inner outer (drop m rest) (token s pad size) e narrow found) fits extra

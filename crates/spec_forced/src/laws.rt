@@ -1,6 +1,6 @@
 //! Laws of the definitions, each a function without a body: what other crates may use of them.
 
-ghost use Rattle.std.specs.Prelude.{◌≡◌, ℕ, ◌+◌, ◌≤◌, ◌⊎◌, ◌↔◌, [], ◌∷◌, ◌++◌, List, Option, Some, length, reverse, drop, true};
+ghost use Rattle.std.specs.Prelude.{◌≡◌, ℕ, ◌+◌, ◌≤◌, ◌⊎◌, ◌↔◌, [], ◌∷◌, ◌++◌, List, Option, Some, length, map, reverse, drop, true};
 ghost use Rattle.std.specs.Str.{IsUtf8};
 ghost use Rattle.ts_base.specs.Bytes.{Bytes};
 ghost use Rattle.ts_core.specs.declared.flat.FlatGrammar.{FlatGrammar};
@@ -12,7 +12,7 @@ ghost use Rattle.spec_lexing.specs.Seen.{Seen, Agree};
 ghost use Rattle.spec_tables.specs.Actions.{Move, Act, shift, reduce};
 ghost use Rattle.spec_tables.specs.Fit.{Fit};
 ghost use Rattle.spec_trees.specs.declared.tree.Tree.{Tree};
-ghost use Rattle.spec_trees.specs.Trees.{is_extra_node, is_settled, state_of, node_extent, children_of, span_of, all_spans, tree_depth, bare};
+ghost use Rattle.spec_trees.specs.Trees.{is_extra_node, is_settled, state_of, node_extent, elements_of, children_of, span_of, all_spans, tree_depth, bare};
 ghost use Rattle.spec_trees.specs.Made.{leaf_of, as_extra, reduced, accepted, step_symbols, most_depth};
 ghost use Rattle.spec_reuse.specs.Offered.{IsTopmost};
 ghost use Rattle.spec_runs.specs.Configurations.{Configuration, starting, stack_symbols, pushed, token_tree, HasMove, NextIs, IsReduction, AreValidTokens, AreExtras};
@@ -22,6 +22,7 @@ ghost use Rattle.spec_forced.specs.Forced.{HaveSameItems, IsOnlyMove, IsDecided,
 ghost use Rattle.spec_forced.specs.Laws.{ForcedLaws};
 ghost use Rattle.spec_forced.specs.OnlyRuns.{IsOnlyStep, OnlyRun, Meet, IsFork, EndAlike, FreshFrom};
 ghost use Rattle.spec_forced.specs.Sound.{States, IsStateAfter, StandsForState, AllSound, IsSound, IsHonest, EachHasState, IsWholeSoFar, StandOnStack};
+ghost use Rattle.spec_forced.specs.Leaping.{Leaping, FreshLeaping, LeapsRightly};
 ghost use Rattle.spec_forced.specs.Taking.{Taking, FreshTaking, TakesRightly};
 
 use spec_lexing::{fewer_tokens, one_answer, seen_decides};
@@ -29,7 +30,7 @@ use spec_reuse::{no_new_tokens, some_move_stays};
 use spec_runs::{bare_trees, moves_have_their_place, one_reduction, one_sight, repetitions_repeat};
 
 /// The laws of other crates hold.
-fn laws_hold()
+pub fn laws_hold()
     ensures { ForcedLaws }
 {
     bare_trees();
@@ -187,6 +188,21 @@ pub fn forced_runs_are_only()
     laws_hold();
 }
 
+/// An extra that stands where a parser is is passed there, and nothing else is done. So a parser
+/// with extras on top of its stack may go back to where they begin: the only run leads from there
+/// to where it was.
+pub fn extras_are_passed()
+    ensures one { (g : FlatGrammar) (text : Bytes) (c : Configuration) (x : Tree) (e : ℕ)
+        → is_extra_node x ≡ true → Stands g (stack_symbols c.stack) (drop c.place text) x e
+        → IsOnlyStep g text c (pushed c (bare x)) }
+    ensures all { (g : FlatGrammar) (text : Bytes) (xs below : List Tree) (place : ℕ)
+        → AreExtras xs → StandInTurn g (stack_symbols below) (drop place text) xs
+        → OnlyRun g text (record { stack = below; place = place })
+        (record { stack = reverse (map bare xs) ++ below; place = place + all_spans xs }) }
+{
+    laws_hold();
+}
+
 /// A node that stands where a parser is may be pushed whole: from there and from where the parser
 /// was the only runs meet, so that runs from both end alike.
 pub fn pushed_whole()
@@ -230,10 +246,11 @@ pub fn sound_trees_offer_honestly()
 
 /// What a parser's moves leave of a stack whose trees stand. A node without children is sound where
 /// it stands for its state. Trees that have states stand one after another. A reduction leaves such
-/// a stack, if its own node stands where it has a state. And the tree that is accepted is sound.
+/// a stack, if it is no choice where its node has a state, and its children have states then. And
+/// the tree that is accepted is sound.
 pub fn stacks_stay_sound()
     ensures childless { (g : FlatGrammar) (states : States) (text : Bytes) (t : Tree) (place : ℕ)
-        → children_of t ≡ []
+        → children_of t ≡ [] → elements_of t ≡ []
         → ((state : ℕ) → is_settled t ≡ true → state_of t ≡ Some state
         → StandsForState g states text place state t)
         → AllSound g states text (t ∷ []) place }
@@ -246,9 +263,12 @@ pub fn stacks_stay_sound()
         → production_at g number ≡ Some (left, p) → stack_symbols children ≡ step_symbols p
         → IsWholeSoFar g left number children → AreExtras lifted
         → AreValidTokens g (left ∷ stack_symbols below) valid
-        → ((s : ℕ) → state ≡ Some s → IsStateAfter g states s (stack_symbols below)
-        × Stands g (stack_symbols below) (drop (all_spans below) text)
-        (reduced g number extent state children) extent)
+        → tree_depth (reduced g number extent state children) ≤ most_depth
+        → ((s : ℕ) → state ≡ Some s
+        → IsStateAfter g states s (stack_symbols below)
+        × MakesNode g (stack_symbols below) (drop (all_spans below) text) number children lifted
+        extent
+        × EachHasState children)
         → StandOnStack g states text (lifted ++ (reverse children ++ below))
         → StandOnStack g states text (lifted ++ reduced g number extent state children ∷ below) }
     ensures accepted { (g : FlatGrammar) (states : States) (text : Bytes) (before after : List Tree)
@@ -260,6 +280,14 @@ pub fn stacks_stay_sound()
 {
     laws_hold();
 }
+
+/// A parser that goes on from other configurations, wherever and from whichever, comes to the fresh
+/// outcome, if each is at a later place and the only runs from it and from where the parser was
+/// meet. So it may take over nodes that stand, and elements that stand behind a repetition.
+pub fn leaps_change_nothing()
+    ensures { (g : FlatGrammar) (text : Bytes) (leaps : Leaping) → LeapsRightly g text leaps
+        → (o : FreshOutcome) → FreshLeaping g text leaps o ↔ Fresh g text o }
+{}
 
 /// A parser that takes nodes over, wherever and whichever, comes to the fresh outcome, if each node
 /// that it takes stands where it is.

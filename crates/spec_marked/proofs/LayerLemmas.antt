@@ -6,7 +6,7 @@ use Rattle.spec_trees.specs.declared.tree.Element.{Element}
 use Rattle.spec_trees.specs.declared.tree.Tree.TheOpen.{Tree-F}
 use Rattle.spec_trees.specs.declared.tree.Tree.TheViews.{roll-Tree, out-Tree, roll-out-Tree, out-roll-Tree}
 use Rattle.spec_trees.specs.declared.tree.Tree.TheFolds.{para-roll-Tree, fold_out-Tree}
-use Rattle.spec_trees.specs.Trees.{children_of, elements_of, pad_of, size_of, span_of, all_spans, node_extent, is_settled, total_of, node_count, nodes_step, all_nodes, tree_depth, depth_step, greatest_depth}
+use Rattle.spec_trees.specs.Trees.{symbol_of, state_of, children_of, elements_of, pad_of, size_of, span_of, all_spans, node_extent, is_settled, total_of, node_count, nodes_step, all_nodes, tree_depth, depth_step, greatest_depth}
 use Rattle.spec_reuse.specs.Places.{lead_of}
 use Rattle.spec_reuse.specs.Changes.{is_met, moved}
 use Rattle.spec_reuse.specs.Marked.{Marking, marked_step, marked_below, all_marked, marked_elements, marked}
@@ -35,6 +35,15 @@ below_is e t place =
 
 out_is : (e : Edit) (t : Tree) (place : ℕ) → out-Tree (marked_below e t place) ≡ layer e t place
 out_is e t place = ap out-Tree (below_is e t place) ∙ out-roll-Tree (layer e t place)
+
+pub symbol_is : (e : Edit) (t : Tree) (place : ℕ) → symbol_of (marked_below e t place) ≡ symbol_of t
+symbol_is e t place = ap (λ (x : Tree-F Tree). x.symbol.0) (out_is e t place)
+
+pub state_is : (e : Edit) (t : Tree) (place : ℕ) → state_of (marked_below e t place) ≡ state_of t
+state_is e t place = ap (λ (x : Tree-F Tree). x.state) (out_is e t place)
+
+pub settled_is : (e : Edit) (t : Tree) (place : ℕ) → is_settled (marked_below e t place) ≡ (is_settled t && not (is_met e.parts place (node_extent t)))
+settled_is e t place = ap (λ (x : Tree-F Tree). x.settled) (out_is e t place)
 
 pub children_are : (e : Edit) (t : Tree) (place : ℕ) → children_of (marked_below e t place) ≡ all_marked e (children_of t) place
 children_are e t place = ap (λ (x : Tree-F Tree). x.children) (out_is e t place)

@@ -1,22 +1,25 @@
 -- Trees that stay sound under edits.
-use Rattle.std.proofs.Common.{◌≡◌, ◌∙◌, sym, ap, subst, refl, ℕ, zero, suc, ◌+◌, ◌≤◌, arith, true, false, true≢false, [], ◌∷◌, length, drop, slice_get}
-use Rattle.std.proofs.lemmas.Option.{slice_get_past}
+use Rattle.std.proofs.Common.{◌≡◌, ◌∙◌, sym, subst, refl, ℕ, ◌≤◌, arith, true, true≢false, List, length}
 use Rattle.ts_base.specs.Bytes.{Bytes}
 use Rattle.ts_core.specs.declared.flat.FlatGrammar.{FlatGrammar}
 use Rattle.ts_text.specs.declared.edit.Edit.{Edit}
 use Rattle.ts_text.specs.Edit.{InRange, Fits, apply_of}
 use Rattle.ts_text.specs.Text.{IsText}
-use Rattle.spec_lexing.specs.Seen.{Agree}
 use Rattle.spec_trees.specs.declared.tree.Tree.{Tree}
-use Rattle.spec_trees.specs.Trees.{node_extent, is_settled, span_of}
-use Rattle.spec_reuse.specs.Places.{IsWhole}
-use Rattle.spec_reuse.specs.Changes.{is_met, moved, IsEditOver}
+use Rattle.spec_trees.specs.Trees.{children_of, is_settled, span_of, all_spans}
+use Rattle.spec_trees.specs.Inside as nodes
+use Rattle.spec_reuse.specs.Places.{IsWhole, lead_of}
+use Rattle.spec_reuse.specs.Changes.{moved, IsEditOver}
 use Rattle.spec_reuse.specs.Marked.{marked}
-use Rattle.spec_forced.specs.Sound.{States, StandsForState, IsSound}
+use Rattle.spec_forced.specs.Sound.{States, AllSound, IsSound}
+use Rattle.ts_marks.specs.Parts.{AreOrdered}
+use Rattle.ts_marks.proofs.MarkedLemmas.{whole_children}
+use Rattle.ts_marks.proofs.RemadeLemmas.{edit_ordered}
 use Rattle.spec_marked.specs.Edited.{EditsLeave, no_edit, one_edit_more}
 use Rattle.spec_marked.specs.Laws.{MarkedLaws}
 use Rattle.spec_marked.proofs.MovedLemmas.{moved_within}
-use Rattle.spec_marked.proofs.LayerLemmas.{root_span, root_unsettled}
+use Rattle.spec_marked.proofs.LayerLemmas.{root_children, root_span, root_unsettled}
+use Rattle.spec_marked.proofs.PlaceLemmas.{all_moved, lead_moved}
 use Rattle.spec_marked.proofs.WholeLemmas.{stays_whole}
 
 -- ---- one edit
@@ -30,37 +33,21 @@ pub record IsEditOf (text : Bytes) (e : Edit) : Type 0 where
 pub may_mark : (text : Bytes) (e : Edit) → IsEditOf text e → (t : Tree) → span_of t ≤ length text → IsEditOver (span_of t) e
 may_mark text e own t short = record { text = text; is_text = own.is_text; long = short; in_range = own.in_range; fits = own.fits }
 
-get_drop : (m : ℕ) (xs : Bytes) (k : ℕ) → slice_get (drop m xs) k ≡ slice_get xs (m + k)
-get_drop zero xs k = ap (λ (i : ℕ). slice_get xs i) (let e : k ≡ 0 + k = omega arith in e)
-get_drop (suc m) [] k = slice_get_past (drop (suc m) []) k (omega arith) ∙ sym (slice_get_past [] (suc m + k) (omega arith))
-get_drop (suc m) (x ∷ xs) k = get_drop m xs k ∙ ap (λ (i : ℕ). slice_get (x ∷ xs) i) (let e : suc (m + k) ≡ suc m + k = omega arith in e)
-
--- the bytes of a node's extent are the same at its new place
-same_bytes : MarkedLaws → (text : Bytes) (e : Edit) (place extent : ℕ) → InRange text e → is_met e.parts place extent ≡ false → Agree extent (drop place text) (drop (moved e place) (apply_of text e))
-same_bytes laws text e place extent range unmet k lt =
-    get_drop place text k
-    ∙ sym (laws.bytes_stay text e place extent k range unmet lt)
-    ∙ sym (get_drop (moved e place) (apply_of text e) k)
-
-pub stands_moved : MarkedLaws → (g : FlatGrammar) (states : States) (text : Bytes) (e : Edit) (place state : ℕ) (t : Tree) → InRange text e → is_met e.parts place (node_extent t) ≡ false → StandsForState g states text place state t → StandsForState g states (apply_of text e) (moved e place) state t
-stands_moved laws g states text e place state t range unmet f = record {
-  way = f.way;
-  at = f.at;
-  stands = laws.stands_again g f.way f.way (drop place text) (drop (moved e place) (apply_of text e)) t (node_extent t) (λ i. ((λ v. v), (λ v. v))) (same_bytes laws text e place (node_extent t) range unmet) f.stands;
-}
-
 still_within : (text : Bytes) (e : Edit) (t : Tree) → InRange text e → span_of t ≤ length text → span_of (marked e t) ≤ length (apply_of text e)
 still_within text e t range short = omega (arith, root_span e t, moved_within text e (span_of t) range short)
 
 pub stays_sound : MarkedLaws → (g : FlatGrammar) (states : States) (text : Bytes) (e : Edit) → IsEditOf text e → (t : Tree) → IsWhole t → IsSound g states text t → IsSound g states (apply_of text e) (marked e t)
-stays_sound laws g states text e own t w s = record {
-  short = still_within text e t own.in_range s.short;
-  begins = λ settled. absurd (true≢false (sym settled ∙ root_unsettled e t));
-  nodes = λ u at state there settled has.
-      let c = laws.was_clear e t u at w (may_mark text e own t s.short) there settled in
-      subst (λ (n : ℕ). StandsForState g states (apply_of text e) n state u) (sym c.moves)
-      (stands_moved laws g states text e c.place state u own.in_range c.clear (s.nodes u c.place state c.there settled has));
-}
+stays_sound laws g states text e own t w s =
+    let inside : all_spans (children_of t) ≤ span_of t = (w t nodes.itself).sized.within in
+    let ordered : AreOrdered 0 e.parts = edit_ordered (span_of t) e (may_mark text e own t s.short) in
+    record {
+      short = still_within text e t own.in_range s.short;
+      begins = λ settled. absurd (true≢false (sym settled ∙ root_unsettled e t));
+      own = λ settled. absurd (true≢false (sym settled ∙ root_unsettled e t));
+      inner = subst (λ (n : ℕ). AllSound g states (apply_of text e) (children_of (marked e t)) n) (sym (lead_moved e t inside))
+          (subst (λ (l : List Tree). AllSound g states (apply_of text e) l (moved e (lead_of t))) (sym (root_children e t))
+          (all_moved laws g states text e own.in_range ordered (children_of t) (lead_of t) (whole_children t w) s.inner));
+    }
 
 -- ---- edits one after another
 

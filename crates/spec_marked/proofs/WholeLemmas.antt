@@ -161,7 +161,7 @@ stays_whole laws e t w over u h = by (is_settled u) refl
     by true s =
         let p = place_of (marked e t) u h in
         let was = laws.was_clear e t u p.0 w over p.1 s in
-        w u (node_of t u was.place was.there)
+        w u (node_of t u was.place (inr was.there))
     by false s = ⊎_elim
         (λ r. subst (λ (x : Tree). IsNode x) (sym r) (root_node e t (edit_ordered (span_of t) e over) w (still_short e t over)))
         (λ f. subst (λ (x : Tree). IsNode x) (sym f.is)

@@ -14,10 +14,12 @@ use Rattle.spec_reuse.specs.Marked.{marked}
 use Rattle.spec_reuse.specs.Offered.{IsTopmost}
 use Rattle.spec_forced.specs.Forced.{HaveSameItems, Stands}
 use Rattle.spec_forced.specs.Sound.{States, IsSound, IsHonest}
+use Rattle.spec_forced.specs.Behind.{StandsBehind}
 use Rattle.ts_marks.specs.Kept.{WasClear}
 
 -- what is taken from other crates: that clear nodes were there, that their bytes stay, that nodes
--- stand again over the same bytes, that sound trees offer honestly, and that edits leave texts
+-- and elements stand again over the same bytes, that sound trees offer honestly, and that edits
+-- leave texts
 pub record MarkedLaws : Type 0 where
   pub was_clear : (edit : Edit) (t u : Tree) (at : ℕ) → IsWhole t → IsEditOver (span_of t) edit
       → IsInTree (marked edit t) u at → is_settled u ≡ true → WasClear edit t u at
@@ -32,5 +34,10 @@ pub record MarkedLaws : Type 0 where
       (place state : ℕ)
       → IsSound g states text tree → IsTopmost tree place state t
       → IsHonest g states text place state t
+  pub behind_again : (g : FlatGrammar) (symbol : ℕ) (read other : List ℕ) (rest text : Bytes)
+      (number : ℕ) (children : List Tree) (extent : ℕ)
+      → HaveSameItems g read other → Agree extent rest text
+      → StandsBehind g symbol read rest number children extent
+      → StandsBehind g symbol other text number children extent
   pub edited_text : (text : Bytes) (edit : Edit) → IsText text → HasTexts edit
       → InRange text edit → Fits text edit → IsText (apply_of text edit)

@@ -1,6 +1,6 @@
 //! Laws of marked trees, each a function without a body: what other crates may use of them.
 
-ghost use Rattle.std.specs.Prelude.{◌≡◌, ℕ, ◌≤◌, true, false, length};
+ghost use Rattle.std.specs.Prelude.{◌≡◌, ℕ, ◌≤◌, true, false, List, length};
 ghost use Rattle.ts_base.specs.Bytes.{Bytes};
 ghost use Rattle.ts_core.specs.declared.flat.FlatGrammar.{FlatGrammar};
 ghost use Rattle.ts_text.specs.declared.edit.Edit.{Edit};
@@ -12,11 +12,11 @@ ghost use Rattle.spec_reuse.specs.Places.{IsWhole};
 ghost use Rattle.spec_reuse.specs.Changes.{is_met, moved, IsEditOver};
 ghost use Rattle.spec_reuse.specs.Marked.{marked};
 ghost use Rattle.spec_reuse.specs.Offered.{IsTopmost};
-ghost use Rattle.spec_forced.specs.Sound.{States, StandsForState, IsSound, IsHonest};
+ghost use Rattle.spec_forced.specs.Sound.{States, StandsForState, StandsBehindForState, IsSound, IsHonest};
 ghost use Rattle.spec_marked.specs.Edited.{EditsLeave};
 ghost use Rattle.spec_marked.specs.Laws.{MarkedLaws};
 
-use spec_forced::{forced_nodes_stand, sound_trees_offer_honestly};
+use spec_forced::{elements_stand_behind, forced_nodes_stand, sound_trees_offer_honestly};
 use ts_marks::{clear_bytes_stay, settled_nodes_were_clear};
 use ts_text::edited_is_text;
 
@@ -27,6 +27,7 @@ fn laws_hold()
     settled_nodes_were_clear();
     clear_bytes_stay();
     forced_nodes_stand();
+    elements_stand_behind();
     sound_trees_offer_honestly();
     edited_is_text();
 }
@@ -59,6 +60,19 @@ pub fn marked_trees_are_sound()
         → IsSound g states text tree
         → IsSound g states (apply_of text edit) (marked edit tree) }
     ensures unsettled { (edit : Edit) (tree : Tree) → is_settled (marked edit tree) ≡ false }
+{
+    laws_hold();
+}
+
+/// An element that stands behind a repetition and was examined in bytes that no part of an edit
+/// meets stands behind one in the edited text, which ends where the edit moves its place.
+pub fn elements_stay_behind()
+    ensures { (g : FlatGrammar) (states : States) (text : Bytes) (edit : Edit)
+        (place state symbol number : ℕ) (children : List Tree) (extent : ℕ)
+        → InRange text edit → is_met edit.parts place extent ≡ false
+        → StandsBehindForState g states text place state symbol number children extent
+        → StandsBehindForState g states (apply_of text edit) (moved edit place) state symbol number
+        children extent }
 {
     laws_hold();
 }

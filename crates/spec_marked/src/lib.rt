@@ -4,4 +4,6 @@
 
 mod laws;
 
-pub use laws::{edited_trees_are_sound, marked_trees_are_sound, marked_trees_are_whole};
+pub use laws::{
+    edited_trees_are_sound, elements_stay_behind, marked_trees_are_sound, marked_trees_are_whole,
+};

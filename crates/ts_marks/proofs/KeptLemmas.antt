@@ -78,4 +78,4 @@ kept e t u at w over (inr h) s =
       moved_rises 0 e.parts (lead_of t) (span_of t) (omega (arith, whole)),
     ) in
     let r = kept_in e (children_of (marked e t)) (lead_of (marked e t)) u at h o (children_of t) (lead_of t) (whole_children t w) c l s in
-    record { place = r.was; there = inr r.there; clear = r.clear; moves = r.moves }
+    record { place = r.was; there = r.there; clear = r.clear; moves = r.moves }

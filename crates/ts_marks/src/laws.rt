@@ -10,8 +10,8 @@ ghost use Rattle.spec_reuse.specs.Changes.{is_met, moved, IsEditOver};
 ghost use Rattle.spec_reuse.specs.Marked.{marked};
 ghost use Rattle.ts_marks.specs.Kept.{WasClear};
 
-/// A settled node of a marked tree was in the tree, at a place that the edit moves to its new one,
-/// and no part of the edit meets what was examined for it.
+/// A settled node of a marked tree was below the tree's root, at a place that the edit moves to its
+/// new one, and no part of the edit meets what was examined for it.
 pub fn settled_nodes_were_clear()
     ensures { (edit : Edit) (t u : Tree) (at : ℕ) → IsWhole t → IsEditOver (span_of t) edit
         → IsInTree (marked edit t) u at → is_settled u ≡ true → WasClear edit t u at }

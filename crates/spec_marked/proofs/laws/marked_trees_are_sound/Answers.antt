@@ -1,5 +1,6 @@
 use Rattle.spec_marked.proofs.LayerLemmas.{root_unsettled}
-use Rattle.spec_marked.proofs.SoundLemmas.{may_mark, stands_moved, stays_sound}
+use Rattle.spec_marked.proofs.BytesLemmas.{stands_moved}
+use Rattle.spec_marked.proofs.SoundLemmas.{may_mark, stays_sound}
 use Rattle.spec_marked.proofs.laws.marked_trees_are_sound.Goals as goal
 
 pub returns-clause-may_be_marked : goal.returns-clause-may_be_marked
