@@ -1,3 +1,4 @@
 pub mod PlaceLemmas
 pub mod WayLemmas
 pub mod TopLemmas
+pub mod RunLemmas

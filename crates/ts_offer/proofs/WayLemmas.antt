@@ -1,5 +1,5 @@
 -- What is ahead on the way down a tree, turn by turn.
-use Rattle.std.proofs.Common.{◌≡◌, ℕ, suc, ◌+◌, ◌*◌, ◌<◌, ◌≤◌, ◌⊎◌, inl, inr, sym, ap, subst, ◌∙◌, refl, arith, List, [], ◌∷◌, ◌++◌, length, drop, slice_get, Some}
+use Rattle.std.proofs.Common.{◌≡◌, ℕ, zero, suc, ◌+◌, ◌*◌, ◌<◌, ◌≤◌, ◌⊎◌, inl, inr, sym, ap, subst, ◌∙◌, refl, arith, List, [], ◌∷◌, ◌++◌, length, drop, slice_get, Some, None}
 use Rattle.std.proofs.lemmas.List.{drop_all}
 use Rattle.std.proofs.lemmas.Option.{slice_get_within}
 use Rattle.spec_trees.specs.declared.tree.Tree.{Tree}
@@ -7,10 +7,10 @@ use Rattle.spec_trees.specs.declared.tree.Tree.TheFolds.{fold_out-Tree}
 use Rattle.spec_trees.specs.Trees.{children_of, elements_of, span_of, all_spans, tree_depth, node_count, nodes_step, all_nodes}
 use Rattle.spec_trees.specs.Made.{most_span}
 use Rattle.spec_trees.specs.Inside as nodes
-use Rattle.spec_reuse.specs.Places.{IsIn, inside, later, IsWhole, lead_of}
+use Rattle.spec_reuse.specs.Places.{IsIn, here, inside, later, IsWhole, lead_of}
 use Rattle.ts_offer.specs.declared.way.Turn.{Turn}
 use Rattle.ts_offer.specs.declared.way.Ahead.{Ahead}
-use Rattle.ts_offer.specs.Ways.{rest_of, IsAhead, IsTurn, AreTurns, IsOn, weight, IsNext, IsPast, IsInto, IsReached, IsPassed, IsEntered}
+use Rattle.ts_offer.specs.Ways.{rest_of, IsAhead, IsTurn, AreTurns, StandsIn, AllStandIn, IsOn, weight, IsNext, IsPast, IsInto, IsReached, IsPassed, IsEntered}
 use Rattle.ts_offer.proofs.PlaceLemmas.{drop_at, lie, none_in, split, single, wide, whole_children, whole_one, whole_drop, AllWhole, child_depth}
 
 -- ---- lists of turns
@@ -31,6 +31,29 @@ ahead_pop (s ∷ ts) t u at (inr h) = by (ahead_pop ts t u at h)
     by : IsAhead ts u at ⊎ IsIn (rest_of t) t.place u at → IsAhead (s ∷ ts) u at ⊎ IsIn (rest_of t) t.place u at
     by (inl k) = inl (inr k)
     by (inr k) = inr k
+
+-- where the turns stand
+stand_pop : (root : Tree) (ts : List Turn) (t : Turn) → AllStandIn root (ts ++ t ∷ []) → AllStandIn root ts × StandsIn root t
+stand_pop root [] t h = (tt, h.0)
+stand_pop root (s ∷ ts) t h =
+    let r = stand_pop root ts t h.1 in
+    ((h.0, r.0), r.1)
+
+stand_push : (root : Tree) (ts : List Turn) (t : Turn) → AllStandIn root ts → StandsIn root t → AllStandIn root (ts ++ t ∷ [])
+stand_push root [] t h k = (k, tt)
+stand_push root (s ∷ ts) t h k = (h.0, stand_push root ts t h.1 k)
+
+pub stand_at : (root : Tree) (ts : List Turn) (k : ℕ) (t : Turn) → AllStandIn root ts → slice_get ts k ≡ Some t → StandsIn root t
+stand_at root [] k t h e = let f : ⊥ = omega (arith, slice_get_within [] k t e) in elim f [ ]
+stand_at root (s ∷ ts) zero t h e =
+    let q : Some s ≡ Some t = e in
+    let d : s ≡ t = cc in
+    subst (λ (x : Turn). StandsIn root x) d h.0
+stand_at root (s ∷ ts) (suc k) t h e = stand_at root ts k t h.1 e
+
+-- the turn after a child stands where its node does
+stand_past : (root : Tree) (t s : Turn) (c : Tree) → IsPast t c s → StandsIn root t → StandsIn root s
+stand_past root t s c p h at e = subst (λ (x : Tree). IsIn (children_of root) (lead_of root) x at) (sym p.node) (h at (sym p.begins ∙ e))
 
 -- where the nodes in the last turn begin, and its depth
 abbrev last_place : ℕ → List Turn → ℕ
@@ -128,6 +151,7 @@ over root size ts t place w past =
     record {
       whole = w.whole;
       turns = p.0;
+      stand = (stand_pop root ts t w.stand).0;
       room = w.room;
       all = λ u at h le some. by u at (ahead_pop ts t u at (w.all u at h le some));
       only = λ u at h. w.only u at (ahead_push ts t u at (inl h));
@@ -145,6 +169,7 @@ passed root size ts t s c place w e past le =
     record {
       whole = w.whole;
       turns = turns_push (span_of root) (1 + tree_depth root) ts s p.0 (past_turn _ _ t s c e past p.1);
+      stand = (let r = stand_pop root ts t w.stand in stand_push root ts s r.0 (stand_past root t s c past r.1));
       room = w.room;
       all = λ u at h after some. by whole u at after some (ahead_pop ts t u at (w.all u at h after some));
       only = λ u at h. w.only u at (back u at (ahead_pop ts s u at h));
@@ -199,11 +224,22 @@ entered root size ts t s i c place w e past into lt =
     record {
       whole = w.whole;
       turns = turns_push (span_of root) (1 + tree_depth root) (ts ++ s ∷ []) i a k;
+      stand = (let r = stand_pop root ts t w.stand in stand_push root (ts ++ s ∷ []) i (stand_push root ts s r.0 (stand_past root t s c past r.1)) stand_in);
       room = w.room;
       all = λ u at h after some. by u at after (ahead_pop ts t u at (w.all u at h after some));
       only = λ u at h. w.only u at (back u at (ahead_pop (ts ++ s ∷ []) i u at h));
     }
   where
+    -- the child stands where the turn is
+    child_there : IsIn (children_of root) (lead_of root) c t.place
+    child_there = w.only c t.place (ahead_push ts t c t.place (inr (child_in t s c c t.place e past (here c [] t.place))))
+
+    stand_in : StandsIn root i
+    stand_in at is =
+        let q : Some t.place ≡ Some at = sym into.begins ∙ is in
+        let d : t.place ≡ at = cc in
+        subst (λ (x : Tree). IsIn (children_of root) (lead_of root) x at) (sym into.node) (subst (λ (n : ℕ). IsIn (children_of root) (lead_of root) c n) d child_there)
+
     low' : (u : Tree) (at : ℕ) → IsAhead ts u at ⊎ IsIn (rest_of s) s.place u at → IsAhead ((ts ++ s ∷ []) ++ i ∷ []) u at
     low' u at h = ahead_push (ts ++ s ∷ []) i u at (inl (ahead_push ts s u at h))
 
@@ -254,8 +290,8 @@ next_is root size ts t s a place w e past at' le lt =
 
 -- ---- the start, room and weight
 
-pub first_way : (root : Tree) (size : ℕ) (t : Turn) → IsWhole root → 1 + tree_depth root ≤ size → t.node.now ≡ root → t.next ≡ 0 → t.place ≡ lead_of root → IsOn root size (t ∷ []) 0
-first_way root size t w room node next place =
+pub first_way : (root : Tree) (size : ℕ) (t : Turn) → IsWhole root → 1 + tree_depth root ≤ size → t.node.now ≡ root → t.begins ≡ None → t.next ≡ 0 → t.place ≡ lead_of root → IsOn root size (t ∷ []) 0
+first_way root size t w room node begins next place =
     let r : rest_of t ≡ children_of root = ap (λ (k : ℕ). drop k (children_of t.node.now)) next ∙ ap (λ (x : Tree). children_of x) node in
     let q : lead_of root ≡ t.place = sym place in
     let s : all_spans (rest_of t) ≡ all_spans (children_of root) = ap all_spans r in
@@ -271,6 +307,7 @@ first_way root size t w room node next place =
         },
         tt,
       );
+      stand = ((λ at is. let q : None ≡ Some at = sym begins ∙ is in cc), tt);
       room = room;
       all = λ u at h le some. inl (subst (λ (xs : List Tree). IsIn xs t.place u at) (sym r) (subst (λ (p : ℕ). IsIn (children_of root) p u at) q h));
       only = λ u at h. back u at r q h;
@@ -292,6 +329,7 @@ pub later_way : (root : Tree) (size : ℕ) (ts : List Turn) (place more : ℕ) �
 later_way root size ts place more w le = record {
   whole = w.whole;
   turns = w.turns;
+  stand = w.stand;
   room = w.room;
   all = λ u at h after some. w.all u at h (omega (arith, le, after)) some;
   only = w.only;
@@ -322,6 +360,7 @@ roomier root size more ts us place w e le =
     record {
       whole = v.whole;
       turns = v.turns;
+      stand = v.stand;
       room = omega (arith, v.room, le);
       all = v.all;
       only = v.only;
@@ -354,8 +393,8 @@ into_room root size xs ts us t s i place w e h j =
 
 pub reached : (root : Tree) (size : ℕ) (xs ts : List Turn) (t : Turn) (a : Ahead) (place : ℕ) → IsOn root size xs place → xs ≡ ts ++ t ∷ [] → IsReached t place a → IsNext root place a
 reached root size xs ts t a place w e h =
-    let s : Turn = record { node = t.node; next = t.next + 1; place = t.place + span_of a.node.now } in
-    next_is root size ts t s a place (popped root size xs ts t place w e) h.child (record { node = refl; next = refl; place = refl }) h.begins h.from h.past
+    let s : Turn = record { node = t.node; begins = t.begins; next = t.next + 1; place = t.place + span_of a.node.now } in
+    next_is root size ts t s a place (popped root size xs ts t place w e) h.child (record { node = refl; begins = refl; next = refl; place = refl }) h.begins h.from h.past
 
 pub light_over : (xs ts : List Turn) (t : Turn) → xs ≡ ts ++ t ∷ [] → weight ts < weight xs
 light_over xs ts t e = let w : weight xs ≡ weight (ts ++ t ∷ []) = ap weight e in omega (arith, w, weight-snoc ts t)

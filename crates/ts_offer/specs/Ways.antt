@@ -31,10 +31,21 @@ abbrev pub AreTurns : ℕ → ℕ → List Turn → Type 0
 AreTurns end deep [] = Unit {0}
 AreTurns end deep (t ∷ ts) = IsTurn end deep t × AreTurns t.place (tree_depth t.node.now) ts
 
+-- where it is known where the node begins, it stands there, below the root
+abbrev pub StandsIn : Tree → Turn → Type 0
+StandsIn root t = (at : ℕ) → t.begins ≡ Some at
+    → IsIn (children_of root) (lead_of root) t.node.now at
+
+-- so does each of some turns
+abbrev pub AllStandIn : Tree → List Turn → Type 0
+AllStandIn root [] = Unit {0}
+AllStandIn root (t ∷ ts) = StandsIn root t × AllStandIn root ts
+
 -- All nodes with bytes in the root that begin at a place or later are ahead, and no others.
 pub record IsOn (root : Tree) (size : ℕ) (ts : List Turn) (place : ℕ) : Type 0 where
   pub whole : IsWhole root
   pub turns : AreTurns (span_of root) (1 + tree_depth root) ts
+  pub stand : AllStandIn root ts
   pub room : 1 + tree_depth root ≤ size
   pub all : (u : Tree) (at : ℕ) → IsIn (children_of root) (lead_of root) u at
       → place ≤ at → 0 < span_of u → IsAhead ts u at
@@ -59,12 +70,14 @@ pub record IsLeft (old : Way) (t : Turn) (new : Way) : Type 0 where
 -- the turn after a child
 pub record IsPast (t : Turn) (c : Tree) (s : Turn) : Type 0 where
   pub node : s.node.now ≡ t.node.now
+  pub begins : s.begins ≡ t.begins
   pub next : s.next ≡ t.next + 1
   pub place : s.place ≡ t.place + span_of c
 
 -- the turn at the first child of a child
 pub record IsInto (t : Turn) (c : Tree) (i : Turn) : Type 0 where
   pub node : i.node.now ≡ c
+  pub begins : i.begins ≡ Some t.place
   pub next : i.next ≡ 0
   pub place : i.place ≡ t.place
 

@@ -1,14 +1,19 @@
-//! Offers from an old tree: a marked tree goes in, and its topmost fit nodes come out.
-ghost use Rattle.std.specs.Prelude.{◌≡◌, ◌↔◌, ◌≤◌, IfOk, IsTrue, option_copied};
+//! Offers from an old tree: a marked tree goes in, and its topmost fit nodes and settled elements
+//! come out.
+ghost use Rattle.std.specs.Prelude.{◌≡◌, ◌↔◌, ◌≤◌, max, Some, IfOk, IfSome, IsTrue, option_copied};
+ghost use Rattle.spec_trees.specs.declared.tree.Tree.{Tree};
+ghost use Rattle.spec_trees.specs.Trees.{state_of, symbol_of};
 ghost use Rattle.spec_reuse.specs.Offered.{IsFit};
-ghost use Rattle.ts_offer.specs.Answers.{IsOfferAt, offering};
-ghost use Rattle.ts_offer.specs.Ways.{LeadsTo};
+ghost use Rattle.ts_offer.specs.Answers.{IsOfferAt, IsSettledRun, IsStretchAt, offering, stretch_of};
+ghost use Rattle.ts_offer.specs.Ways.{LeadsTo, StandsIn};
 
+use crate::elements::{Elements, elements_at};
 use crate::offers::Offers;
 use crate::topmost::{is_fit, topmost};
-use crate::way::{Ahead, Way};
+use crate::way::{Ahead, Turn, Way};
 use std::alloc::{AllocError, Global};
 use std::marker::Model;
+use ts_core::Symbol;
 use ts_node::Node;
 
 /// Offers from a tree that edits have marked, which contracts see as that `Offering`.
@@ -62,6 +67,50 @@ impl<'t> Old<'t> {
         let ahead = self.way.go_to(place);
         topmost_at(self.way.root, ahead, place, state)
     }
+
+    /// The settled elements from a place on of the node in which the way stands, where that is a
+    /// repetition of the symbol with the state below it.
+    fn elements(&mut self, place: u32, state: u16, symbol: Symbol) -> Option<Elements<'t>>
+        ensures found { IfSome result
+            (λ e. IsStretchAt self.old.tree place state symbol.0 (stretch_of e)) }
+        ensures run { IfSome result (λ e. IsSettledRun e.node.now e.from e.to) }
+        ensures new { self.new ≡ offering self.old.tree (max self.old.least place) }
+    {
+        self.least = self.least.max(place);
+        let _ = self.way.go_to(self.least);
+        match self.way.innermost() {
+            Some(turn) => elements_in(turn, place, state, symbol),
+            None => None,
+        }
+    }
+}
+
+/// The settled elements of a turn's node from a place on, where that is a repetition of the symbol
+/// with the state below it.
+#[tactic(auto, using(crate::proofs::RunLemmas::stretch_found, crate::proofs::RunLemmas::run_found))]
+fn elements_in<'t>(turn: Turn<'t>, place: u32, state: u16, symbol: Symbol) -> Option<Elements<'t>>
+    ensures found { (root : Tree) → StandsIn root turn.entry
+        → IfSome result (λ e. IsStretchAt root place state symbol.0 (stretch_of e)) }
+    ensures run { IfSome result (λ e. IsSettledRun e.node.now e.from e.to) }
+{
+    match turn.begins {
+        Some(at) => {
+            if is_repetition_for(turn.node, state, symbol) {
+                elements_at(turn.node, at, place)
+            } else {
+                None
+            }
+        }
+        None => None,
+    }
+}
+
+/// Whether a node has this symbol, and this state below it.
+fn is_repetition_for(node: &Node, state: u16, symbol: Symbol) -> bool
+    ensures { IsTrue result
+        ↔ (symbol_of node.now ≡ symbol.0) × (state_of node.now ≡ Some state) }
+{
+    node.symbol() == symbol && node.state() == Some(state)
 }
 
 /// Whether the root itself is a fit node at a place.
@@ -100,6 +149,7 @@ fn topmost_at<'t>(
 impl<'t> Offers<'t> for Old<'t> {
     ghost use Rattle.std.specs.Prelude.{Some};
     ghost use Rattle.spec_reuse.specs.Offered.{IsTopmost};
+    ghost use Rattle.ts_offer.specs.Answers.{IsStretchAt};
 
     ghost least = { λ old. old.least };
 
@@ -107,8 +157,16 @@ impl<'t> Offers<'t> for Old<'t> {
 
     ghost gives = { λ old place state node. IsTopmost old.tree place state node };
 
+    ghost lends = { λ old place state symbol elements.
+        IsStretchAt old.tree place state symbol elements };
+
     #[tactic(auto, using(crate::proofs::TopLemmas::given, crate::proofs::TopLemmas::told))]
     fn at(&mut self, place: u32, state: u16) -> Option<&'t Node> {
         self.answer(place, state)
+    }
+
+    #[tactic(auto, using(crate::proofs::RunLemmas::told_elements, crate::proofs::RunLemmas::cut_of))]
+    fn elements_at(&mut self, place: u32, state: u16, symbol: Symbol) -> Option<Elements<'t>> {
+        self.elements(place, state, symbol)
     }
 }

@@ -1,9 +1,9 @@
 //! The way down a tree: a place goes in, and the next node that reaches past it comes out, where
-//! places do not fall.
-ghost use Rattle.std.specs.Prelude.{◌≡◌, ◌+◌, ◌<◌, ◌≤◌, length, vec_capacity, IfOk};
+//! places do not fall; or the node in which the way stands.
+ghost use Rattle.std.specs.Prelude.{◌≡◌, ◌+◌, ◌<◌, ◌≤◌, ℕ, length, vec_capacity, IfOk, IfSome};
 ghost use Rattle.spec_trees.specs.Trees.{all_spans};
 ghost use Rattle.spec_trees.specs.Made.{most_span};
-ghost use Rattle.ts_offer.specs.Ways.{IsWay, LeadsTo, IsLeft, TurnsTo, rest_of};
+ghost use Rattle.ts_offer.specs.Ways.{IsWay, LeadsTo, IsLeft, StandsIn, TurnsTo, rest_of};
 
 use crate::topmost::{lead, span};
 use std::alloc::{AllocError, Global};
@@ -13,6 +13,8 @@ use ts_node::Node;
 #[derive(Clone, Copy)]
 pub(crate) struct Turn<'t> {
     pub node: &'t Node,
+    /// Where the node begins, if it is not the root.
+    pub begins: Option<u32>,
     pub next: u32,
     /// Where the child of that number begins.
     pub place: u32,
@@ -56,6 +58,7 @@ impl<'t> Way<'t> {
         let mut turns = Vec::with_capacity(alloc, root.depth() as usize + 1)?;
         let first = Turn {
             node: root,
+            begins: None,
             next: 0,
             place: lead(root),
         };
@@ -71,6 +74,17 @@ impl<'t> Way<'t> {
         match self.turns.push(turn) {
             Ok(()) => {}
             Err(_) => unreachable!(),
+        }
+    }
+
+    /// The turn in the node that begins last among those in which the way stands.
+    pub(crate) fn innermost(&self) -> Option<Turn<'t>>
+        requires { (place : ℕ) × IsWay self.now place }
+        ensures { IfSome result (StandsIn self.now.root.now) }
+    {
+        match self.turns.as_slice().last() {
+            Some(turn) => Some(*turn),
+            None => None,
         }
     }
 
@@ -118,6 +132,7 @@ fn toward<'t>(turn: Turn<'t>, place: u32) -> Step<'t>
     }
     let after = Turn {
         node: turn.node,
+        begins: turn.begins,
         next: turn.next + 1,
         place: end,
     };
@@ -126,6 +141,7 @@ fn toward<'t>(turn: Turn<'t>, place: u32) -> Step<'t>
     }
     let inner = Turn {
         node: child,
+        begins: Some(turn.place),
         next: 0,
         place: turn.place,
     };
