@@ -1,3 +1,4 @@
 pub mod ReuseLemmas
 pub mod LatestLemmas
 pub mod RefusedLemmas
+pub mod LentLemmas

@@ -53,7 +53,11 @@ stateless t u none same has =
 
 kept_root : (t : ParseTable) (text : Bytes) (root : Tree) → EachTree (IsOwnWithin t.grammar) (children_of root) → state_of root ≡ None
     → ((states : States) → AreStatesOf t states → IsSound t.grammar states text root) → IsReusable t text root
-kept_root t text root each none sound = record { sound = sound; own = own }
+kept_root t text root each none sound = record {
+  sound = sound;
+  own = own;
+  inner = λ u at there settled. own_in t.grammar (children_of root) (lead_of root) u at there each;
+}
   where
     own : (u : Tree) (at : ℕ) → IsInTree root u at → is_settled u ≡ true → HasState u → IsOwnWithin t.grammar u
     own u at (inl same) settled has = absurd (stateless root u none same.0 has)
@@ -85,5 +89,8 @@ kept_marked sound clear t text edit tree is_text range fits whole over kept = re
   sound = λ states are. sound t.grammar states text edit tree is_text range fits whole (kept.sound states are);
   own = λ u at there settled has.
       let w = clear edit tree u at whole over there settled in
-      kept.own u w.place w.there settled has;
+      kept.own u w.place (inr w.there) settled has;
+  inner = λ u at there settled.
+      let w = clear edit tree u at whole over (inr there) settled in
+      kept.inner u w.place w.there settled;
 }

@@ -2,10 +2,10 @@
 use Rattle.std.specs.Prelude.{◌≡◌, ℕ, true, Option, Some, None}
 use Rattle.ts_base.specs.Bytes.{Bytes}
 use Rattle.spec_trees.specs.declared.tree.Tree.{Tree}
-use Rattle.spec_trees.specs.Trees.{is_settled}
+use Rattle.spec_trees.specs.Trees.{children_of, is_settled}
 use Rattle.spec_trees.specs.Choice.{IsInForm}
 use Rattle.spec_runs.specs.Outcomes.{Fresh, deep_outcome, tree_outcome, stuck_outcome}
-use Rattle.spec_reuse.specs.Places.{IsInTree}
+use Rattle.spec_reuse.specs.Places.{IsIn, IsInTree, lead_of}
 use Rattle.spec_forced.specs.Sound.{States, HasState, IsSound}
 use Rattle.ts_table.specs.declared.view.ParseTable.{ParseTable}
 use Rattle.ts_steps.specs.Heads.{AreStatesOf, IsOwnWithin}
@@ -16,11 +16,14 @@ use Rattle.ts_docs.specs.declared.parsing.Parsed.{Parsed}
 
 -- The nodes of the tree may be taken over into that of a text: whatever lists of symbols lead to
 -- the states of the table, it is sound for the text, so that each settled node in it that has a
--- state stands at its place; and a parser of the grammar made these nodes.
+-- state stands at its place; and a parser of the grammar made these nodes, and all settled ones
+-- below the root.
 pub record IsReusable (t : ParseTable) (text : Bytes) (tree : Tree) : Type 0 where
   pub sound : (states : States) → AreStatesOf t states → IsSound t.grammar states text tree
   pub own : (u : Tree) (at : ℕ) → IsInTree tree u at → is_settled u ≡ true → HasState u
       → IsOwnWithin t.grammar u
+  pub inner : (u : Tree) (at : ℕ) → IsIn (children_of tree) (lead_of tree) u at
+      → is_settled u ≡ true → IsOwnWithin t.grammar u
 
 -- where there is a tree, its nodes may be taken over
 abbrev pub IsReusableIfAny : ParseTable → Bytes → Option Tree → Type 0

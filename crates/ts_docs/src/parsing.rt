@@ -5,11 +5,13 @@ ghost use Rattle.ts_text.specs.Text.{most_bytes};
 ghost use Rattle.ts_docs.specs.Reuse.{IsReusableIfAny, IsReparsed, IsParsed};
 
 use crate::reuse::Reuse;
-use spec_forced::sound_trees_offer_honestly;
+use spec_forced::{
+    reductions_append_elements, sound_trees_offer_honestly, sound_trees_offer_stretches,
+};
 use std::alloc::{AllocError, Global};
 use ts_glr::{Outcome, parse_with};
 use ts_lexer::Tokens;
-use ts_node::Node;
+use ts_node::{Node, sections_stand};
 use ts_offer::{Nothing, Old};
 use ts_steps::states_are_named;
 use ts_table::Table;
@@ -21,7 +23,7 @@ pub(crate) struct Parsed {
     pub kept: Reuse,
 }
 
-/// What a text comes to. The nodes of the tree that is kept are taken over.
+/// What a text comes to. Nodes and elements of the tree that is kept are taken over.
 fn reparsed<X: Tokens>(
     alloc: Global,
     table: &Table,
@@ -36,10 +38,14 @@ fn reparsed<X: Tokens>(
     ensures reparsed { IfOk result (IsReparsed table.now (X.Text.bytes text.now)) }
 {
     sound_trees_offer_honestly();
+    sound_trees_offer_stretches();
+    reductions_append_elements();
+    sections_stand();
     states_are_named();
     table.stands();
     match marked {
         Some(tree) => {
+            let _ = tree.nodes();
             let mut offers = Old::new(alloc, tree)?;
             let result = parse_with(alloc, table, lexer, text, &mut offers)?;
             Ok(result)

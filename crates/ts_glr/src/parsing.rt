@@ -1,13 +1,14 @@
-//! Parsing a text from its start, with nodes of an old tree that are offered, or without: the
-//! table, the lexer, the text and the offers go in; what the text comes to, over all ways to read
-//! it, comes out.
+//! Parsing a text from its start, with what is offered of an old tree, or without: the table, the
+//! lexer, the text and the offers go in; what the text comes to, over all ways to read it, comes
+//! out.
 ghost use Rattle.std.specs.Prelude.{◌≡◌, ℕ, ◌≤◌, ◌⊎◌, Some, length, IfOk};
 ghost use Rattle.spec_trees.specs.declared.tree.Tree.{Tree};
+ghost use Rattle.spec_trees.specs.declared.tree.Stretch.{Stretch};
 ghost use Rattle.spec_trees.specs.Made.{most_span};
 ghost use Rattle.spec_runs.specs.Outcomes.{Fresh};
 ghost use Rattle.spec_forced.specs.Sound.{States};
 ghost use Rattle.ts_steps.specs.Heads.{AreStatesOf};
-ghost use Rattle.ts_steps.specs.Reparsing.{AreHonest, IsOffered};
+ghost use Rattle.ts_steps.specs.Reparsing.{AreHonest, AreHonestlyLent, IsLent, IsOffered};
 ghost use Rattle.ts_glr.specs.Outcomes.{value_of_outcome, IsTreeOf, IsOwnOutcome, IsSoundOutcome};
 ghost use Rattle.ts_glr.specs.Search.{IsPastStuck};
 
@@ -34,9 +35,10 @@ fn furthest(stuck: Option<u32>, place: u32) -> u32
     }
 }
 
-/// What a text comes to, over all ways to read it. Nodes that are offered are taken over where one
-/// stack is live. If what is offered is honest, this is the fresh outcome, and its tree is sound.
-/// Where several moves stay on a token all ways are followed, until one stack is left.
+/// What a text comes to, over all ways to read it. Nodes and elements that are offered are taken
+/// over where one stack is live. If what is offered is honest, this is the fresh outcome, and its
+/// tree is sound. Where several moves stay on a token all ways are followed, until one stack is
+/// left.
 ///
 /// # Errors
 ///
@@ -53,11 +55,14 @@ pub fn parse_with<'t, L: Tokens, O: Offers<'t>>(
     requires asked { O.least offers.old ≡ 0 }
     requires own { (place state : ℕ) (t : Tree) → O.gives offers.old place state t
         → IsOffered table.now.grammar t }
+    requires lent { (place state symbol : ℕ) (s : Stretch)
+        → O.lends offers.old place state symbol s → IsLent table.now.grammar s }
     ensures made { L.made_for lexer.new table.now }
     ensures form { IfOk result (IsTreeOf table.now.grammar) }
     ensures own { IfOk result (IsOwnOutcome table.now) }
     ensures fresh { IfOk result (λ out. (states : States) → AreStatesOf table.now states
         → AreHonest table.now.grammar states (L.Text.bytes text.now) (O.gives offers.old)
+        → AreHonestlyLent table.now.grammar states (L.Text.bytes text.now) (O.lends offers.old)
         → Fresh table.now.grammar (L.Text.bytes text.now) (value_of_outcome out)
         × IsSoundOutcome table.now states (L.Text.bytes text.now) out) }
 {

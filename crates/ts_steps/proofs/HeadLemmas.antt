@@ -51,14 +51,15 @@ module _ (t : ParseTable) (size : ℕ) (old new : List (List Layer)) (h : StackH
     own = subst (λ (s : List Layer). EachTree (IsOwnWithin t.grammar) (trees_on s)) (sym (pushed_stack old new h.top top u state p)) (own, b.own);
   }
 
-  -- its trees stand, if the tree on top does
+  -- its trees stand, if the tree on top does, for the state below it
   pub stand_push : (states : States) (text : Bytes) → IsOwnHead t size old h → StandOnHead t states text old h
-      → (HasState u → Stands t.grammar (read_on old h) (drop h.place text) u (node_extent u)) → AllSound t.grammar states text (u ∷ []) h.place
+      → (HasState u → Stands t.grammar (read_on old h) (drop h.place text) u (node_extent u)) → ((n : ℕ) → state_of u ≡ Some n → IsStateAfter t.grammar states n (read_on old h)) → AllSound t.grammar states text (u ∷ []) h.place
       → StandOnStack t.grammar states text (trees_on (stack_at new top))
-  stand_push states text b s own sound =
+  stand_push states text b s own below sound =
       let at : h.place ≡ all_spans (trees_on (stack_at old h.top)) = sym b.live.stack.spans in
       subst (λ (l : List Layer). StandOnStack t.grammar states text (trees_on l)) (sym (pushed_stack old new h.top top u state p)) (
         subst (λ (n : ℕ). HasState u → Stands t.grammar (read_on old h) (drop n text) u (node_extent u)) at own,
+        λ filled. below,
         subst (λ (n : ℕ). AllSound t.grammar states text (u ∷ []) n) at sound,
         s,
       )
@@ -127,10 +128,11 @@ shift_stands laws t states text old new h a below state top u p is below_is tabl
     subst (λ (k : ℕ). Stands g (read_on old h) (drop h.place text) u k) (sym says.extent_is)
     (subst (λ (x : Tree). Stands g (read_on old h) (drop h.place text) x f.extent) (sym is)
     (laws.leaf g (read_on old h) (drop h.place text) f.token f.pad f.size f.extent f.extent r m.decided (m.only o.0))) in
-    stand_push t (length text) old new h top u state p states text b s (λ w. stands w.0 w.1)
-    (laws.childless g states text u h.place says.children (λ n settled e.
+    let after : (n : ℕ) → state_of u ≡ Some n → IsStateAfter g states n (read_on old h) = λ n e.
     let o = only_of a.only below n (sym says.state_is ∙ e) in
-    laws.told g states text h.place n u (read_on old h) (subst (λ (k : ℕ). IsStateAfter g states k (read_on old h)) o.1 (state_after t states (read_on old h) below table are st)) (stands n e)))
+    subst (λ (k : ℕ). IsStateAfter g states k (read_on old h)) o.1 (state_after t states (read_on old h) below table are st) in
+    stand_push t (length text) old new h top u state p states text b s (λ w. stands w.0 w.1) after
+    (laws.childless g states text u h.place says.children says.elements (λ n settled e. laws.told g states text h.place n u (read_on old h) (after n e) (stands n e)))
 
 pub pass_stands : (laws : SoundLaws) (t : ParseTable) (states : States) (text : Bytes) (old new : List (List Layer)) (h : StackHead) (f : FoundToken) (below state top : ℕ) (u : Tree) → Pushes old new h.top top u state
     → u ≡ as_extra (leaf_of f.token.0 f.pad f.size f.extent (Some below)) → below ≡ state_on (stack_at old h.top) → IsTable t → AreStatesOf t states → IsOwnHead t (length text) old h
@@ -143,10 +145,12 @@ pass_stands laws t states text old new h f below state top u p is below_is table
     subst (λ (k : ℕ). Stands g (read_on old h) (drop h.place text) u k) (sym says.extent_is)
     (subst (λ (x : Tree). Stands g (read_on old h) (drop h.place text) x f.extent) (sym is)
     (laws.extra g (read_on old h) (drop h.place text) f.token f.pad f.size f.extent f.extent (Some below) m.decided m.extra m.idle)) in
-    stand_push t (length text) old new h top u state p states text b s (λ w. stands)
-    (laws.childless g states text u h.place says.children (λ n settled e.
-    laws.told g states text h.place n u (read_on old h)
-    (subst (λ (k : ℕ). IsStateAfter g states k (read_on old h)) (let q : Some below ≡ Some n = sym says.state_is ∙ e in cc) (state_after t states (read_on old h) below table are st)) stands))
+    let after : (n : ℕ) → state_of u ≡ Some n → IsStateAfter g states n (read_on old h) = λ n e.
+    let q : Some below ≡ Some n = sym says.state_is ∙ e in
+    let same : below ≡ n = cc in
+    subst (λ (k : ℕ). IsStateAfter g states k (read_on old h)) same (state_after t states (read_on old h) below table are st) in
+    stand_push t (length text) old new h top u state p states text b s (λ w. stands) after
+    (laws.childless g states text u h.place says.children says.elements (λ n settled e. laws.told g states text h.place n u (read_on old h) (after n e) stands))
 
 -- ---- a node that is taken over
 
@@ -190,7 +194,12 @@ taken laws t size old new h u state top place p b own settled can is =
 pub taken_stands : (laws : SoundLaws) (t : ParseTable) (size : ℕ) (states : States) (text : Bytes) (old new : List (List Layer)) (h : StackHead) (u : Tree) (state top : ℕ) → Pushes old new h.top top u state → IsOwnHead t size old h
     → IsTable t → AreStatesOf t states → IsHonest t.grammar states text h.place (state_on (stack_at old h.top)) u → StandOnHead t states text old h → StandOnStack t.grammar states text (trees_on (stack_at new top))
 taken_stands laws t size states text old new h u state top p b table are honest s =
-    let st = state_top t (stack_at old h.top) b.live.stack.states in
-    stand_push t size old new h top u state p states text b s
-    (λ w. laws.after t.grammar states text h.place (state_on (stack_at old h.top)) u (read_on old h) (state_after t states (read_on old h) (state_on (stack_at old h.top)) table are st) honest.stands)
+    let low : ℕ = state_on (stack_at old h.top) in
+    let st : IsStateOf t (read_on old h) low = state_top t (stack_at old h.top) b.live.stack.states in
+    let after : IsStateAfter t.grammar states low (read_on old h) = state_after t states (read_on old h) low table are st in
+    stand_push t size old new h top u state p states text b s (λ w. laws.after t.grammar states text h.place low u (read_on old h) after honest.stands)
+    (λ n e.
+    let q : Some low ≡ Some n = sym honest.below ∙ e in
+    let same : low ≡ n = cc in
+    subst (λ (k : ℕ). IsStateAfter t.grammar states k (read_on old h)) same after)
     honest.inner

@@ -14,5 +14,6 @@ pub mod RootLemmas
 pub mod LookLemmas
 pub mod WeightLemmas
 pub mod MoveLemmas
+pub mod LengthenLemmas
 pub mod ReparseLemmas
 pub mod GoLemmas

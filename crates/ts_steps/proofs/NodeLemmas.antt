@@ -19,7 +19,7 @@ use Rattle.spec_trees.specs.declared.tree.Tree.TheOpen.{Tree-F}
 use Rattle.spec_trees.specs.declared.tree.Tree.TheViews.{out-roll-Tree}
 use Rattle.spec_trees.specs.declared.tree.Tree.TheFolds.{fold-Tree, fold-roll-Tree, fold_out-Tree}
 use Rattle.spec_trees.specs.Trees.{symbol_of, production_of, elements_of, children_of, is_settled, is_extra_node, total_of, all_totals, pad_of, size_of, span_of, node_extent, all_spans, first_pad, node_count, nodes_step, all_nodes, tree_depth, depth_step, greatest_depth}
-use Rattle.spec_trees.specs.Made.{IsSettledWell, node_over, element, made_by, reduced, Form, of_rule, of_first, of_next, form_of, repetition_form, left_of, value_of, filling, step_symbols, BeginsFilled, Lengthens, FitsProduction, EndBy, AreCounted, children_count, most_span, most_depth, node_limit}
+use Rattle.spec_trees.specs.Made.{IsNode, IsSettledWell, node_over, element, made_by, reduced, Form, of_rule, of_first, of_next, form_of, repetition_form, left_of, value_of, filling, step_symbols, BeginsFilled, Lengthens, FitsProduction, EndBy, AreCounted, children_count, most_span, most_depth, node_limit}
 use Rattle.spec_trees.specs.Choice.{IsInForm, form_step, has_form}
 use Rattle.spec_runs.specs.Moves.{IsUnused}
 use Rattle.ts_node.specs.Falls.{all_nodes-append}
@@ -68,7 +68,7 @@ over_layer symbol production dynamic extent state es ks = record {
   children = ks;
 }
 
-first_pad_within : (ks : List Tree) → first_pad ks ≤ all_spans ks
+pub first_pad_within : (ks : List Tree) → first_pad ks ≤ all_spans ks
 first_pad_within [] = omega arith
 first_pad_within (k ∷ ks) = omega arith
 
@@ -140,12 +140,12 @@ forms_append g (x ∷ xs) ys a b =
 pub own_forms : (g : FlatGrammar) (t : Tree) → IsInForm g t → (has_form (is_repetition g (symbol_of t)) (elements_of t) ≡ true) × (forms g (children_of t) ≡ true)
 own_forms g t h = both_true (has_form (is_repetition g (symbol_of t)) (elements_of t)) (forms g (children_of t)) (sym (fold_out-Tree Bool (form_step g) t) ∙ h)
 
-some_form : (kind : Bool) (es : List Element) → kind ≡ true → has_form kind es ≡ true → 0 < length es
+pub some_form : (kind : Bool) (es : List Element) → kind ≡ true → has_form kind es ≡ true → 0 < length es
 some_form true [] k h = absurd (true≢false (sym h))
 some_form false [] k h = absurd (true≢false (sym k))
 some_form kind (e ∷ es) k h = omega arith
 
-form_of_some : (kind : Bool) (es : List Element) → kind ≡ true → 0 < length es → has_form kind es ≡ true
+pub form_of_some : (kind : Bool) (es : List Element) → kind ≡ true → 0 < length es → has_form kind es ≡ true
 form_of_some kind [] k h = absurd (omega (arith, h))
 form_of_some true (e ∷ es) k h = refl
 form_of_some false (e ∷ es) k h = absurd (true≢false (sym k))
@@ -184,7 +184,7 @@ small_inside t l whole =
     let w : greatest_depth (children_of t) * all_spans (children_of t) ≡ greatest_depth (children_of t) * span_of t = ap (λ (n : ℕ). greatest_depth (children_of t) * n) whole in
     omega (arith, l.nodes, p, q, w)
 
-few_enough : (d s n e : ℕ) → 1 + d ≤ most_depth → s ≤ most_span → n ≤ 2 * (d * s) → e ≤ s → 1 + (e + n) < node_limit
+pub few_enough : (d s n e : ℕ) → 1 + d ≤ most_depth → s ≤ most_span → n ≤ 2 * (d * s) → e ≤ s → 1 + (e + n) < node_limit
 few_enough d s n e shallow short small parts =
     let x : d * s ≤ 999 * s = mul-le-mul_right s (omega (arith, shallow)) in
     omega (arith, x, short, small, parts)
@@ -197,7 +197,7 @@ filling_extra k ks e = rw e refl
 pub filling_fills : (k : Tree) (ks : List Tree) → is_extra_node k ≡ false → filling (k ∷ ks) ≡ symbol_of k ∷ filling ks
 filling_fills k ks e = rw e refl
 
-each_some : (g : FlatGrammar) (number left : ℕ) (p : Production) (ks : List Tree) (done : List ℕ) → production_at g number ≡ Some (left, p) → done ++ filling ks ≡ step_symbols p → AreGoodTrees g ks → EachTree (λ t. (0 < span_of t) × IsLight t) ks
+pub each_some : (g : FlatGrammar) (number left : ℕ) (p : Production) (ks : List Tree) (done : List ℕ) → production_at g number ≡ Some (left, p) → done ++ filling ks ≡ step_symbols p → AreGoodTrees g ks → EachTree (λ t. (0 < span_of t) × IsLight t) ks
 each_some g number left p [] done at names a = tt
 each_some g number left p (k ∷ ks) done at names a = by (is_extra_node k) refl (each_some g number left p ks)
   where
@@ -233,7 +233,7 @@ pub record Shape (g : FlatGrammar) (left extent : ℕ) (state : Option ℕ) (spa
   pub covers : EndBy extent 0 children
   pub has : HasElements dynamic extent elements children
 
-all_start : (g : FlatGrammar) (left : ℕ) (production : Option ℕ) → is_repetition g (start_symbol g) ≡ false → is_repetition g left ≡ true → left ≡ start_symbol g → IsTrue (is_some production)
+pub all_start : (g : FlatGrammar) (left : ℕ) (production : Option ℕ) → is_repetition g (start_symbol g) ≡ false → is_repetition g left ≡ true → left ≡ start_symbol g → IsTrue (is_some production)
 all_start g left production plain rep is = absurd (true≢false (sym rep ∙ ap (is_repetition g) is ∙ plain))
 
 module _ (laws : Laws) (g : FlatGrammar) (number left : ℕ) (p : Production) (extent : ℕ) where
@@ -420,16 +420,15 @@ pub record Says (left extent spans : ℕ) (t : Tree) : Type 0 where
   pub extent_is : node_extent t ≡ extent
 
 module _ (g : FlatGrammar) (left extent spans : ℕ) (state : Option ℕ) where
-  over_good : (production : Option ℕ) (dynamic : ℤ) (es : List Element) (ks : List Tree)
+  -- a node over such children is good
+  pub good_over : (production : Option ℕ) (dynamic : ℤ) (es : List Element) (ks : List Tree) → IsNode (node_over left production dynamic extent state es ks)
       → all_spans ks ≡ spans → all_nodes ks ≤ 2 * (greatest_depth ks * all_spans ks) → length es ≤ spans → has_form (is_repetition g left) es ≡ true → forms g ks ≡ true → (left ≡ start_symbol g → IsTrue (is_some production))
-      → AreCounted es ks → unsigned_abs dynamic ≤ 2 ^ 31 * (1 + (length es + all_nodes ks)) → All (λ child. is_settled child ≡ true) ks → EndBy extent 0 ks → HasElements dynamic extent es ks
-      → spans ≤ most_span → spans < extent → tree_depth (node_over left production dynamic extent state es ks) ≤ most_depth → (0 < spans) ⊎ IsUnused g left
+      → (0 < spans) ⊎ IsUnused g left
       → IsGoodTree g (node_over left production dynamic extent state es ks) × Says left extent spans (node_over left production dynamic extent state es ks)
-  over_good production dynamic es ks same small parts form inner rule counted modest settled covers has short past shallow some =
+  good_over production dynamic es ks node same small parts form inner rule some =
       let layer = over_layer left production dynamic extent state es ks in
       let t = node_over left production dynamic extent state es ks in
       let o = out-roll-Tree layer in
-      let n : node_count t ≡ 1 + (length es + all_nodes ks) = fold-roll-Tree ℕ nodes_step layer in
       let d : tree_depth t ≡ 1 + greatest_depth ks = fold-roll-Tree ℕ depth_step layer in
       let pd : pad_of t ≡ first_pad ks = ap (λ (x : Tree-F Tree). x.pad) o in
       let z : size_of t ≡ all_spans ks - first_pad ks = ap (λ (x : Tree-F Tree). x.size) o in
@@ -440,21 +439,9 @@ module _ (g : FlatGrammar) (left extent spans : ℕ) (state : Option ℕ) where
       let pr : production_of t ≡ production = ap (λ (x : Tree-F Tree). x.production) o in
       let st : is_settled t ≡ true = ap (λ (x : Tree-F Tree). x.settled) o in
       let ex : is_extra_node t ≡ false = ap (λ (x : Tree-F Tree). x.extra) o in
-      let s : span_of t ≡ spans = omega (arith, pd, z, first_pad_within ks, same) in
-      let low : 1 + greatest_depth ks ≤ most_depth = omega (arith, d, shallow) in
-      let count : 1 + (length es + all_nodes ks) < node_limit = few_enough (greatest_depth ks) (all_spans ks) (all_nodes ks) (length es) low (omega (arith, same, short)) small (omega (arith, same, parts)) in (
+      let s : span_of t ≡ spans = omega (arith, pd, z, first_pad_within ks, same) in (
         record {
-          node = fit_is_node left production dynamic extent state es ks (record {
-            few = count;
-            short = omega (arith, same, short);
-            shallow = low;
-            counted = counted;
-            modest = modest;
-            past = omega (arith, same, past);
-            inner = settled;
-            covers = covers;
-            elements = has;
-          });
+          node = node;
           settled = st;
           form = fold-roll-Tree Bool (form_step g) layer ∙ both (has_form (is_repetition g left) es) (forms g ks) form inner;
           light = record {
@@ -476,6 +463,29 @@ module _ (g : FlatGrammar) (left extent spans : ℕ) (state : Option ℕ) where
           let a : tree_depth t * span_of t ≡ suc (greatest_depth ks) * all_spans ks = ap (λ (x : ℕ). x * span_of t) d ∙ ap (λ (x : ℕ). suc (greatest_depth ks) * x) s in
           let b : suc (greatest_depth ks) * all_spans ks ≡ greatest_depth ks * all_spans ks + all_spans ks = suc-mul (greatest_depth ks) (all_spans ks) in
           omega (arith, n, s, small, a, b)
+
+  over_good : (production : Option ℕ) (dynamic : ℤ) (es : List Element) (ks : List Tree)
+      → all_spans ks ≡ spans → all_nodes ks ≤ 2 * (greatest_depth ks * all_spans ks) → length es ≤ spans → has_form (is_repetition g left) es ≡ true → forms g ks ≡ true → (left ≡ start_symbol g → IsTrue (is_some production))
+      → AreCounted es ks → unsigned_abs dynamic ≤ 2 ^ 31 * (1 + (length es + all_nodes ks)) → All (λ child. is_settled child ≡ true) ks → EndBy extent 0 ks → HasElements dynamic extent es ks
+      → spans ≤ most_span → spans < extent → tree_depth (node_over left production dynamic extent state es ks) ≤ most_depth → (0 < spans) ⊎ IsUnused g left
+      → IsGoodTree g (node_over left production dynamic extent state es ks) × Says left extent spans (node_over left production dynamic extent state es ks)
+  over_good production dynamic es ks same small parts form inner rule counted modest settled covers has short past shallow some =
+      let layer = over_layer left production dynamic extent state es ks in
+      let d : tree_depth (node_over left production dynamic extent state es ks) ≡ 1 + greatest_depth ks = fold-roll-Tree ℕ depth_step layer in
+      let low : 1 + greatest_depth ks ≤ most_depth = omega (arith, d, shallow) in
+      let count : 1 + (length es + all_nodes ks) < node_limit = few_enough (greatest_depth ks) (all_spans ks) (all_nodes ks) (length es) low (omega (arith, same, short)) small (omega (arith, same, parts)) in
+      let node : IsNode (node_over left production dynamic extent state es ks) = fit_is_node left production dynamic extent state es ks (record {
+        few = count;
+        short = omega (arith, same, short);
+        shallow = low;
+        counted = counted;
+        modest = modest;
+        past = omega (arith, same, past);
+        inner = settled;
+        covers = covers;
+        elements = has;
+      }) in
+      good_over production dynamic es ks node same small parts form inner rule some
 
   pub shape_good : (t : Tree) → Shape g left extent state spans t → spans ≤ most_span → spans < extent → tree_depth t ≤ most_depth → (0 < spans) ⊎ IsUnused g left → IsGoodTree g t × Says left extent spans t
   shape_good t s short past shallow some =

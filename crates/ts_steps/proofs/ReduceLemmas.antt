@@ -15,7 +15,7 @@ use Rattle.spec_trees.specs.declared.tree.Tree.TheViews.{out-roll-Tree}
 use Rattle.spec_trees.specs.Trees.{elements_of, children_of, state_of, span_of, all_spans, total_of, all_totals, tree_depth, bare}
 use Rattle.spec_trees.specs.Made.{Form, of_rule, of_first, of_next, form_of, value_of, made_by, node_over, element, reduced, filling, BeginsFilled, Lengthens, EndBy, most_span, most_depth}
 use Rattle.spec_runs.specs.Configurations.{IsReduction, AreValidTokens, stack_symbols}
-use Rattle.spec_forced.specs.Forced.{IsDecided, IsOnlyMove, Stands, StandInTurn, MakesNode}
+use Rattle.spec_forced.specs.Forced.{IsDecided, IsOnlyMove, StandInTurn, MakesNode}
 use Rattle.spec_forced.specs.Sound.{States, IsStateAfter, EachHasState, IsWholeSoFar, StandOnStack}
 use Rattle.spec_trees.specs.Reducible.{HasSmallValue}
 use Rattle.ts_table.specs.declared.view.ParseTable.{ParseTable}
@@ -115,7 +115,7 @@ one_left a b p q e = let both : ◌≡◌ {A = ℕ × Production} (a, p) (b, q) 
 
 -- ---- the nodes in the node
 
-over_children : (symbol : ℕ) (production : Option ℕ) (dynamic : ℤ) (extent : ℕ) (s : Option ℕ) (es : List Element) (ks : List Tree) → children_of (node_over symbol production dynamic extent s es ks) ≡ ks
+pub over_children : (symbol : ℕ) (production : Option ℕ) (dynamic : ℤ) (extent : ℕ) (s : Option ℕ) (es : List Element) (ks : List Tree) → children_of (node_over symbol production dynamic extent s es ks) ≡ ks
 over_children symbol production dynamic extent s es ks = ap (λ (x : Tree-F Tree). x.children) (out-roll-Tree (over_layer symbol production dynamic extent s es ks))
 
 made_own : (g : FlatGrammar) (f : Form) (symbol number : ℕ) (value : ℤ) (extent : ℕ) (s : Option ℕ) (ks : List Tree) → EachTree (IsOwnWithin g) ks → EachTree (IsOwnWithin g) (children_of (made_by f symbol number value extent s ks))
@@ -141,7 +141,7 @@ module _ (laws : Laws) (g : FlatGrammar) (number left : ℕ) (p : Production) (e
       subst (λ (x : Tree). EachTree (IsOwnWithin g) (children_of x)) (sym (reduced_is laws g number left p extent s ks c.at)) (made_own g (form_of g left number) left number (value_of g number) extent s ks each) in
       own_over g u (record { good = good.0; filled = λ h. whole }) (λ k v at. each_at (IsOwnWithin g) (children_of u) k v kids at)
 
-  -- where a repetition is lengthened, the one so far takes just the bytes of its children
+  -- where a repetition is lengthened, the one so far takes just the bytes of its children, and its elements have them
   pub whole_so_far : IsWholeSoFar g left number ks
   whole_so_far a t others form is =
       let f = fits laws g number left p extent ks c in
@@ -149,7 +149,7 @@ module _ (laws : Laws) (g : FlatGrammar) (number left : ℕ) (p : Production) (e
       let longer : Lengthens (form_of g left number) ks = subst (λ (n : ℕ). Lengthens (form_of g n number) ks) same f.lengthens in
       let longer' : Lengthens (of_next a) (t ∷ others) = subst (λ (l : List Tree). Lengthens (of_next a) l) is (subst (λ (x : Form). Lengthens x ks) form longer) in
       let good : AreGoodTrees g (t ∷ others) = subst (λ (l : List Tree). AreGoodTrees g l) is c.good in
-      sym (good.0.whole longer')
+      (sym (good.0.whole longer'), good.0.node.counted)
 
 -- ---- the stack after it
 
@@ -311,11 +311,11 @@ module _ (laws : Laws) (t : ParseTable) (size number on : ℕ) (old : List (List
             reach = let r = covers.reach in let e = spans_turned extras in omega arith;
           }
 
-          own : (n : ℕ) → s ≡ Some n → IsStateAfter g states n low × Stands g low rest (reduced g number extent s children) extent
+          own : (n : ℕ) → s ≡ Some n → IsStateAfter g states n low × MakesNode g low rest number children (reverse extras) extent × EachHasState children
           own n e =
               let w = s_has n e in
               let st : IsStateOf t low n = subst (λ (k : ℕ). IsStateOf t low k) (sym w.0) (state_top t below gat.base.states) in
-              (state_after t states low n table are st, sound.node g can.fit low rest number children (reverse extras) extent extent s (makes w.1) shallow)
+              (state_after t states low n table are st, makes w.1, w.1.inner)
 
           valid : (v : List Symbol) × AreValidTokens g (l.left.0 ∷ low) v
           valid =
@@ -329,4 +329,4 @@ module _ (laws : Laws) (t : ParseTable) (size number on : ℕ) (old : List (List
           done_stands =
               subst (λ (l : List Tree). StandOnStack g states text l) (ap (λ (x : Tree). reverse extras ++ x ∷ trees_on below) (sym u_is) ∙ sym trees)
               (sound.put g can.fit states text number l.left.0 line.production children (reverse extras) (trees_on below) extent s valid.0 line.at can.filled (whole_so_far laws g number l.left.0 line.production extent children can)
-              (extras_turned extras gat.all_extras) valid.1 own stand_all)
+              (extras_turned extras gat.all_extras) valid.1 shallow own stand_all)

@@ -6,6 +6,7 @@ use Rattle.ts_core.specs.declared.symbol.Symbol.{Symbol}
 use Rattle.spec_grammar.specs.Symbols.{symbol_count}
 use Rattle.spec_tables.specs.Fit.{Fit}
 use Rattle.spec_trees.specs.declared.tree.Tree.{Tree}
+use Rattle.spec_trees.specs.declared.tree.Stretch.{Stretch}
 use Rattle.spec_trees.specs.Trees.{node_extent, span_of, bare}
 use Rattle.spec_trees.specs.Made.{filling}
 use Rattle.spec_runs.specs.Configurations.{Configuration, stack_symbols, pushed, AreValidTokens}
@@ -13,7 +14,7 @@ use Rattle.spec_runs.specs.Runs.{StepsOn, shift_token, pass_extra, reduce_trees}
 use Rattle.spec_runs.specs.Outcomes.{FreshOutcome, deep_outcome, tree_outcome, stuck_outcome}
 use Rattle.spec_forced.specs.Forced.{Stands}
 use Rattle.spec_forced.specs.OnlyRuns.{IsOnlyStep, OnlyRun, Meet, IsFork, EndAlike, FreshFrom}
-use Rattle.spec_forced.specs.Sound.{States, IsHonest}
+use Rattle.spec_forced.specs.Sound.{States, IsHonest, IsHonestStretch}
 use Rattle.ts_table.specs.declared.view.ParseTable.{ParseTable}
 use Rattle.ts_table.specs.Tables.{IsTable, IsStateOf}
 use Rattle.ts_table.specs.Ranks.{unit_rank, AreUnitRanks}
@@ -22,6 +23,7 @@ use Rattle.ts_gss.specs.declared.layer.Layer.{Layer}
 use Rattle.ts_gss.specs.Stacks.{stack_at, trees_on, state_on}
 use Rattle.ts_steps.specs.declared.head.StackHead.{StackHead}
 use Rattle.ts_steps.specs.declared.found.FoundToken.{FoundToken}
+use Rattle.ts_steps.specs.declared.lengthening.ListEnd.{ListEnd}
 use Rattle.ts_steps.specs.MoveLaws.{Laws}
 use Rattle.ts_steps.specs.LiveHeads.{config_of}
 use Rattle.ts_steps.proofs.StackLemmas.{filling_bare, state_top, span_bare}
@@ -33,9 +35,10 @@ use Rattle.ts_steps.specs.Laws.{SoundLaws}
 use Rattle.ts_steps.specs.Looking.{SeesAhead}
 use Rattle.ts_steps.specs.Heads.{AreStatesOf, IsOwnHead, StandOnHead, IsTaken}
 use Rattle.ts_steps.specs.Reparsing.{StandsFor, OnFork, IsResult, IsTakenFrom, EndsFrom, GoesTo}
+use Rattle.ts_steps.specs.Lengthening.{IsLengthened}
 use Rattle.ts_steps.specs.Weights.{config_weight}
 use Rattle.ts_steps.proofs.TableLemmas.{state_after, valid_tokens}
-use Rattle.ts_steps.proofs.WeightLemmas.{light_step, light_node}
+use Rattle.ts_steps.proofs.WeightLemmas.{light_on, light_step, light_node}
 
 -- ---- the moves
 
@@ -75,6 +78,16 @@ module _ (laws : Laws) (sound : SoundLaws) (push : Pushes) (joins : Joins) (t : 
         stand = w.stand states text refl are honest s.stand;
       }
 
+-- where elements are put behind a repetition
+module _ (joins : Joins) (t : ParseTable) (states : States) (text : Bytes) (c : Configuration) (old new : List (List Layer)) (h k : StackHead) (e : ListEnd) (s : Stretch) where
+  pub stands_lengthened : AreStatesOf t states → StandsFor t states text c old h → IsLengthened t (length text) old new h e s k → IsHonestStretch t.grammar states text e.place e.state e.symbol.0 s → StandsFor t states text c new k
+  stands_lengthened are f w honest =
+      let both = w.stand states text refl are honest f.stand in
+      record {
+        meet = joins t.grammar text c (config_of old h) (config_of new k) f.meet both.1;
+        stand = both.0;
+      }
+
 -- ---- the end
 
 module _ (fresh : (g : FlatGrammar) (text : Bytes) (c d : Configuration) → EndAlike g text c d → (o : FreshOutcome) → FreshFrom g text c o → FreshFrom g text d o) (ends : (g : FlatGrammar) (text : Bytes) (c d : Configuration) → Meet g text c d → EndAlike g text c d)
@@ -106,6 +119,12 @@ module _ (laws : Laws) (t : ParseTable) (fit : Fit t.grammar) (ranks : AreUnitRa
   pub step_falls : IsOnlyStep t.grammar text (config_of old h) (config_of new k) → config_weight t.grammar (length text) (config_of new k) < config_weight t.grammar (length text) (config_of old h)
   step_falls s = light_step laws t.grammar fit ranks text (config_of old h) (config_of new k) own.live.stack.within s.step
 
+  pub lengthened_falls : (e : ListEnd) (s : Stretch) → IsLengthened t (length text) old new h e s k → config_weight t.grammar (length text) (config_of new k) < config_weight t.grammar (length text) (config_of old h)
+  lengthened_falls e s w =
+      let same : stack_symbols (config_of new k).stack ≡ stack_symbols (config_of old h).stack =
+      filling_bare laws (trees_on (stack_at new k.top)) ∙ w.symbols ∙ sym (filling_bare laws (trees_on (stack_at old h.top))) in
+      light_on laws t.grammar fit ranks (length text) (config_of old h) (config_of new k) same w.later w.own.live.stack.within
+
   pub taken_falls : (node : Tree) → IsTakenFrom t (length text) old new h node k → config_weight t.grammar (length text) (config_of new k) < config_weight t.grammar (length text) (config_of old h)
   taken_falls node w =
       let same = span_bare laws node in
@@ -131,6 +150,13 @@ taken_some t size long is old new h Gives o k some w =
     subst (λ (n : ℕ). (x : Tree) × Gives x × IsTakenFrom t n old new h x k) is
     (subst (λ (p : Option StackHead). IfSome p (λ q. (x : Tree) × Gives x × IsTakenFrom t size old new h x q)) some w)
 
+pub lengthened_some : (t : ParseTable) (size long : ℕ) → size ≡ long → (old new : List (List Layer)) (h : StackHead) (Lends : ListEnd → Stretch → Type 0) (o : Option StackHead) (k : StackHead) → o ≡ Some k
+    → IfSome o (λ q. (e : ListEnd) × (s : Stretch) × Lends e s × IsLengthened t size old new h e s q)
+    → (e : ListEnd) × (s : Stretch) × Lends e s × IsLengthened t long old new h e s k
+lengthened_some t size long is old new h Lends o k some w =
+    subst (λ (n : ℕ). (e : ListEnd) × (s : Stretch) × Lends e s × IsLengthened t n old new h e s k) is
+    (subst (λ (p : Option StackHead). IfSome p (λ q. (e : ListEnd) × (s : Stretch) × Lends e s × IsLengthened t size old new h e s q)) some w)
+
 pub taken_place : (t : ParseTable) (size : ℕ) (old new : List (List Layer)) (h : StackHead) (node : Tree) (k : StackHead) → IsTakenFrom t size old new h node k → h.place ≤ k.place
 taken_place t size old new h node k w =
     let placed : k.place ≡ h.place + span_of (bare node) = ap (λ (x : Configuration). x.place) w.taken.config in
@@ -153,6 +179,9 @@ goes_on t text old mid new h k going kept is goes =
 pub goes_reduced_on : (t : ParseTable) (text : Bytes) (old mid new : List (List Layer)) (h k : StackHead) (f : FoundToken) (going : Going) → mid ≡ old → going ≡ Reduced k f → GoesTo t text mid new h going → GoesTo t text old new h (Reduced k f)
 goes_reduced_on t text old mid new h k f going kept is goes =
     subst (λ (s : List (List Layer)). GoesTo t text s new h (Reduced k f)) kept (subst (λ (x : Going). GoesTo t text mid new h x) is goes)
+
+pub goes_kept : (t : ParseTable) (text : Bytes) (old mid new : List (List Layer)) (h k : StackHead) (f : FoundToken) → new ≡ mid → GoesTo t text old mid h (Reduced k f) → GoesTo t text old new h (Reduced k f)
+goes_kept t text old mid new h k f kept goes = subst (λ (s : List (List Layer)). GoesTo t text old s h (Reduced k f)) (sym kept) goes
 
 pub ends_at : (t : ParseTable) (text : Bytes) (old mid new : List (List Layer)) (h : StackHead) (r : Reparsed) (going : Going) → mid ≡ old → going ≡ Ended r → GoesTo t text mid new h going → EndsFrom t text old new h r
 ends_at t text old mid new h r going kept is goes =

@@ -164,6 +164,7 @@ pub record SaysLeaf (token pad size extent : ℕ) (state : Option ℕ) (extra : 
   pub extent_is : node_extent u ≡ extent
   pub state_is : state_of u ≡ state
   pub extra_is : is_extra_node u ≡ extra
+  pub elements : elements_of u ≡ []
   pub children : children_of u ≡ []
 
 module _ (token pad size extent : ℕ) (state : Option ℕ) where
@@ -179,6 +180,7 @@ module _ (token pad size extent : ℕ) (state : Option ℕ) where
         extent_is = ap (λ (x : Tree-F Tree). x.extent) out;
         state_is = ap (λ (x : Tree-F Tree). x.state) out;
         extra_is = ap (λ (x : Tree-F Tree). x.extra) out;
+        elements = ap (λ (x : Tree-F Tree). x.elements) out;
         children = ap (λ (x : Tree-F Tree). x.children) out;
       }
 

@@ -18,7 +18,7 @@ use Rattle.spec_trees.specs.declared.tree.Tree.TheOpen.{Tree-F}
 use Rattle.spec_trees.specs.declared.tree.Tree.TheViews.{out-Tree, out-roll-Tree}
 use Rattle.spec_trees.specs.Trees.{symbol_of, is_extra_node, span_of, all_spans, first_pad, total_of, all_totals, elements_of, children_of, bare}
 use Rattle.spec_trees.specs.Made.{leaf_of, as_extra, node_over, element, made_by, Form, of_rule, of_first, of_next, form_of, left_of, value_of, reduced, filling, step_symbols}
-use Rattle.spec_runs.specs.Configurations.{Configuration, token_tree, pushed, NextIs, IsReduction}
+use Rattle.spec_runs.specs.Configurations.{Configuration, token_tree, pushed, NextIs, IsReduction, stack_symbols}
 use Rattle.spec_runs.specs.Runs.{StepsOn, shift_token, pass_extra, reduce_trees}
 use Rattle.ts_table.specs.Ranks.{unit_rank, AreUnitRanks}
 use Rattle.ts_steps.specs.MoveLaws.{Laws}
@@ -256,6 +256,12 @@ module _ (laws : Laws) (g : FlatGrammar) (fit : Fit g) (ranks : AreUnitRanks g (
       subst (λ (l : List ℕ). weight_of (unit_rank g) (symbol_count g) (length text - c.place) l < config_weight g (length text) c) (sym rd.after_is)
       (light_reduce (length text - c.place) number rd.left rd.production rd.production.steps (filling c.stack) rd.earlier rd.at refl rd.read_is
       (λ none. laws.nothing g fit (filling c.stack) move.symbol.0 number rd.left rd.production move.stays rd.at none))
+
+  -- more bytes are read under the same symbols
+  pub light_on : (size : ℕ) (c e : Configuration) → stack_symbols e.stack ≡ stack_symbols c.stack → c.place < e.place → e.place ≤ size → config_weight g size e < config_weight g size c
+  light_on size c e same later within =
+      subst (λ (r : List ℕ). weight_of (unit_rank g) (symbol_count g) (size - e.place) r < config_weight g size c) (sym same)
+      (lighter_by_pass (unit_rank g) (symbol_count g) ranks.below (size - c.place) (size - e.place) (length (stack_symbols c.stack)) (last_of (stack_symbols c.stack)) (omega (arith, later, within)))
 
   -- a node with bytes that is put on the stack
   pub light_node : (size : ℕ) (c : Configuration) (u : Tree) → 0 < span_of u → c.place + span_of u ≤ size → config_weight g size (pushed c u) < config_weight g size c

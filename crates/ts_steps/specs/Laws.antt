@@ -1,6 +1,6 @@
 -- The laws of nodes that stand, and of runs without a choice, on which the proofs here rest. They
 -- serve private clauses and proofs alone.
-use Rattle.std.specs.Prelude.{◌≡◌, ℕ, ◌≤◌, ◌⊎◌, true, List, [], ◌∷◌, ◌++◌, length, reverse, drop, Option, Some}
+use Rattle.std.specs.Prelude.{◌≡◌, ℕ, ◌+◌, ◌<◌, ◌≤◌, ◌⊎◌, true, List, [], ◌∷◌, ◌++◌, length, reverse, map, drop, Option, Some}
 use Rattle.ts_base.specs.Bytes.{Bytes}
 use Rattle.ts_core.specs.declared.flat.FlatGrammar.{FlatGrammar}
 use Rattle.ts_core.specs.declared.flat.Production.{Production}
@@ -11,12 +11,15 @@ use Rattle.spec_lexing.specs.Seen.{Agree}
 use Rattle.spec_tables.specs.Actions.{shift, reduce}
 use Rattle.spec_tables.specs.Fit.{Fit}
 use Rattle.spec_trees.specs.declared.tree.Tree.{Tree}
-use Rattle.spec_trees.specs.Trees.{is_settled, state_of, node_extent, children_of, span_of, all_spans, tree_depth}
-use Rattle.spec_trees.specs.Made.{leaf_of, as_extra, reduced, accepted, step_symbols, most_depth}
+use Rattle.spec_trees.specs.declared.tree.Stretch.{Stretch}
+use Rattle.spec_trees.specs.Trees.{is_settled, state_of, node_extent, elements_of, children_of, span_of, all_spans, tree_depth, bare}
+use Rattle.spec_trees.specs.Made.{IsNode, leaf_of, as_extra, reduced, accepted, lengthened, children_count, reach_of, step_symbols, most_depth}
 use Rattle.spec_runs.specs.Configurations.{Configuration, stack_symbols, pushed, token_tree, HasMove, NextIs, IsReduction, AreValidTokens, AreExtras}
 use Rattle.spec_forced.specs.Forced.{IsOnlyMove, IsDecided, Stands, StandInTurn, MakesNode}
-use Rattle.spec_forced.specs.OnlyRuns.{IsOnlyStep}
-use Rattle.spec_forced.specs.Sound.{States, IsStateAfter, StandsForState, AllSound, IsSound, EachHasState, IsWholeSoFar, StandOnStack}
+use Rattle.spec_forced.specs.Behind.{IsOfSymbol}
+use Rattle.spec_forced.specs.OnlyRuns.{IsOnlyStep, Meet}
+use Rattle.spec_forced.specs.Sound.{States, IsStateAfter, StandsForState, AllSound, IsSound, IsHonestStretch, EachHasState, IsWholeSoFar, StandOnStack}
+use Rattle.ts_node.specs.Standing.{CanBeLengthened}
 use Rattle.ts_table.specs.declared.view.ParseTable.{ParseTable}
 use Rattle.ts_lexer.specs.States.{AreValid}
 
@@ -37,13 +40,8 @@ pub record SoundLaws : Type 0 where
       → IsDecided g read rest (token s pad size) e → is_extra g s.0 ≡ true
       → (HasMove g read s.0 → ⊥)
       → Stands g read rest (as_extra (leaf_of s.0 pad size extent state)) e
-  pub node : (g : FlatGrammar) → Fit g → (read : List ℕ) (rest : Bytes) (number : ℕ)
-      (children lifted : List Tree) (extent e : ℕ) (state : Option ℕ)
-      → MakesNode g read rest number children lifted extent
-      → tree_depth (reduced g number e state children) ≤ most_depth
-      → Stands g read rest (reduced g number e state children) extent
   pub childless : (g : FlatGrammar) (states : States) (text : Bytes) (t : Tree) (place : ℕ)
-      → children_of t ≡ []
+      → children_of t ≡ [] → elements_of t ≡ []
       → ((state : ℕ) → is_settled t ≡ true → state_of t ≡ Some state
       → StandsForState g states text place state t)
       → AllSound g states text (t ∷ []) place
@@ -56,9 +54,11 @@ pub record SoundLaws : Type 0 where
       → production_at g number ≡ Some (left, p) → stack_symbols children ≡ step_symbols p
       → IsWholeSoFar g left number children → AreExtras lifted
       → AreValidTokens g (left ∷ stack_symbols below) valid
+      → tree_depth (reduced g number extent state children) ≤ most_depth
       → ((s : ℕ) → state ≡ Some s → IsStateAfter g states s (stack_symbols below)
-      × Stands g (stack_symbols below) (drop (all_spans below) text)
-      (reduced g number extent state children) extent)
+      × MakesNode g (stack_symbols below) (drop (all_spans below) text) number children lifted
+      extent
+      × EachHasState children)
       → StandOnStack g states text (lifted ++ (reverse children ++ below))
       → StandOnStack g states text (lifted ++ reduced g number extent state children ∷ below)
   pub root : (g : FlatGrammar) (states : States) (text : Bytes) (before after : List Tree)
@@ -76,6 +76,37 @@ pub record SoundLaws : Type 0 where
       → IsStateAfter g states state read → StandsForState g states text place state t
       → Stands g read (drop place text) t (node_extent t)
   pub tokens : (t : ParseTable) (state : ℕ) → (valid : List Symbol) × AreValid t state valid
+
+-- For proofs alone: laws of a repetition that is lengthened at once.
+pub record LengthLaws : Type 0 where
+  pub node : (before : Tree) (more : Stretch) (extent : ℕ) (state : Option ℕ)
+      → CanBeLengthened before more extent → IsNode (lengthened before more extent state)
+  pub over_extras : (g : FlatGrammar) → Fit g → (states : States) (text : Bytes)
+      (state symbol extent : ℕ) (s : Stretch) (xs below : List Tree) (t : Tree) (o : Option ℕ)
+      → 0 < length s.elements → IsOfSymbol symbol t
+      → IsStateAfter g states state (stack_symbols below)
+      → IsHonestStretch g states text (all_spans (t ∷ below)) state symbol s
+      → tree_depth (lengthened t s extent o) ≤ most_depth → AreExtras xs → EachHasState xs
+      → StandOnStack g states text (reverse xs ++ t ∷ below)
+      → Meet g text (record {
+        stack = map bare (reverse xs ++ t ∷ below);
+        place = all_spans (reverse xs ++ t ∷ below);
+      })
+      (record {
+        stack = map bare (lengthened t s extent o ∷ below);
+        place = all_spans (t ∷ below) + all_spans s.children;
+      })
+  pub on_stack : (g : FlatGrammar) → Fit g → (states : States) (text : Bytes)
+      (state symbol extent : ℕ) (s : Stretch) (below : List Tree) (t : Tree)
+      → 0 < length s.elements → IsOfSymbol symbol t
+      → span_of t ≡ all_spans (children_of t)
+      → children_count (elements_of t) ≡ length (children_of t)
+      → IsStateAfter g states state (stack_symbols below)
+      → IsHonestStretch g states text (all_spans (t ∷ below)) state symbol s
+      → node_extent t ≤ extent → span_of t + reach_of s.elements s.children ≤ extent
+      → tree_depth (lengthened t s extent (state_of t)) ≤ most_depth
+      → StandOnStack g states text (t ∷ below)
+      → StandOnStack g states text (lengthened t s extent (state_of t) ∷ below)
 
 -- For proofs alone: laws of steps that are the only ones.
 pub record OnlyLaws : Type 0 where

@@ -10,5 +10,6 @@ pub mod Looking
 pub mod Reducing
 pub mod Accepting
 pub mod Reparsing
+pub mod Lengthening
 pub mod Choosing
 pub mod Weights

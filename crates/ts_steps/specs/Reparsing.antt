@@ -1,14 +1,15 @@
 -- What a parse over one stack comes to.
-use Rattle.std.specs.Prelude.{◌≡◌, ℕ, ◌<◌, ◌≤◌, true, List, length, None}
+use Rattle.std.specs.Prelude.{◌≡◌, ℕ, ◌<◌, ◌≤◌, true, List, length, None, All}
 use Rattle.ts_base.specs.Bytes.{Bytes}
 use Rattle.ts_core.specs.declared.flat.FlatGrammar.{FlatGrammar}
 use Rattle.spec_trees.specs.declared.tree.Tree.{Tree}
-use Rattle.spec_trees.specs.Trees.{children_of, is_settled, state_of, span_of}
+use Rattle.spec_trees.specs.declared.tree.Stretch.{Stretch}
+use Rattle.spec_trees.specs.Trees.{children_of, is_settled, state_of, span_of, all_spans}
 use Rattle.spec_trees.specs.Choice.{IsInForm}
 use Rattle.spec_runs.specs.Configurations.{Configuration, HasMove}
 use Rattle.spec_runs.specs.Outcomes.{deep_outcome, tree_outcome, stuck_outcome}
 use Rattle.spec_forced.specs.OnlyRuns.{IsOnlyStep, OnlyRun, Meet, IsFork, FreshFrom}
-use Rattle.spec_forced.specs.Sound.{States, IsSound, IsHonest}
+use Rattle.spec_forced.specs.Sound.{States, IsSound, IsHonest, IsHonestStretch}
 use Rattle.ts_table.specs.declared.view.ParseTable.{ParseTable}
 use Rattle.ts_gss.specs.declared.layer.Layer.{Layer}
 use Rattle.ts_gss.specs.Stacks.{stack_at, state_on}
@@ -29,10 +30,22 @@ pub record IsOffered (g : FlatGrammar) (t : Tree) : Type 0 where
   pub own : IsOwnWithin g t
   pub some : 0 < span_of t
 
+-- elements that may be lent: settled ones with bytes, over nodes that may be offered
+pub record IsLent (g : FlatGrammar) (s : Stretch) : Type 0 where
+  pub settled : All (λ e. e.settled ≡ true) s.elements
+  pub offered : EachTree (IsOffered g) s.children
+  pub parts : length s.elements ≤ all_spans s.children
+
 -- all that may be offered is honest
 abbrev pub AreHonest : FlatGrammar → States → Bytes → (ℕ → ℕ → Tree → Type 0) → Type 0
 AreHonest g states text Gives =
     (place state : ℕ) (t : Tree) → Gives place state t → IsHonest g states text place state t
+
+-- all that may be lent is honest
+abbrev pub AreHonestlyLent : FlatGrammar → States → Bytes → (ℕ → ℕ → ℕ → Stretch → Type 0) → Type 0
+AreHonestlyLent g states text Lends =
+    (place state symbol : ℕ) (s : Stretch) → Lends place state symbol s
+    → IsHonestStretch g states text place state symbol s
 
 -- For proofs alone: the only runs from a configuration and from the stack of the head meet, and its
 -- trees stand.

@@ -11,13 +11,13 @@ ghost use Rattle.ts_table.specs.declared.view.ParseTable.{ParseTable};
 ghost use Rattle.ts_table.specs.Tables.{IsTable, IsStateOf};
 ghost use Rattle.ts_lexer.specs.States.{AreValid};
 ghost use Rattle.ts_steps.specs.MoveLaws.{Laws};
-ghost use Rattle.ts_steps.specs.Laws.{OnlyLaws, SoundLaws};
+ghost use Rattle.ts_steps.specs.Laws.{LengthLaws, OnlyLaws, SoundLaws};
 ghost use Rattle.ts_steps.specs.Heads.{AreStatesOf};
 ghost use Rattle.ts_steps.specs.Weights.{config_weight};
 
 use spec_forced::{
-    leaves_stand, lexings_are_decided, nodes_stand, one_move_is_one_step, stacks_stay_sound,
-    states_tell,
+    honest_stretches_lengthen, leaves_stand, lexings_are_decided, one_move_is_one_step,
+    stacks_stay_sound, states_tell,
 };
 use spec_lexing::{beginnings, fewer_tokens, one_answer, token_within};
 use spec_reuse::{no_new_tokens, some_move_stays};
@@ -26,6 +26,7 @@ use spec_runs::{
     repetitions_repeat, start_is_no_repetition,
 };
 use ts_lexer::tokens_of_states;
+use ts_node::lengthened_is_node;
 use ts_table::unit_ranks;
 
 /// The laws of moves hold.
@@ -50,13 +51,20 @@ pub(crate) fn only_laws_hold()
     one_move_is_one_step();
 }
 
+/// The laws of a repetition that is lengthened at once hold.
+pub(crate) fn length_laws_hold()
+    ensures { LengthLaws }
+{
+    honest_stretches_lengthen();
+    lengthened_is_node();
+}
+
 /// The laws of nodes that stand hold.
 pub(crate) fn sound_laws_hold()
     ensures { SoundLaws }
 {
     leaves_stand();
     lexings_are_decided();
-    nodes_stand();
     stacks_stay_sound();
     states_tell();
     tokens_of_states();

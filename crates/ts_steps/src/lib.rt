@@ -13,6 +13,7 @@ mod found;
 mod gathering;
 mod head;
 mod laws;
+mod lengthening;
 mod lines;
 mod looking;
 mod making;

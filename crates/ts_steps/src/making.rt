@@ -46,7 +46,7 @@ fn depth_over(children: &[Node], lengthens: bool) -> u32
 }
 
 /// How many bytes nodes take, one after another.
-fn spans(nodes: &[Node]) -> u32
+pub(crate) fn spans(nodes: &[Node]) -> u32
     requires { all_spans nodes.now < 2 ^ 32 }
     ensures { result ≡ all_spans nodes.now }
 {

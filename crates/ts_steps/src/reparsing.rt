@@ -1,8 +1,9 @@
-//! Parsing a text over one stack, with nodes of an old tree that are offered: the table, the lexer,
+//! Parsing a text over one stack, with what is offered of an old tree: the table, the lexer,
 //! the text, the offers and a stack go in; what the text comes to from there comes out, or the
 //! stack at which several moves stay.
 ghost use Rattle.std.specs.Prelude.{◌≡◌, ℕ, ◌<◌, ◌≤◌, true, Some, None, IfOk, IfSome, OnOk, length};
 ghost use Rattle.spec_trees.specs.declared.tree.Tree.{Tree};
+ghost use Rattle.spec_trees.specs.declared.tree.Stretch.{Stretch};
 ghost use Rattle.spec_trees.specs.Made.{most_span};
 ghost use Rattle.spec_forced.specs.Sound.{States};
 ghost use Rattle.spec_runs.specs.Configurations.{HasMove};
@@ -13,11 +14,12 @@ ghost use Rattle.ts_table.specs.Tables.{actions_of};
 ghost use Rattle.ts_steps.specs.Settings.{IsParseSetting};
 ghost use Rattle.ts_steps.specs.Heads.{AreStatesOf, IsOwnHead, StandOnHead};
 ghost use Rattle.ts_steps.specs.Looking.{IsTokenAhead, SeesAhead};
-ghost use Rattle.ts_steps.specs.Reparsing.{AreHonest, IsOffered, OnFork, IsForkFrom, IsOwnResult, IsResult, IsTakenFrom};
+ghost use Rattle.ts_steps.specs.Reparsing.{AreHonest, AreHonestlyLent, IsLent, IsOffered, OnFork, IsForkFrom, IsOwnResult, IsResult, IsTakenFrom};
 
 use crate::found::FoundToken;
 use crate::head::StackHead;
 use crate::laws::{laws_hold, sound_laws_hold};
+use crate::lengthening::take_elements;
 use crate::looking::look;
 use crate::moving::go_on;
 use crate::reparsed::{Going, Reparsed};
@@ -72,6 +74,8 @@ fn take<'t, O: Offers<'t>>(
     ensures least { O.least offers.new ≤ head.place }
     ensures gives { (place state : ℕ) (t : Tree) → O.gives offers.new place state t
         → O.gives offers.old place state t }
+    ensures lends { (place state symbol : ℕ) (s : Stretch)
+        → O.lends offers.new place state symbol s → O.lends offers.old place state symbol s }
     ensures kept { IfOk result (λ o. o ≡ None → graph.new ≡ graph.old) }
     ensures taken { IfOk result (λ o. IfSome o (λ k. (node : Tree)
         × O.gives offers.old head.place (state_on (stack_at graph.old head.top)) node
@@ -145,10 +149,11 @@ fn seen_again(
 }
 
 /// What a text comes to from a stack on, for a parser that keeps one stack alone, and takes over
-/// the nodes that it is offered. If what is offered is honest, this is what all runs from that
-/// stack come to, and the tree is sound. Where several moves stay on a token it stops, and tells
-/// the stack to which these runs lead. Each place is asked for once at most, and of a node that is
-/// taken over the first token alone is lexed.
+/// the nodes that it is offered, and behind a repetition the elements. If what is offered is
+/// honest, this is what all runs from that stack come to, and the tree is sound. Where several
+/// moves stay on a token it stops, and tells the stack to which these runs lead. Each place is
+/// asked for a node once at most, and of a node that is taken over the first token alone is lexed;
+/// of elements that are taken over no token is.
 ///
 /// # Errors
 ///
@@ -169,15 +174,20 @@ pub fn reparse<'t, L: Tokens, O: Offers<'t>>(
     requires asked { O.least offers.old ≤ start.place }
     requires own { (place state : ℕ) (t : Tree) → O.gives offers.old place state t
         → IsOffered table.now.grammar t }
+    requires lent { (place state symbol : ℕ) (s : Stretch)
+        → O.lends offers.old place state symbol s → IsLent table.now.grammar s }
     ensures made { L.made_for lexer.new table.now }
     ensures gives { OnOk result ((place state : ℕ) (t : Tree) → O.gives offers.new place state t
         → O.gives offers.old place state t) }
+    ensures lends { OnOk result ((place state symbol : ℕ) (s : Stretch)
+        → O.lends offers.new place state symbol s → O.lends offers.old place state symbol s) }
     ensures least { IfOk result (OnFork (λ k. O.least offers.new ≤ k.place)) }
     ensures forks { IfOk result (OnFork (λ k. IsForkFrom table.now (L.Text.bytes text.now)
         graph.old graph.new start k)) }
     ensures own { IfOk result (IsOwnResult table.now) }
     ensures fresh { IfOk result (λ r. (states : States) → AreStatesOf table.now states
         → AreHonest table.now.grammar states (L.Text.bytes text.now) (O.gives offers.old)
+        → AreHonestlyLent table.now.grammar states (L.Text.bytes text.now) (O.lends offers.old)
         → StandOnHead table.now states (L.Text.bytes text.now) graph.old start
         → IsResult table.now states (L.Text.bytes text.now) graph.old graph.new start r) }
 {
@@ -203,8 +213,16 @@ pub fn reparse<'t, L: Tokens, O: Offers<'t>>(
                     ahead = None;
                 }
                 Going::Reduced(next, found) => {
-                    ahead = seen_again(table, graph, next, found);
-                    head = next;
+                    match take_elements(alloc, table, offers, graph, next, setting.size)? {
+                        Some(longer) => {
+                            head = longer;
+                            ahead = None;
+                        }
+                        None => {
+                            ahead = seen_again(table, graph, next, found);
+                            head = next;
+                        }
+                    }
                 }
                 Going::Ended(result) => return Ok(result),
             },

@@ -11,10 +11,11 @@ loop-readings-init g c =
       made = c.requires.made;
       least = omega (arith, c.requires.asked);
       gives = λ place state t given. given;
+      lends = λ place state symbol s given. given;
       own = own_start c.args.table.now (length text) c.readings_of-readings.result.graph c.readings_of-readings.ensures.graph;
       empty = c.readings_of-readings.ensures.live;
       best = c.readings_of-readings.ensures.best;
-      rests = λ states are honest. start_rests c.packing_laws_hold.ensures c.args.table.now c.stands.ensures.fit states text c.readings_of-readings.result.graph c.readings_of-readings.result.stuck c.readings_of-readings.ensures.graph c.readings_of-readings.ensures.stuck;
+      rests = λ states are honest lent. start_rests c.packing_laws_hold.ensures c.args.table.now c.stands.ensures.fit states text c.readings_of-readings.result.graph c.readings_of-readings.result.stuck c.readings_of-readings.ensures.graph c.readings_of-readings.ensures.stuck;
     }
 
 pub reparse-requires : goal.reparse-requires
@@ -26,7 +27,13 @@ reparse-requires g c κs = (
       subst (λ (n : ℕ). IsParseSetting c.args.table.now n c.in_ok-setting.setting) c.len.ensures c.in_ok-setting.ensures,
       (
         c.loop-readings.invariant.own,
-        (c.loop-readings.invariant.least, λ place state t given. c.requires.own place state t (c.loop-readings.invariant.gives place state t given)),
+        (
+          c.loop-readings.invariant.least,
+          (
+            (λ place state t given. c.requires.own place state t (c.loop-readings.invariant.gives place state t given)),
+            λ place state symbol s given. c.requires.lent place state symbol s (c.loop-readings.invariant.lends place state symbol s given),
+          ),
+        ),
       ),
     ),
   ),
@@ -63,12 +70,13 @@ loop-readings-preserved g c =
       made = c.in_ok-next-in-Forks.ensures.made;
       least = omega (arith, near, far);
       gives = λ place state t given. c.loop-readings.invariant.gives place state t (c.in_ok-root.ensures.gives place state t given);
+      lends = λ place state symbol s given. c.loop-readings.invariant.lends place state symbol s (c.in_ok-root.ensures.lends place state symbol s given);
       own = left.own;
       empty = left.empty;
       best = left.none;
-      rests = λ states are honest.
-          let before = c.loop-readings.invariant.rests states are honest in
-          let result = c.in_ok-root.ensures.fresh states are (λ place state t given. honest place state t (c.loop-readings.invariant.gives place state t given)) before.1 in
+      rests = λ states are honest lent.
+          let before = c.loop-readings.invariant.rests states are honest lent in
+          let result = c.in_ok-root.ensures.fresh states are (λ place state t given. honest place state t (c.loop-readings.invariant.gives place state t given)) (λ place state symbol s given. lent place state symbol s (c.loop-readings.invariant.lends place state symbol s given)) before.1 in
           let fork = fork_rests c.packing_laws_hold.ensures c.args.table.now c.stands.ensures.fit states text c.loop-readings.readings.graph c.reparse.new.graph c.loop-readings.head c.loop-readings.readings.stuck c.in_ok-root.field-0 result before.0 c.only_runs_are_one_way.ensures.through c.only_runs_are_one_way.ensures.run c.in-Forks.fork c.in-Forks.is in
           (left.rests fork.0, left.stand states are fork.1);
     }
@@ -80,24 +88,24 @@ pub returns-in-Accepted-clause-own : goal.returns-in-Accepted-clause-own
 returns-in-Accepted-clause-own g c = let own = own_root c.args.table.now c.in_ok-root.field-0 c.in-Accepted.root c.in-Accepted.is c.in_ok-root.ensures.own in (own.1, own.2)
 
 pub returns-in-Accepted-clause-fresh : goal.returns-in-Accepted-clause-fresh
-returns-in-Accepted-clause-fresh g c states are honest =
+returns-in-Accepted-clause-fresh g c states are honest lent =
     let text = g.L.Text.Content.bytes c.args.text.now in
-    let before = c.loop-readings.invariant.rests states are honest in
-    let result = c.in_ok-root.ensures.fresh states are (λ place state t given. honest place state t (c.loop-readings.invariant.gives place state t given)) before.1 in
+    let before = c.loop-readings.invariant.rests states are honest lent in
+    let result = c.in_ok-root.ensures.fresh states are (λ place state t given. honest place state t (c.loop-readings.invariant.gives place state t given)) (λ place state symbol s given. lent place state symbol s (c.loop-readings.invariant.lends place state symbol s given)) before.1 in
     accepts_sound c.packing_laws_hold.ensures c.args.table.now c.stands.ensures.fit states text c.loop-readings.readings.graph c.reparse.new.graph c.loop-readings.head c.loop-readings.readings.stuck c.in_ok-root.field-0 result before.0 c.in-Accepted.root c.in-Accepted.is
 
 pub returns-in-Stuck-clause-fresh : goal.returns-in-Stuck-clause-fresh
-returns-in-Stuck-clause-fresh g c states are honest =
+returns-in-Stuck-clause-fresh g c states are honest lent =
     let text = g.L.Text.Content.bytes c.args.text.now in
-    let before = c.loop-readings.invariant.rests states are honest in
-    let result = c.in_ok-root.ensures.fresh states are (λ place state t given. honest place state t (c.loop-readings.invariant.gives place state t given)) before.1 in
+    let before = c.loop-readings.invariant.rests states are honest lent in
+    let result = c.in_ok-root.ensures.fresh states are (λ place state t given. honest place state t (c.loop-readings.invariant.gives place state t given)) (λ place state symbol s given. lent place state symbol s (c.loop-readings.invariant.lends place state symbol s given)) before.1 in
     (stuck_at c.packing_laws_hold.ensures c.args.table.now c.stands.ensures.fit states text c.loop-readings.readings.graph c.reparse.new.graph c.loop-readings.head c.loop-readings.readings.stuck c.in_ok-root.field-0 result before.0 c.in-Stuck.place c.furthest.result c.in-Stuck.is c.furthest.ensures.mine c.furthest.ensures.others c.furthest.ensures.from, tt)
 
 pub returns-in-Deep-clause-fresh : goal.returns-in-Deep-clause-fresh
-returns-in-Deep-clause-fresh g c states are honest =
+returns-in-Deep-clause-fresh g c states are honest lent =
     let text = g.L.Text.Content.bytes c.args.text.now in
-    let before = c.loop-readings.invariant.rests states are honest in
-    let result = c.in_ok-root.ensures.fresh states are (λ place state t given. honest place state t (c.loop-readings.invariant.gives place state t given)) before.1 in
+    let before = c.loop-readings.invariant.rests states are honest lent in
+    let result = c.in_ok-root.ensures.fresh states are (λ place state t given. honest place state t (c.loop-readings.invariant.gives place state t given)) (λ place state symbol s given. lent place state symbol s (c.loop-readings.invariant.lends place state symbol s given)) before.1 in
     (too_deep c.packing_laws_hold.ensures c.args.table.now c.stands.ensures.fit states text c.loop-readings.readings.graph c.reparse.new.graph c.loop-readings.head c.loop-readings.readings.stuck c.in_ok-root.field-0 result before.0 c.in-Deep.is, tt)
 
 pub returns-in-Over-clause-form : goal.returns-in-Over-clause-form
@@ -109,10 +117,10 @@ returns-in-Over-clause-own g c =
     (ends_all c.args.table.now (g.L.Text.Content.bytes c.args.text.now) c.reparse.new.graph c.follow_all.new.readings.graph c.loop-readings.readings.stuck c.follow_all.new.readings.stuck c.follow_all.new.readings.live.items c.follow_all.new.readings.best c.in-Forks.fork c.in_ok-next-in-Forks.field-0 c.in_ok-next-in-Forks.ensures.follows c.in-Over.outcome c.in-Over.is).own
 
 pub returns-in-Over-clause-fresh : goal.returns-in-Over-clause-fresh
-returns-in-Over-clause-fresh g c states are honest =
+returns-in-Over-clause-fresh g c states are honest lent =
     let text = g.L.Text.Content.bytes c.args.text.now in
     let all = ends_all c.args.table.now text c.reparse.new.graph c.follow_all.new.readings.graph c.loop-readings.readings.stuck c.follow_all.new.readings.stuck c.follow_all.new.readings.live.items c.follow_all.new.readings.best c.in-Forks.fork c.in_ok-next-in-Forks.field-0 c.in_ok-next-in-Forks.ensures.follows c.in-Over.outcome c.in-Over.is in
-    let before = c.loop-readings.invariant.rests states are honest in
-    let result = c.in_ok-root.ensures.fresh states are (λ place state t given. honest place state t (c.loop-readings.invariant.gives place state t given)) before.1 in
+    let before = c.loop-readings.invariant.rests states are honest lent in
+    let result = c.in_ok-root.ensures.fresh states are (λ place state t given. honest place state t (c.loop-readings.invariant.gives place state t given)) (λ place state symbol s given. lent place state symbol s (c.loop-readings.invariant.lends place state symbol s given)) before.1 in
     let fork = fork_rests c.packing_laws_hold.ensures c.args.table.now c.stands.ensures.fit states text c.loop-readings.readings.graph c.reparse.new.graph c.loop-readings.head c.loop-readings.readings.stuck c.in_ok-root.field-0 result before.0 c.only_runs_are_one_way.ensures.through c.only_runs_are_one_way.ensures.run c.in-Forks.fork c.in-Forks.is in
     (all.fresh fork.0, all.sound states are fork.1)

@@ -1,9 +1,10 @@
 use Rattle.std.proofs.Common.{◌≡◌, ℕ, ◌≤◌, [], length, None}
 use Rattle.spec_trees.specs.declared.tree.Tree.{Tree}
+use Rattle.spec_trees.specs.declared.tree.Stretch.{Stretch}
 use Rattle.spec_forced.specs.Sound.{States}
 use Rattle.ts_steps.specs.LiveHeads.{config_of}
 use Rattle.ts_steps.specs.Heads.{AreStatesOf, IsOwnHead, StandOnHead}
-use Rattle.ts_steps.specs.Reparsing.{AreHonest}
+use Rattle.ts_steps.specs.Reparsing.{AreHonest, AreHonestlyLent}
 use Rattle.ts_steps.specs.Weights.{config_weight}
 use Rattle.ts_glr.specs.Search.{Rests}
 use Rattle.ts_glr.proofs.parsing.parse_with.Given as goal
@@ -13,10 +14,12 @@ invariant-loop-readings g l = record {
   made : g.L.Tokens.made_for l.lexer l.table;
   least : g.O.Offers.least l.offers ≤ l.head.place;
   gives : (place state : ℕ) (t : Tree) → g.O.Offers.gives l.offers place state t → g.O.Offers.gives l.initial.offers place state t;
+  lends : (place state symbol : ℕ) (s : Stretch) → g.O.Offers.lends l.offers place state symbol s → g.O.Offers.lends l.initial.offers place state symbol s;
   own : IsOwnHead l.table (length (g.L.Text.Content.bytes l.text)) l.readings.graph l.head;
   empty : l.readings.live.items ≡ [];
   best : l.readings.best ≡ None;
   rests : (states : States) → AreStatesOf l.table states → AreHonest l.table.grammar states (g.L.Text.Content.bytes l.text) (g.O.Offers.gives l.initial.offers)
+      → AreHonestlyLent l.table.grammar states (g.L.Text.Content.bytes l.text) (g.O.Offers.lends l.initial.offers)
       → Rests l.table.grammar (g.L.Text.Content.bytes l.text) l.readings.stuck (config_of l.readings.graph l.head) × StandOnHead l.table states (g.L.Text.Content.bytes l.text) l.readings.graph l.head;
 }
 

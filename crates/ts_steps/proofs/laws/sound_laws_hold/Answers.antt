@@ -5,7 +5,6 @@ returns c = record {
   lists = c.lexings_are_decided.ensures.lists;
   leaf = c.leaves_stand.ensures.leaf;
   extra = c.leaves_stand.ensures.extra;
-  node = c.nodes_stand.ensures;
   childless = c.stacks_stay_sound.ensures.childless;
   in_turn = c.stacks_stay_sound.ensures.in_turn;
   put = c.stacks_stay_sound.ensures.reduced;

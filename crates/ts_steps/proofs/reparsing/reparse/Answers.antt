@@ -1,10 +1,12 @@
-use Rattle.std.proofs.Common.{◌≤◌, sym, subst, length, arith}
+use Rattle.std.proofs.Common.{ℕ, ◌≤◌, sym, refl, subst, length, arith}
+use Rattle.spec_trees.specs.Made.{most_span}
 use Rattle.ts_gss.specs.Stacks.{stack_at, state_on}
 use Rattle.ts_steps.specs.declared.found.FoundToken.{FoundToken}
 use Rattle.ts_steps.specs.LiveHeads.{config_of}
+use Rattle.ts_steps.specs.Heads.{IsOwnHead}
 use Rattle.ts_steps.specs.Looking.{IsTokenAhead}
 use Rattle.ts_steps.specs.Reparsing.{IsForkFrom}
-use Rattle.ts_steps.proofs.ReparseLemmas.{stands_on, stands_taken, ends_result, ends_fork, step_falls, taken_falls, taken_place, step_place, taken_some, goes_on, goes_reduced_on, ends_at, none_known, sees_kept}
+use Rattle.ts_steps.proofs.ReparseLemmas.{stands_on, stands_taken, ends_result, ends_fork, step_falls, taken_falls, taken_place, step_place, taken_some, goes_on, goes_reduced_on, goes_kept, ends_at, none_known, sees_kept, lengthened_some, lengthened_falls, stands_lengthened}
 use Rattle.ts_steps.proofs.reparsing.reparse.Goals as goal
 
 pub loop-next-smaller-in-Some : goal.loop-next-smaller-in-Some
@@ -28,11 +30,12 @@ loop-next-preserved-in-Some g c =
       made = c.look_once-lexed.ensures.made;
       least = (let least = c.in_ok-next.ensures.least in omega (arith, least, far));
       gives = λ place at t given. c.loop-next.invariant.gives place at t (c.in_ok-next.ensures.gives place at t given);
+      lends = λ place at symbol s given. c.loop-next.invariant.lends place at symbol s (c.in_ok-next.ensures.lends place at symbol s given);
       live = w.2.taken.live;
       weight = (let fall = taken_falls c.laws_hold.ensures c.args.table.now c.stands.ensures.fit (c.unit_ranks.ensures c.args.table.now.grammar c.stands.ensures.fit) text c.loop-next.graph c.take.new.graph h c.in-Some.next c.loop-next.invariant.live w.0 w.2 in let most = c.loop-next.invariant.weight in omega (arith, fall, most));
-      stands = λ states are honest first.
+      stands = λ states are honest lent first.
           stands_taken c.laws_hold.ensures c.sound_laws_hold.ensures c.pushed_whole.ensures.meet c.only_runs_meet.ensures.joined c.args.table.now states text (config_of c.args.graph.now c.args.start) c.loop-next.graph c.take.new.graph h c.in-Some.next w.0 c.stands.ensures are
-          c.loop-next.invariant.live (c.loop-next.invariant.stands states are honest first) w.2
+          c.loop-next.invariant.live (c.loop-next.invariant.stands states are honest lent first) w.2
           (honest h.place state w.0 (c.loop-next.invariant.gives h.place state w.0 w.1));
       known = none_known (IsTokenAhead c.args.table.now text c.take.new.graph c.in-Some.next);
     }
@@ -57,38 +60,105 @@ loop-next-preserved-in-On g c =
       made = c.look_once-lexed.ensures.made;
       least = (let least = c.in_ok-next.ensures.least in omega (arith, least, far));
       gives = λ place at t given. c.loop-next.invariant.gives place at t (c.in_ok-next.ensures.gives place at t given);
+      lends = λ place at symbol s given. c.loop-next.invariant.lends place at symbol s (c.in_ok-next.ensures.lends place at symbol s given);
       live = go.own;
       weight = (let fall = step_falls c.laws_hold.ensures c.args.table.now c.stands.ensures.fit (c.unit_ranks.ensures c.args.table.now.grammar c.stands.ensures.fit) text c.loop-next.graph c.go_on.new.graph h c.in-On.next c.loop-next.invariant.live go.step in let most = c.loop-next.invariant.weight in omega (arith, fall, most));
-      stands = λ states are honest first. stands_on c.only_runs_meet.ensures.joined c.only_runs_meet.ensures.step c.args.table.now states text (config_of c.args.graph.now c.args.start) c.loop-next.graph c.go_on.new.graph h c.in-On.next (c.loop-next.invariant.stands states are honest first) go.step (go.stand states are);
+      stands = λ states are honest lent first. stands_on c.only_runs_meet.ensures.joined c.only_runs_meet.ensures.step c.args.table.now states text (config_of c.args.graph.now c.args.start) c.loop-next.graph c.go_on.new.graph h c.in-On.next (c.loop-next.invariant.stands states are honest lent first) go.step (go.stand states are);
       known = none_known (IsTokenAhead c.args.table.now text c.go_on.new.graph c.in-On.next);
+    }
+
+pub take_elements-requires : goal.take_elements-requires
+take_elements-requires g c κs =
+    let text = g.L.Text.Content.bytes c.args.text.now in
+    let long = sym (c.requires.setting.size_is) in
+    let led = goes_reduced_on c.args.table.now text c.loop-next.graph c.take.new.graph c.go_on.new.graph c.loop-next.head c.in-Reduced.next c.in-Reduced.found c.in_ok-next-in-None.field-0 (c.in_ok-next.ensures.kept c.in-None.is) c.in-Reduced.is
+    (c.in_ok-next-in-None.ensures text long (sees_kept c.args.table.now text c.loop-next.graph c.take.new.graph c.loop-next.head c.look_once-lexed.result (c.in_ok-next.ensures.kept c.in-None.is) c.look_once-lexed.ensures.sees)) in
+    let far = step_place c.args.table.now text c.loop-next.graph c.go_on.new.graph c.loop-next.head c.in-Reduced.next led.0.step in
+    let least = c.in_ok-next.ensures.least in
+    let short : c.args.setting.now.size ≤ most_span = omega (arith, c.requires.setting.short, c.requires.setting.size_is) in
+    let asked : g.O.Offers.least c.take.new.offers ≤ c.in-Reduced.next.place = omega (arith, least, far) in
+    let live : IsOwnHead c.args.table.now c.args.setting.now.size c.go_on.new.graph c.in-Reduced.next = subst (λ (n : ℕ). IsOwnHead c.args.table.now n c.go_on.new.graph c.in-Reduced.next) long led.0.own in (
+      (refl, tt),
+      (
+        short,
+        (
+          asked,
+          (
+            live,
+            λ place state symbol s given. c.requires.lent place state symbol s (c.loop-next.invariant.lends place state symbol s (c.in_ok-next.ensures.lends place state symbol s given)),
+          ),
+        ),
+      ),
+    )
+
+pub loop-next-smaller-in-Some-2 : goal.loop-next-smaller-in-Some-2
+loop-next-smaller-in-Some-2 g c =
+    let text = g.L.Text.Content.bytes c.args.text.now in
+    let long = sym (c.requires.setting.size_is) in
+    let led = goes_reduced_on c.args.table.now text c.loop-next.graph c.take.new.graph c.go_on.new.graph c.loop-next.head c.in-Reduced.next c.in-Reduced.found c.in_ok-next-in-None.field-0 (c.in_ok-next.ensures.kept c.in-None.is) c.in-Reduced.is
+    (c.in_ok-next-in-None.ensures text long (sees_kept c.args.table.now text c.loop-next.graph c.take.new.graph c.loop-next.head c.look_once-lexed.result (c.in_ok-next.ensures.kept c.in-None.is) c.look_once-lexed.ensures.sees)) in
+    let w = lengthened_some c.args.table.now c.args.setting.now.size (length text) c.requires.setting.size_is c.go_on.new.graph c.take_elements.new.graph c.in-Reduced.next
+    (λ e s. g.O.Offers.lends c.take.new.offers e.place e.state e.symbol.0 s) c.in_ok-longer-in-Reduced.field-0 c.in-Some-2.longer c.in-Some-2.is c.in_ok-longer-in-Reduced.ensures.taken in
+    let first = step_falls c.laws_hold.ensures c.args.table.now c.stands.ensures.fit (c.unit_ranks.ensures c.args.table.now.grammar c.stands.ensures.fit) text c.loop-next.graph c.go_on.new.graph c.loop-next.head c.in-Reduced.next c.loop-next.invariant.live led.0.step in
+    let second = lengthened_falls c.laws_hold.ensures c.args.table.now c.stands.ensures.fit (c.unit_ranks.ensures c.args.table.now.grammar c.stands.ensures.fit) text c.go_on.new.graph c.take_elements.new.graph c.in-Reduced.next c.in-Some-2.longer led.0.own w.0 w.1 w.3 in
+    omega (arith, first, second)
+
+pub loop-next-preserved-in-Some-2 : goal.loop-next-preserved-in-Some-2
+loop-next-preserved-in-Some-2 g c =
+    let text = g.L.Text.Content.bytes c.args.text.now in
+    let long = sym (c.requires.setting.size_is) in
+    let h = c.loop-next.head in
+    let led = goes_reduced_on c.args.table.now text c.loop-next.graph c.take.new.graph c.go_on.new.graph c.loop-next.head c.in-Reduced.next c.in-Reduced.found c.in_ok-next-in-None.field-0 (c.in_ok-next.ensures.kept c.in-None.is) c.in-Reduced.is
+    (c.in_ok-next-in-None.ensures text long (sees_kept c.args.table.now text c.loop-next.graph c.take.new.graph c.loop-next.head c.look_once-lexed.result (c.in_ok-next.ensures.kept c.in-None.is) c.look_once-lexed.ensures.sees)) in
+    let w = lengthened_some c.args.table.now c.args.setting.now.size (length text) c.requires.setting.size_is c.go_on.new.graph c.take_elements.new.graph c.in-Reduced.next
+    (λ e s. g.O.Offers.lends c.take.new.offers e.place e.state e.symbol.0 s) c.in_ok-longer-in-Reduced.field-0 c.in-Some-2.longer c.in-Some-2.is c.in_ok-longer-in-Reduced.ensures.taken in
+    record {
+      made = c.look_once-lexed.ensures.made;
+      least = (let least = c.in_ok-longer-in-Reduced.ensures.least in let later = w.3.later in omega (arith, least, later));
+      gives = λ place at t given. c.loop-next.invariant.gives place at t (c.in_ok-next.ensures.gives place at t (c.in_ok-longer-in-Reduced.ensures.gives place at t given));
+      lends = λ place at symbol s given. c.loop-next.invariant.lends place at symbol s (c.in_ok-next.ensures.lends place at symbol s (c.in_ok-longer-in-Reduced.ensures.lends place at symbol s given));
+      live = w.3.own;
+      weight = (
+          let first = step_falls c.laws_hold.ensures c.args.table.now c.stands.ensures.fit (c.unit_ranks.ensures c.args.table.now.grammar c.stands.ensures.fit) text c.loop-next.graph c.go_on.new.graph h c.in-Reduced.next c.loop-next.invariant.live led.0.step in
+          let second = lengthened_falls c.laws_hold.ensures c.args.table.now c.stands.ensures.fit (c.unit_ranks.ensures c.args.table.now.grammar c.stands.ensures.fit) text c.go_on.new.graph c.take_elements.new.graph c.in-Reduced.next c.in-Some-2.longer led.0.own w.0 w.1 w.3 in
+          let most = c.loop-next.invariant.weight in
+          omega (arith, first, second, most)
+          );
+      stands = λ states are honest lent first.
+          let before = stands_on c.only_runs_meet.ensures.joined c.only_runs_meet.ensures.step c.args.table.now states text (config_of c.args.graph.now c.args.start) c.loop-next.graph c.go_on.new.graph h c.in-Reduced.next (c.loop-next.invariant.stands states are honest lent first) led.0.step (led.0.stand states are) in
+          stands_lengthened c.only_runs_meet.ensures.joined c.args.table.now states text (config_of c.args.graph.now c.args.start) c.go_on.new.graph c.take_elements.new.graph c.in-Reduced.next c.in-Some-2.longer w.0 w.1 are before w.3
+          (lent w.0.place w.0.state w.0.symbol.0 w.1 (c.loop-next.invariant.lends w.0.place w.0.state w.0.symbol.0 w.1 (c.in_ok-next.ensures.lends w.0.place w.0.state w.0.symbol.0 w.1 w.2)));
+      known = none_known (IsTokenAhead c.args.table.now text c.take_elements.new.graph c.in-Some-2.longer);
     }
 
 pub loop-next-smaller : goal.loop-next-smaller
 loop-next-smaller g c =
     let text = g.L.Text.Content.bytes c.args.text.now in
     let long = sym (c.requires.setting.size_is) in
-    let go = goes_reduced_on c.args.table.now text c.loop-next.graph c.take.new.graph c.go_on.new.graph c.loop-next.head c.in-Reduced.next c.in-Reduced.found c.in_ok-next-in-None.field-0 (c.in_ok-next.ensures.kept c.in-None.is) c.in-Reduced.is
+    let led = goes_reduced_on c.args.table.now text c.loop-next.graph c.take.new.graph c.go_on.new.graph c.loop-next.head c.in-Reduced.next c.in-Reduced.found c.in_ok-next-in-None.field-0 (c.in_ok-next.ensures.kept c.in-None.is) c.in-Reduced.is
     (c.in_ok-next-in-None.ensures text long (sees_kept c.args.table.now text c.loop-next.graph c.take.new.graph c.loop-next.head c.look_once-lexed.result (c.in_ok-next.ensures.kept c.in-None.is) c.look_once-lexed.ensures.sees)) in
-    step_falls c.laws_hold.ensures c.args.table.now c.stands.ensures.fit (c.unit_ranks.ensures c.args.table.now.grammar c.stands.ensures.fit) text c.loop-next.graph c.go_on.new.graph c.loop-next.head c.in-Reduced.next c.loop-next.invariant.live go.0.step
+    let go = goes_kept c.args.table.now text c.loop-next.graph c.go_on.new.graph c.take_elements.new.graph c.loop-next.head c.in-Reduced.next c.in-Reduced.found (c.in_ok-longer-in-Reduced.ensures.kept c.in-None-2.is) led in
+    step_falls c.laws_hold.ensures c.args.table.now c.stands.ensures.fit (c.unit_ranks.ensures c.args.table.now.grammar c.stands.ensures.fit) text c.loop-next.graph c.take_elements.new.graph c.loop-next.head c.in-Reduced.next c.loop-next.invariant.live go.0.step
 
 pub loop-next-preserved : goal.loop-next-preserved
 loop-next-preserved g c =
     let text = g.L.Text.Content.bytes c.args.text.now in
     let long = sym (c.requires.setting.size_is) in
     let h = c.loop-next.head in
-    let go = goes_reduced_on c.args.table.now text c.loop-next.graph c.take.new.graph c.go_on.new.graph h c.in-Reduced.next c.in-Reduced.found c.in_ok-next-in-None.field-0 (c.in_ok-next.ensures.kept c.in-None.is) c.in-Reduced.is
+    let led = goes_reduced_on c.args.table.now text c.loop-next.graph c.take.new.graph c.go_on.new.graph h c.in-Reduced.next c.in-Reduced.found c.in_ok-next-in-None.field-0 (c.in_ok-next.ensures.kept c.in-None.is) c.in-Reduced.is
     (c.in_ok-next-in-None.ensures text long (sees_kept c.args.table.now text c.loop-next.graph c.take.new.graph c.loop-next.head c.look_once-lexed.result (c.in_ok-next.ensures.kept c.in-None.is) c.look_once-lexed.ensures.sees)) in
-    let far = step_place c.args.table.now text c.loop-next.graph c.go_on.new.graph h c.in-Reduced.next go.0.step in
+    let go = goes_kept c.args.table.now text c.loop-next.graph c.go_on.new.graph c.take_elements.new.graph c.loop-next.head c.in-Reduced.next c.in-Reduced.found (c.in_ok-longer-in-Reduced.ensures.kept c.in-None-2.is) led in
     record {
       made = c.look_once-lexed.ensures.made;
-      least = (let least = c.in_ok-next.ensures.least in omega (arith, least, far));
-      gives = λ place at t given. c.loop-next.invariant.gives place at t (c.in_ok-next.ensures.gives place at t given);
+      least = c.in_ok-longer-in-Reduced.ensures.least;
+      gives = λ place at t given. c.loop-next.invariant.gives place at t (c.in_ok-next.ensures.gives place at t (c.in_ok-longer-in-Reduced.ensures.gives place at t given));
+      lends = λ place at symbol s given. c.loop-next.invariant.lends place at symbol s (c.in_ok-next.ensures.lends place at symbol s (c.in_ok-longer-in-Reduced.ensures.lends place at symbol s given));
       live = go.0.own;
-      weight = (let fall = step_falls c.laws_hold.ensures c.args.table.now c.stands.ensures.fit (c.unit_ranks.ensures c.args.table.now.grammar c.stands.ensures.fit) text c.loop-next.graph c.go_on.new.graph h c.in-Reduced.next c.loop-next.invariant.live go.0.step in let most = c.loop-next.invariant.weight in omega (arith, fall, most));
-      stands = λ states are honest first. stands_on c.only_runs_meet.ensures.joined c.only_runs_meet.ensures.step c.args.table.now states text (config_of c.args.graph.now c.args.start) c.loop-next.graph c.go_on.new.graph h c.in-Reduced.next (c.loop-next.invariant.stands states are honest first) go.0.step (go.0.stand states are);
+      weight = (let fall = step_falls c.laws_hold.ensures c.args.table.now c.stands.ensures.fit (c.unit_ranks.ensures c.args.table.now.grammar c.stands.ensures.fit) text c.loop-next.graph c.take_elements.new.graph h c.in-Reduced.next c.loop-next.invariant.live go.0.step in let most = c.loop-next.invariant.weight in omega (arith, fall, most));
+      stands = λ states are honest lent first. stands_on c.only_runs_meet.ensures.joined c.only_runs_meet.ensures.step c.args.table.now states text (config_of c.args.graph.now c.args.start) c.loop-next.graph c.take_elements.new.graph h c.in-Reduced.next (c.loop-next.invariant.stands states are honest lent first) go.0.step (go.0.stand states are);
       known = λ f e.
           let r = c.seen_again-ahead.ensures f e in
-          subst (λ (x : FoundToken). IsTokenAhead c.args.table.now text c.go_on.new.graph c.in-Reduced.next x) (sym r.0) (go.1 r.1);
+          subst (λ (x : FoundToken). IsTokenAhead c.args.table.now text c.take_elements.new.graph c.in-Reduced.next x) (sym r.0) (go.1 r.1);
     }
 
 pub loop-next-init : goal.loop-next-init
@@ -96,17 +166,18 @@ loop-next-init g c = record {
   made = c.requires.made;
   least = c.requires.asked;
   gives = λ place at t given. given;
+  lends = λ place at symbol s given. given;
   live = c.requires.live;
   weight = omega arith;
-  stands = λ states are honest first. record { meet = c.only_runs_meet.ensures.same c.args.table.now.grammar (g.L.Text.Content.bytes c.args.text.now) (config_of c.args.graph.now c.args.start); stand = first };
+  stands = λ states are honest lent first. record { meet = c.only_runs_meet.ensures.same c.args.table.now.grammar (g.L.Text.Content.bytes c.args.text.now) (config_of c.args.graph.now c.args.start); stand = first };
   known = none_known (IsTokenAhead c.args.table.now (g.L.Text.Content.bytes c.args.text.now) c.args.graph.now c.args.start);
 }
 
 pub returns-in-Ended-clause-fresh : goal.returns-in-Ended-clause-fresh
-returns-in-Ended-clause-fresh g c states are honest first =
+returns-in-Ended-clause-fresh g c states are honest lent first =
     let text = g.L.Text.Content.bytes c.args.text.now in
     let long = sym (c.requires.setting.size_is) in
-    ends_result c.only_runs_are_one_way.ensures.fresh c.only_runs_meet.ensures.ends c.only_runs_meet.ensures.fork c.args.table.now states text c.args.graph.now c.loop-next.graph c.go_on.new.graph c.args.start c.loop-next.head are (c.loop-next.invariant.stands states are honest first) c.in-Ended.result
+    ends_result c.only_runs_are_one_way.ensures.fresh c.only_runs_meet.ensures.ends c.only_runs_meet.ensures.fork c.args.table.now states text c.args.graph.now c.loop-next.graph c.go_on.new.graph c.args.start c.loop-next.head are (c.loop-next.invariant.stands states are honest lent first) c.in-Ended.result
     (ends_at c.args.table.now text c.loop-next.graph c.take.new.graph c.go_on.new.graph c.loop-next.head c.in-Ended.result c.in_ok-next-in-None.field-0 (c.in_ok-next.ensures.kept c.in-None.is) c.in-Ended.is
     (c.in_ok-next-in-None.ensures text long (sees_kept c.args.table.now text c.loop-next.graph c.take.new.graph c.loop-next.head c.look_once-lexed.result (c.in_ok-next.ensures.kept c.in-None.is) c.look_once-lexed.ensures.sees)))
 
