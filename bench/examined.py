@@ -7,9 +7,10 @@ Builds a small program over `ts_glr`, `ts_marks` and `ts_offer` in a copy of the
 own. PROGRAM is `crates/ts_cli/out/ts_cli` if none is given, which `./hemshale build` makes: it compiles the grammars.
 The texts are those of `bench/parse.py` with 200 KB. Each of EDITS edits, 100 if none is given, puts a digit in the
 place of another: in the middle of the text, or at places all over it. The tree is marked and the new text parsed with
-what the tree offers. Printed for each text are, in bytes an edit: what the lexer examined; and what was needed, which is
-what was examined for each leaf that lies in no node that was offered, and for the first leaf of each that was. A node
-that was offered counts as kept. Several stacks may lex one place, and the end of the text is lexed too.
+what the tree offers. Printed for each text are, in bytes an edit: what the lexer examined; and what was needed, which
+is what was examined for each leaf that lies in nothing that was offered, and for the first leaf of each node that was.
+All that was offered counts as kept. Several stacks may lex one place, and the end of the text is lexed too. Printed too
+is how many elements were offered an edit.
 """
 import json
 import subprocess
@@ -36,6 +37,7 @@ use std::alloc::{AllocError, Global};
 use std::rt::{Env, Files};
 use std::{env, io};
 use ts_base::List;
+use ts_core::Symbol;
 use ts_glr::{Outcome, parse_with};
 use ts_io::{Folder, Found, OsFolder};
 use ts_items::collection;
@@ -43,7 +45,7 @@ use ts_langfile::read;
 use ts_lexer::Lexer;
 use ts_marks::mark;
 use ts_node::Node;
-use ts_offer::{Nothing, Offers, Old};
+use ts_offer::{Elements, Nothing, Offers, Old};
 use ts_table::{Table, resolve};
 use ts_text::{Edit, Part, Text, apply};
 
@@ -53,7 +55,8 @@ unsafe extern "C" {
         ensures { ⊥ };
 }
 
-/// A node that was offered: where it begins and ends, and what was examined for its first leaf.
+/// A node that was offered: where it begins and ends, and what was examined for its first leaf; or
+/// elements that were, of which no leaf is lexed.
 #[derive(Clone, Copy)]
 struct Kept {
     place: u32,
@@ -66,6 +69,7 @@ struct Kept {
 struct Noting<'t> {
     old: Old<'t>,
     kept: Vec<Kept>,
+    elements: u64,
 }
 
 /// What was examined for the first leaf of a node.
@@ -86,12 +90,22 @@ fn note(kept: &mut Vec<Kept>, place: u32, node: &Node) {
     let _ = kept.push(Kept { place, end, first });
 }
 
+/// Notes elements that are offered.
+fn note_elements(kept: &mut Vec<Kept>, place: u32, elements: Elements<'_>) {
+    trust();
+    let node = elements.node;
+    let end = place + node.offset(elements.to) - node.offset(elements.from);
+    let _ = kept.push(Kept { place, end, first: 0 });
+}
+
 impl<'t> Offers<'t> for Noting<'t> {
     ghost least = { λ noting. 0 };
 
     ghost tree = { λ noting. None };
 
     ghost gives = { λ noting place state node. Unit {0} };
+
+    ghost lends = { λ noting place state symbol elements. Unit {0} };
 
     fn at(&mut self, place: u32, state: u16) -> Option<&'t Node> {
         trust();
@@ -101,13 +115,24 @@ impl<'t> Offers<'t> for Noting<'t> {
         }
         found
     }
+
+    fn elements_at(&mut self, place: u32, state: u16, symbol: Symbol) -> Option<Elements<'t>> {
+        trust();
+        let found = self.old.elements_at(place, state, symbol);
+        if let Some(elements) = found {
+            note_elements(&mut self.kept, place, elements);
+            self.elements += u64::from(elements.to - elements.from);
+        }
+        found
+    }
 }
 
-/// What was examined and what was needed, in bytes.
+/// What was examined and what was needed, in bytes, and how many elements were offered.
 #[derive(Clone, Copy, Default)]
 struct Tally {
     examined: u64,
     needed: u64,
+    elements: u64,
 }
 
 /// The first kept node, from one on, that ends behind a place.
@@ -227,6 +252,7 @@ fn edited(
         let mut offers = Noting {
             old: Old::new(alloc, &marked)?,
             kept: Vec::new(alloc),
+            elements: 0,
         };
         let before = lexer.examined();
         let outcome = parse_with(alloc, table, &mut lexer, &after, &mut offers)?;
@@ -235,6 +261,7 @@ fn edited(
             return Ok(tally);
         };
         tally.needed += needed(alloc, &root, offers.kept.as_slice())?;
+        tally.elements += offers.elements;
         tree = root;
         text = after;
     }
@@ -294,7 +321,7 @@ fn main(rt: HostRuntime) -> io::Result<()> {
     let count = count.as_str().parse::<u32>().unwrap_or(0);
     let step = step.as_str().parse::<u32>().unwrap_or(0);
     if let Ok(tally) = tally_of(rt.alloc(), grammar.as_slice(), text.as_slice(), count, step) {
-        println!(rt; "{} {}", tally.examined, tally.needed)?;
+        println!(rt; "{} {} {}", tally.examined, tally.needed, tally.elements)?;
     }
     Ok(())
 }
@@ -313,8 +340,11 @@ def main():
                 subprocess.run([compiler, "compile", f"{TOP}/examples/{of}.json"], check=True, stdout=out)
             for where, step in (("in the middle", 0), ("all over", 7919)):
                 printed, _, _ = run(program, str(edits), str(step), f"{folder}/language", f"{folder}/text")
-                examined, needed = [int(word) / edits for word in printed.split()]
-                print(f"{name}, {where}: {examined:.1f} bytes lexed an edit, {needed:.1f} needed")
+                examined, needed, elements = [int(word) / edits for word in printed.split()]
+                print(
+                    f"{name}, {where}: {examined:.1f} bytes lexed an edit, {needed:.1f} needed, "
+                    f"{elements:.1f} elements offered"
+                )
 
 
 if __name__ == "__main__":
