@@ -6,10 +6,12 @@ pub mod FormLemmas
 pub mod LeafLemmas
 pub mod LeavesLemmas
 pub mod LengthenLemmas
+pub mod PlaceLemmas
 pub mod ProductionLemmas
 pub mod ReducedLemmas
 pub mod RemadeLemmas
 pub mod RemakeLemmas
 pub mod RunLemmas
+pub mod SettledLemmas
 pub mod TotalLemmas
 pub mod WholeLemmas

@@ -83,7 +83,7 @@ pub(crate) fn counts_of_one(element: Element, children: &[Node]) -> Counts
 }
 
 /// The extent, or so many bytes, where these are more.
-fn further(extent: u32, bytes: u64) -> u64
+pub(crate) fn further(extent: u32, bytes: u64) -> u64
     ensures far { result ≡ max extent bytes }
     ensures near { result ≤ bytes + 2 ^ 32 }
 {

@@ -14,6 +14,7 @@ mod places;
 mod productions;
 mod run;
 mod section;
+mod settled;
 mod sums;
 
 pub use change::remake;

@@ -1,10 +1,10 @@
 //! Where the elements of a repetition begin, and which are settled: a node and the number of an
 //! element go in, bytes or a count come out, or the other way round.
-ghost use Rattle.std.specs.Prelude.{◌≡◌, ◌+◌, ◌<◌, ◌≤◌, ◌^◌, length, drop, MatchOption};
+ghost use Rattle.std.specs.Prelude.{◌≡◌, ◌+◌, ◌<◌, ◌≤◌, ◌^◌, length, take, drop, MatchOption};
 ghost use Rattle.spec_trees.specs.Trees.{elements_of};
 ghost use Rattle.spec_trees.specs.Made.{children_count, bytes_before, settled_first, stretch_in};
 ghost use Rattle.ts_node.specs.Held.{stretch};
-ghost use Rattle.ts_node.specs.Places.{BeginsAt, NoneBeginsAt};
+ghost use Rattle.ts_node.specs.Places.{BeginsAt, NoneBeginsAt, IsLastBy};
 
 use crate::counts::{own, spans};
 use crate::cut::owned;
@@ -45,6 +45,40 @@ impl Node {
                 let _ = self.nodes();
                 repetition.get().run().get().bytes_before(e) as u32
             }
+        }
+    }
+
+    /// How many children stand in the node before those of the element at `e`, or in all elements,
+    /// where there are so many. It takes time by the logarithm of the number of elements.
+    #[tactic(auto, using(crate::proofs::BodyLemmas::leaf_none, crate::proofs::PlaceLemmas::none_before))]
+    pub fn children_before(&self, e: u32) -> u32
+        requires { e ≤ length (elements_of self.now) }
+        ensures { result ≡ children_count (take e (elements_of self.now)) }
+    {
+        match &self.kind {
+            Kind::Leaf(_) => 0,
+            Kind::Rule(rule) => {
+                let _ = rule.get().children();
+                0
+            }
+            Kind::Repetition(repetition) => repetition.get().run().get().children_before(e),
+        }
+    }
+
+    /// The last element before which so many bytes stand in the node, or fewer. It takes time by
+    /// the logarithm of the number of elements.
+    #[tactic(auto, using(crate::proofs::BodyLemmas::leaf_none))]
+    pub fn last_by(&self, offset: u32) -> u32
+        requires { 0 < length (elements_of self.now) }
+        ensures { IsLastBy offset (stretch_in self.now) result }
+    {
+        match &self.kind {
+            Kind::Leaf(_) => unreachable!(),
+            Kind::Rule(rule) => {
+                let _ = rule.get().children();
+                unreachable!()
+            }
+            Kind::Repetition(repetition) => repetition.get().run().get().last_by(offset as u64),
         }
     }
 
@@ -137,6 +171,49 @@ impl Run {
         }
     }
 
+    /// How many children the elements before the one at `k` have.
+    fn children_before(&self, k: u32) -> u32
+        requires { k ≤ length self.now.elements }
+        ensures { result ≡ children_count (take k self.now.elements) }
+    {
+        let _ = self.counts();
+        match &self.shape {
+            Shape::Leaf(elements, _) => owned_before(elements.as_slice(), k as usize),
+            Shape::Branch(left, right) => {
+                let low = left.get().counts();
+                let _ = right.get().counts();
+                let middle = low.elements;
+                if k <= middle {
+                    left.get().children_before(k)
+                } else {
+                    low.children + right.get().children_before(k - middle)
+                }
+            }
+        }
+    }
+
+    /// The last element before which so many bytes stand, or fewer.
+    fn last_by(&self, offset: u64) -> u32
+        ensures { IsLastBy offset self.now result }
+    {
+        let _ = self.counts();
+        match &self.shape {
+            Shape::Leaf(elements, children) => {
+                last_among(elements.as_slice(), children.as_slice(), offset)
+            }
+            Shape::Branch(left, right) => {
+                let low = left.get().counts();
+                let _ = right.get().counts();
+                let bytes = low.sums.spans;
+                if offset < bytes {
+                    left.get().last_by(offset)
+                } else {
+                    low.elements + right.get().last_by(offset - bytes)
+                }
+            }
+        }
+    }
+
     /// An element before which so many bytes stand.
     pub(crate) fn element_at(&self, offset: u64) -> Option<u32>
         ensures { MatchOption result (NoneBeginsAt offset self.now)
@@ -175,6 +252,17 @@ fn bytes_among(elements: &[Element], children: &[Node], k: usize) -> u64
     let (first, _) = elements.split_at(k);
     let (before, _) = children.split_at(owned(first));
     spans(before)
+}
+
+/// How many children the elements before the one at `k` have.
+#[tactic(auto, using(crate::proofs::ElementLemmas::count_within))]
+fn owned_before(elements: &[Element], k: usize) -> u32
+    requires within { k ≤ length elements.now }
+    requires few { children_count elements.now < 2 ^ 32 }
+    ensures { result ≡ children_count (take k elements.now) }
+{
+    let (first, _) = elements.split_at(k);
+    owned(first) as u32
 }
 
 /// How many of the elements are settled from the one at `k` on, one after another.
@@ -217,4 +305,27 @@ fn element_among(elements: &[Element], children: &[Node], offset: u64) -> Option
         from += count;
     }
     None
+}
+
+/// The last element before which so many bytes stand, or fewer.
+fn last_among(elements: &[Element], children: &[Node], offset: u64) -> u32
+    requires some { 0 < length elements.now }
+    requires own { children_count elements.now ≡ length children.now }
+    requires fits { length elements.now < 2 ^ 32 }
+    requires wide { length children.now < 2 ^ 32 }
+    ensures { IsLastBy offset (stretch elements.now children.now) result }
+{
+    let mut from = 0usize;
+    let mut at = 0u64;
+    let many = elements.len() as u32;
+    for k in 0..many {
+        if at > offset {
+            return k - 1;
+        }
+        let count = elements[k as usize].children as usize;
+        let bytes = spans(own(children, from, count));
+        at += bytes;
+        from += count;
+    }
+    many - 1
 }
