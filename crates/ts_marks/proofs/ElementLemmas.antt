@@ -47,25 +47,25 @@ totals-marked e (t ∷ ts) place =
 
 -- ---- parts of the children
 
-take-marked : (n : ℕ) (e : Edit) (ts : List Tree) (place : ℕ) → take n (all_marked e ts place) ≡ all_marked e (take n ts) place
+pub take-marked : (n : ℕ) (e : Edit) (ts : List Tree) (place : ℕ) → take n (all_marked e ts place) ≡ all_marked e (take n ts) place
 take-marked zero e ts place = refl
 take-marked (suc n) e [] place = refl
 take-marked (suc n) e (t ∷ ts) place = ap (λ (xs : List Tree). marked_below e t place ∷ xs) (take-marked n e ts (place + span_of t))
 
-drop-marked : (n : ℕ) (e : Edit) (ts : List Tree) (place : ℕ) → drop n (all_marked e ts place) ≡ all_marked e (drop n ts) (place + all_spans (take n ts))
+pub drop-marked : (n : ℕ) (e : Edit) (ts : List Tree) (place : ℕ) → drop n (all_marked e ts place) ≡ all_marked e (drop n ts) (place + all_spans (take n ts))
 drop-marked zero e ts place = let p : place ≡ place + 0 = omega arith in ap (all_marked e ts) p
 drop-marked (suc n) e [] place = refl
 drop-marked (suc n) e (t ∷ ts) place =
     let p : place + span_of t + all_spans (take n ts) ≡ place + (span_of t + all_spans (take n ts)) = omega arith in
     drop-marked n e ts (place + span_of t) ∙ ap (all_marked e (drop n ts)) p
 
-whole_take : (n : ℕ) (ts : List Tree) → AllWhole ts → AllWhole (take n ts)
+pub whole_take : (n : ℕ) (ts : List Tree) → AllWhole ts → AllWhole (take n ts)
 whole_take zero ts w k t i = absurd (omega (arith, slice_get_within [] k t i))
 whole_take (suc n) [] w k t i = absurd (omega (arith, slice_get_within [] k t i))
 whole_take (suc n) (x ∷ ts) w zero t i = w 0 t i
 whole_take (suc n) (x ∷ ts) w (suc k) t i = whole_take n ts (λ j c h. w (suc j) c h) k t i
 
-whole_drop : (n : ℕ) (ts : List Tree) → AllWhole ts → AllWhole (drop n ts)
+pub whole_drop : (n : ℕ) (ts : List Tree) → AllWhole ts → AllWhole (drop n ts)
 whole_drop zero ts w = w
 whole_drop (suc n) [] w = w
 whole_drop (suc n) (x ∷ ts) w = whole_drop n ts (λ j c h. w (suc j) c h)

@@ -89,7 +89,7 @@ spans_are e (t ∷ ts) place =
 depth_is : (t : Tree) → tree_depth t ≡ 1 + greatest_depth (children_of t)
 depth_is t = fold_out-Tree ℕ depth_step t
 
-count_is : (t : Tree) → node_count t ≡ 1 + (length (elements_of t) + all_nodes (children_of t))
+pub count_is : (t : Tree) → node_count t ≡ 1 + (length (elements_of t) + all_nodes (children_of t))
 count_is t = fold_out-Tree ℕ nodes_step t
 
 many_marked : (e : Edit) (es : List Element) (ks : List Tree) (place : ℕ) → length (marked_elements e es ks place) ≡ length es

@@ -8,7 +8,7 @@ use Rattle.spec_trees.specs.Made.{most_span}
 use Rattle.spec_reuse.specs.Changes.{is_met, moved, moved_from}
 use Rattle.ts_marks.specs.declared.passed.Passed.{Passed}
 use Rattle.ts_marks.specs.Parts.{AreOrdered, IsPassed}
-use Rattle.ts_marks.specs.Passing.{left_of, BeginsBy, EndsBy, HasNext, IsNextOf, IsTowards}
+use Rattle.ts_marks.specs.Passing.{left_of, next_start_of, BeginsBy, EndsBy, HasNext, IsNextOf, IsTowards}
 use Rattle.ts_marks.proofs.MovedLemmas.{moved_low, moved_high, met_behind, met_first, less_or, is_lower, is_not_lower}
 use Rattle.ts_marks.proofs.MarkedLemmas.{drop_next}
 
@@ -44,6 +44,12 @@ ended a p place e h = subst (λ (ps : List Part). EndsBy ps place) (left_at a p 
 
 pub none_begins : (a : Passed) (place : ℕ) → length a.edit.now.parts ≤ a.next → BeginsBy (left_of a) place → ⊥
 none_begins a place h b = subst (λ (ps : List Part). BeginsBy ps place) (drop_all a.next a.edit.now.parts h) b
+
+pub next_start_is : (a : Passed) (p : Part) → slice_get a.edit.now.parts a.next ≡ Some p → p.start ≡ next_start_of (left_of a)
+next_start_is a p e = sym (ap next_start_of (left_at a p e))
+
+pub no_next_start : (a : Passed) → length a.edit.now.parts ≤ a.next → 4294967295 ≡ next_start_of (left_of a)
+no_next_start a h = sym (ap next_start_of (drop_all a.next a.edit.now.parts h))
 
 -- ---- one part more
 

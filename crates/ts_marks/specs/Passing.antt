@@ -1,10 +1,11 @@
 -- How far the parts of an edit have been gone through. For private clauses and proofs alone.
-use Rattle.std.specs.Prelude.{◌≡◌, ℕ, ◌+◌, ◌-◌, ◌≤◌, ◌⊎◌, ◌++◌, List, [], ◌∷◌, length, drop, slice_get, Some}
+use Rattle.std.specs.Prelude.{◌≡◌, ℕ, ◌+◌, ◌-◌, ◌<◌, ◌≤◌, ◌⊎◌, ◌++◌, List, [], ◌∷◌, length, take, drop, slice_get, Some, All}
 use Rattle.ts_text.specs.declared.edit.Edit.{Edit}
 use Rattle.ts_text.specs.declared.edit.Part.{Part}
 use Rattle.spec_trees.specs.declared.tree.Tree.{Tree}
 use Rattle.spec_trees.specs.declared.tree.Element.{Element}
-use Rattle.spec_trees.specs.Made.{loose_element, loosened, replaced, most_span}
+use Rattle.spec_trees.specs.Trees.{children_of, elements_of, all_spans}
+use Rattle.spec_trees.specs.Made.{bytes_before, children_count, loose_element, loosened, replaced, most_span, stretch_in}
 use Rattle.spec_reuse.specs.Changes.{moved, moved_from}
 use Rattle.spec_reuse.specs.Marked.{all_marked, marked_below, marked_element, marked_elements}
 use Rattle.ts_marks.specs.declared.passed.Passed.{Passed}
@@ -30,6 +31,11 @@ pub record HasNext (p : Passed) : Type 0 where
   pub there : slice_get p.edit.now.parts p.next ≡ Some part
   pub after : p.from ≤ part.start
   pub short : p.to + ((part.start - p.from) + length part.new) ≤ most_span
+
+-- where the first part begins, and the greatest number of 32 bits where there is none
+abbrev pub next_start_of : List Part → ℕ
+next_start_of [] = 4294967295
+next_start_of (p ∷ ps) = p.start
 
 -- one part more is passed
 pub record IsNextOf (p q : Passed) : Type 0 where
@@ -78,3 +84,34 @@ pub record AreDone
   pub many : length done ≡ k
   pub changed : replaced changes ts ≡ done ++ drop k ts
   pub all : all_marked edit ts base ≡ done ++ all_marked edit (drop k ts) place
+
+-- how many bytes the nodes from one number on take, up to another
+abbrev pub spans_between : ℕ → ℕ → List Tree → ℕ
+spans_between from to ts = all_spans (take (to - from) (drop from ts))
+
+-- children from one number on are done, up to another, where those before them are done
+pub record AddsChildren
+    (edit : Edit) (ts : List Tree) (from to place : ℕ) (old new : List (ℕ × Tree)) : Type 0 where
+  pub done : (base : ℕ) → AreDone edit ts base old from place
+      → AreDone edit ts base new to (place + spans_between from to ts)
+  pub within : All (λ change. change.0 < length ts) old → All (λ change. change.0 < length ts) new
+
+-- the children of the first k elements of a node are done
+abbrev pub AreDoneTo : Edit → Tree → ℕ → List (ℕ × Tree) → ℕ → Type 0
+AreDoneTo edit t base changes k =
+    AreDone edit (children_of t) base changes (children_count (take k (elements_of t)))
+    (base + bytes_before k (stretch_in t))
+
+-- the first k elements of a node are done
+abbrev pub AreLoosenedTo : Edit → Tree → ℕ → List ℕ → ℕ → Type 0
+AreLoosenedTo edit t base loose k =
+    AreLoosened edit (elements_of t) (children_of t) base loose k
+    (children_count (take k (elements_of t))) (base + bytes_before k (stretch_in t))
+
+-- the elements of a node from one number on stay as they are, up to another, and so do their
+-- children
+pub record StayTo (edit : Edit) (t : Tree) (base from to : ℕ) : Type 0 where
+  pub children : (changes : List (ℕ × Tree)) → AreDoneTo edit t base changes from
+      → AreDoneTo edit t base changes to
+  pub elements : (loose : List ℕ) → AreLoosenedTo edit t base loose from
+      → AreLoosenedTo edit t base loose to

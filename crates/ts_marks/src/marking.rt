@@ -1,10 +1,10 @@
 //! Marking a tree: a tree and an edit go in, and the tree as the edit leaves it comes out.
 ghost use Rattle.std.specs.Prelude.{◌≡◌, ◌+◌, ◌<◌, ◌≤◌, true, false, All, IfOk, OnOk, length};
 ghost use Rattle.spec_trees.specs.Trees.{children_of, elements_of, is_settled, node_extent, span_of, all_spans};
-ghost use Rattle.spec_trees.specs.Made.{loosened, most_span, replaced};
+ghost use Rattle.spec_trees.specs.Made.{bytes_before, loosened, most_span, replaced, stretch_in};
 ghost use Rattle.spec_reuse.specs.Changes.{is_met, moved, IsEditOver};
 ghost use Rattle.spec_reuse.specs.Marked.{marked, marked_below, all_marked, marked_elements};
-ghost use Rattle.ts_marks.specs.Passing.{EndsBy, Adds, Loosens, left_of};
+ghost use Rattle.ts_marks.specs.Passing.{EndsBy, Adds, AddsChildren, Loosens, StayTo, left_of, spans_between};
 
 use crate::passed::Passed;
 use crate::spans::{lead, span};
@@ -16,9 +16,10 @@ use ts_text::Edit;
 /// The tree of a text after an edit: the root and all nodes and elements that a part of the edit
 /// met are not settled, sizes follow the edit, and all nodes that it did not reach are shared.
 ///
-/// A settled node that no part meets costs one look, whatever is in it. So it takes time by the
-/// nodes that are made anew and their children. Of a repetition that is made anew each child is
-/// looked at, and each element; and for each that changes a leaf of the repetition is copied.
+/// A settled node that no part meets costs one look, whatever is in it. So do settled elements of a
+/// repetition one after another, where each part meets a few of them: the next that it may meet is
+/// found in time by the logarithm of their number. For each child and each element that changes a
+/// leaf of the repetition is copied, and the other leaves are shared.
 ///
 /// # Errors
 ///
@@ -61,16 +62,97 @@ fn changed_children<'e>(
     ensures within { IfOk result (λ changed.
         All (λ change. change.0 < length (children_of node.now)) changed.items) }
 {
+    if node.elements() == 0 {
+        changed_one_by_one(alloc, node, place, passed)
+    } else {
+        changed_in_elements(alloc, node, place, passed)
+    }
+}
+
+/// The same, where each child is looked at.
+#[cycle(walk)]
+fn changed_one_by_one<'e>(
+    alloc: Global,
+    node: &Node,
+    place: u32,
+    passed: Passed<'e>,
+) -> Result<Vec<(u32, Node)>, AllocError>
+    requires from { passed.from ≤ place }
+    requires short { place + all_spans (children_of node.now) ≤ most_span }
+    requires moved { moved passed.edit.now (place + all_spans (children_of node.now)) ≤ most_span }
+    ensures changes { IfOk result (λ changed. replaced changed.items (children_of node.now)
+        ≡ all_marked passed.entry.edit.now (children_of node.now) place) }
+    ensures within { IfOk result (λ changed.
+        All (λ change. change.0 < length (children_of node.now)) changed.items) }
+{
+    let mut changed = Vec::new(alloc);
+    let end = node.children();
+    add_children(alloc, node, 0, end, place, passed, &mut changed)?;
+    Ok(changed)
+}
+
+/// The same of a repetition: elements that the edit did not reach are passed at once.
+#[cycle(walk)]
+fn changed_in_elements<'e>(
+    alloc: Global,
+    node: &Node,
+    place: u32,
+    passed: Passed<'e>,
+) -> Result<Vec<(u32, Node)>, AllocError>
+    requires repetition { 0 < length (elements_of node.now) }
+    requires from { passed.from ≤ place }
+    requires short { place + all_spans (children_of node.now) ≤ most_span }
+    requires moved { moved passed.edit.now (place + all_spans (children_of node.now)) ≤ most_span }
+    ensures changes { IfOk result (λ changed. replaced changed.items (children_of node.now)
+        ≡ all_marked passed.entry.edit.now (children_of node.now) place) }
+    ensures within { IfOk result (λ changed.
+        All (λ change. change.0 < length (children_of node.now)) changed.items) }
+{
     let mut changed = Vec::new(alloc);
     let mut passed = passed;
-    let mut at = place;
-    for k in 0..node.children() {
-        let child = node.child(k);
+    let first = first_reached(node, 0, place, passed);
+    let end = node.elements();
+    let mut k = first;
+    while k < end {
+        let at = place + node.offset(k);
         passed = passed.up_to(at);
-        add_changed(alloc, child, k, at, passed, &mut changed)?;
-        at += span(child);
+        let from = node.children_before(k);
+        let to = node.children_before(k + 1);
+        add_children(alloc, node, from, to, at, passed, &mut changed)?;
+        k = first_reached(node, k + 1, place, passed);
     }
     Ok(changed)
+}
+
+/// Adds to the changes those children from one number on, up to another, that the edit reached.
+#[cycle(walk)]
+fn add_children<'e>(
+    alloc: Global,
+    node: &Node,
+    from: u32,
+    to: u32,
+    place: u32,
+    passed: Passed<'e>,
+    changed: &mut Vec<(u32, Node)>,
+) -> Result<(), AllocError>
+    requires order { from ≤ to }
+    requires within { to ≤ length (children_of node.now) }
+    requires passed { passed.from ≤ place }
+    requires short { place + spans_between from to (children_of node.now) ≤ most_span }
+    requires moved { moved passed.edit.now (place + spans_between from to (children_of node.now))
+        ≤ most_span }
+    ensures { OnOk result (AddsChildren passed.entry.edit.now (children_of node.now) from to place
+        changed.old.items changed.new.items) }
+{
+    let mut passed = passed;
+    let mut at = place;
+    for k in from..to {
+        let child = node.child(k);
+        passed = passed.up_to(at);
+        add_changed(alloc, child, k, at, passed, changed)?;
+        at += span(child);
+    }
+    Ok(())
 }
 
 /// The numbers of the elements of a node that were settled, and that the edit reached.
@@ -91,12 +173,30 @@ fn loose_elements<'e>(
 {
     let mut loose = Vec::new(alloc);
     let mut passed = passed;
-    for k in 0..node.elements() {
+    let first = first_reached(node, 0, place, passed);
+    let end = node.elements();
+    let mut k = first;
+    while k < end {
         let at = place + node.offset(k);
         passed = passed.up_to(at);
         add_loose(node.element(k), k, at, passed, &mut loose)?;
+        k = first_reached(node, k + 1, place, passed);
     }
     Ok(loose)
+}
+
+/// The number of the first element from the one at `k` on that the next part may meet, or that is
+/// not settled. Those before it stay as they are, and are passed at once.
+fn first_reached<'e>(node: &Node, k: u32, place: u32, passed: Passed<'e>) -> u32
+    requires within { k ≤ length (elements_of node.now) }
+    requires from { passed.from ≤ place + bytes_before k (stretch_in node.now) }
+    ensures later { k ≤ result }
+    ensures within { result ≤ length (elements_of node.now) }
+    ensures stay { StayTo passed.entry.edit.now node.now place k result }
+{
+    let _ = node.nodes();
+    let room = passed.next_start().saturating_sub(place);
+    k + node.settled_within(k, room)
 }
 
 /// Adds the number of an element to those that the edit reached, where it did.

@@ -22,7 +22,7 @@ pub(crate) struct Passed<'e> {
 }
 
 impl<'e> Passed<'e> {
-    ghost use Rattle.ts_marks.specs.Passing.{HasNext, IsNextOf, BeginsBy, EndsBy, left_of};
+    ghost use Rattle.ts_marks.specs.Passing.{HasNext, IsNextOf, BeginsBy, EndsBy, left_of, next_start_of};
 
     /// No part is passed.
     pub(crate) fn start(edit: &'e Edit) -> Passed<'e>
@@ -96,6 +96,20 @@ impl<'e> Passed<'e> {
             passed = passed.with_next();
         }
         passed.to + place.saturating_sub(passed.from)
+    }
+
+    /// Where the first part that is left begins, so that no part meets what ends there or before
+    /// it. The greatest number where none is left.
+    #[tactic(auto, using(crate::proofs::PassedLemmas::next_start_is, crate::proofs::PassedLemmas::no_next_start))]
+    pub(crate) fn next_start(&self) -> u32
+        ensures { result ≡ next_start_of (left_of self.now) }
+    {
+        let parts = self.edit.parts.as_slice();
+        if self.next < parts.len() {
+            parts[self.next].start
+        } else {
+            u32::MAX
+        }
     }
 
     /// Whether a part of the edit meets so many bytes from a place on, where the first part that is

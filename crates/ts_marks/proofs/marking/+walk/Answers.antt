@@ -1,31 +1,191 @@
-use Rattle.std.proofs.Common.{◌≡◌, ◌+◌, ◌-◌, ◌≤◌, ◌∙◌, ℕ, ap, sym, subst, refl, inl, arith, List, length}
+use Rattle.std.proofs.Common.{◌≡◌, ◌+◌, ◌-◌, ◌<◌, ◌≤◌, ◌∙◌, ℕ, ap, sym, subst, refl, inl, arith, List, [], length, take, All}
+use Rattle.std.proofs.lemmas.List.{take_all}
+use Rattle.std.proofs.lemmas.List.Elements.{All-nil}
 use Rattle.std.proofs.lemmas.Result.{IfOk-weaker}
 use Rattle.ts_text.specs.declared.edit.Edit.{Edit}
 use Rattle.spec_trees.specs.declared.tree.Tree.{Tree}
 use Rattle.spec_trees.specs.Trees.{children_of, elements_of, pad_of, span_of, all_spans}
-use Rattle.spec_trees.specs.Made.{most_span, loosened, remade, replaced}
+use Rattle.spec_trees.specs.Made.{most_span, bytes_before, children_count, loosened, remade, replaced, stretch_in}
 use Rattle.spec_reuse.specs.Changes.{moved}
 use Rattle.spec_reuse.specs.Marked.{all_marked, marked_below, marked_elements}
-use Rattle.ts_marks.specs.Passing.{Adds}
+use Rattle.ts_node.proofs.ElementLemmas.{some_counted, count_within}
+use Rattle.ts_node.proofs.PlaceLemmas.{count_rises, bytes_rise}
+use Rattle.ts_marks.specs.Passing.{Adds, AddsChildren, AreDone, AreDoneTo, StayTo, spans_between}
 use Rattle.ts_marks.proofs.MovedLemmas.{moved_rises}
-use Rattle.ts_marks.proofs.MarkedLemmas.{stays, spans_at, child_depth}
+use Rattle.ts_marks.proofs.MarkedLemmas.{stays, child_depth}
 use Rattle.ts_marks.proofs.RemadeLemmas.{below_is, below_can, edges_short, moved_short, next_done, next_within}
+use Rattle.ts_marks.proofs.ElementLemmas.{bytes_within}
+use Rattle.ts_marks.proofs.SkipLemmas.{between_next, between_end, between_within, element_end, begin_done, all_done}
 use Rattle.ts_marks.proofs.marking.+walk.Goals as goal
 
 pub add_changed-returns-then-not-is_reached : goal.add_changed-returns-then-not-is_reached
 add_changed-returns-then-not-is_reached t c =
     inl (stays c.args.passed.edit.now c.args.child.now c.args.place c.args.passed.passed.whole c.nodes.ensures.whole (c.is_reached.ensures.settled c.if-not-is_reached.true) (c.is_reached.ensures.unmet c.if-not-is_reached.true), refl)
 
-pub changed_children-up_to-passed-requires-clause-short : goal.changed_children-up_to-passed-requires-clause-short
-changed_children-up_to-passed-requires-clause-short t c =
-    let s : moved c.args.passed.edit.now c.loop-k.at ≤ most_span = moved_short c.args.passed.edit.now c.loop-k.at (c.args.place + all_spans (children_of c.args.node.now)) (omega (arith, c.loop-k.invariant.left)) c.requires.moved in
+pub changed_children-changed_one_by_one-requires : goal.changed_children-changed_one_by_one-requires
+changed_children-changed_one_by_one-requires t c = (omega (arith, c.decreases), (c.requires.from, (c.requires.short, c.requires.moved)))
+
+pub changed_children-changed_in_elements-requires : goal.changed_children-changed_in_elements-requires
+changed_children-changed_in_elements-requires t c = (
+  omega (arith, c.decreases),
+  (omega (arith, c.if-elements-eq0.false, c.elements.ensures.count), (c.requires.from, (c.requires.short, c.requires.moved))),
+)
+
+pub changed_one_by_one-add_children-requires : goal.changed_one_by_one-add_children-requires
+changed_one_by_one-add_children-requires t c =
+    let ks = children_of c.args.node.now in
+    let bytes : spans_between 0 c.children-end.result ks ≤ all_spans ks = omega (arith, between_within ks 0 c.children-end.result) in (
+      omega (arith, c.decreases),
+      (
+        omega arith,
+        (
+          omega (arith, c.children-end.ensures),
+          (
+            c.requires.from,
+            (
+              omega (arith, bytes, c.requires.short),
+              moved_short c.args.passed.edit.now (c.args.place + spans_between 0 c.children-end.result ks) (c.args.place + all_spans ks) (omega (arith, bytes)) c.requires.moved,
+            ),
+          ),
+        ),
+      ),
+    )
+
+pub changed_one_by_one-returns-clause-changes : goal.changed_one_by_one-returns-clause-changes
+changed_one_by_one-returns-clause-changes t c =
+    let e = c.args.passed.edit.now in
+    let ks = children_of c.args.node.now in
+    let start : AreDone e ks c.args.place c.new-changed.result.items 0 c.args.place =
+    subst (λ (cs : List (ℕ × Tree)). AreDone e ks c.args.place cs 0 c.args.place) (sym c.new-changed.ensures.items) (begin_done e ks c.args.place c.args.place refl) in
+    all_done e ks c.args.place c.add_children.new.changed.items c.children-end.result (c.args.place + spans_between 0 c.children-end.result ks) (omega (arith, c.children-end.ensures))
+    (c.in_ok-add_children.ensures.done c.args.place start)
+
+pub changed_one_by_one-returns-clause-within : goal.changed_one_by_one-returns-clause-within
+changed_one_by_one-returns-clause-within t c =
+    let n = length (children_of c.args.node.now) in
+    c.in_ok-add_children.ensures.within
+    (subst (λ (cs : List (ℕ × Tree)). All (λ (x : ℕ × Tree). x.0 < n) cs) (sym c.new-changed.ensures.items) (All-nil (λ (x : ℕ × Tree). x.0 < n)))
+
+pub changed_in_elements-returns-clause-changes : goal.changed_in_elements-returns-clause-changes
+changed_in_elements-returns-clause-changes t c =
+    let n = c.args.node.now in
+    let own : children_count (elements_of n) ≡ length (children_of n) = some_counted (elements_of n) (children_of n) c.requires.repetition c.elements-end.ensures.own in
+    let all : take c.loop-k.k (elements_of n) ≡ elements_of n = take_all c.loop-k.k (elements_of n) (omega (arith, c.loop-k-test.false, c.elements-end.ensures.count)) in
+    let count : children_count (take c.loop-k.k (elements_of n)) ≡ children_count (elements_of n) = ap children_count all in
+    all_done c.args.passed.edit.now (children_of n) c.args.place c.loop-k.changed.items (children_count (take c.loop-k.k (elements_of n))) (c.args.place + bytes_before c.loop-k.k (stretch_in n)) (omega (arith, own, count)) c.loop-k.invariant.done
+
+pub changed_in_elements-loop-k-init : goal.changed_in_elements-loop-k-init
+changed_in_elements-loop-k-init t c =
+    let e = c.args.passed.edit.now in
+    let n = c.args.node.now in
+    let none : bytes_before 0 (stretch_in n) ≡ 0 = refl in
+    let start : AreDoneTo e n c.args.place [] 0 = begin_done e (children_of n) c.args.place (c.args.place + bytes_before 0 (stretch_in n)) (omega (arith, none)) in
+    let here : AreDoneTo e n c.args.place c.new-changed.result.items 0 = subst (λ (cs : List (ℕ × Tree)). AreDoneTo e n c.args.place cs 0) (sym c.new-changed.ensures.items) start in
+    record {
+      edit = refl;
+      until = c.first_reached-first.ensures.within;
+      from = omega (arith, c.requires.from);
+      done = c.first_reached-first.ensures.stay.children c.new-changed.result.items here;
+      within = subst (λ (cs : List (ℕ × Tree)). All (λ (x : ℕ × Tree). x.0 < length (children_of n)) cs) (sym c.new-changed.ensures.items) (All-nil (λ (x : ℕ × Tree). x.0 < length (children_of n)));
+    }
+
+pub changed_in_elements-overflow_add-at : goal.changed_in_elements-overflow_add-at
+changed_in_elements-overflow_add-at t c =
+    omega (arith, c.offset.ensures, bytes_within (children_of c.args.node.now) (children_count (take c.loop-k.k (elements_of c.args.node.now))), c.requires.short)
+
+pub changed_in_elements-up_to-passed-requires-clause-from : goal.changed_in_elements-up_to-passed-requires-clause-from
+changed_in_elements-up_to-passed-requires-clause-from t c = omega (arith, c.loop-k.invariant.from, c.offset.ensures)
+
+pub changed_in_elements-up_to-passed-requires-clause-short : goal.changed_in_elements-up_to-passed-requires-clause-short
+changed_in_elements-up_to-passed-requires-clause-short t c =
+    let n = c.args.node.now in
+    let at : c.args.place + c.offset.result ≡ c.args.place + bytes_before c.loop-k.k (stretch_in n) = omega (arith, c.offset.ensures) in
+    let s : moved c.args.passed.edit.now (c.args.place + c.offset.result) ≤ most_span =
+    moved_short c.args.passed.edit.now (c.args.place + c.offset.result) (c.args.place + all_spans (children_of n))
+    (omega (arith, at, bytes_within (children_of n) (children_count (take c.loop-k.k (elements_of n))))) c.requires.moved in
+    subst (λ (e : Edit). moved e (c.args.place + c.offset.result) ≤ most_span) (sym c.loop-k.invariant.edit) s
+
+pub changed_in_elements-add_children-requires : goal.changed_in_elements-add_children-requires
+changed_in_elements-add_children-requires t c =
+    let n = c.args.node.now in
+    let es = elements_of n in
+    let ks = children_of n in
+    let k = c.loop-k.k in
+    let own : children_count es ≡ length ks = some_counted es ks c.requires.repetition c.elements-end.ensures.own in
+    let from : c.children_before-from.result ≡ children_count (take k es) = c.children_before-from.ensures in
+    let to : c.children_before-to.result ≡ children_count (take (k + 1) es) = c.children_before-to.ensures in
+    let end = element_end n k c.args.place c.offset.result c.children_before-from.result c.children_before-to.result c.offset.ensures from to in
+    let within = bytes_within ks (children_count (take (k + 1) es)) in
+    let s : moved c.args.passed.edit.now (c.args.place + c.offset.result + spans_between c.children_before-from.result c.children_before-to.result ks) ≤ most_span =
+    moved_short c.args.passed.edit.now (c.args.place + c.offset.result + spans_between c.children_before-from.result c.children_before-to.result ks) (c.args.place + all_spans ks) (omega (arith, end, within)) c.requires.moved in (
+      omega (arith, c.decreases),
+      (
+        omega (arith, from, to, count_rises k (k + 1) es (omega arith)),
+        (
+          omega (arith, to, own, count_within (k + 1) es),
+          (
+            c.up_to-passed.ensures.from,
+            (
+              omega (arith, end, within, c.requires.short),
+              subst (λ (e : Edit). moved e (c.args.place + c.offset.result + spans_between c.children_before-from.result c.children_before-to.result ks) ≤ most_span) (sym (c.up_to-passed.ensures.edit ∙ c.loop-k.invariant.edit)) s,
+            ),
+          ),
+        ),
+      ),
+    )
+
+pub changed_in_elements-first_reached-k-requires-clause-from : goal.changed_in_elements-first_reached-k-requires-clause-from
+changed_in_elements-first_reached-k-requires-clause-from t c =
+    omega (arith, c.up_to-passed.ensures.from, c.offset.ensures, bytes_rise (stretch_in c.args.node.now) c.loop-k.k (c.loop-k.k + 1) (omega arith))
+
+pub changed_in_elements-loop-k-smaller : goal.changed_in_elements-loop-k-smaller
+changed_in_elements-loop-k-smaller t c = omega (arith, c.loop-k-test.true, c.elements-end.ensures.count, c.first_reached-k.ensures.later)
+
+pub changed_in_elements-loop-k-preserved : goal.changed_in_elements-loop-k-preserved
+changed_in_elements-loop-k-preserved t c =
+    let e = c.args.passed.edit.now in
+    let n = c.args.node.now in
+    let es = elements_of n in
+    let ks = children_of n in
+    let k = c.loop-k.k in
+    let at = c.args.place + c.offset.result in
+    let from : c.children_before-from.result ≡ children_count (take k es) = c.children_before-from.ensures in
+    let to : c.children_before-to.result ≡ children_count (take (k + 1) es) = c.children_before-to.ensures in
+    let begin : c.args.place + bytes_before k (stretch_in n) ≡ at = omega (arith, c.offset.ensures) in
+    let end = element_end n k c.args.place c.offset.result c.children_before-from.result c.children_before-to.result c.offset.ensures from to in
+    let edit = c.up_to-passed.ensures.edit ∙ c.loop-k.invariant.edit in
+    let old = c.loop-k.changed.items in
+    let new = c.add_children.new.changed.items in
+    let adds : AddsChildren e ks c.children_before-from.result c.children_before-to.result at old new =
+    subst (λ (x : Edit). AddsChildren x ks c.children_before-from.result c.children_before-to.result at old new) edit c.in_ok-add_children.ensures in
+    let before : AreDone e ks c.args.place old c.children_before-from.result at =
+    subst (λ (m : ℕ). AreDone e ks c.args.place old c.children_before-from.result m) begin
+    (subst (λ (m : ℕ). AreDone e ks c.args.place old m (c.args.place + bytes_before k (stretch_in n))) (sym from) c.loop-k.invariant.done) in
+    let after : AreDoneTo e n c.args.place new (k + 1) =
+    subst (λ (m : ℕ). AreDone e ks c.args.place new (children_count (take (k + 1) es)) m) end
+    (subst (λ (m : ℕ). AreDone e ks c.args.place new m (at + spans_between c.children_before-from.result c.children_before-to.result ks)) to (adds.done c.args.place before)) in
+    let stay : StayTo e n c.args.place (k + 1) c.first_reached-k.result = subst (λ (x : Edit). StayTo x n c.args.place (k + 1) c.first_reached-k.result) edit c.first_reached-k.ensures.stay in
+    record {
+      edit = edit;
+      until = c.first_reached-k.ensures.within;
+      from = omega (arith, c.up_to-passed.ensures.from, c.offset.ensures, bytes_rise (stretch_in n) k c.first_reached-k.result (omega (arith, c.first_reached-k.ensures.later)));
+      done = stay.children new after;
+      within = adds.within c.loop-k.invariant.within;
+    }
+
+pub add_children-up_to-passed-requires-clause-short : goal.add_children-up_to-passed-requires-clause-short
+add_children-up_to-passed-requires-clause-short t c =
+    let s : moved c.args.passed.edit.now c.loop-k.at ≤ most_span =
+    moved_short c.args.passed.edit.now c.loop-k.at (c.args.place + spans_between c.args.from c.args.to (children_of c.args.node.now)) (omega (arith, c.loop-k.invariant.left)) c.requires.moved in
     subst (λ (e : Edit). moved e c.loop-k.at ≤ most_span) (sym c.loop-k.invariant.edit) s
 
-pub changed_children-add_changed-requires : goal.changed_children-add_changed-requires
-changed_children-add_changed-requires t c =
+pub add_children-add_changed-requires : goal.add_children-add_changed-requires
+add_children-add_changed-requires t c =
     let child : Tree = c.child-child.result.now in
-    let next = spans_at (children_of c.args.node.now) c.loop-k.k child c.child-child.ensures in
-    let s : moved c.args.passed.edit.now (c.loop-k.at + span_of child) ≤ most_span = moved_short c.args.passed.edit.now (c.loop-k.at + span_of child) (c.args.place + all_spans (children_of c.args.node.now)) (omega (arith, c.loop-k.invariant.left, next)) c.requires.moved in (
+    let ks = children_of c.args.node.now in
+    let next = between_next ks c.loop-k.k c.args.to child (omega (arith, c.loop-k-test.true)) c.child-child.ensures in
+    let s : moved c.args.passed.edit.now (c.loop-k.at + span_of child) ≤ most_span =
+    moved_short c.args.passed.edit.now (c.loop-k.at + span_of child) (c.args.place + spans_between c.args.from c.args.to ks) (omega (arith, c.loop-k.invariant.left, next)) c.requires.moved in (
       omega (arith, c.decreases, child_depth c.args.node.now c.loop-k.k child c.child-child.ensures),
       (
         c.up_to-passed.ensures.from,
@@ -39,19 +199,34 @@ changed_children-add_changed-requires t c =
       ),
     )
 
-pub changed_children-loop-k-preserved : goal.changed_children-loop-k-preserved
-changed_children-loop-k-preserved t c =
+pub add_children-loop-k-preserved : goal.add_children-loop-k-preserved
+add_children-loop-k-preserved t c =
     let child : Tree = c.child-child.result.now in
-    let next = spans_at (children_of c.args.node.now) c.loop-k.k child c.child-child.ensures in
+    let ks = children_of c.args.node.now in
+    let next = between_next ks c.loop-k.k c.args.to child (omega (arith, c.loop-k-test.true)) c.child-child.ensures in
     let adds : Adds c.args.passed.edit.now child c.loop-k.k c.loop-k.at c.loop-k.changed.items c.add_changed.new.changed.items =
     subst (λ (e : Edit). Adds e child c.loop-k.k c.loop-k.at c.loop-k.changed.items c.add_changed.new.changed.items) (c.up_to-passed.ensures.edit ∙ c.loop-k.invariant.edit) c.in_ok-add_changed.ensures in
     let n : c.loop-k.at + c.span-at.result ≡ c.loop-k.at + span_of child = omega (arith, c.span-at.ensures.span) in
     record {
       edit = c.up_to-passed.ensures.edit ∙ c.loop-k.invariant.edit;
+      until = omega (arith, c.loop-k-test.true);
       from = omega (arith, c.up_to-passed.ensures.from);
       left = omega (arith, c.loop-k.invariant.left, next, c.span-at.ensures.span);
-      done = next_done c.args.passed.edit.now (children_of c.args.node.now) c.args.place c.loop-k.changed.items c.add_changed.new.changed.items c.loop-k.k c.loop-k.at (c.loop-k.at + c.span-at.result) child c.loop-k.invariant.done c.child-child.ensures adds n;
-      within = next_within c.args.passed.edit.now (length (children_of c.args.node.now)) c.loop-k.at c.loop-k.changed.items c.add_changed.new.changed.items c.loop-k.k child c.loop-k.invariant.within (omega (arith, c.loop-k-test.true, c.children-k-end.ensures)) adds;
+      done = λ base d. next_done c.args.passed.edit.now ks base c.loop-k.changed.items c.add_changed.new.changed.items c.loop-k.k c.loop-k.at (c.loop-k.at + c.span-at.result) child (c.loop-k.invariant.done base d) c.child-child.ensures adds n;
+      within = λ w. next_within c.args.passed.edit.now (length ks) c.loop-k.at c.loop-k.changed.items c.add_changed.new.changed.items c.loop-k.k child (c.loop-k.invariant.within w) (omega (arith, c.loop-k-test.true, c.requires.within)) adds;
+    }
+
+pub add_children-returns : goal.add_children-returns
+add_children-returns t c =
+    let e = c.args.passed.edit.now in
+    let ks = children_of c.args.node.now in
+    let end : c.loop-k.k ≡ c.args.to = omega (arith, c.loop-k-test.false, c.loop-k.invariant.until) in
+    let at : c.loop-k.at ≡ c.args.place + spans_between c.args.from c.args.to ks = omega (arith, c.loop-k.invariant.left, between_end ks c.loop-k.k c.args.to (omega (arith, c.loop-k-test.false))) in
+    record {
+      done = λ base d.
+          subst (λ (n : ℕ). AreDone e ks base c.loop-k.changed.items c.args.to n) at
+          (subst (λ (n : ℕ). AreDone e ks base c.loop-k.changed.items n c.loop-k.at) end (c.loop-k.invariant.done base d));
+      within = c.loop-k.invariant.within;
     }
 
 pub remade-moved-start-requires-clause-short : goal.remade-moved-start-requires-clause-short

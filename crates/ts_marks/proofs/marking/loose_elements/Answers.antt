@@ -1,11 +1,12 @@
-use Rattle.std.proofs.Common.{◌≡◌, ◌+◌, ◌<◌, ◌≤◌, ◌∙◌, ℕ, sym, subst, refl, arith, All, List, length, take, drop}
+use Rattle.std.proofs.Common.{◌≡◌, ◌+◌, ◌<◌, ◌≤◌, ◌∙◌, ℕ, sym, subst, refl, arith, All, List, [], length, take, drop}
 use Rattle.std.proofs.lemmas.List.Elements.{All-nil}
 use Rattle.ts_text.specs.declared.edit.Edit.{Edit}
 use Rattle.spec_trees.specs.declared.tree.Element.{Element}
 use Rattle.spec_trees.specs.Trees.{children_of, elements_of, all_spans}
 use Rattle.spec_trees.specs.Made.{most_span, bytes_before, children_count, stretch_in}
 use Rattle.spec_reuse.specs.Changes.{moved}
-use Rattle.ts_marks.specs.Passing.{Loosens, AreLoosened}
+use Rattle.ts_node.proofs.PlaceLemmas.{bytes_rise}
+use Rattle.ts_marks.specs.Passing.{Loosens, AreLoosened, AreLoosenedTo, StayTo}
 use Rattle.ts_marks.proofs.RemadeLemmas.{moved_short}
 use Rattle.ts_marks.proofs.ElementLemmas.{begin_loosened, next_loosened, all_loosened, next_known, next_count, next_bytes, bytes_within}
 use Rattle.ts_marks.proofs.marking.loose_elements.Goals as goal
@@ -15,13 +16,26 @@ overflow_add-at c =
     omega (arith, c.offset.ensures, bytes_within (children_of c.args.node.now) (children_count (take c.loop-k.k (elements_of c.args.node.now))), c.requires.short)
 
 pub loop-k-init : goal.loop-k-init
-loop-k-init c = record {
-  edit = refl;
-  from = omega (arith, c.requires.from);
-  done = subst (λ (ls : List ℕ). AreLoosened c.args.passed.edit.now (elements_of c.args.node.now) (children_of c.args.node.now) c.args.place ls 0 0 (c.args.place + 0)) (sym c.new-loose.ensures.items)
-      (begin_loosened c.args.passed.edit.now (elements_of c.args.node.now) (children_of c.args.node.now) c.args.place (c.args.place + 0) (omega arith));
-  known = subst (λ (ls : List ℕ). All (λ (i : ℕ). i < length (elements_of c.args.node.now)) ls) (sym c.new-loose.ensures.items) (All-nil (λ (i : ℕ). i < length (elements_of c.args.node.now)));
-}
+loop-k-init c =
+    let e = c.args.passed.edit.now in
+    let n = c.args.node.now in
+    let none : bytes_before 0 (stretch_in n) ≡ 0 = refl in
+    let start : AreLoosenedTo e n c.args.place [] 0 = begin_loosened e (elements_of n) (children_of n) c.args.place (c.args.place + bytes_before 0 (stretch_in n)) (omega (arith, none)) in
+    let here : AreLoosenedTo e n c.args.place c.new-loose.result.items 0 = subst (λ (ls : List ℕ). AreLoosenedTo e n c.args.place ls 0) (sym c.new-loose.ensures.items) start in
+    record {
+      edit = refl;
+      until = c.first_reached-first.ensures.within;
+      from = omega (arith, c.requires.from);
+      done = c.first_reached-first.ensures.stay.elements c.new-loose.result.items here;
+      known = subst (λ (ls : List ℕ). All (λ (i : ℕ). i < length (elements_of n)) ls) (sym c.new-loose.ensures.items) (All-nil (λ (i : ℕ). i < length (elements_of n)));
+    }
+
+pub first_reached-k-requires-clause-from : goal.first_reached-k-requires-clause-from
+first_reached-k-requires-clause-from c =
+    omega (arith, c.up_to-passed.ensures.from, c.offset.ensures, bytes_rise (stretch_in c.args.node.now) c.loop-k.k (c.loop-k.k + 1) (omega arith))
+
+pub loop-k-smaller : goal.loop-k-smaller
+loop-k-smaller c = omega (arith, c.loop-k-test.true, c.elements-end.ensures.count, c.first_reached-k.ensures.later)
 
 pub up_to-passed-requires-clause-from : goal.up_to-passed-requires-clause-from
 up_to-passed-requires-clause-from c = omega (arith, c.loop-k.invariant.from, c.offset.ensures)
@@ -51,14 +65,19 @@ loop-k-preserved c =
     let next : AreLoosened c.args.passed.edit.now es ks c.args.place c.add_loose.new.loose.items (k + 1) (children_count (take k es) + d.children) (at + all_spans (take d.children (drop (children_count (take k es)) ks))) =
     next_loosened c.args.passed.edit.now es ks c.args.place c.loop-k.loose.items c.add_loose.new.loose.items k (children_count (take k es)) at d c.loop-k.invariant.done c.element.ensures adds in
     let then_at : at + all_spans (take d.children (drop (children_count (take k es)) ks)) ≡ c.args.place + bytes_before (k + 1) (stretch_in c.args.node.now) = omega (arith, bytes) in
+    let after : AreLoosenedTo c.args.passed.edit.now c.args.node.now c.args.place c.add_loose.new.loose.items (k + 1) =
+    subst (λ (n : ℕ). AreLoosened c.args.passed.edit.now es ks c.args.place c.add_loose.new.loose.items (k + 1) (children_count (take (k + 1) es)) n) then_at
+    (subst (λ (n : ℕ). AreLoosened c.args.passed.edit.now es ks c.args.place c.add_loose.new.loose.items (k + 1) n (at + all_spans (take d.children (drop (children_count (take k es)) ks)))) (sym count) next) in
+    let stay : StayTo c.args.passed.edit.now c.args.node.now c.args.place (k + 1) c.first_reached-k.result =
+    subst (λ (x : Edit). StayTo x c.args.node.now c.args.place (k + 1) c.first_reached-k.result) edit c.first_reached-k.ensures.stay in
     record {
       edit = edit;
-      from = omega (arith, c.up_to-passed.ensures.from, place, bytes);
-      done = subst (λ (n : ℕ). AreLoosened c.args.passed.edit.now es ks c.args.place c.add_loose.new.loose.items (k + 1) (children_count (take (k + 1) es)) n) then_at
-          (subst (λ (n : ℕ). AreLoosened c.args.passed.edit.now es ks c.args.place c.add_loose.new.loose.items (k + 1) n (at + all_spans (take d.children (drop (children_count (take k es)) ks)))) (sym count) next);
-      known = next_known c.args.passed.edit.now (length es) k at d c.loop-k.loose.items c.add_loose.new.loose.items c.loop-k.invariant.known (omega (arith, c.loop-k-test.true, c.elements-k-end.ensures.count)) adds;
+      until = c.first_reached-k.ensures.within;
+      from = omega (arith, c.up_to-passed.ensures.from, c.offset.ensures, bytes_rise (stretch_in c.args.node.now) k c.first_reached-k.result (omega (arith, c.first_reached-k.ensures.later)));
+      done = stay.elements c.add_loose.new.loose.items after;
+      known = next_known c.args.passed.edit.now (length es) k at d c.loop-k.loose.items c.add_loose.new.loose.items c.loop-k.invariant.known (omega (arith, c.loop-k-test.true, c.elements-end.ensures.count)) adds;
     }
 
 pub returns-clause-loose : goal.returns-clause-loose
 returns-clause-loose c =
-    all_loosened c.args.passed.edit.now (elements_of c.args.node.now) (children_of c.args.node.now) c.args.place c.loop-k.loose.items c.loop-k.k _ _ (omega (arith, c.loop-k-test.false, c.elements-k-end.ensures.count)) c.loop-k.invariant.done
+    all_loosened c.args.passed.edit.now (elements_of c.args.node.now) (children_of c.args.node.now) c.args.place c.loop-k.loose.items c.loop-k.k _ _ (omega (arith, c.loop-k-test.false, c.elements-end.ensures.count)) c.loop-k.invariant.done
