@@ -1,4 +1,5 @@
 pub mod PlaceLemmas
+pub mod LeapLemmas
 pub mod WayLemmas
 pub mod TopLemmas
 pub mod RunLemmas

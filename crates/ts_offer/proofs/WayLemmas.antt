@@ -1,5 +1,5 @@
 -- What is ahead on the way down a tree, turn by turn.
-use Rattle.std.proofs.Common.{◌≡◌, ℕ, zero, suc, ◌+◌, ◌*◌, ◌<◌, ◌≤◌, ◌⊎◌, inl, inr, sym, ap, subst, ◌∙◌, refl, arith, List, [], ◌∷◌, ◌++◌, length, drop, slice_get, Some, None}
+use Rattle.std.proofs.Common.{◌≡◌, ℕ, zero, suc, ◌+◌, ◌-◌, ◌*◌, ◌<◌, ◌≤◌, ◌⊎◌, inl, inr, sym, ap, subst, ◌∙◌, refl, arith, List, [], ◌∷◌, ◌++◌, length, take, drop, slice_get, Some, None}
 use Rattle.std.proofs.lemmas.List.{drop_all}
 use Rattle.std.proofs.lemmas.Option.{slice_get_within}
 use Rattle.spec_trees.specs.declared.tree.Tree.{Tree}
@@ -10,7 +10,7 @@ use Rattle.spec_trees.specs.Inside as nodes
 use Rattle.spec_reuse.specs.Places.{IsIn, here, inside, later, IsWhole, lead_of}
 use Rattle.ts_offer.specs.declared.way.Turn.{Turn}
 use Rattle.ts_offer.specs.declared.way.Ahead.{Ahead}
-use Rattle.ts_offer.specs.Ways.{rest_of, IsAhead, IsTurn, AreTurns, StandsIn, AllStandIn, IsOn, weight, IsNext, IsPast, IsInto, IsReached, IsPassed, IsEntered}
+use Rattle.ts_offer.specs.Ways.{rest_of, IsAhead, IsBegun, IsTurn, AreTurns, StandsIn, AllStandIn, IsOn, weight, IsNext, IsPast, IsInto, IsReached, IsLater, IsPassed, IsEntered}
 use Rattle.ts_offer.proofs.PlaceLemmas.{drop_at, lie, none_in, split, single, wide, whole_children, whole_one, whole_drop, AllWhole, child_depth}
 
 -- ---- lists of turns
@@ -107,6 +107,19 @@ length-snoc (y ∷ xs) x = omega (arith, length-snoc xs x)
 
 -- ---- one step
 
+pub spans_before : (ts : List Tree) (k : ℕ) (c : Tree) → slice_get ts k ≡ Some c → all_spans (take (k + 1) ts) ≡ all_spans (take k ts) + span_of c
+spans_before ts k c e =
+    let n : k + 1 ≡ suc k = omega arith in
+    ap (λ (j : ℕ). all_spans (take j ts)) n ∙ by ts k e
+  where
+    by : (us : List Tree) (j : ℕ) → slice_get us j ≡ Some c → all_spans (take (suc j) us) ≡ all_spans (take j us) + span_of c
+    by [] j h = let f : ⊥ = omega (arith, slice_get_within [] j c h) in elim f [ ]
+    by (u ∷ us) zero h =
+        let s : Some u ≡ Some c = h in
+        let d : span_of u ≡ span_of c = cc in
+        omega (arith, d)
+    by (u ∷ us) (suc j) h = omega (arith, by us j h)
+
 rest_is : (t s : Turn) (c : Tree) → slice_get (children_of t.node.now) t.next ≡ Some c → IsPast t c s → rest_of t ≡ c ∷ rest_of s
 rest_is t s c e p =
     let n : suc t.next ≡ s.next = omega (arith, p.next) in
@@ -124,6 +137,10 @@ past_turn end deep t s c e p h =
       next = omega (arith, n, p.next, slice_get_within (children_of t.node.now) t.next c e);
       within = omega (arith, r, p.place, h.within);
       falls = omega (arith, d, h.falls);
+      begun = λ at is.
+          let a : all_spans (take s.next (children_of s.node.now)) ≡ all_spans (take (t.next + 1) (children_of t.node.now)) =
+          ap (λ (k : ℕ). all_spans (take k (children_of s.node.now))) p.next ∙ ap (λ (x : Tree). all_spans (take (t.next + 1) (children_of x))) p.node in
+          omega (arith, h.begun at (sym p.begins ∙ is), p.place, a, spans_before (children_of t.node.now) t.next c e);
     }
 
 -- the next child and the rest
@@ -209,6 +226,11 @@ into_turn t i s c end deep e past into h =
       next = omega (arith, into.next);
       within = omega (arith, r, into.place, past.place, (whole c nodes.itself).sized.within);
       falls = omega (arith, d, q, child_depth t.node.now t.next c e);
+      begun = λ at is.
+          let f : Some t.place ≡ Some at = sym into.begins ∙ is in
+          let g : t.place ≡ at = cc in
+          let n : all_spans (take i.next (children_of i.node.now)) ≡ 0 = ap (λ (k : ℕ). all_spans (take k (children_of i.node.now))) into.next in
+          omega (arith, into.place, g, n);
     }
 
 -- a child that begins before the place is gone into
@@ -304,6 +326,7 @@ first_way root size t w room node begins next place =
           next = omega (arith, next);
           within = omega (arith, s, place, (w root nodes.itself).sized.within);
           falls = omega (arith, d);
+          begun = λ at is. let f : None ≡ Some at = sym begins ∙ is in cc;
         },
         tt,
       );
@@ -352,6 +375,64 @@ lighter_into ts t s i c e p into =
     let k : all_nodes (rest_of i) ≡ all_nodes (children_of c) = ap all_nodes (into_rest t i c into) in
     omega (arith, r, n, k, weight-snoc ts t, weight-snoc ts s, weight-snoc (ts ++ s ∷ []) i)
 
+-- ---- more children at once
+
+child_at : (ts : List Tree) (k : ℕ) → k < length ts → (c : Tree) × (slice_get ts k ≡ Some c)
+child_at [] k h = absurd (omega (arith, h))
+child_at (t ∷ ts) zero h = (t, refl)
+child_at (t ∷ ts) (suc k) h = child_at ts k (omega (arith, h))
+
+-- a turn after one child more
+abbrev after_one : Turn → Tree → Turn
+after_one t c = record { node = t.node; begins = t.begins; next = t.next + 1; place = t.place + span_of c }
+
+is_after : (t : Turn) (c : Tree) → IsPast t c (after_one t c)
+is_after t c = record { node = refl; begins = refl; next = refl; place = refl }
+
+-- what is so of one child after another that ends at the place or before it
+passed_by : (P : Turn → Type 0) (place : ℕ) → ((t s : Turn) (c : Tree) → slice_get (children_of t.node.now) t.next ≡ Some c → IsPast t c s → s.place ≤ place → P t → P s)
+    → (n : ℕ) (t s : Turn) → s.node.now ≡ t.node.now → s.begins ≡ t.begins → s.next ≡ t.next + suc n → s.next ≤ length (children_of t.node.now) → s.place ≡ t.place + all_spans (take (suc n) (rest_of t)) → s.place ≤ place → P t → P s
+passed_by P place step zero t s node begins next within bytes ends h =
+    let q = child_at (children_of t.node.now) t.next (omega (arith, next, within)) in
+    let rest : rest_of t ≡ q.0 ∷ rest_of (after_one t q.0) = rest_is t (after_one t q.0) q.0 q.1 (is_after t q.0) in
+    let one : all_spans (take (suc zero) (rest_of t)) ≡ span_of q.0 + 0 = ap (λ (us : List Tree). all_spans (take (suc zero) us)) rest in
+    step t s q.0 q.1 (record { node = node; begins = begins; next = omega (arith, next); place = omega (arith, bytes, one) }) ends h
+passed_by P place step (suc m) t s node begins next within bytes ends h =
+    let q = child_at (children_of t.node.now) t.next (omega (arith, next, within)) in
+    let u = after_one t q.0 in
+    let rest : rest_of t ≡ q.0 ∷ rest_of u = rest_is t u q.0 q.1 (is_after t q.0) in
+    let more : all_spans (take (suc (suc m)) (rest_of t)) ≡ span_of q.0 + all_spans (take (suc m) (rest_of u)) = ap (λ (us : List Tree). all_spans (take (suc (suc m)) us)) rest in
+    passed_by P place step m u s node begins (omega (arith, next)) within (omega (arith, bytes, more)) ends
+    (step t u q.0 q.1 (is_after t q.0) (omega (arith, bytes, more, ends)) h)
+
+-- the same by what is known of a turn that is passed
+passed_all : (P : Turn → Type 0) (place : ℕ) → ((t s : Turn) (c : Tree) → slice_get (children_of t.node.now) t.next ≡ Some c → IsPast t c s → s.place ≤ place → P t → P s) → (t s : Turn) → IsPassed t place s → P t → P s
+passed_all P place step t s p h =
+    let l = p.later in
+    let n : s.next ≡ t.next + suc (s.next - (t.next + 1)) = omega (arith, p.some) in
+    let m : s.next - t.next ≡ suc (s.next - (t.next + 1)) = omega (arith, p.some) in
+    let b : s.place ≡ t.place + all_spans (take (suc (s.next - (t.next + 1))) (rest_of t)) = l.bytes ∙ ap (λ (k : ℕ). t.place + all_spans (take k (rest_of t))) m in
+    passed_by P place step (s.next - (t.next + 1)) t s l.node l.begins n l.within b l.ends h
+
+-- a turn after one child, or a later one
+pub past_later : (t u s : Turn) (c : Tree) (place : ℕ) → slice_get (children_of t.node.now) t.next ≡ Some c → IsPast t c u → IsLater u place s → IsPassed t place s
+past_later t u s c place e p l =
+    let m : s.next - t.next ≡ suc (s.next - u.next) = omega (arith, p.next, l.next) in
+    let b : all_spans (take (s.next - t.next) (rest_of t)) ≡ span_of c + all_spans (take (s.next - u.next) (rest_of u)) =
+    ap (λ (k : ℕ). all_spans (take k (rest_of t))) m ∙ ap (λ (us : List Tree). all_spans (take (suc (s.next - u.next)) us)) (rest_is t u c e p) in
+    let n : length (children_of u.node.now) ≡ length (children_of t.node.now) = ap (λ (x : Tree). length (children_of x)) p.node in
+    record {
+      some = omega (arith, p.next, l.next);
+      later = record {
+        node = l.node ∙ p.node;
+        begins = l.begins ∙ p.begins;
+        next = omega (arith, p.next, l.next);
+        within = omega (arith, l.within, n);
+        bytes = omega (arith, l.bytes, p.place, b);
+        ends = l.ends;
+      };
+    }
+
 -- ---- the loop
 
 roomier : (root : Tree) (size more : ℕ) (ts us : List Turn) (place : ℕ) → IsOn root size ts place → ts ≡ us → size ≤ more → IsOn root more us place
@@ -373,12 +454,17 @@ pub pop_turn : (root : Tree) (size : ℕ) (xs ts : List Turn) (t : Turn) (place 
 pop_turn root size xs ts t place w e =
     omega (arith, ends root size ts t place (popped root size xs ts t place w e), (w.whole root nodes.itself).sized.short)
 
+pub pop_begun : (root : Tree) (size : ℕ) (xs ts : List Turn) (t : Turn) (place : ℕ) → IsOn root size xs place → xs ≡ ts ++ t ∷ [] → IsBegun t
+pop_begun root size xs ts t place w e =
+    (turns_pop (span_of root) (1 + tree_depth root) ts t (popped root size xs ts t place w e).turns).1.begun
+
 pub go_over : (root : Tree) (size more : ℕ) (xs ts : List Turn) (t : Turn) (place : ℕ) → IsOn root size xs place → xs ≡ ts ++ t ∷ [] → (t.next < length (children_of t.node.now) → ⊥) → size ≤ more → IsOn root more ts place
 go_over root size more xs ts t place w e h le = roomier root size more ts ts place (over root size ts t place (popped root size xs ts t place w e) h) refl le
 
 pub go_past : (root : Tree) (size more : ℕ) (xs ts us : List Turn) (t s : Turn) (place : ℕ) → IsOn root size xs place → xs ≡ ts ++ t ∷ [] → IsPassed t place s → us ≡ ts ++ s ∷ [] → size ≤ more → IsOn root more us place
 go_past root size more xs ts us t s place w e h i le =
-    roomier root size more (ts ++ s ∷ []) us place (passed root size ts t s h.node place (popped root size xs ts t place w e) h.child h.after h.ends) (sym i) le
+    roomier root size more (ts ++ s ∷ []) us place
+    (passed_all (λ (x : Turn). IsOn root size (ts ++ x ∷ []) place) place (λ a b c f g end on. passed root size ts a b c place on f g (omega (arith, end, g.place))) t s h (popped root size xs ts t place w e)) (sym i) le
 
 pub go_into : (root : Tree) (size more : ℕ) (xs ts us vs : List Turn) (t s i : Turn) (place : ℕ) → IsOn root size xs place → xs ≡ ts ++ t ∷ [] → IsEntered t place s i → us ≡ ts ++ s ∷ [] → vs ≡ us ++ i ∷ [] → size ≤ more → IsOn root more vs place
 go_into root size more xs ts us vs t s i place w e h j k le =
@@ -399,11 +485,19 @@ reached root size xs ts t a place w e h =
 pub light_over : (xs ts : List Turn) (t : Turn) → xs ≡ ts ++ t ∷ [] → weight ts < weight xs
 light_over xs ts t e = let w : weight xs ≡ weight (ts ++ t ∷ []) = ap weight e in omega (arith, w, weight-snoc ts t)
 
+-- each child that is passed makes it lighter
+light_one : (ts : List Turn) (t s : Turn) (place : ℕ) → IsPassed t place s → weight (ts ++ s ∷ []) < weight (ts ++ t ∷ [])
+light_one ts t s place p =
+    let r = passed_all (λ (x : Turn). (t.next ≤ x.next) × (weight (ts ++ x ∷ []) + (x.next - t.next) ≤ weight (ts ++ t ∷ []))) place
+    (λ a b c f g end h. (omega (arith, h.0, g.next), omega (arith, h.0, h.1, g.next, lighter_past ts a b c f g))) t s p (omega arith, omega arith) in
+    omega (arith, r.1, p.some)
+
 pub light_past : (xs ts us : List Turn) (t s : Turn) (place : ℕ) → xs ≡ ts ++ t ∷ [] → IsPassed t place s → us ≡ ts ++ s ∷ [] → weight us < weight xs
 light_past xs ts us t s place e h i =
     let w : weight xs ≡ weight (ts ++ t ∷ []) = ap weight e in
     let v : weight us ≡ weight (ts ++ s ∷ []) = ap weight i in
-    omega (arith, w, v, lighter_past ts t s h.node h.child h.after)
+    let l : weight (ts ++ s ∷ []) < weight (ts ++ t ∷ []) = light_one ts t s place h in
+    omega (arith, w, v, l)
 
 pub light_into : (xs ts us vs : List Turn) (t s i : Turn) (place : ℕ) → xs ≡ ts ++ t ∷ [] → IsEntered t place s i → us ≡ ts ++ s ∷ [] → vs ≡ us ++ i ∷ [] → weight vs < weight xs
 light_into xs ts us vs t s i place e h j k =

@@ -1,5 +1,5 @@
 -- Where the search through a tree stands, and what it finds. For private clauses and proofs alone.
-use Rattle.std.specs.Prelude.{◌≡◌, ℕ, ◌+◌, ◌*◌, ◌<◌, ◌≤◌, ◌⊎◌, ◌++◌, List, [], ◌∷◌, length, drop, slice_get, Option, Some, None, vec_capacity}
+use Rattle.std.specs.Prelude.{◌≡◌, ℕ, ◌+◌, ◌-◌, ◌*◌, ◌<◌, ◌≤◌, ◌⊎◌, ◌++◌, List, [], ◌∷◌, length, take, drop, slice_get, Option, Some, None, vec_capacity}
 use Rattle.spec_trees.specs.declared.tree.Tree.{Tree}
 use Rattle.spec_trees.specs.Trees.{children_of, span_of, all_spans, all_nodes, tree_depth}
 use Rattle.spec_reuse.specs.Places.{IsIn, IsWhole, lead_of}
@@ -19,12 +19,18 @@ abbrev pub IsAhead : List Turn → Tree → ℕ → Type 0
 IsAhead [] u at = ⊥
 IsAhead (t ∷ ts) u at = IsIn (rest_of t) t.place u at ⊎ IsAhead ts u at
 
+-- where it is known where the node begins, the children before the next one stand between
+abbrev pub IsBegun : Turn → Type 0
+IsBegun t = (at : ℕ) → t.begins ≡ Some at
+    → t.place ≡ at + all_spans (take t.next (children_of t.node.now))
+
 -- a turn in a node that ends no later than a place and is less deep than a number
 pub record IsTurn (end deep : ℕ) (t : Turn) : Type 0 where
   pub whole : IsWhole t.node.now
   pub next : t.next ≤ length (children_of t.node.now)
   pub within : t.place + all_spans (rest_of t) ≤ end
   pub falls : tree_depth t.node.now < deep
+  pub begun : IsBegun t
 
 -- turns one in another, the outermost first
 abbrev pub AreTurns : ℕ → ℕ → List Turn → Type 0
@@ -88,12 +94,19 @@ pub record IsReached (t : Turn) (place : ℕ) (a : Ahead) : Type 0 where
   pub from : place ≤ t.place
   pub past : place < t.place + span_of a.node.now
 
--- the next child ends at the place or before it
+-- a turn in the same node, or a later one: the children between end at the place or before it
+pub record IsLater (t : Turn) (place : ℕ) (s : Turn) : Type 0 where
+  pub node : s.node.now ≡ t.node.now
+  pub begins : s.begins ≡ t.begins
+  pub next : t.next ≤ s.next
+  pub within : s.next ≤ length (children_of t.node.now)
+  pub bytes : s.place ≡ t.place + all_spans (take (s.next - t.next) (rest_of t))
+  pub ends : s.place ≤ place
+
+-- the next child ends at the place or before it, and so do others that are passed with it
 pub record IsPassed (t : Turn) (place : ℕ) (s : Turn) : Type 0 where
-  pub node : Tree
-  pub child : slice_get (children_of t.node.now) t.next ≡ Some node
-  pub after : IsPast t node s
-  pub ends : t.place + span_of node ≤ place
+  pub some : t.next < s.next
+  pub later : IsLater t place s
 
 -- the next child begins before the place
 pub record IsEntered (t : Turn) (place : ℕ) (s i : Turn) : Type 0 where

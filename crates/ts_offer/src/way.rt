@@ -1,9 +1,9 @@
 //! The way down a tree: a place goes in, and the next node that reaches past it comes out, where
 //! places do not fall; or the node in which the way stands.
-ghost use Rattle.std.specs.Prelude.{◌≡◌, ◌+◌, ◌<◌, ◌≤◌, ℕ, length, vec_capacity, IfOk, IfSome};
-ghost use Rattle.spec_trees.specs.Trees.{all_spans};
+ghost use Rattle.std.specs.Prelude.{◌≡◌, ◌+◌, ◌<◌, ◌≤◌, ℕ, true, length, take, vec_capacity, IfOk, IfSome};
+ghost use Rattle.spec_trees.specs.Trees.{all_spans, children_of, elements_of};
 ghost use Rattle.spec_trees.specs.Made.{most_span};
-ghost use Rattle.ts_offer.specs.Ways.{IsWay, LeadsTo, IsLeft, StandsIn, TurnsTo, rest_of};
+ghost use Rattle.ts_offer.specs.Ways.{IsBegun, IsLater, IsWay, LeadsTo, IsLeft, StandsIn, TurnsTo, rest_of};
 
 use crate::topmost::{lead, span};
 use std::alloc::{AllocError, Global};
@@ -33,7 +33,7 @@ enum Step<'t> {
     Over,
     /// It ends behind the place, and does not begin before it.
     Next(Ahead<'t>),
-    /// It ends at the place or before it: the turn after it.
+    /// It ends at the place or before it: the turn after it, or after more such children.
     Past(Turn<'t>),
     /// It begins before the place and ends behind it: the turn after it, and the one at its first
     /// child.
@@ -117,6 +117,7 @@ impl<'t> Way<'t> {
 /// What the next child of a turn is, seen from a place.
 fn toward<'t>(turn: Turn<'t>, place: u32) -> Step<'t>
     requires within { turn.place + all_spans (rest_of turn) ≤ most_span }
+    requires begun { IsBegun turn }
     ensures { TurnsTo turn.entry place result }
 {
     if turn.next >= turn.node.children() {
@@ -137,7 +138,7 @@ fn toward<'t>(turn: Turn<'t>, place: u32) -> Step<'t>
         place: end,
     };
     if end <= place {
-        return Step::Past(after);
+        return Step::Past(leapt(after, place));
     }
     let inner = Turn {
         node: child,
@@ -146,4 +147,67 @@ fn toward<'t>(turn: Turn<'t>, place: u32) -> Step<'t>
         place: turn.place,
     };
     Step::Into(after, inner)
+}
+
+/// A turn whose node's children before it end at the place or before it, or a later one of which
+/// that is so. In a repetition the next child is told by bytes, where it is not that of the turn.
+#[tactic(auto, using(crate::proofs::LeapLemmas::same_turn))]
+fn leapt<'t>(turn: Turn<'t>, place: u32) -> Turn<'t>
+    requires within { turn.place + all_spans (rest_of turn) ≤ most_span }
+    requires begun { IsBegun turn }
+    requires next { turn.next ≤ length (children_of turn.node.now) }
+    requires ends { turn.place ≤ place }
+    ensures { IsLater turn.entry place result }
+{
+    match turn.begins {
+        Some(at) => {
+            if passes_next(turn, place) {
+                leapt_in(turn, at, place)
+            } else {
+                turn
+            }
+        }
+        None => turn,
+    }
+}
+
+/// Whether the next child of a turn in a repetition ends at the place or before it too.
+fn passes_next<'t>(turn: Turn<'t>, place: u32) -> bool
+    requires { turn.place + all_spans (rest_of turn) ≤ most_span }
+    ensures { result ≡ true → 0 < length (elements_of turn.entry.node.now) }
+{
+    if turn.node.elements() == 0 {
+        return false;
+    }
+    if turn.next >= turn.node.children() {
+        return false;
+    }
+    let end = turn.place + span(turn.node.child(turn.next));
+    end <= place
+}
+
+/// The turn in a repetition that begins at `at`, or that at the last element of it that begins at
+/// the place or before it, where that is a later one.
+#[tactic(auto, using(crate::proofs::LeapLemmas::same_turn))]
+fn leapt_in<'t>(turn: Turn<'t>, at: u32, place: u32) -> Turn<'t>
+    requires repetition { 0 < length (elements_of turn.node.now) }
+    requires begun { turn.place ≡ at + all_spans (take turn.next (children_of turn.node.now)) }
+    requires next { turn.next ≤ length (children_of turn.node.now) }
+    requires ends { turn.place ≤ place }
+    ensures { IsLater turn.entry place result }
+{
+    let _ = turn.node.nodes();
+    let passed = place - at;
+    let k = turn.node.last_by(passed);
+    let next = turn.node.children_before(k);
+    if next <= turn.next {
+        return turn;
+    }
+    let start = at + turn.node.offset(k);
+    Turn {
+        node: turn.node,
+        begins: turn.begins,
+        next,
+        place: start,
+    }
 }

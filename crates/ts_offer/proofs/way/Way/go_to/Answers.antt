@@ -1,11 +1,14 @@
 use Rattle.std.proofs.Common.{◌∙◌, sym, subst, arith, vec_capacity}
 use Rattle.spec_trees.specs.declared.tree.Tree.{Tree}
 use Rattle.ts_offer.specs.Ways.{IsOn, IsNext}
-use Rattle.ts_offer.proofs.WayLemmas.{pop_turn, go_over, go_past, go_into, into_room, reached, light_over, light_past, light_into}
+use Rattle.ts_offer.proofs.WayLemmas.{pop_turn, pop_begun, go_over, go_past, go_into, into_room, reached, light_over, light_past, light_into}
 use Rattle.ts_offer.proofs.way.Way.go_to.Goals as goal
 
-pub toward-requires : goal.toward-requires
-toward-requires c = record { within = pop_turn c.loop-turn.self.root.now _ _ _ c.in-Some.turn c.args.place c.loop-turn.invariant.way c.in-Some.ensures.items }
+pub toward-requires-clause-within : goal.toward-requires-clause-within
+toward-requires-clause-within c = pop_turn c.loop-turn.self.root.now _ _ _ c.in-Some.turn c.args.place c.loop-turn.invariant.way c.in-Some.ensures.items
+
+pub toward-requires-clause-begun : goal.toward-requires-clause-begun
+toward-requires-clause-begun c = pop_begun c.loop-turn.self.root.now _ _ _ c.in-Some.turn c.args.place c.loop-turn.invariant.way c.in-Some.ensures.items
 
 pub loop-turn-smaller-in-Over : goal.loop-turn-smaller-in-Over
 loop-turn-smaller-in-Over c = light_over c.loop-turn.self.turns.items c.pop.new.self.items c.in-Some.turn c.in-Some.ensures.items
