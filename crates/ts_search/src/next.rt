@@ -78,8 +78,27 @@ fn next_of(
     Ok(next)
 }
 
+/// The fewest siblings over which next places are made: where there are fewer, each is looked at.
+const LEAST_SIBLINGS: usize = 32;
+
+/// The next places for each item of a table, or for none where there are few siblings.
+pub(crate) fn next_over(
+    alloc: Global,
+    table: &[List<List<List<List<Capture>>>>],
+    capturing: bool,
+    siblings: usize,
+) -> Result<List<List<usize>>, AllocError>
+    ensures { IfOk result (λ next. AreNext table.now capturing next) }
+{
+    if siblings < LEAST_SIBLINGS {
+        return Ok(List::new(alloc));
+    }
+    let next = next_of_all(alloc, table, capturing)?;
+    Ok(next)
+}
+
 /// The next places for each item of a table.
-pub(crate) fn next_of_all(
+fn next_of_all(
     alloc: Global,
     table: &[List<List<List<List<Capture>>>>],
     capturing: bool,

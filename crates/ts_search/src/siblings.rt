@@ -5,7 +5,7 @@ ghost use Rattle.std.specs.List.{Contains};
 ghost use Rattle.ts_search.specs.Next.{IsNextAt, Passes, TakesFirst, TakesSilently};
 ghost use Rattle.ts_search.specs.Table.{Takes};
 
-use crate::next::next_of_all;
+use crate::next::next_over;
 use crate::silent::silents;
 use crate::stand::Siblings;
 use spec_matches::Capture;
@@ -24,8 +24,8 @@ pub(crate) fn siblings_of(
     ensures closed { IfOk result (λ s. s.closed ≡ closed) }
 {
     let silent = silents(alloc, table.as_slice())?;
-    let taken = next_of_all(alloc, table.as_slice(), false)?;
-    let capturing = next_of_all(alloc, table.as_slice(), true)?;
+    let taken = next_over(alloc, table.as_slice(), false, named.len())?;
+    let capturing = next_over(alloc, table.as_slice(), true, named.len())?;
     Ok(Siblings {
         table,
         named,
