@@ -25,6 +25,7 @@ def copied(folder, name, below, program, proofs=None):
     """
     left_out = shutil.ignore_patterns("must-fail", "incremental")
     shutil.copytree(f"{TOP}/crates", f"{folder}/crates", ignore=left_out, copy_function=linked)
+    shutil.copy2(f"{TOP}/HANDLES", folder)
     with open(f"{TOP}/crates.txt") as lines, open(f"{folder}/crates.txt", "w") as out:
         out.write(lines.read() + f"{name}: {below}\n")
     home = f"{folder}/crates/{name}"

@@ -4,7 +4,7 @@
     python3 bench/edits.py [PROGRAM]
 
 PROGRAM is `crates/ts_cli/out/ts_cli` if none is given, which `./hemshale build` makes. The texts are those of
-`bench/parse.py`: nested JSON and a flat list of 10 KB and 1 MB, and a C-like text and a Lisp of 200 KB. A script opens
+`bench/parse.py`: nested JSON and a flat list of 10 KB and 1 MB, and C-like texts and a Lisp of 200 KB. A script opens
 the text, puts a byte behind it that no token begins with, and then puts one digit after another in the place of others:
 in the middle of the text, or at places all over it. So each version is stuck behind its last token, and its line is
 short: what is timed is the copy of the text, the marks, and the parse up to that place, in which all that stood in the
@@ -51,7 +51,8 @@ CASES = [
     ("nested JSON, 1 MB, in the middle", "json", parse.nested, 1_000_000, middle, 100),
     ("flat list, 10 KB, in the middle", "json", parse.flat, 10_000, middle, 100),
     ("flat list, 1 MB, in the middle", "json", parse.flat, 1_000_000, middle, 20),
-    ("C-like text, 200 KB, all over", "clike", parse.clike, 200_000, all_over, 1_000),
+    ("C-like text, 200 KB, all over", "clike", parse.settled, 200_000, all_over, 1_000),
+    ("C-like text with choices, 200 KB, all over", "clike", parse.clike, 200_000, all_over, 1_000),
     ("Lisp, 200 KB, all over", "lisp", parse.lisp, 200_000, all_over, 1_000),
 ]
 

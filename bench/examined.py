@@ -1,35 +1,37 @@
 #!/usr/bin/env python3
-"""Bytes that are lexed for an edit, beside those that the leaves outside of kept nodes need.
+"""What an edit costs in a program that keeps one version: its time, and bytes that are lexed for it.
 
     python3 bench/examined.py [EDITS [PROGRAM]]
 
 Builds a small program over `ts_glr`, `ts_marks` and `ts_offer` in a copy of the crates, which proves nothing of its
 own. PROGRAM is `crates/ts_cli/out/ts_cli` if none is given, which `./hemshale build` makes: it compiles the grammars.
-The texts are those of `bench/parse.py` with 200 KB. Each of EDITS edits, 100 if none is given, puts a digit in the
-place of another: in the middle of the text, or at places all over it. The tree is marked and the new text parsed with
-what the tree offers. Printed for each text are, in bytes an edit: what the lexer examined; and what was needed, which
-is what was examined for each leaf that lies in nothing that was offered, and for the first leaf of each node that was.
-All that was offered counts as kept. Several stacks may lex one place, and the end of the text is lexed too. Printed too
-is how many elements were offered an edit.
+The texts are those of `bench/parse.py`. Each of EDITS edits, 1,000 if none is given, puts a digit in the place of
+another: in the middle of the text, or at places all over it. The tree is marked and the new text parsed with what the
+tree offers; the old text and tree are then let go.
+
+Printed for each text are the processor time of a whole parse, that of an edit, and what of it the copy of the text
+takes with the edit in it: the least of three runs, less that of a run without edits. And in bytes an edit: what the
+lexer examined; and what was needed, which is what was examined for each leaf that lies in nothing that was offered, and
+for the first leaf of each node that was. All that was offered counts as kept. Several stacks may lex one place, and the
+end of the text is lexed too. Printed too is how many elements were offered an edit.
 """
-import json
 import subprocess
 import sys
 import tempfile
 
 sys.dont_write_bytecode = True
 import parse
-from built import TOP, built, copied, run, trusting
+from built import TOP, built, copied, run, spent, trusting
 
 NAME = "bench_examined"
-SIZE = 200_000
 BELOW = (
     "ts_io ts_base ts_core ts_text spec_lexing spec_grammar spec_tables spec_trees spec_runs spec_forced ts_langfile "
     "ts_items ts_table ts_automata ts_lexer ts_node ts_marks ts_offer ts_glr indexmap thiserror"
 )
 
-PROGRAM = r"""//! Edits a text some times. Its words are the number of edits, how many digits lie between two of
-//! them, a language file and a text; it prints what was examined and what was needed, in bytes.
+PROGRAM = r"""//! Edits a text some times. Its words are the number of edits, how much of each is done, how many
+//! digits lie between two of them, a language file and a text; it prints what was examined and what
+//! was needed, in bytes, and how many elements were offered.
 #![tactic(auto)]
 ghost use Rattle.std.specs.Prelude.{ℕ, None};
 
@@ -223,12 +225,76 @@ fn tree_in(outcome: Outcome) -> Option<Node> {
     }
 }
 
+/// How much of an edit is done.
+#[derive(Clone, Copy, PartialEq)]
+enum Work {
+    /// The text is copied with the edit in it.
+    Copied,
+    /// It is parsed too, with what its marked tree offers.
+    Parsed,
+    /// What is offered and examined is noted too.
+    Noted,
+}
+
+/// An edited tree, and what was offered and examined for it.
+#[derive(Drop)]
+struct Reparsed {
+    root: Option<Node>,
+    tally: Tally,
+}
+
+/// The tree of a text that came by an edit of a text with a tree.
+fn parsed(
+    alloc: Global,
+    table: &Table,
+    lexer: &mut Lexer,
+    after: &Text,
+    marked: &Node,
+) -> Result<Reparsed, AllocError> {
+    trust();
+    let mut offers = Old::new(alloc, marked)?;
+    let outcome = parse_with(alloc, table, lexer, after, &mut offers)?;
+    Ok(Reparsed {
+        root: tree_in(outcome),
+        tally: Tally::default(),
+    })
+}
+
+/// The same, with notes.
+fn noted(
+    alloc: Global,
+    table: &Table,
+    lexer: &mut Lexer,
+    after: &Text,
+    marked: &Node,
+) -> Result<Reparsed, AllocError> {
+    trust();
+    let mut offers = Noting {
+        old: Old::new(alloc, marked)?,
+        kept: Vec::new(alloc),
+        elements: 0,
+    };
+    let before = lexer.examined();
+    let root = tree_in(parse_with(alloc, table, lexer, after, &mut offers)?);
+    let needed = match &root {
+        Some(root) => needed(alloc, root, offers.kept.as_slice())?,
+        None => 0,
+    };
+    let tally = Tally {
+        examined: lexer.examined() - before,
+        needed,
+        elements: offers.elements,
+    };
+    Ok(Reparsed { root, tally })
+}
+
 /// Edits the text so many times.
 fn edited(
     alloc: Global,
     table: &Table,
     text: Text,
     count: u32,
+    work: Work,
     step: u32,
 ) -> Result<Tally, AllocError> {
     trust();
@@ -248,21 +314,21 @@ fn edited(
         let Ok(after) = apply(alloc, &text, &edit) else {
             return Ok(tally);
         };
-        let marked = mark(alloc, &tree, &edit)?;
-        let mut offers = Noting {
-            old: Old::new(alloc, &marked)?,
-            kept: Vec::new(alloc),
-            elements: 0,
-        };
-        let before = lexer.examined();
-        let outcome = parse_with(alloc, table, &mut lexer, &after, &mut offers)?;
-        tally.examined += lexer.examined() - before;
-        let Some(root) = tree_in(outcome) else {
-            return Ok(tally);
-        };
-        tally.needed += needed(alloc, &root, offers.kept.as_slice())?;
-        tally.elements += offers.elements;
-        tree = root;
+        if work != Work::Copied {
+            let marked = mark(alloc, &tree, &edit)?;
+            let Reparsed { root, tally: one } = if work == Work::Parsed {
+                parsed(alloc, table, &mut lexer, &after, &marked)?
+            } else {
+                noted(alloc, table, &mut lexer, &after, &marked)?
+            };
+            let Some(root) = root else {
+                return Ok(tally);
+            };
+            tally.examined += one.examined;
+            tally.needed += one.needed;
+            tally.elements += one.elements;
+            tree = root;
+        }
         text = after;
     }
     Ok(tally)
@@ -286,6 +352,7 @@ fn tally_of(
     grammar: &[u8],
     text: &[u8],
     count: u32,
+    work: Work,
     step: u32,
 ) -> Result<Tally, AllocError> {
     trust();
@@ -295,7 +362,7 @@ fn tally_of(
     let Ok(text) = Text::from_bytes(alloc, text) else {
         return Ok(Tally::default());
     };
-    edited(alloc, &table, text, count, step)
+    edited(alloc, &table, text, count, work, step)
 }
 
 /// The bytes of a file, and none where it cannot be read.
@@ -311,16 +378,26 @@ fn bytes_of<R: AllocGlobal + Files>(rt: &R, path: &str) -> Vec<u8> {
 fn main(rt: HostRuntime) -> io::Result<()> {
     trust();
     let mut words = env::args(&rt)?.skip(1);
-    let (Some(count), Some(step), Some(grammar), Some(text)) =
-        (words.next(), words.next(), words.next(), words.next())
-    else {
+    let (Some(count), Some(work), Some(step), Some(grammar), Some(text)) = (
+        words.next(),
+        words.next(),
+        words.next(),
+        words.next(),
+        words.next(),
+    ) else {
         return Ok(());
+    };
+    let work = match work.as_str() {
+        "copied" => Work::Copied,
+        "parsed" => Work::Parsed,
+        _ => Work::Noted,
     };
     let grammar = bytes_of(&rt, grammar.as_str());
     let text = bytes_of(&rt, text.as_str());
     let count = count.as_str().parse::<u32>().unwrap_or(0);
     let step = step.as_str().parse::<u32>().unwrap_or(0);
-    if let Ok(tally) = tally_of(rt.alloc(), grammar.as_slice(), text.as_slice(), count, step) {
+    let (grammar, text) = (grammar.as_slice(), text.as_slice());
+    if let Ok(tally) = tally_of(rt.alloc(), grammar, text, count, work, step) {
         println!(rt; "{} {} {}", tally.examined, tally.needed, tally.elements)?;
     }
     Ok(())
@@ -328,23 +405,56 @@ fn main(rt: HostRuntime) -> io::Result<()> {
 """
 
 
+CASES = [
+    ("nested JSON, 10 KB", "json", parse.nested, 10_000, 0),
+    ("nested JSON, 1 MB", "json", parse.nested, 1_000_000, 0),
+    ("flat list, 10 KB", "json", parse.flat, 10_000, 0),
+    ("flat list, 1 MB", "json", parse.flat, 1_000_000, 0),
+    ("nested JSON, 200 KB", "json", parse.nested, 200_000, 7919),
+    ("flat list, 200 KB", "json", parse.flat, 200_000, 7919),
+    ("C-like text, 200 KB", "clike", parse.settled, 200_000, 7919),
+    ("C-like text with choices, 200 KB", "clike", parse.clike, 200_000, 7919),
+    ("Lisp, 200 KB", "lisp", parse.lisp, 200_000, 7919),
+]
+
+
+def least(program, *words):
+    """The processor time of the program, in microseconds: the least of three runs."""
+    found = []
+    for _ in range(3):
+        start = spent()
+        run(program, *words)
+        found.append(spent() - start)
+    return min(found)
+
+
 def main():
-    edits = int(sys.argv[1]) if len(sys.argv) > 1 else 100
+    edits = int(sys.argv[1]) if len(sys.argv) > 1 else 1_000
     compiler = sys.argv[2] if len(sys.argv) > 2 else f"{TOP}/crates/ts_cli/out/ts_cli"
     with tempfile.TemporaryDirectory() as folder:
         program = built(trusting(copied(folder, NAME, BELOW, PROGRAM)))
-        for name, of, make in parse.TEXTS:
+        for name, of, make, size, step in CASES:
             with open(f"{folder}/text", "w", encoding="utf-8") as out:
-                out.write(make(SIZE).rstrip())
+                out.write(make(size).rstrip())
+            open(f"{folder}/nothing", "w").close()
             with open(f"{folder}/language", "wb") as out:
                 subprocess.run([compiler, "compile", f"{TOP}/examples/{of}.json"], check=True, stdout=out)
-            for where, step in (("in the middle", 0), ("all over", 7919)):
-                printed, _, _ = run(program, str(edits), str(step), f"{folder}/language", f"{folder}/text")
-                examined, needed, elements = [int(word) / edits for word in printed.split()]
-                print(
-                    f"{name}, {where}: {examined:.1f} bytes lexed an edit, {needed:.1f} needed, "
-                    f"{elements:.1f} elements offered"
-                )
+
+            def words(count, work, text="text"):
+                return [str(count), work, str(step), f"{folder}/language", f"{folder}/{text}"]
+
+            none = least(program, *words(0, "parsed"))
+            whole = none - least(program, *words(0, "parsed", "nothing"))
+            copy = (least(program, *words(edits, "copied")) - none) / edits
+            edit = (least(program, *words(edits, "parsed")) - none) / edits
+            printed, _, _ = run(program, *words(edits, "noted"))
+            examined, needed, elements = [int(word) / edits for word in printed.split()]
+            print(
+                f"{name}, {'all over' if step else 'in the middle'}: whole {whole:,.0f} us, an edit {edit:,.1f} us, "
+                f"{copy:,.1f} of them the copy, {whole / edit:,.0f} times; {examined:,.1f} bytes lexed an edit, "
+                f"{needed:,.1f} needed, {elements:,.1f} elements offered",
+                flush=True,
+            )
 
 
 if __name__ == "__main__":

@@ -52,6 +52,13 @@ def clike(size):
     return unit * max(1, size // len(unit))
 
 
+def settled(size):
+    """A C-like text in which one move stays on each token."""
+    with open(f"{TOP}/examples/clike.txt") as text:
+        unit = text.read().replace("  number * q;\n", "")
+    return unit * max(1, size // len(unit))
+
+
 def lisp(size):
     with open(f"{TOP}/examples/lisp.txt") as text:
         unit = text.read()
