@@ -48,9 +48,9 @@ def all_over(text, count):
 
 CASES = [
     ("nested JSON, 10 KB, in the middle", "json", parse.nested, 10_000, middle, 100),
-    ("nested JSON, 1 MB, in the middle", "json", parse.nested, 1_000_000, middle, 100),
+    ("nested JSON, 1 MB, in the middle", "json", parse.nested, 1_000_000, middle, 1_000),
     ("flat list, 10 KB, in the middle", "json", parse.flat, 10_000, middle, 100),
-    ("flat list, 1 MB, in the middle", "json", parse.flat, 1_000_000, middle, 20),
+    ("flat list, 1 MB, in the middle", "json", parse.flat, 1_000_000, middle, 1_000),
     ("C-like text, 200 KB, all over", "clike", parse.settled, 200_000, all_over, 1_000),
     ("C-like text with choices, 200 KB, all over", "clike", parse.clike, 200_000, all_over, 1_000),
     ("Lisp, 200 KB, all over", "lisp", parse.lisp, 200_000, all_over, 1_000),
