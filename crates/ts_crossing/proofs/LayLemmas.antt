@@ -29,7 +29,7 @@ use Rattle.ts_reductions.specs.Sound.{Base, base_at, parsing_from}
 use Rattle.ts_crossing.specs.Entering.{Stands, LaidTo, CanLayTop}
 use Rattle.ts_crossing.proofs.BareLemmas.{filling_append, filling_tree, filling_bare, span_bare, spans_bare, spans_append}
 use Rattle.ts_crossing.proofs.TableLemmas.{state_leads, lead_once, lead_from}
-use Rattle.ts_crossing.proofs.MemberLemmas.{only_one, place_is_at}
+use Rattle.ts_crossing.proofs.MemberLemmas.{place_is_at}
 use Rattle.ts_crossing.proofs.PartLemmas.{end_by_split, spans_turned}
 
 -- a good tree of a stack is one of a graph
@@ -220,8 +220,8 @@ module _ (laws : EnterLaws) (t : ParseTable) (text : Bytes) (base : Base) (l : L
 
     new_good : (k : Link) → Contains new.links k → IsGoodTree t.grammar k.tree
     new_good k there = ⊎_elim
-        (λ one. subst (λ (x : Tree). IsGoodTree t.grammar x) (only_one l.tree k.tree one) good)
-        (λ old. subst (λ (x : Tree). IsGoodTree t.grammar x) (sym old.2) (laid.good old.0 old.1)) (is.trees k there)
+        (λ one. subst (λ (x : Tree). IsGoodTree t.grammar x) (sym one.1) good)
+        (λ old. subst (λ (x : Tree). IsGoodTree t.grammar x) (sym old.4) (laid.good old.0 old.1)) (is.trees k there)
 
     low_by : (k : ℕ) (head : Head) → slice_get new.heads k ≡ Some head → (slice_get g.heads k ≡ Some head) ⊎ (k ≡ above) → head.place ≤ end
     low_by k head at (inl old) = let h = laid.low k head old in omega (arith, h)

@@ -3,7 +3,7 @@ use Rattle.std.specs.List.{Contains, flat_map}
 use Rattle.std.proofs.Common.{◌≡◌, ◌∙◌, sym, ap, refl, subst, ℕ, ◌+◌, ◌<◌, ◌≤◌, ◌⊎◌, inl, inr, ⊎_elim, true, List, [], ◌∷◌, ◌++◌, length, take, drop, get_or, slice_get, Some, arith}
 use Rattle.std.proofs.lemmas.List.{drop_more, take_more, take_all}
 use Rattle.std.proofs.lemmas.Grind.{flat_map-append}
-use Rattle.std.proofs.lemmas.List.Elements.{Contains-get_or, Contains-append_left, Contains-append_right, Contains-push_cases}
+use Rattle.std.proofs.lemmas.List.Elements.{Contains-get_or, Contains-append_left, Contains-append_right, Contains-push, Contains-push_cases}
 use Rattle.spec_trees.specs.declared.tree.Tree.{Tree}
 use Rattle.spec_trees.specs.Trees.{is_extra_node, span_of, tree_depth, all_spans, bare}
 use Rattle.spec_graph.specs.declared.graph.Head.{Head}
@@ -16,10 +16,10 @@ use Rattle.ts_graph.specs.declared.view.GraphView.{GraphView}
 use Rattle.ts_graph.specs.Down.{place_at}
 use Rattle.ts_laying.specs.declared.made.Made.{Made}
 use Rattle.ts_laying.specs.Laws.{LayingLaws}
-use Rattle.ts_laying.specs.Sound.{CanBeParsed, bare_links, IsSoundFor}
-use Rattle.ts_laying.specs.Laying.{CanLayAll, FitsAfter, CanLayOn, Grows, head_at, IsLaid, FitExtras, HasPassed, IsNewHead, CanLayExtras, AreExtrasLaid, CanLayMade, TreesFrom, trees_of, end_of, HasNode, IsMadeLaid, AreAllLaid}
+use Rattle.ts_laying.specs.Sound.{CanBeParsed, bare_link, bare_links, IsSoundFor}
+use Rattle.ts_laying.specs.Laying.{CanLayAll, FitsAfter, CanLayOn, Grows, head_at, IsLaid, FitExtras, HasPassed, IsNewHead, CanLayExtras, AreExtrasLaid, CanLayMade, placed, WasThere, TreesFrom, trees_of, end_of, HasNode, IsMadeLaid, AreAllLaid}
 use Rattle.ts_laying.proofs.MemberLemmas.{none_contained, only_one, first_contained, take_contained}
-use Rattle.ts_laying.proofs.GrowLemmas.{at_stays, place_is_at, tree_stays, grows_none, grows_on}
+use Rattle.ts_laying.proofs.GrowLemmas.{bare_member, at_stays, place_is_at, tree_stays, grows_none, grows_on}
 
 pub drop_item : {X : Type 0} (xs : List X) (i : ℕ) (x : X) → i < length xs → x ≡ get_or xs i x → drop i xs ≡ x ∷ drop (i + 1) xs
 drop_item {X = X} xs i x low is = drop_more xs i x low ∙ ap (λ (y : X). y ∷ drop (i + 1) xs) (sym is)
@@ -72,19 +72,40 @@ pub record Climbs (Q : Parsing) (old now : GraphView) (base top : ℕ) (read : L
   pub ends : place + all_spans rest ≡ end
   pub based : (top ≡ base) ⊎ HasPassed Q now base
   pub only : (h : ℕ) (head : Head) → slice_get now.heads h ≡ Some head → (slice_get old.heads h ≡ Some head) ⊎ ((head.state ≡ 0 → ⊥) × ((h ≡ top) ⊎ HasPassed Q now h))
-  pub within : (x : Tree) → Contains rest x → Contains all x
-  pub trees : TreesFrom old now all
+  pub within : (x : ℕ × Tree) → Contains (placed place rest) x → Contains (placed (place_at old.heads base) all) x
+  pub trees : TreesFrom old now (placed (place_at old.heads base) all)
 
-trees_none : (g : GraphView) (ts : List Tree) → TreesFrom g g ts
-trees_none g ts l there = inr (l, there, refl)
+trees_none : (g : GraphView) (ts : List (ℕ × Tree)) → TreesFrom g g ts
+trees_none g ts l there = inr (l, there, refl, refl, refl)
+
+-- a link begins where it began
+pub places_stay : (Q : Parsing) (b c : GraphView) → IsSoundFor Q b → Grows b c → (o : Link) → Contains b.links o → place_at c.heads o.below ≡ place_at b.heads o.below
+places_stay Q b c sound g o there =
+    let k = sound.graph.linked (bare_link o) (bare_member b.links o there) in
+    place_is_at c.heads o.below k.below.head (g.stay o.below k.below.head k.below.is) ∙ sym (place_is_at b.heads o.below k.below.head k.below.is)
+
+abbrev one_at : ℕ → Tree → List (ℕ × Tree)
+one_at place tree = (place, tree) ∷ []
+
+-- the tree that was laid on a head, at the place of the head
+pub one_tree : (b c : GraphView) (below place : ℕ) (tree : Tree) → place_at c.heads below ≡ place → ((l : Link) → Contains c.links l → ((l.below ≡ below) × (l.tree ≡ tree)) ⊎ WasThere b l) → TreesFrom b c ((place, tree) ∷ [])
+one_tree b c below place tree at f l there = ⊎_elim (λ k. inl (here k.0 k.1)) (λ w. inr w) (f l there)
+  where
+    here : l.below ≡ below → l.tree ≡ tree → Contains (one_at place tree) (place_at c.heads l.below, l.tree)
+    here low same =
+        subst (λ (x : Tree). Contains (one_at place tree) (place_at c.heads l.below, x)) (sym same)
+        (subst (λ (n : ℕ). Contains (one_at place tree) (n, tree)) (sym (ap (place_at c.heads) low ∙ at)) (first_contained {X = ℕ × Tree} (place, tree) []))
 
 -- one step after others
-trees_on : (a b c : GraphView) (ts us all : List Tree) → ((x : Tree) → Contains ts x → Contains all x) → ((x : Tree) → Contains us x → Contains all x) → TreesFrom a b ts → TreesFrom b c us → TreesFrom a c all
-trees_on a b c ts us all first second f g l there = ⊎_elim (λ h. inl (second l.tree h)) (λ w. by w.0 w.2 (f w.0 w.1)) (g l there)
+trees_on : (a b c : GraphView) (ts us all : List (ℕ × Tree)) → ((o : Link) → Contains b.links o → place_at c.heads o.below ≡ place_at b.heads o.below)
+    → ((x : ℕ × Tree) → Contains ts x → Contains all x) → ((x : ℕ × Tree) → Contains us x → Contains all x) → TreesFrom a b ts → TreesFrom b c us → TreesFrom a c all
+trees_on a b c ts us all stay first second f g l there = ⊎_elim (λ h. inl (second (place_at c.heads l.below, l.tree) h)) (λ w. by w.0 w.1 w.2 w.3 w.4 (f w.0 w.1)) (g l there)
   where
-    by : (o : Link) → l.tree ≡ o.tree → Contains ts o.tree ⊎ ((n : Link) × Contains a.links n × (o.tree ≡ n.tree)) → Contains all l.tree ⊎ ((n : Link) × Contains a.links n × (l.tree ≡ n.tree))
-    by o e (inl h) = inl (subst (λ (x : Tree). Contains all x) (sym e) (first o.tree h))
-    by o e (inr w) = inr (w.0, w.1, e ∙ w.2)
+    by : (o : Link) → Contains b.links o → o.above ≡ l.above → o.below ≡ l.below → l.tree ≡ o.tree → Contains ts (place_at b.heads o.below, o.tree) ⊎ WasThere a o → Contains all (place_at c.heads l.below, l.tree) ⊎ WasThere a l
+    by o is high low e (inl h) = inl
+        (subst (λ (x : Tree). Contains all (place_at c.heads l.below, x)) (sym e)
+        (subst (λ (n : ℕ). Contains all (n, o.tree)) (sym (stay o is) ∙ ap (place_at c.heads) low) (first (place_at b.heads o.below, o.tree) h)))
+    by o is high low e (inr w) = inr (w.0, w.1, w.2 ∙ high, w.3 ∙ low, e ∙ w.4)
 
 module _ (laws : LayingLaws) (Q : Parsing) where
   pub climb_first : (old : GraphView) (base : ℕ) (xs : List Tree) (state end : ℕ) → (can : CanLayExtras Q old base xs state) → end ≡ place_at old.heads base + all_spans xs → Climbs Q old old base base can.read xs state end xs
@@ -98,8 +119,8 @@ module _ (laws : LayingLaws) (Q : Parsing) where
     ends = let p = place_is_at old.heads base can.at.head can.at.is ∙ can.at.place_is in omega (arith, p, is);
     based = inl refl;
     only = λ h head is. inl is;
-    within = λ x there. there;
-    trees = trees_none old xs;
+    within = λ x there. subst (λ (n : ℕ). Contains (placed n xs) x) (sym (place_is_at old.heads base can.at.head can.at.is ∙ can.at.place_is)) there;
+    trees = trees_none old (placed (place_at old.heads base) xs);
   }
 
   module _ (old now : GraphView) (base top : ℕ) (read : List ℕ) (x : Tree) (xs : List Tree) (state end : ℕ) (every : List Tree) (some_read : read ≡ [] → ⊥) (c : Climbs Q old now base top read (x ∷ xs) state end every) where
@@ -161,8 +182,17 @@ module _ (laws : LayingLaws) (Q : Parsing) where
           let g : head ≡ head_at state (c.place + span_of x) = cc in
           not_first Q c.sound.parsed read state leads some_read (sym (ap (λ (y : Head). y.state) g) ∙ zero_state)
 
-      own_here : (y : Tree) → Contains (x ∷ []) y → Contains every y
-      own_here y h = c.within y (subst (λ (z : Tree). Contains (x ∷ xs) z) (only_one x y h) (first_contained x xs))
+      abbrev whole : List (ℕ × Tree)
+      whole = placed (place_at old.heads base) every
+
+      abbrev others : List (ℕ × Tree)
+      others = placed (c.place + span_of x) xs
+
+      abbrev one : ℕ × Tree
+      one = (c.place, x)
+
+      own_here : (y : ℕ × Tree) → Contains (one ∷ []) y → Contains whole y
+      own_here y h = c.within y (subst (λ (z : ℕ × Tree). Contains (one ∷ others) z) (only_one one y h) (first_contained one others))
 
       pub climb_more : Climbs Q old new base above read xs state end every
       climb_more = record {
@@ -175,8 +205,8 @@ module _ (laws : LayingLaws) (Q : Parsing) where
         ends = let e = c.ends in omega (arith, e);
         based = inr (⊎_elim (λ e. subst (λ (h : ℕ). HasPassed Q new h) e passed_top) (λ p. passed_stays laws Q now new laid.grows base p) c.based);
         only = only_by;
-        within = λ y there. c.within y (Contains-append_right (x ∷ []) xs y there);
-        trees = trees_on old now new every (x ∷ []) every (λ y h. h) own_here c.trees laid.trees;
+        within = λ y there. c.within y (Contains-append_right (one ∷ []) others y there);
+        trees = trees_on old now new whole (one ∷ []) whole (places_stay Q now new c.sound laid.grows) (λ y h. h) own_here c.trees (one_tree now new top c.place x (place_is_at new.heads top low.head low.is ∙ low.place_is) laid.trees);
       }
         where
           still : (h : ℕ) → (h ≡ top) ⊎ HasPassed Q now h → HasPassed Q new h
@@ -266,6 +296,15 @@ module _ (laws : LayingLaws) (Q : Parsing) (old mid : GraphView) (m : Made) (can
         (λ o. ⊎_elim (λ a. inl a) (λ e. inr (subst (λ (n : ℕ). IsNewHead Q new (end_of old m) n head) (sym e) (base_new head (ap (λ (n : ℕ). slice_get new.heads n) (sym e) ∙ is)))) (laid.only h head o))
         (λ b. inr (b.0, ⊎_elim (λ e. inl (e ∙ end_is)) (λ p. inr p) b.1)) (over.only h head is)
 
+    low_place : place_at mid.heads m.below ≡ can.from
+    low_place = place_is_at mid.heads m.below can.at.head (laid.grows.stay m.below can.at.head can.at.is) ∙ can.at.place_is
+
+    abbrev node_at : ℕ × Tree
+    node_at = (can.from, m.piece.node)
+
+    abbrev extras_at : List (ℕ × Tree)
+    extras_at = placed (can.from + span_of m.piece.node) m.extras
+
     pub made_laid : IsMadeLaid Q old new (end_of old m) m
     made_laid = record {
       sound = over.sound;
@@ -276,14 +315,17 @@ module _ (laws : LayingLaws) (Q : Parsing) (old mid : GraphView) (m : Made) (can
         has = tree_stays laws (bare_links mid.links) (bare_links new.links) over.grows.links m.below (bare m.piece.node) m.piece.depth base laid.has;
       };
       only = only_after;
-      trees = trees_on old mid new (m.piece.node ∷ []) m.extras (trees_of m) first_in rest_in laid.trees over.trees;
+      trees = trees_on old mid new (node_at ∷ []) (placed (place_at mid.heads base) m.extras) (trees_of old m) (places_stay Q mid new laid.sound over.grows) first_in rest_in (one_tree old mid m.below can.from m.piece.node low_place laid.trees) over.trees;
     }
       where
-        first_in : (x : Tree) → Contains (m.piece.node ∷ []) x → Contains (trees_of m) x
-        first_in x h = Contains-append_left (m.piece.node ∷ []) m.extras x h
+        all_in : (x : ℕ × Tree) → Contains (node_at ∷ extras_at) x → Contains (trees_of old m) x
+        all_in x h = subst (λ (n : ℕ). Contains (placed n (m.piece.node ∷ m.extras)) x) (sym from_is) h
 
-        rest_in : (x : Tree) → Contains m.extras x → Contains (trees_of m) x
-        rest_in x h = Contains-append_right (m.piece.node ∷ []) m.extras x h
+        first_in : (x : ℕ × Tree) → Contains (node_at ∷ []) x → Contains (trees_of old m) x
+        first_in x h = all_in x (Contains-append_left (node_at ∷ []) extras_at x h)
+
+        rest_in : (x : ℕ × Tree) → Contains (placed (place_at mid.heads base) m.extras) x → Contains (trees_of old m) x
+        rest_in x h = all_in x (Contains-append_right (node_at ∷ []) extras_at x (subst (λ (n : ℕ). Contains (placed n m.extras) x) base_place h))
 
 -- ---- one after another
 
@@ -337,17 +379,22 @@ module _ (laws : LayingLaws) (Q : Parsing) (old : GraphView) (look : ℕ) where
       only = λ h head is. ⊎_elim
           (λ o. ⊎_elim (λ p. inl p) (λ n. inr (new_stays laws Q now new laid.grows look h head n)) (a.only h head o))
           (λ n. inr (subst (λ (p : ℕ). IsNewHead Q new p h head) ends n)) (laid.only h head is);
-      trees = trees_on old now new (flat_map trees_of ms) (trees_of m) (flat_map trees_of (ms ++ m ∷ [])) before here a.trees laid.trees;
+      trees = trees_on old now new (flat_map (trees_of old) ms) (trees_of now m) (flat_map (trees_of old) (ms ++ m ∷ [])) (places_stay Q now new a.sound laid.grows) before here a.trees laid.trees;
     }
       where
-        whole : flat_map trees_of (ms ++ m ∷ []) ≡ flat_map trees_of ms ++ (trees_of m ++ [])
-        whole = flat_map-append trees_of ms (m ∷ [])
+        whole : flat_map (trees_of old) (ms ++ m ∷ []) ≡ flat_map (trees_of old) ms ++ (trees_of old m ++ [])
+        whole = flat_map-append (trees_of old) ms (m ∷ [])
 
-        before : (x : Tree) → Contains (flat_map trees_of ms) x → Contains (flat_map trees_of (ms ++ m ∷ [])) x
-        before x h = subst (λ (l : List Tree). Contains l x) (sym whole) (Contains-append_left (flat_map trees_of ms) (trees_of m ++ []) x h)
+        before : (x : ℕ × Tree) → Contains (flat_map (trees_of old) ms) x → Contains (flat_map (trees_of old) (ms ++ m ∷ [])) x
+        before x h = subst (λ (l : List (ℕ × Tree)). Contains l x) (sym whole) (Contains-append_left (flat_map (trees_of old) ms) (trees_of old m ++ []) x h)
 
-        here : (x : Tree) → Contains (trees_of m) x → Contains (flat_map trees_of (ms ++ m ∷ [])) x
-        here x h = subst (λ (l : List Tree). Contains l x) (sym whole) (Contains-append_right (flat_map trees_of ms) (trees_of m ++ []) x (Contains-append_left (trees_of m) [] x h))
+        same_place : place_at now.heads m.below ≡ place_at old.heads m.below
+        same_place = end_stays Q old now a.grows m (each m (Contains-push ms m))
+
+        here : (x : ℕ × Tree) → Contains (trees_of now m) x → Contains (flat_map (trees_of old) (ms ++ m ∷ [])) x
+        here x h = subst (λ (l : List (ℕ × Tree)). Contains l x) (sym whole)
+            (Contains-append_right (flat_map (trees_of old) ms) (trees_of old m ++ []) x
+            (Contains-append_left (trees_of old m) [] x (subst (λ (n : ℕ). Contains (placed n (m.piece.node ∷ m.extras)) x) same_place h)))
 
 -- ---- the same of the calls
 

@@ -18,7 +18,7 @@ use Rattle.ts_graph.specs.declared.view.GraphView.{GraphView}
 use Rattle.ts_graph.specs.Down.{KeepNumbers, HoldsEachOnce, IsBetween, IsPacked, link_with, place_at}
 use Rattle.ts_laying.specs.Laws.{LayingLaws}
 use Rattle.ts_laying.specs.Sound.{bare_link, bare_links, IsHeld}
-use Rattle.ts_laying.specs.Laying.{CanLayOn, HasTree, head_at, TreesFrom, IsLaid}
+use Rattle.ts_laying.specs.Laying.{CanLayOn, HasTree, head_at, WasThere, IsLaid}
 use Rattle.ts_laying.proofs.MemberLemmas.{none_contained, only_one, first_contained, contained_at, at_contained, read_at}
 use Rattle.ts_laying.proofs.GrowLemmas.{LinksStay, bare_member, member_bare, place_is_at, same_place, at_stays, linked_stays, way_stays}
 
@@ -110,12 +110,17 @@ module _ (laws : LayingLaws) (Q : Parsing) (old : GraphView) (below : ℕ) (tree
           not_deep = low_depth;
         }
 
+  -- ---- where a link's tree comes from
+
+  abbrev Comes : Link → Type 0
+  Comes l = ((l.below ≡ below) × (l.tree ≡ tree)) ⊎ WasThere old l
+
   -- ---- the grown graph
 
   module _ (new : GraphView) (heads_are : new.heads ≡ heads) (only : (h : ℕ) (head : Head) → slice_get heads h ≡ Some head → (slice_get old.heads h ≡ Some head) ⊎ (h ≡ above))
       (links_stay : LinksStay (bare_links old.links) (bare_links new.links))
       (each : (l : Link) → Contains new.links l → IsLinked Q heads (bare_link l) × IsHeld Q heads l)
-      (has : HasTree (bare_links new.links) below (bare tree) depth above) (trees : TreesFrom old new (tree ∷ [])) where
+      (has : HasTree (bare_links new.links) below (bare tree) depth above) (trees : (l : Link) → Contains new.links l → Comes l) where
     down : (h : ℕ) (head : Head) → slice_get heads h ≡ Some head → (way : List Link) × IsWay (bare_links new.links) h way 0
     down h head is = ⊎_elim still over (only h head is)
       where
@@ -163,9 +168,6 @@ module _ (laws : LayingLaws) (Q : Parsing) (old : GraphView) (below : ℕ) (tree
       has = has;
       trees = trees;
     }
-
-  own_tree : (l : Link) → l.tree ≡ tree → Contains (tree ∷ []) l.tree ⊎ ((o : Link) × Contains old.links o × (l.tree ≡ o.tree))
-  own_tree l e = inl (subst (λ (t : Tree). Contains (tree ∷ []) t) (sym e) (first_contained tree []))
 
   -- ---- a new link
 
@@ -219,11 +221,11 @@ module _ (laws : LayingLaws) (Q : Parsing) (old : GraphView) (below : ℕ) (tree
       each : (l : Link) → Contains new.links l → IsLinked Q heads (bare_link l) × IsHeld Q heads l
       each l there = each_by l (cases l there)
 
-      trees_by : (l : Link) → Contains old.links l ⊎ (one ≡ l) → Contains (tree ∷ []) l.tree ⊎ ((o : Link) × Contains old.links o × (l.tree ≡ o.tree))
-      trees_by l (inl there) = inr (l, there, refl)
-      trees_by l (inr e) = own_tree l (ap (λ (x : Link). x.tree) (sym e))
+      trees_by : (l : Link) → Contains old.links l ⊎ (one ≡ l) → Comes l
+      trees_by l (inl there) = inr (l, there, refl, refl, refl)
+      trees_by l (inr e) = inl (ap (λ (x : Link). x.below) (sym e), ap (λ (x : Link). x.tree) (sym e))
 
-      trees : TreesFrom old new (tree ∷ [])
+      trees : (l : Link) → Contains new.links l → Comes l
       trees l there = trees_by l (cases l there)
 
   -- ---- a link that was there
@@ -363,14 +365,11 @@ module _ (laws : LayingLaws) (Q : Parsing) (old : GraphView) (below : ℕ) (tree
       each : (l : Link) → Contains new.links l → IsLinked Q heads (bare_link l) × IsHeld Q heads l
       each l there = let j = at_contained new.links l there in each_at l j.0 j.1 (same_number j.0)
 
-      abbrev Comes : Link → Type 0
-      Comes l = Contains (tree ∷ []) l.tree ⊎ ((o : Link) × Contains old.links o × (l.tree ≡ o.tree))
-
       trees_at : (l : Link) (j : ℕ) → slice_get new.links j ≡ Some l → (j ≡ k) ⊎ (j ≡ k → ⊥) → Comes l
-      trees_at l j is (inl e) = subst Comes (same_link l j is e) (⊎_elim (λ x. own_tree m x) (λ y. inr (o, o_there, y)) (choice m packed).which)
-      trees_at l j is (inr other) = inr (l, contained_at old.links j l (sym (others j other) ∙ is), refl)
+      trees_at l j is (inl e) = subst Comes (same_link l j is e) (⊎_elim (λ x. inl (m_below m packed, x)) (λ y. inr (o, o_there, sym packed.above_stays, sym packed.below_stays, y)) (choice m packed).which)
+      trees_at l j is (inr other) = inr (l, contained_at old.links j l (sym (others j other) ∙ is), refl, refl, refl)
 
-      trees : TreesFrom old new (tree ∷ [])
+      trees : (l : Link) → Contains new.links l → Comes l
       trees l there = let j = at_contained new.links l there in trees_at l j.0 j.1 (same_number j.0)
 
       has : HasTree (bare_links new.links) below (bare tree) depth above

@@ -65,10 +65,20 @@ pub record Grows (old new : GraphView) : Type 0 where
       → (n : Link) × Contains (bare_links new.links) n × (n.above ≡ l.above)
       × (n.below ≡ l.below) × Replaces n.tree l.tree × (l.depth ≤ n.depth)
 
--- each link has the tree of a link that was there, or one of these
-abbrev pub TreesFrom : GraphView → GraphView → List Tree → Type 0
+-- trees one after another from a place on, each with the place where it begins
+abbrev pub placed : ℕ → List Tree → List (ℕ × Tree)
+placed place [] = []
+placed place (t ∷ ts) = (place, t) ∷ placed (place + span_of t) ts
+
+-- a link with this tree was there between the same heads
+abbrev pub WasThere : GraphView → Link → Type 0
+WasThere old l = (o : Link) × Contains old.links o
+    × (o.above ≡ l.above) × (o.below ≡ l.below) × (l.tree ≡ o.tree)
+
+-- each link was there, or has one of these trees, at its place
+abbrev pub TreesFrom : GraphView → GraphView → List (ℕ × Tree) → Type 0
 TreesFrom old new ts = (l : Link) → Contains new.links l
-    → Contains ts l.tree ⊎ ((o : Link) × Contains old.links o × (l.tree ≡ o.tree))
+    → Contains ts (place_at new.heads l.below, l.tree) ⊎ WasThere old l
 
 -- The graph has grown by the head at most to which a tree on one of its heads reaches, and has a
 -- link for the tree between the two. It is sound still.
@@ -80,7 +90,8 @@ pub record IsLaid (P : Parsing) (old new : GraphView) (below from : ℕ)
   pub only : (h : ℕ) (head : Head) → slice_get new.heads h ≡ Some head
       → (slice_get old.heads h ≡ Some head) ⊎ (h ≡ above)
   pub has : HasTree (bare_links new.links) below (bare tree) depth above
-  pub trees : TreesFrom old new (tree ∷ [])
+  pub trees : (l : Link) → Contains new.links l
+      → ((l.below ≡ below) × (l.tree ≡ tree)) ⊎ WasThere old l
 
 -- ---- extras
 
@@ -132,7 +143,7 @@ pub record AreExtrasLaid (P : Parsing) (old new : GraphView) (base end : ℕ) (x
   pub based : (place_at new.heads base ≡ end) ⊎ HasPassed P new base
   pub only : (h : ℕ) (head : Head) → slice_get new.heads h ≡ Some head
       → (slice_get old.heads h ≡ Some head) ⊎ IsNewHead P new end h head
-  pub trees : TreesFrom old new xs
+  pub trees : TreesFrom old new (placed (place_at old.heads base) xs)
 
 -- ---- what a reduction makes
 
@@ -159,9 +170,9 @@ pub record HasNode (g : GraphView) (m : Made) : Type 0 where
       ≡ Some (head_at m.piece.state (place_at g.heads m.below + span_of m.piece.node))
   pub has : HasTree (bare_links g.links) m.below (bare m.piece.node) m.piece.depth above
 
--- the trees of what a reduction makes
-abbrev pub trees_of : Made → List Tree
-trees_of m = m.piece.node ∷ m.extras
+-- the trees of what a reduction makes, each with its place
+abbrev pub trees_of : GraphView → Made → List (ℕ × Tree)
+trees_of g m = placed (place_at g.heads m.below) (m.piece.node ∷ m.extras)
 
 -- The graph has grown, is sound still, and a link stands for the node.
 pub record IsMadeLaid (P : Parsing) (old new : GraphView) (look : ℕ)
@@ -171,7 +182,7 @@ pub record IsMadeLaid (P : Parsing) (old new : GraphView) (look : ℕ)
   pub has : HasNode new m
   pub only : (h : ℕ) (head : Head) → slice_get new.heads h ≡ Some head
       → (slice_get old.heads h ≡ Some head) ⊎ IsNewHead P new look h head
-  pub trees : TreesFrom old new (trees_of m)
+  pub trees : TreesFrom old new (trees_of old m)
 
 -- The graph is sound, all of these can be laid on its heads, and they end at the place.
 pub record CanLayAll (P : Parsing) (g : GraphView) (look : ℕ) (mades : List Made) : Type 0 where
@@ -187,4 +198,4 @@ pub record AreAllLaid (P : Parsing) (old new : GraphView) (look : ℕ)
   pub each : (m : Made) → Contains mades m → HasNode new m
   pub only : (h : ℕ) (head : Head) → slice_get new.heads h ≡ Some head
       → (slice_get old.heads h ≡ Some head) ⊎ IsNewHead P new look h head
-  pub trees : TreesFrom old new (flat_map trees_of mades)
+  pub trees : TreesFrom old new (flat_map (trees_of old) mades)

@@ -13,6 +13,7 @@ use Rattle.ts_reductions.specs.declared.setting.Setting.{Setting}
 use Rattle.ts_reductions.specs.declared.top.Top.{Top}
 use Rattle.ts_reductions.specs.Asking.{IsTop}
 use Rattle.ts_reductions.specs.Sound.{Base, IsSoundBy}
+use Rattle.ts_reductions.proofs.KeepLemmas.{keeps_on}
 use Rattle.ts_shifts.specs.declared.sights.Sights.{Sights}
 use Rattle.ts_shifts.specs.Looking.{AllStandAt, HasAllAt}
 use Rattle.ts_shifts.specs.Passing.{first_key}
@@ -139,7 +140,7 @@ module _ (laws : PlaceLaws) (t : ParseTable) (table : IsTable t) (text : Bytes) 
 
     pub all_passed : IsPassed t text base most old new place after
     all_passed = record {
-      followed = record { grows = grows; seen = seen_still };
+      followed = record { grows = grows; keeps = keeps_on t.grammar text base old mid new swept.more.keeps shifts.keeps; seen = seen_still };
       whole = record {
         early = let e = can.whole.early in omega (arith, e);
         ranks = can.whole.ranks;

@@ -9,6 +9,7 @@ use Rattle.ts_laying.specs.Laying.{Grows}
 use Rattle.ts_reductions.specs.declared.setting.Setting.{Setting}
 use Rattle.ts_reductions.specs.declared.top.Top.{Top}
 use Rattle.ts_reductions.specs.Asking.{IsTop}
+use Rattle.ts_reductions.specs.Keeping.{KeepsTrees}
 use Rattle.ts_reductions.specs.Lines.{IsSetting}
 use Rattle.ts_reductions.specs.Sound.{Base, IsSoundBy}
 use Rattle.ts_shifts.specs.declared.sights.Sights.{Sights}
@@ -43,10 +44,12 @@ pub record CanFollow (t : ParseTable) (text : Bytes) (s : Setting) (base : Base)
 
 -- ---- after
 
--- All that is asked for at the place was done. These are all sights there.
+-- All that is asked for at the place was done, and the new trees are such as a parser makes. These
+-- are all sights there.
 pub record IsFollowed (t : ParseTable) (text : Bytes) (base : Base) (old new : GraphView)
     (place : ℕ) (sights : Sights) : Type 0 where
   pub grows : Grows old new
+  pub keeps : KeepsTrees t.grammar text base old new
   pub seen : AreAllSights t text base new place sights
 
 -- and the graph goes on at the next place

@@ -199,7 +199,10 @@ module _ (laws : ReductionLaws) (nodes : NodeLaws) (t : ParseTable) (table : IsT
               under = head;
               under_is = head_is;
               leads = subst (λ (n : ℕ). goto_of t head.state n ≡ Some m.piece.state) same_left goes;
+              small = small_own;
               extent = extent;
+              covers = own_covers;
+              past = own_past;
               node_is = own_node;
               good = subst (λ (u : Tree). IsGoodTree t.grammar u) (sym own_node) good;
               spans = ap span_of own_node ∙ making.node_spans laws nodes t table text s g k top number way b ready asked small_own extent own_covers own_past own_low;

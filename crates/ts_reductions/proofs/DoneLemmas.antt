@@ -23,6 +23,7 @@ use Rattle.ts_graph.specs.Ways.{TakesFilled}
 use Rattle.ts_table.specs.declared.view.ParseTable.{ParseTable}
 use Rattle.ts_table.specs.Tables.{goto_of, actions_of, IsTable}
 use Rattle.ts_table.specs.Ranks.{unit_rank}
+use Rattle.ts_steps.specs.MoveLaws.{Laws}
 use Rattle.ts_reductions.specs.Laws.{ReductionLaws, NodeLaws}
 use Rattle.ts_reductions.specs.Good.{IsGoodTree, AreGoodTrees}
 use Rattle.ts_reductions.specs.declared.batch.Batch.{Batch}
@@ -31,8 +32,9 @@ use Rattle.ts_reductions.specs.declared.setting.Setting.{Setting}
 use Rattle.ts_reductions.specs.declared.top.Top.{Top}
 use Rattle.ts_laying.specs.Sound.{CanBeParsed, bare_links}
 use Rattle.ts_reductions.specs.Sound.{Base, parsing_from}
-use Rattle.ts_laying.specs.Laying.{head_at, HasPassed, IsNewHead, CanLayMade, CanLayAll, trees_of, end_of, HasNode, AreAllLaid}
+use Rattle.ts_laying.specs.Laying.{head_at, HasPassed, IsNewHead, CanLayMade, CanLayAll, placed, trees_of, end_of, HasNode, AreAllLaid}
 use Rattle.ts_reductions.specs.Asking.{inner_of, outer_of, children_on, key_of, IsAsked, IsReady, IsMadeFor, AreMade, SomeAreDeep, ByTops}
+use Rattle.ts_reductions.specs.Keeping.{KeepsTrees}
 use Rattle.ts_reductions.specs.Reducing.{IsDeepAt, AreReduced}
 use Rattle.ts_reductions.proofs.SmallLemmas.{first_or_later, contained_flat, good_in, member_bare, place_is_at, filling_extras, spans_turned, lead_once, same_place, share_head, at_shared}
 use Rattle.ts_reductions.proofs.FactLemmas.{grows_grown}
@@ -41,6 +43,7 @@ use Rattle.ts_reductions.proofs.AskLemmas.{stays_reduce, due}
 use Rattle.ts_reductions.proofs.AskLemmas as ask
 use Rattle.ts_reductions.proofs.AddLemmas.{ready_at}
 use Rattle.ts_reductions.proofs.FitLemmas.{can_lay, ends_at, good_extras}
+use Rattle.ts_reductions.proofs.KeepLemmas.{IsKept, placed_in, keeps_from, node_kept, extras_kept}
 
 -- ---- ways of links that are not bare
 
@@ -355,23 +358,51 @@ module _ (laws : ReductionLaws) (nodes : NodeLaws) (t : ParseTable) (table : IsT
                 (λ e. at_the_place b read from (not_empty read at.head at.state n.0) (let f = at.place_is in omega (arith, e, f, same_look)))
                 (λ p. where_passed b read from (not_empty read at.head at.state n.0) at p) n.1)
 
-      each_good : (u : Tree) → Contains (flat_map trees_of mades) u → IsGoodTree t.grammar u
-      each_good u there =
-          let f = contained_flat trees_of mades u there in
+      abbrev extras_placed : Made → List (ℕ × Tree)
+      extras_placed m = placed (place_at g.heads m.below + span_of m.piece.node) m.extras
+
+      each_good : (p : ℕ × Tree) → Contains (flat_map (trees_of g) mades) p → IsGoodTree t.grammar p.1
+      each_good p there =
+          let f = contained_flat (trees_of g) mades p there in
           let r = all_made.each f.0 f.1 in
-          by f.0 r.5 (good_extras laws nodes t table text s g k r.0 r.1 r.2 r.3 (ready_at t text base s g k tops ready r.0 r.4) f.0 r.5) (first_or_later f.0.piece.node f.0.extras u f.2)
+          by f.0 r.5 (good_extras laws nodes t table text s g k r.0 r.1 r.2 r.3 (ready_at t text base s g k tops ready r.0 r.4) f.0 r.5) (first_or_later {X = ℕ × Tree} (place_at g.heads f.0.below, f.0.piece.node) (extras_placed f.0) p f.2)
         where
-          by : {top : Top} {number : ℕ} {way : List Link} {b : ℕ} (m : Made) → IsMadeFor t (length text) g k top number way b m → AreGoodTrees t.grammar m.extras → (m.piece.node ≡ u) ⊎ Contains m.extras u → IsGoodTree t.grammar u
-          by m made goods (inl e) = subst (λ (x : Tree). IsGoodTree t.grammar x) e made.good
-          by m made goods (inr h) = good_in t.grammar m.extras u goods h
+          by : {top : Top} {number : ℕ} {way : List Link} {b : ℕ} (m : Made) → IsMadeFor t (length text) g k top number way b m → AreGoodTrees t.grammar m.extras → (◌≡◌ {A = ℕ × Tree} (place_at g.heads m.below, m.piece.node) p) ⊎ Contains (extras_placed m) p → IsGoodTree t.grammar p.1
+          by m made goods (inl e) = subst (λ (x : Tree). IsGoodTree t.grammar x) (ap (λ (x : ℕ × Tree). x.1) e) made.good
+          by m made goods (inr h) = good_in t.grammar m.extras p.1 goods (placed_in (place_at g.heads m.below + span_of m.piece.node) m.extras p h)
 
       new_good : (l : Link) → Contains new.links l → IsGoodTree t.grammar l.tree
-      new_good l there = ⊎_elim (λ h. each_good l.tree h) (λ w. subst (λ (x : Tree). IsGoodTree t.grammar x) (sym w.2) (ready.sound.good w.0 w.1)) (laid.trees l there)
+      new_good l there = ⊎_elim (λ h. each_good (place_at new.heads l.below, l.tree) h) (λ w. subst (λ (x : Tree). IsGoodTree t.grammar x) (sym w.4) (ready.sound.good w.0 w.1)) (laid.trees l there)
 
-      pub reduced_all : AreReduced t text base g new (key_of k)
-      reduced_all = record {
+      module _ (moves : Laws) where
+        each_kept : (p : ℕ × Tree) → Contains (flat_map (trees_of g) mades) p → IsKept t.grammar text base g p.0 p.1
+        each_kept p there =
+            let f = contained_flat (trees_of g) mades p there in
+            let r = all_made.each f.0 f.1 in
+            let at = ready_at t text base s g k tops ready r.0 r.4 in
+            by f.0 (node_kept laws nodes moves t table text s g k r.0 r.1 r.2 r.3 at f.0 r.5) (extras_kept laws nodes moves t table text s g k r.0 r.1 r.2 r.3 at f.0 r.5 (late f.0 f.1))
+            (first_or_later {X = ℕ × Tree} (place_at g.heads f.0.below, f.0.piece.node) (extras_placed f.0) p f.2)
+          where
+            late : (m : Made) → Contains mades m → base.place ≤ place_at g.heads m.below + span_of m.piece.node
+            late m is =
+                let c = each_can m is in
+                let e = place_is_at g.heads m.below c.at.head c.at.is ∙ c.at.place_is in
+                let x = c.late in
+                omega (arith, e, x)
+
+            by : (m : Made) → IsKept t.grammar text base g (place_at g.heads m.below) m.piece.node → ((q : ℕ × Tree) → Contains (extras_placed m) q → IsKept t.grammar text base g q.0 q.1) → (◌≡◌ {A = ℕ × Tree} (place_at g.heads m.below, m.piece.node) p) ⊎ Contains (extras_placed m) p
+                → IsKept t.grammar text base g p.0 p.1
+            by m node extras (inl e) = subst (λ (x : ℕ × Tree). IsKept t.grammar text base g x.0 x.1) e node
+            by m node extras (inr h) = extras p h
+
+        pub trees_kept : KeepsTrees t.grammar text base g new
+        trees_kept = keeps_from t text base g new ready.sound.laid laid.grows.stay (flat_map (trees_of g) mades) laid.trees each_kept
+
+      pub reduced_all : Laws → AreReduced t text base g new (key_of k)
+      reduced_all moves = record {
         sound = record { laid = laid.sound; good = new_good };
         grows = laid.grows;
+        keeps = trees_kept moves;
         done = all_done;
         grown = grows_grown laws P g new laid.grows;
         only = laid.only;

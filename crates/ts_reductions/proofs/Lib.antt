@@ -11,4 +11,5 @@ pub mod GatherLemmas
 pub mod CallLemmas
 pub mod AddLemmas
 pub mod FitLemmas
+pub mod KeepLemmas
 pub mod DoneLemmas

@@ -10,7 +10,8 @@ use Rattle.spec_grammar.specs.Symbols.{production_at}
 use Rattle.spec_lexing.specs.Lexing.{token}
 use Rattle.spec_trees.specs.declared.tree.Tree.{Tree}
 use Rattle.spec_trees.specs.Trees.{is_extra_node, node_extent, span_of, all_spans, tree_depth}
-use Rattle.spec_trees.specs.Made.{form_of, reduced, most_depth}
+use Rattle.spec_trees.specs.Made.{EndBy, form_of, reduced, most_depth}
+use Rattle.spec_trees.specs.Reducible.{HasSmallValue}
 use Rattle.spec_graph.specs.declared.graph.Head.{Head}
 use Rattle.spec_graph.specs.declared.graph.Link.{Link}
 use Rattle.spec_graph.specs.Laying.{SeesAt}
@@ -135,8 +136,8 @@ pub record IsReady (t : ParseTable) (text : Bytes) (base : Base) (s : Setting) (
   pub seen : AreTops t text g k.look tops
   pub takes_some : (top : Top) → Contains tops top → TakesSome t g top
 
--- What was made for a reduction that is asked for: its node, which is not too deep, with the state
--- behind it, and the extras above.
+-- What was made for a reduction that is asked for: its node, which is not too deep and examined more
+-- than its children, with the state behind it, and the extras above.
 pub record IsMadeFor (t : ParseTable) (size : ℕ) (g : GraphView) (k : Batch) (top : Top)
     (number : ℕ) (way : List Link) (b : ℕ) (m : Made) : Type 0 where
   pub asked : IsAsked t g k top number way b
@@ -144,7 +145,10 @@ pub record IsMadeFor (t : ParseTable) (size : ℕ) (g : GraphView) (k : Batch) (
   pub under : Head
   pub under_is : slice_get g.heads b ≡ Some under
   pub leads : goto_of t under.state asked.left ≡ Some m.piece.state
+  pub small : HasSmallValue t.grammar number
   pub extent : ℕ
+  pub covers : EndBy extent 0 (children_on way)
+  pub past : all_spans (children_on way) < extent
   pub node_is : m.piece.node ≡ reduced t.grammar number extent None (children_on way)
   pub good : IsGoodTree t.grammar m.piece.node
   pub spans : span_of m.piece.node ≡ all_spans (children_on way)

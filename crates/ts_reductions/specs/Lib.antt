@@ -1,6 +1,7 @@
 pub mod Laws
 pub mod Good
 pub mod Sound
+pub mod Keeping
 pub mod Ranking
 pub mod Lines
 pub mod Depths

@@ -14,6 +14,7 @@ use Rattle.ts_reductions.specs.declared.reducing.Reduced.{Reduced}
 use Rattle.ts_reductions.specs.declared.reducing.Reduced.TheVariants.{Done, TooDeep}
 use Rattle.ts_laying.specs.Sound.{bare_links}
 use Rattle.ts_reductions.specs.Sound.{Base, parsing_from, IsSoundBy}
+use Rattle.ts_reductions.specs.Keeping.{KeepsTrees}
 use Rattle.ts_laying.specs.Laying.{Grows, IsNewHead}
 
 -- Some reduction of the key in the graph would make a node that is too deep.
@@ -35,12 +36,14 @@ pub record IsDeepAt (t : ParseTable) (text : Bytes) (base : Base) (g : GraphView
   pub deep : most_depth < way_depth (parsing_from t text base) number left inner
 
 -- All reductions of the key that the graph had were done, none of which was too deep. The graph is
--- sound still, and has grown; each new head stands at the key's place, or an extra is passed there;
--- and all that is laid on new heads before a key at the same place has a link.
+-- sound still, and has grown by trees such as it had and nodes made of them; each new head stands at
+-- the key's place, or an extra is passed there; and all that is laid on new heads before a key at the
+-- same place has a link.
 pub record AreReduced (t : ParseTable) (text : Bytes) (base : Base) (old new : GraphView)
     (k : Key) : Type 0 where
   pub sound : IsSoundBy t text base new
   pub grows : Grows old new
+  pub keeps : KeepsTrees t.grammar text base old new
   pub done : AreDone (parsing_from t text base) (unit_rank t.grammar) old.heads
       (bare_links old.links) new.heads (bare_links new.links) k
   pub grown : HasGrown (parsing_from t text base) old.heads (bare_links old.links)

@@ -8,7 +8,7 @@ ghost use Rattle.ts_reductions.specs.Reducing.{Reduces};
 
 use crate::asking::make_all;
 use crate::batch::Batch;
-use crate::laws::{laws_hold, node_laws_hold};
+use crate::laws::{laws_hold, node_laws_hold, own_laws_hold};
 use crate::setting::Setting;
 use crate::top::Top;
 use std::alloc::{AllocError, Global};
@@ -47,6 +47,7 @@ pub fn reduce_all(
 {
     laws_hold();
     node_laws_hold();
+    own_laws_hold();
     table.stands();
     match make_all(alloc, table, setting, graph, batch, tops)? {
         None => Ok(Reduced::TooDeep),

@@ -19,6 +19,7 @@ use Rattle.ts_table.specs.Ranks.{unit_rank}
 use Rattle.ts_laying.specs.Sound.{bare_links}
 use Rattle.ts_reductions.specs.declared.top.Top.{Top}
 use Rattle.ts_reductions.specs.Sound.{Base, parsing_from}
+use Rattle.ts_reductions.proofs.KeepLemmas.{keeps_none, keeps_on}
 use Rattle.ts_shifts.specs.declared.sights.Span.{Span}
 use Rattle.ts_shifts.specs.declared.sights.Sights.{Sights}
 use Rattle.ts_shifts.specs.Laws.{LeafLaws}
@@ -58,6 +59,7 @@ module _ (laws : LeafLaws) (t : ParseTable) (table : IsTable t) (text : Bytes) (
   none_done = record {
     sound = all.sound;
     grows = grows_none laws old;
+    keeps = keeps_none t.grammar text base old;
     behind = λ h head is. inl is;
     opens = λ k top low is. absurd (omega (arith, low));
   }
@@ -75,6 +77,7 @@ module _ (laws : LeafLaws) (t : ParseTable) (table : IsTable t) (text : Bytes) (
     one_done new o = record {
       sound = o.sound;
       grows = grows_more laws old mid new done.grows o.grows;
+      keeps = keeps_on t.grammar text base old mid new done.keeps o.keeps;
       behind = behind_more old mid new look done.behind o.behind;
       opens = λ j x low x_is. by j x low x_is (cases_order j k);
     }
@@ -139,6 +142,7 @@ module _ (laws : LeafLaws) (t : ParseTable) (table : IsTable t) (text : Bytes) (
     all_done = record {
       sound = done.sound;
       grows = done.grows;
+      keeps = done.keeps;
       grown = grows_grown laws P old new done.grows;
       behind = done.behind;
       opened = opened;

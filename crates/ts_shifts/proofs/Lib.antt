@@ -6,6 +6,7 @@ pub mod SightLemmas
 pub mod ActionLemmas
 pub mod LeafLemmas
 pub mod GrowLemmas
+pub mod KeepLemmas
 pub mod OpenLemmas
 pub mod FarLemmas
 pub mod AllLemmas

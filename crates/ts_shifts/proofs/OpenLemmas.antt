@@ -24,20 +24,22 @@ use Rattle.ts_graph.specs.Down.{place_at}
 use Rattle.ts_table.specs.declared.view.ParseTable.{ParseTable}
 use Rattle.ts_table.specs.Tables.{goto_of, actions_of, IsStateOf}
 use Rattle.ts_laying.specs.Sound.{bare_links}
-use Rattle.ts_laying.specs.Laying.{CanLayOn, HasTree, head_at, IsLaid}
+use Rattle.ts_laying.specs.Laying.{CanLayOn, HasTree, head_at, WasThere, IsLaid}
+use Rattle.ts_laying.proofs.ClimbLemmas.{one_tree}
 use Rattle.ts_reductions.specs.declared.top.Top.{Top}
 use Rattle.ts_reductions.specs.Good.{IsGoodTree}
 use Rattle.ts_reductions.specs.Sound.{Base, parsing_from, IsSoundBy}
+use Rattle.ts_reductions.proofs.KeepLemmas.{keeps_none}
 use Rattle.ts_shifts.specs.declared.sights.Span.{Span}
 use Rattle.ts_shifts.specs.Laws.{LookLaws, LeafLaws}
 use Rattle.ts_shifts.specs.Looking.{IsTopWith}
 use Rattle.ts_shifts.specs.Shifting.{CanOpen, HasActions, OpensHead, AreBehind, IsHeadOpened}
-use Rattle.ts_shifts.proofs.SmallLemmas.{first_of_one}
 use Rattle.ts_shifts.proofs.SeenLemmas.{found_token}
 use Rattle.ts_shifts.proofs.HeadLemmas.{leads_state, one_head, head_sees}
 use Rattle.ts_shifts.proofs.ActionLemmas.{shift_stays, shift_leads, shift_acts, no_move, some_move, extra_token}
 use Rattle.ts_shifts.proofs.LeafLemmas.{SaysLeaf, says_leaf, says_extra, leaf_good, bare_leaf, bare_extra}
 use Rattle.ts_shifts.proofs.GrowLemmas.{place_is_at, at_stays, at_back, grows_none}
+use Rattle.ts_shifts.proofs.KeepLemmas.{IsOwnLeaf, leaf_own, extra_own, keeps_leaf}
 
 module _ (look_laws : LookLaws) (laws : LeafLaws) (t : ParseTable) (text : Bytes) (base : Base) (old : GraphView) (look : ℕ) (top : Top) (span : Span) (can : CanOpen t text base old look top span) where
   abbrev P : Parsing
@@ -140,15 +142,18 @@ module _ (look_laws : LookLaws) (laws : LeafLaws) (t : ParseTable) (text : Bytes
       pub at_end : slice_get new.heads above ≡ Some (head_at state end)
       at_end = subst (λ (n : ℕ). slice_get new.heads above ≡ Some (head_at state n)) (ap (λ (n : ℕ). n + trees.span_of u) place_is ∙ end_is) laid.at
 
+      look_is : place_at new.heads top.head ≡ look
+      look_is = place_is_at new.heads top.head head (laid.grows.stay top.head head s.at.is) ∙ s.at.place_is
+
       good : IsGoodTree t.grammar u
       good = leaf_good t.grammar span.pad span.size top.ahead u says node some
 
       pub sound_still : IsSoundBy t text base new
       sound_still = record { laid = laid.sound; good = λ l there. by l (laid.trees l there) }
         where
-          by : (l : Link) → Contains (u ∷ []) l.tree ⊎ ((o : Link) × Contains old.links o × (l.tree ≡ o.tree)) → IsGoodTree t.grammar l.tree
-          by l (inl w) = subst (λ (x : Tree). IsGoodTree t.grammar x) (first_of_one u l.tree w) good
-          by l (inr w) = subst (λ (x : Tree). IsGoodTree t.grammar x) (sym w.2) (can.sound.good w.0 w.1)
+          by : (l : Link) → ((l.below ≡ top.head) × (l.tree ≡ u)) ⊎ WasThere old l → IsGoodTree t.grammar l.tree
+          by l (inl w) = subst (λ (x : Tree). IsGoodTree t.grammar x) (sym w.1) good
+          by l (inr w) = subst (λ (x : Tree). IsGoodTree t.grammar x) (sym w.4) (can.sound.good w.0 w.1)
 
       behind : AreBehind old new look
       behind h x is = ⊎_elim (λ was. inl was) (λ e. inr (by e)) (laid.only h x is)
@@ -160,8 +165,14 @@ module _ (look_laws : LookLaws) (laws : LeafLaws) (t : ParseTable) (text : Bytes
               let p : x.place ≡ end = ap (λ (y : Head). y.place) one in
               omega (arith, p, some)
 
-      pub opened_by : OpensHead P new.heads (bare_links new.links) look top.head → IsHeadOpened t text base old new look top.head
-      opened_by opens = record { sound = sound_still; grows = laid.grows; behind = behind; opens = opens }
+      pub opened_by : IsOwnLeaf t.grammar u → OpensHead P new.heads (bare_links new.links) look top.head → IsHeadOpened t text base old new look top.head
+      opened_by own opens = record {
+        sound = sound_still;
+        grows = laid.grows;
+        keeps = keeps_leaf t text base old new can.sound.laid laid.grows.stay look u own (one_tree old new top.head look u look_is laid.trees);
+        behind = behind;
+        opens = opens;
+      }
 
   -- ---- a token is shifted
 
@@ -205,7 +216,7 @@ module _ (look_laws : LookLaws) (laws : LeafLaws) (t : ParseTable) (text : Bytes
           let at = at_end u says node some_bytes s.read (top.token.0 ∷ s.read) state s.at (leads_over s.read s.at) new above laid in
           let has : HasTree (bare_links new.links) top.head (token_tree top.token span.pad span.size) 1 above = subst (λ (x : Tree). HasTree (bare_links new.links) top.head x 1 above) bare_is laid.has in
           let shallow : tree_depth (token_tree top.token span.pad span.size) ≤ 1 = let d = ap tree_depth bare_is in let e = bare_depth in omega (arith, d, e) in
-          opened_by u says node some_bytes s.read (top.token.0 ∷ s.read) state s.at (leads_over s.read s.at) new above laid (record {
+          opened_by u says node some_bytes s.read (top.token.0 ∷ s.read) state s.at (leads_over s.read s.at) new above laid (leaf_own t.grammar u top.token.0 span.pad span.size top.ahead is node is_token some_bytes) (record {
             shifts = λ read symbol pad size a sees act.
                 let i = it_is new sound laid.grows.stay read symbol pad size a sees in
                 link_of_it new sound laid.grows.stay token_tree above state at has shallow symbol pad size (symbol.0 ∷ read) i
@@ -266,7 +277,7 @@ module _ (look_laws : LookLaws) (laws : LeafLaws) (t : ParseTable) (text : Bytes
           let at = at_end u extra_says node bytes s.read s.read state s.at (same_state s.read s.at) new above laid in
           let has : HasTree (bare_links new.links) top.head (extra_tree top.token span.pad span.size) 1 above = subst (λ (x : Tree). HasTree (bare_links new.links) top.head x 1 above) extra_is laid.has in
           let shallow : tree_depth (extra_tree top.token span.pad span.size) ≤ 1 = let d = ap tree_depth extra_is in let e = extra_depth in omega (arith, d, e) in
-          opened_by u extra_says node bytes s.read s.read state s.at (same_state s.read s.at) new above laid (record {
+          opened_by u extra_says node bytes s.read s.read state s.at (same_state s.read s.at) new above laid (extra_own t.grammar u top.token.0 span.pad span.size top.ahead is node token_is bytes) (record {
             shifts = λ read symbol pad size a sees act.
                 let i = it_is new sound laid.grows.stay read symbol pad size a sees in
                 absurd (idle read (was_at new sound laid.grows.stay read a) (shift, subst (λ (y : Symbol). Act t.grammar read y.0 shift) (sym i.token_is) act));
@@ -287,6 +298,7 @@ module _ (look_laws : LookLaws) (laws : LeafLaws) (t : ParseTable) (text : Bytes
     stay_done = record {
       sound = can.sound;
       grows = grows_none laws old;
+      keeps = keeps_none t.grammar text base old;
       behind = λ h x is. inl is;
       opens = record {
         shifts = λ read symbol pad size a sees act.

@@ -21,6 +21,7 @@ use Rattle.ts_laying.specs.Sound.{bare_links}
 use Rattle.ts_laying.specs.Laying.{Grows}
 use Rattle.ts_reductions.specs.declared.top.Top.{Top}
 use Rattle.ts_reductions.specs.Sound.{Base, parsing_from, IsSoundBy}
+use Rattle.ts_reductions.specs.Keeping.{KeepsTrees}
 use Rattle.ts_shifts.specs.declared.sights.Span.{Span}
 use Rattle.ts_shifts.specs.declared.sights.Sights.{Sights}
 use Rattle.ts_shifts.specs.declared.shifting.Onward.{Onward}
@@ -101,11 +102,12 @@ AreBehind old new look = (h : ℕ) (head : Head) → slice_get new.heads h ≡ S
     → (slice_get old.heads h ≡ Some head) ⊎ (look < head.place)
 
 -- What is seen at one head was done. The graph is sound still, and has grown by heads behind the
--- place.
+-- place, and by trees such as a parser makes.
 pub record IsHeadOpened (t : ParseTable) (text : Bytes) (base : Base) (old new : GraphView)
     (look b : ℕ) : Type 0 where
   pub sound : IsSoundBy t text base new
   pub grows : Grows old new
+  pub keeps : KeepsTrees t.grammar text base old new
   pub behind : AreBehind old new look
   pub opens : OpensHead (parsing_from t text base) new.heads (bare_links new.links) look b
 
@@ -115,6 +117,7 @@ pub record AreShifted (t : ParseTable) (text : Bytes) (base : Base) (old new : G
     (look : ℕ) : Type 0 where
   pub sound : IsSoundBy t text base new
   pub grows : Grows old new
+  pub keeps : KeepsTrees t.grammar text base old new
   pub grown : HasGrown (parsing_from t text base) old.heads (bare_links old.links)
       new.heads (bare_links new.links)
   pub behind : AreBehind old new look
@@ -129,6 +132,7 @@ pub record AreShiftedUpTo (t : ParseTable) (text : Bytes) (base : Base) (old new
     (look : ℕ) (tops : List Top) (count : ℕ) : Type 0 where
   pub sound : IsSoundBy t text base new
   pub grows : Grows old new
+  pub keeps : KeepsTrees t.grammar text base old new
   pub behind : AreBehind old new look
   pub opens : (k : ℕ) (top : Top) → k < count → slice_get tops k ≡ Some top
       → OpensHead (parsing_from t text base) new.heads (bare_links new.links) look top.head

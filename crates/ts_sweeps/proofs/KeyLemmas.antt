@@ -23,6 +23,7 @@ use Rattle.ts_reductions.proofs.DoneLemmas.{seen_top, asked}
 use Rattle.ts_reductions.proofs.DoneLemmas as done
 use Rattle.ts_shifts.specs.Laws.{LeafLaws}
 use Rattle.ts_shifts.specs.Passing.{first_key}
+use Rattle.ts_reductions.proofs.KeepLemmas.{keeps_none}
 use Rattle.ts_shifts.proofs.GrowLemmas.{grows_none, grows_grown}
 use Rattle.ts_sweeps.specs.declared.seeking.Seek.{Seek}
 use Rattle.ts_sweeps.specs.Laws.{KeyLaws}
@@ -122,6 +123,7 @@ module _ (laws : LeafLaws) (keys : KeyLaws) (t : ParseTable) (text : Bytes) (bas
     reduced = record {
       sound = sound;
       grows = grows_none laws g;
+      keeps = keeps_none t.grammar text base g;
       done = λ number left p h e b outer inner over now end due. absurd (none number left p h e b outer inner over now end due);
       grown = grows_grown laws P g g (grows_none laws g);
       only = λ h head is. inl is;

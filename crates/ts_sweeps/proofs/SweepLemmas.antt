@@ -29,6 +29,7 @@ use Rattle.ts_reductions.specs.Reducing.{IsDeepAt, AreReduced, Reduces}
 use Rattle.ts_reductions.specs.Sound.{Base, parsing_from, IsSoundBy, IsSoundOver}
 use Rattle.ts_reductions.proofs.SmallLemmas.{place_is_at, lead_once}
 use Rattle.ts_reductions.proofs.AskLemmas.{reduces_stay}
+use Rattle.ts_reductions.proofs.KeepLemmas.{keeps_none, keeps_on}
 use Rattle.ts_reductions.proofs.LineLemmas.{few_symbols}
 use Rattle.ts_reductions.proofs.RankLemmas.{height_most}
 use Rattle.ts_reductions.proofs.WayLemmas.{way_spans}
@@ -108,11 +109,12 @@ module _ (look_laws : LookLaws) (keys : KeyLaws) (t : ParseTable) (table : IsTab
 -- ---- graphs that grow
 
 pub more_none : LayingLaws → (t : ParseTable) (text : Bytes) (base : Base) (g : GraphView) (look : ℕ) → HasMore t text base g g look
-more_none laws t text base g look = record { grows = growing.grows_none laws g; only = λ h head is. inl is }
+more_none laws t text base g look = record { grows = growing.grows_none laws g; keeps = keeps_none t.grammar text base g; only = λ h head is. inl is }
 
 pub more_on : LayingLaws → (t : ParseTable) (text : Bytes) (base : Base) (start old new : GraphView) (look : ℕ) → HasMore t text base start old look → HasMore t text base old new look → HasMore t text base start new look
 more_on laws t text base start old new look a b = record {
   grows = grows_on laws start old new a.grows b.grows;
+  keeps = keeps_on t.grammar text base start old new a.keeps b.keeps;
   only = λ h head is. ⊎_elim (λ was. ⊎_elim (λ w. inl w) (λ n. inr (new_stays laws (parsing_from t text base) old new b.grows look h head n)) (a.only h head was)) (λ n. inr n) (b.only h head is);
 }
 
@@ -202,7 +204,7 @@ module _ (reductions : ReductionLaws) (nodes : NodeLaws) (laying : LayingLaws) (
       -- the reductions of the key were done
       pub through : (new : GraphView) → AreReduced t text base g new (key_of key) → IsSweptTo t text base most start new seek.look (turn_of key.begins key.rank)
       through new r = record {
-        more = more_on laying t text base start g new seek.look swept.more (record { grows = reduced.grows; only = reduced.only });
+        more = more_on laying t text base start g new seek.look swept.more (record { grows = reduced.grows; keeps = reduced.keeps; only = reduced.only });
         begins = key.begins;
         rank = key.rank;
         done = record { before = g; sound = can.seen.sound; whole = whole; reduced = reduced };

@@ -16,6 +16,7 @@ use Rattle.ts_reductions.specs.declared.reducing.Reduced.TheVariants.{Done, TooD
 use Rattle.ts_reductions.specs.declared.setting.Setting.{Setting}
 use Rattle.ts_reductions.specs.declared.top.Top.{Top}
 use Rattle.ts_reductions.specs.Asking.{TakesSome}
+use Rattle.ts_reductions.specs.Keeping.{KeepsTrees}
 use Rattle.ts_reductions.specs.Lines.{IsSetting}
 use Rattle.ts_reductions.specs.Reducing.{AreReduced}
 use Rattle.ts_reductions.specs.Sound.{Base, parsing_from, IsSoundBy}
@@ -54,10 +55,12 @@ pub record IsDoneTo (t : ParseTable) (text : Bytes) (base : Base) (g : GraphView
   pub whole : IsWholeBy t text base before k
   pub reduced : AreReduced t text base before g k
 
--- The graph has grown. Each new head stands at the place, or an extra is passed there.
+-- The graph has grown, by trees such as a parser makes. Each new head stands at the place, or an
+-- extra is passed there.
 pub record HasMore (t : ParseTable) (text : Bytes) (base : Base) (old new : GraphView)
     (look : ℕ) : Type 0 where
   pub grows : Grows old new
+  pub keeps : KeepsTrees t.grammar text base old new
   pub only : (h : ℕ) (head : Head) → slice_get new.heads h ≡ Some head
       → (slice_get old.heads h ≡ Some head)
       ⊎ IsNewHead (parsing_from t text base) new look h head

@@ -13,4 +13,4 @@ pub returns-in-None : goal.returns-in-None
 returns-in-None c = λ text base ready. (deep_at c.laws_hold.ensures c.node_laws_hold.ensures c.args.table.now c.stands.ensures text base c.args.setting.now c.args.graph.now c.args.batch c.args.tops.now ready (in_none _ _ c.in_ok-make_all.field-0 c.in-None.is (c.in_ok-make_all.ensures text base ready)), refl)
 
 pub returns-in_ok-lay_all-in-Some : goal.returns-in_ok-lay_all-in-Some
-returns-in_ok-lay_all-in-Some c = λ text base ready. reduced_all c.laws_hold.ensures c.node_laws_hold.ensures c.args.table.now c.stands.ensures text base c.args.setting.now c.args.graph.now c.args.batch c.args.tops.now ready c.as_slice.result.now (subst (λ (l : List Made). AreMade c.args.table.now (length text) c.args.graph.now c.args.batch (ByTops c.args.tops.now) l) (sym c.as_slice.ensures.value) (in_some _ _ c.in_ok-make_all.field-0 c.in-Some.mades c.in-Some.is (c.in_ok-make_all.ensures text base ready))) c.lay_all.new.graph (c.in_ok-lay_all-in-Some.ensures (parsing_from c.args.table.now text base) c.args.batch.look (can_all c.laws_hold.ensures c.node_laws_hold.ensures c.args.table.now c.stands.ensures text base c.args.setting.now c.args.graph.now c.args.batch c.args.tops.now ready c.as_slice.result.now (subst (λ (l : List Made). AreMade c.args.table.now (length text) c.args.graph.now c.args.batch (ByTops c.args.tops.now) l) (sym c.as_slice.ensures.value) (in_some _ _ c.in_ok-make_all.field-0 c.in-Some.mades c.in-Some.is (c.in_ok-make_all.ensures text base ready)))))
+returns-in_ok-lay_all-in-Some c = λ text base ready. reduced_all c.laws_hold.ensures c.node_laws_hold.ensures c.args.table.now c.stands.ensures text base c.args.setting.now c.args.graph.now c.args.batch c.args.tops.now ready c.as_slice.result.now (subst (λ (l : List Made). AreMade c.args.table.now (length text) c.args.graph.now c.args.batch (ByTops c.args.tops.now) l) (sym c.as_slice.ensures.value) (in_some _ _ c.in_ok-make_all.field-0 c.in-Some.mades c.in-Some.is (c.in_ok-make_all.ensures text base ready))) c.lay_all.new.graph (c.in_ok-lay_all-in-Some.ensures (parsing_from c.args.table.now text base) c.args.batch.look (can_all c.laws_hold.ensures c.node_laws_hold.ensures c.args.table.now c.stands.ensures text base c.args.setting.now c.args.graph.now c.args.batch c.args.tops.now ready c.as_slice.result.now (subst (λ (l : List Made). AreMade c.args.table.now (length text) c.args.graph.now c.args.batch (ByTops c.args.tops.now) l) (sym c.as_slice.ensures.value) (in_some _ _ c.in_ok-make_all.field-0 c.in-Some.mades c.in-Some.is (c.in_ok-make_all.ensures text base ready))))) c.own_laws_hold.ensures
