@@ -7,6 +7,8 @@ use Rattle.ts_base.specs.Bytes.{Bytes}
 use Rattle.spec_trees.specs.declared.tree.Tree.{Tree}
 use Rattle.spec_trees.specs.Trees.{all_spans}
 use Rattle.spec_trees.specs.Made.{most_span}
+use Rattle.spec_forced.specs.Sound.{States, StandOnStack}
+use Rattle.spec_forced.proofs.SoundLemmas.{stack_lower}
 use Rattle.spec_graph.specs.declared.graph.Head.{Head}
 use Rattle.spec_graph.specs.declared.graph.Link.{Link}
 use Rattle.spec_graph.specs.States.{at_first}
@@ -23,8 +25,12 @@ use Rattle.ts_graph.specs.Cells.{graph_of}
 use Rattle.ts_laying.specs.Sound.{bare_links, IsSoundFor}
 use Rattle.ts_laying.specs.Laying.{head_at}
 use Rattle.ts_steps.specs.declared.head.StackHead.{StackHead}
+use Rattle.ts_steps.specs.Good.{EachTree}
+use Rattle.ts_steps.specs.Heads.{AreStatesOf, IsOwnWithin, StandOnHead}
+use Rattle.ts_steps.proofs.NodeLemmas.{each_right}
 use Rattle.ts_crossing.specs.Laws.{EnterLaws}
 use Rattle.ts_reductions.specs.Sound.{Base, base_at, parsing_from}
+use Rattle.ts_reductions.specs.Keeping.{StandOnGraph}
 use Rattle.ts_crossing.specs.Entering.{CanEnter, IsEntered, IsUnder, AreDownTo, LaidTo, CanLayTop, CanLayStacks}
 use Rattle.ts_crossing.proofs.MemberLemmas.{none_contained, member_bare}
 use Rattle.ts_crossing.proofs.TableLemmas.{table_states}
@@ -89,6 +95,12 @@ module _ (laws : EnterLaws) (t : ParseTable) (text : Bytes) (base : Base) (groun
     good = λ l there. absurd (no_link l there);
     at = at;
     stood = record { each = λ b read place v over below a split place_below share. absurd (never_stood over below v split) };
+    own = λ own l there. absurd (no_link l there);
+    stand = λ states named st. record {
+      inner = λ l there. absurd (no_link l there);
+      stands = λ l head there. absurd (no_link l there);
+      none = λ l there. absurd (no_link l there);
+    };
     low = λ k head is. let z = at_zero k head is in omega (arith, z);
   }
 
@@ -159,6 +171,11 @@ module _ (laws : EnterLaws) (t : ParseTable) (text : Bytes) (stacks : List (List
     stood : HasStood (parsing_from t text entry) g.heads (bare_links g.links)
     stood = subst (λ (n : ℕ). HasStood (parsing_from t text (base_at stack n)) g.heads (bare_links g.links)) (sym place_eq) laid.1.stood
 
+    stand : (states : States) → AreStatesOf t states → StandOnHead t states text stacks h → StandOnGraph t.grammar states text entry g
+    stand states named st =
+        let s = laid.1.stand states named (stack_lower t.grammar states text is.extras (trees_on low) (subst (λ (ts : List Tree). StandOnStack t.grammar states text ts) is.lifted.trees st)) in
+        record { inner = s.inner; stands = s.stands; none = λ l there past. s.none l there (omega (arith, past, place_eq)) }
+
     pub entered : IsEntered t text stacks h g under.place
     entered = record {
       stack = stack;
@@ -167,6 +184,8 @@ module _ (laws : EnterLaws) (t : ParseTable) (text : Bytes) (stacks : List (List
       stood = stood;
       whole = λ most ranked.
           laws.begins (parsing_from t text entry) can.table.fit (table_states laws t can.table) entry_ground (unit_rank t.grammar) most ranked g.heads (bare_links g.links) laid.1.sound.graph.start stood;
+      own = λ own. laid.1.own (each_right (IsOwnWithin t.grammar) is.extras (trees_on low) (subst (λ (ts : List Tree). EachTree (IsOwnWithin t.grammar) ts) is.lifted.trees own));
+      stand = stand;
       low = λ k head at. let w = laid.1.low k head at in omega (arith, w, place_eq);
       top = (laid.0, state_on low, subst (λ (n : ℕ). slice_get g.heads laid.0 ≡ Some (head_at (state_on low) n)) (sym place_eq) laid.1.at);
     }

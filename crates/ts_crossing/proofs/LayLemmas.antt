@@ -30,6 +30,7 @@ use Rattle.ts_crossing.specs.Entering.{Stands, LaidTo, CanLayTop}
 use Rattle.ts_crossing.proofs.BareLemmas.{filling_append, filling_tree, filling_bare, span_bare, spans_bare, spans_append}
 use Rattle.ts_crossing.proofs.TableLemmas.{state_leads, lead_once, lead_from}
 use Rattle.ts_crossing.proofs.MemberLemmas.{place_is_at}
+use Rattle.ts_crossing.proofs.KeepLemmas.{new_own, new_stand}
 use Rattle.ts_crossing.proofs.PartLemmas.{end_by_split, spans_turned}
 
 -- a good tree of a stack is one of a graph
@@ -231,13 +232,18 @@ module _ (laws : EnterLaws) (t : ParseTable) (text : Bytes) (base : Base) (l : L
         let e : head.place ≡ end = ap (λ (x : Head). x.place) one in
         omega (arith, e)
 
+    low_all : (k : ℕ) (head : Head) → slice_get new.heads k ≡ Some head → head.place ≤ end
+    low_all k head at = low_by k head at (is.only k head at)
+
     pub layer_laid : LaidTo t text base (l ∷ lower) new above
     layer_laid = record {
       sound = is.sound;
       good = new_good;
       at = at_above;
       stood = record { each = stood_each };
-      low = λ k head at. low_by k head at (is.only k head at);
+      own = new_own laws t text base l lower stands g top laid new above is;
+      stand = new_stand laws t text base l lower stands g top laid new above is low_all;
+      low = low_all;
     }
 
 -- ---- the same as the code has it

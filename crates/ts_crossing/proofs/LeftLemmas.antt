@@ -1,14 +1,15 @@
 -- A stack of the trees of a way.
 use Rattle.std.proofs.Common.{◌≡◌, ◌∙◌, sym, ap, refl, subst, ℕ, zero, suc, ◌<◌, List, [], ◌∷◌, ◌++◌, length, length-append, map, reverse, drop, slice_get, Option, Some, arith}
-use Rattle.std.specs.List.{Contains}
 use Rattle.std.specs.Option.{option_map_or}
 use Rattle.std.proofs.lemmas.List.{reverse-append, drop_all}
 use Rattle.ts_base.specs.Bytes.{Bytes}
 use Rattle.spec_trees.specs.declared.tree.Tree.{Tree}
-use Rattle.spec_trees.specs.Trees.{all_spans, bare}
+use Rattle.spec_trees.specs.Trees.{node_extent, all_spans, bare}
 use Rattle.spec_trees.specs.Inside.{itself}
 use Rattle.spec_trees.specs.Made.{EndBy, filling}
 use Rattle.spec_runs.specs.Configurations.{Configuration}
+use Rattle.spec_forced.specs.Forced.{Stands}
+use Rattle.spec_forced.specs.Sound.{States, IsStateAfter, AllSound, StandOnStack}
 use Rattle.spec_graph.specs.declared.graph.Head.{Head}
 use Rattle.spec_graph.specs.declared.graph.Link.{Link}
 use Rattle.spec_graph.specs.States.{LeadsTo}
@@ -16,7 +17,7 @@ use Rattle.spec_graph.specs.Laying.{Parsing}
 use Rattle.spec_graph.specs.Links.{IsAt, IsWay, way_trees, IsLinked}
 use Rattle.spec_crossing.specs.Leaving.{way_config}
 use Rattle.ts_table.specs.declared.view.ParseTable.{ParseTable}
-use Rattle.ts_table.specs.Tables.{goto_of, IsStateOf}
+use Rattle.ts_table.specs.Tables.{goto_of, IsTable, IsStateOf}
 use Rattle.ts_gss.specs.declared.layer.Layer.{Layer}
 use Rattle.ts_gss.specs.Stacks.{layer_with, stack_at, trees_on}
 use Rattle.ts_graph.specs.declared.view.GraphView.{GraphView}
@@ -26,9 +27,10 @@ use Rattle.ts_laying.specs.Sound.{bare_link, bare_links}
 use Rattle.ts_steps.specs.declared.head.StackHead.{StackHead}
 use Rattle.ts_steps.specs.Good.{EachTree, AreGoodTrees}
 use Rattle.ts_steps.specs.LiveHeads.{config_of, HaveStates, IsGoodStack}
-use Rattle.ts_steps.specs.Heads.{IsOwnWithin, IsOwnHead}
+use Rattle.ts_steps.specs.Heads.{AreStatesOf, IsOwnWithin, IsOwnHead, StandOnHead}
 use Rattle.ts_crossing.specs.Laws.{LeaveLaws}
 use Rattle.ts_reductions.specs.Sound.{Base, parsing_from, IsSoundBy}
+use Rattle.ts_reductions.specs.Keeping.{AreOwn, StandOnGraph}
 use Rattle.ts_crossing.specs.Leaving.{IsStack, state_at, layers_of, IsLeft}
 use Rattle.ts_crossing.proofs.BareLemmas.{filling_bare, spans_bare}
 use Rattle.ts_crossing.proofs.MemberLemmas.{contained_at, read_at, bare_member, place_is_at}
@@ -146,17 +148,40 @@ module _ (laws : LeaveLaws) (t : ParseTable) (text : Bytes) (base : Base) (g : G
       subst (λ (ts : List Tree). EndBy (suc (length text)) 0 ts) (sym (reverse-append (l.tree ∷ []) (trees way)))
       (end_by_both (suc (length text)) 0 (reverse (trees way)) (l.tree ∷ []) (reach_of numbers way l.below a.1 w.2) (omega (arith, place, spans, turned, r), tt))
 
-  own_trees : ((l : Link) → Contains g.links l → IsOwnWithin t.grammar l.tree) → (numbers : List ℕ) (way : List Link) → AreAt g.links numbers way → EachTree (IsOwnWithin t.grammar) (trees way)
+  own_trees : AreOwn t.grammar g → (numbers : List ℕ) (way : List Link) → AreAt g.links numbers way → EachTree (IsOwnWithin t.grammar) (trees way)
   own_trees own numbers [] a = tt
   own_trees own [] (l ∷ way) a = absurd a
   own_trees own (k ∷ numbers) (l ∷ way) a = (own l (contained_at g.links k l a.0), own_trees own numbers way a.1)
 
-  good_trees : ((l : Link) → Contains g.links l → IsOwnWithin t.grammar l.tree) → (numbers : List ℕ) (way : List Link) → AreAt g.links numbers way → AreGoodTrees t.grammar (trees way)
+  good_trees : AreOwn t.grammar g → (numbers : List ℕ) (way : List Link) → AreAt g.links numbers way → AreGoodTrees t.grammar (trees way)
   good_trees own numbers [] a = tt
   good_trees own [] (l ∷ way) a = absurd a
   good_trees own (k ∷ numbers) (l ∷ way) a =
       let there = contained_at g.links k l a.0 in
       ((own l there l.tree itself (sound.good l there).settled).good, good_trees own numbers way a.1)
+
+  module _ (table : IsTable t) (states : States) (named : AreStatesOf t states) (st : StandOnGraph t.grammar states text base g) where
+    stand_trees : (numbers : List ℕ) (way : List Link) (h : ℕ) → AreAt g.links numbers way → IsWay bares h (map bare_link way) 0 → StandOnStack t.grammar states text (trees way)
+    stand_trees numbers [] h a w = tt
+    stand_trees [] (l ∷ way) h a w = absurd a
+    stand_trees (k ∷ numbers) (l ∷ way) h a w =
+        let there = contained_at g.links k l a.0 in
+        let low = (linked k l a.0).below in
+        let from = (linked k l a.0).from in
+        let at = read_is l.below from (linked k l a.0).under way low w.2 in
+        let after : IsStateAfter t.grammar states at.head.state (filling (trees way)) = laws.named t states (filling (trees way)) at.head.state table named (leads_state t (filling (trees way)) at.head.state at.state) in
+        let spans : all_spans (trees way) ≡ from = spans_are l.below from (linked k l a.0).under way low w.2 in
+        let place : at.head.place ≡ all_spans (trees way) = at.place_is ∙ sym spans in (
+          λ has.
+              subst (λ (n : ℕ). Stands t.grammar (filling (trees way)) (drop n text) l.tree (node_extent l.tree)) place
+              (laws.tells t.grammar states text at.head.place at.head.state l.tree (filling (trees way)) after (st.stands l at.head there at.is has).0),
+          λ plain n has.
+              let e : Some at.head.state ≡ Some n = sym ((st.stands l at.head there at.is (n, has)).1 plain) ∙ has in
+              let same : at.head.state ≡ n = cc in
+              subst (λ (m : ℕ). IsStateAfter t.grammar states m (filling (trees way))) same after,
+          subst (λ (n : ℕ). AllSound t.grammar states text (l.tree ∷ []) n) (place_is_at g.heads l.below at.head at.is ∙ place) (st.inner l there),
+          stand_trees numbers way l.below a.1 w.2,
+        )
 
   -- ---- the head of the stack
 
@@ -196,7 +221,7 @@ module _ (laws : LeaveLaws) (t : ParseTable) (text : Bytes) (base : Base) (g : G
         pair : List Tree → ℕ → Configuration
         pair ts place = record { stack = ts; place = place }
 
-    pub left_own : ((l : Link) → Contains g.links l → IsOwnWithin t.grammar l.tree) → IsOwnHead t (length text) stacks k
+    pub left_own : AreOwn t.grammar g → IsOwnHead t (length text) stacks k
     left_own own = record {
       live = record {
         there = left.there;
@@ -211,3 +236,6 @@ module _ (laws : LeaveLaws) (t : ParseTable) (text : Bytes) (base : Base) (g : G
       };
       own = subst (λ (ls : List Layer). EachTree (IsOwnWithin t.grammar) (trees_on ls)) (sym left.stack) (own_trees own numbers s.way s.at);
     }
+
+    pub left_stand : IsTable t → (states : States) → AreStatesOf t states → StandOnGraph t.grammar states text base g → StandOnHead t states text stacks k
+    left_stand table states named st = subst (λ (ls : List Layer). StandOnStack t.grammar states text (trees_on ls)) (sym left.stack) (stand_trees table states named st numbers s.way h s.at s.only.down)

@@ -5,6 +5,7 @@ pub mod NumberLemmas
 pub mod PartLemmas
 pub mod ForkLemmas
 pub mod StandLemmas
+pub mod KeepLemmas
 pub mod LayLemmas
 pub mod WalkLemmas
 pub mod DownLemmas

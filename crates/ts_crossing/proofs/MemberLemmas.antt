@@ -1,7 +1,7 @@
 -- Members of lists, and the places where they stand.
 use Rattle.std.specs.List.{Contains}
 use Rattle.std.specs.Option.{option_map, option_map_or}
-use Rattle.std.proofs.Common.{◌≡◌, ◌∙◌, sym, ap, refl, subst, ℕ, zero, suc, ◌<◌, List, [], ◌∷◌, length, map, get_or, slice_get, Option, Some, arith}
+use Rattle.std.proofs.Common.{◌≡◌, ◌∙◌, sym, ap, refl, subst, ℕ, zero, suc, ◌<◌, List, [], ◌∷◌, length, map, slice_get, Option, Some, arith}
 use Rattle.std.proofs.lemmas.Option.{slice_get-get_or, slice_get_within, get_or_from_slice_get, slice_get-map}
 use Rattle.std.proofs.lemmas.List.{length-map}
 use Rattle.spec_graph.specs.declared.graph.Head.{Head}
@@ -12,13 +12,6 @@ use Rattle.ts_laying.specs.Sound.{bare_link, bare_links}
 module _ {X : Type 0} where
   pub none_contained : (x : X) → Contains [] x → ⊥
   none_contained x h = let low = h.1 in omega (arith, low)
-
-  pub only_one : (y x : X) → Contains (y ∷ []) x → y ≡ x
-  only_one y x h = by h.0 h.1 h.2
-    where
-      by : (k : ℕ) → k < length (y ∷ []) → get_or (y ∷ []) k x ≡ x → y ≡ x
-      by zero low e = e
-      by (suc k) low e = absurd (omega (arith, low))
 
   pub first_contained : (x : X) (xs : List X) → Contains (x ∷ xs) x
   first_contained x xs = (0, omega arith, refl)

@@ -6,6 +6,7 @@ use Rattle.spec_trees.specs.declared.tree.Tree.{Tree}
 use Rattle.spec_trees.specs.Trees.{span_of, all_spans, bare}
 use Rattle.spec_trees.specs.Made.{EndBy, most_span}
 use Rattle.spec_forced.specs.OnlyRuns.{IsFork}
+use Rattle.spec_forced.specs.Sound.{States, StandOnStack}
 use Rattle.spec_graph.specs.declared.graph.Head.{Head}
 use Rattle.spec_graph.specs.declared.graph.Link.{Link}
 use Rattle.spec_graph.specs.States.{AreRanks}
@@ -23,9 +24,11 @@ use Rattle.ts_laying.specs.Sound.{bare_links, IsSoundFor}
 use Rattle.ts_laying.specs.Laying.{head_at}
 use Rattle.ts_reductions.specs.Good.{IsGoodTree}
 use Rattle.ts_steps.specs.declared.head.StackHead.{StackHead}
-use Rattle.ts_steps.specs.Good.{AreGoodTrees}
+use Rattle.ts_steps.specs.Good.{EachTree, AreGoodTrees}
+use Rattle.ts_steps.specs.Heads.{AreStatesOf, IsOwnWithin, StandOnHead}
 use Rattle.ts_steps.specs.LiveHeads.{config_of, HaveStates, IsLiveHead}
 use Rattle.ts_reductions.specs.Sound.{Base, base_at, parsing_from, IsSoundBy}
+use Rattle.ts_reductions.specs.Keeping.{AreOwn, StandOnGraph}
 
 -- A live stack at which several moves stay. Its trees are such as moves make.
 pub record CanEnter (t : ParseTable) (text : Bytes) (stacks : List (List Layer)) (h : StackHead)
@@ -38,7 +41,8 @@ pub record CanEnter (t : ParseTable) (text : Bytes) (stacks : List (List Layer))
 
 -- The graph stands for the stack but for the extras on top of it, which lie above the place: it is
 -- sound over what lies below, has all that stood there, and so is whole up to the first key of the
--- place. No head stands past it, and some head stands there.
+-- place. Its trees are a parser's own and stand, if those of the stack are and do. No head stands
+-- past the place, and some head stands there.
 pub record IsEntered (t : ParseTable) (text : Bytes) (stacks : List (List Layer)) (h : StackHead)
     (g : GraphView) (place : ℕ) : Type 0 where
   pub stack : List Tree
@@ -48,6 +52,9 @@ pub record IsEntered (t : ParseTable) (text : Bytes) (stacks : List (List Layer)
   pub whole : (most : ℕ) → AreRanks t.grammar (unit_rank t.grammar) most
       → IsWholeTo (parsing_from t text (base_at stack place)) (unit_rank t.grammar) g.heads
       (bare_links g.links) (record { look = place; begins = place; rank = most })
+  pub own : EachTree (IsOwnWithin t.grammar) (trees_on (stack_at stacks h.top)) → AreOwn t.grammar g
+  pub stand : (states : States) → AreStatesOf t states → StandOnHead t states text stacks h
+      → StandOnGraph t.grammar states text (base_at stack place) g
   pub low : (k : ℕ) (head : Head) → slice_get g.heads k ≡ Some head → head.place ≤ place
   pub top : (k : ℕ) × (state : ℕ) × (slice_get g.heads k ≡ Some (head_at state place))
 
@@ -92,6 +99,11 @@ pub record LaidTo (t : ParseTable) (text : Bytes) (base : Base) (layers : List L
   pub at : slice_get g.heads top ≡ Some (head_at (state_on layers) (all_spans (trees_on layers)))
   pub stood : HasStood (parsing_from t text (base_at (map bare (trees_on layers))
       (all_spans (trees_on layers)))) g.heads (bare_links g.links)
+  pub own : EachTree (IsOwnWithin t.grammar) (trees_on layers) → AreOwn t.grammar g
+  pub stand : (states : States) → AreStatesOf t states
+      → StandOnStack t.grammar states text (trees_on layers)
+      → StandOnGraph t.grammar states text (base_at (map bare (trees_on layers))
+      (all_spans (trees_on layers))) g
   pub low : (k : ℕ) (head : Head) → slice_get g.heads k ≡ Some head
       → head.place ≤ all_spans (trees_on layers)
 

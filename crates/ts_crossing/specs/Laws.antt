@@ -1,16 +1,18 @@
 -- The laws of other crates that the proofs here rest on.
-use Rattle.std.specs.Prelude.{◌≡◌, ℕ, List, [], ◌∷◌, ◌++◌}
+use Rattle.std.specs.Prelude.{◌≡◌, ℕ, List, [], ◌∷◌, ◌++◌, drop}
+use Rattle.ts_base.specs.Bytes.{Bytes}
 use Rattle.ts_core.specs.declared.flat.FlatGrammar.{FlatGrammar}
 use Rattle.ts_core.specs.declared.symbol.Symbol.{Symbol}
 use Rattle.spec_tables.specs.Actions.{Move, Act, accept}
 use Rattle.spec_tables.specs.Fit.{Fit}
 use Rattle.spec_trees.specs.declared.tree.Tree.{Tree}
-use Rattle.spec_trees.specs.Trees.{all_spans}
+use Rattle.spec_trees.specs.Trees.{node_extent, all_spans}
 use Rattle.spec_trees.specs.Made.{filling}
 use Rattle.spec_runs.specs.BareTrees.{KeepsAll}
 use Rattle.spec_runs.specs.Configurations.{AreValidTokens}
 use Rattle.spec_runs.specs.Moves.{IsUnused}
-use Rattle.spec_forced.specs.Forced.{HaveSameItems}
+use Rattle.spec_forced.specs.Forced.{HaveSameItems, Stands}
+use Rattle.spec_forced.specs.Sound.{States, IsStateAfter, StandsForState}
 use Rattle.spec_graph.specs.declared.graph.Head.{Head}
 use Rattle.spec_graph.specs.declared.graph.Link.{Link}
 use Rattle.spec_graph.specs.States.{AreStates, AreRanks}
@@ -21,8 +23,10 @@ use Rattle.spec_graph.specs.Links.{IsAt, IsWay, way_trees, IsGraph, IsWholeTo, H
 use Rattle.ts_table.specs.declared.view.ParseTable.{ParseTable}
 use Rattle.ts_table.specs.Tables.{IsTable, IsStateOf}
 use Rattle.ts_lexer.specs.States.{AreValid}
+use Rattle.ts_steps.specs.Heads.{AreStatesOf}
 
--- For proofs alone: laws of the states of tables, of bare trees, and of graphs that begin.
+-- For proofs alone: laws of the states of tables, of nodes that stand, of bare trees, and of graphs
+-- that begin.
 pub record EnterLaws : Type 0 where
   pub keeps : (t : Tree) → KeepsAll t
   pub through : (t u v : Tree) → Replaces t u → Replaces u v → Replaces t v
@@ -34,19 +38,32 @@ pub record EnterLaws : Type 0 where
   pub only_accepts : (g : FlatGrammar) (symbol : ℕ) → IsUnused g symbol
       → (above below : List ℕ) (token : ℕ) (move : Move)
       → Act g (above ++ symbol ∷ below) token move → move ≡ accept
+  pub named : (t : ParseTable) (states : States) (read : List ℕ) (state : ℕ) → IsTable t
+      → AreStatesOf t states → IsStateOf t read state → IsStateAfter t.grammar states state read
+  pub told : (g : FlatGrammar) (states : States) (text : Bytes) (place state : ℕ) (t : Tree)
+      (read : List ℕ)
+      → IsStateAfter g states state read → Stands g read (drop place text) t (node_extent t)
+      → StandsForState g states text place state t
   pub begins : (P : Parsing) → Fit P.grammar → AreStates P.grammar P.goto → IsGrounded P
       → (rank : ℕ → ℕ) (most : ℕ) → AreRanks P.grammar rank most
       → (heads : List Head) (links : List Link) → IsAt P heads 0 [] 0
       → HasStood P heads links
       → IsWholeTo P rank heads links (record { look = P.place; begins = P.place; rank = most })
 
--- For proofs alone: laws of bare trees, and of what is read where a way leads down.
+-- For proofs alone: laws of bare trees, of nodes that stand, and of what is read where a way leads
+-- down.
 pub record LeaveLaws : Type 0 where
   pub keeps : (t : Tree) → KeepsAll t
   pub symbols : (P : Parsing) → Fit P.grammar → AreStates P.grammar P.goto → IsGrounded P
       → (heads : List Head) (links : List Link) → IsGraph P heads links
       → (h place : ℕ) (read : List ℕ) (way : List Link) → IsAt P heads h read place
       → IsWay links h way 0 → IsAt P heads h (filling (way_trees way)) place
+  pub named : (t : ParseTable) (states : States) (read : List ℕ) (state : ℕ) → IsTable t
+      → AreStatesOf t states → IsStateOf t read state → IsStateAfter t.grammar states state read
+  pub tells : (g : FlatGrammar) (states : States) (text : Bytes) (place state : ℕ) (t : Tree)
+      (read : List ℕ)
+      → IsStateAfter g states state read → StandsForState g states text place state t
+      → Stands g read (drop place text) t (node_extent t)
   pub spans : (P : Parsing) → Fit P.grammar → AreStates P.grammar P.goto → IsGrounded P
       → (heads : List Head) (links : List Link) → IsGraph P heads links
       → (h place : ℕ) (read : List ℕ) (way : List Link) → IsAt P heads h read place

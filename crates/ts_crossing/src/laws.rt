@@ -1,34 +1,35 @@
 //! The laws of other crates that the proofs here rest on, and what a parser may use of a stack that
 //! is left. No value goes in or out.
 ghost use Rattle.std.specs.Prelude.{ℕ, ◌<◌, ◌⊎◌, List, length};
-ghost use Rattle.std.specs.List.{Contains};
 ghost use Rattle.ts_base.specs.Bytes.{Bytes};
 ghost use Rattle.spec_runs.specs.Configurations.{Configuration};
 ghost use Rattle.spec_runs.specs.Runs.{IsReached};
 ghost use Rattle.spec_packing.specs.Serving.{ComesToServe};
-ghost use Rattle.spec_graph.specs.declared.graph.Link.{Link};
+ghost use Rattle.spec_forced.specs.Sound.{States};
 ghost use Rattle.spec_graph.specs.States.{AreRanks};
 ghost use Rattle.spec_graph.specs.Laying.{IsBegun};
 ghost use Rattle.spec_graph.specs.Links.{IsWholeTo};
 ghost use Rattle.spec_crossing.specs.Leaving.{StandsAlone, EndsBefore};
 ghost use Rattle.ts_table.specs.declared.view.ParseTable.{ParseTable};
 ghost use Rattle.ts_table.specs.Ranks.{unit_rank};
+ghost use Rattle.ts_table.specs.Tables.{IsTable};
 ghost use Rattle.ts_gss.specs.declared.layer.Layer.{Layer};
 ghost use Rattle.ts_graph.specs.declared.view.GraphView.{GraphView};
 ghost use Rattle.ts_laying.specs.Sound.{bare_links};
 ghost use Rattle.ts_steps.specs.declared.head.StackHead.{StackHead as AnyHead};
 ghost use Rattle.ts_steps.specs.LiveHeads.{config_of};
-ghost use Rattle.ts_steps.specs.Heads.{IsOwnWithin, IsOwnHead};
+ghost use Rattle.ts_steps.specs.Heads.{AreStatesOf, IsOwnHead, StandOnHead};
 ghost use Rattle.ts_crossing.specs.Laws.{EnterLaws, LeaveLaws};
 ghost use Rattle.ts_reductions.specs.Sound.{Base as AnyBase, parsing_from, IsSoundBy};
+ghost use Rattle.ts_reductions.specs.Keeping.{AreOwn, StandOnGraph};
 ghost use Rattle.ts_crossing.specs.Leaving.{IsStack, IsLeft};
 
 use spec_crossing::{one_stack_goes_on, unused_symbols_end, ways_are_read};
-use spec_forced::items_decide;
+use spec_forced::{items_decide, states_tell};
 use spec_graph::{trees_replace, whole_to_the_next};
 use spec_runs::bare_trees;
 use ts_lexer::tokens_of_states;
-use ts_steps::tokens_are_known;
+use ts_steps::{states_are_named, tokens_are_known};
 
 /// The laws of stacks that become graphs hold.
 pub(crate) fn enter_laws_hold()
@@ -37,6 +38,8 @@ pub(crate) fn enter_laws_hold()
     bare_trees();
     trees_replace();
     items_decide();
+    states_tell();
+    states_are_named();
     tokens_of_states();
     tokens_are_known();
     unused_symbols_end();
@@ -48,13 +51,15 @@ pub(crate) fn leave_laws_hold()
     ensures { LeaveLaws }
 {
     bare_trees();
+    states_tell();
+    states_are_named();
     ways_are_read();
 }
 
 /// A stack that is left in a graph is reached by a run, where a run came to the stack over which the
 /// graph is sound. All that runs come to from there ends in the graph before a place, or is served
 /// from the stack that is left, where its head stands alone at the place or past it. And a parser
-/// made it, if a parser made the trees of the graph.
+/// made it, if a parser made the trees of the graph; and its trees stand, if those of the graph do.
 pub fn left_stacks_go_on()
     ensures reached { (t : ParseTable) (text : Bytes) (base : AnyBase) (g : GraphView) (h : ℕ)
         (numbers : List ℕ) (stacks : List (List Layer)) (k : AnyHead)
@@ -79,8 +84,13 @@ pub fn left_stacks_go_on()
         (numbers : List ℕ) (stacks : List (List Layer)) (k : AnyHead)
         → IsSoundBy t text base g → h < length g.heads
         → (s : IsStack g h numbers) → IsLeft g h s.way stacks k
-        → ((l : Link) → Contains g.links l → IsOwnWithin t.grammar l.tree)
-        → IsOwnHead t (length text) stacks k }
+        → AreOwn t.grammar g → IsOwnHead t (length text) stacks k }
+    ensures stand { (t : ParseTable) (text : Bytes) (base : AnyBase) (g : GraphView) (h : ℕ)
+        (numbers : List ℕ) (stacks : List (List Layer)) (k : AnyHead)
+        → IsSoundBy t text base g → h < length g.heads
+        → (s : IsStack g h numbers) → IsLeft g h s.way stacks k
+        → IsTable t → (states : States) → AreStatesOf t states
+        → StandOnGraph t.grammar states text base g → StandOnHead t states text stacks k }
 {
     leave_laws_hold();
     one_stack_goes_on();

@@ -8,5 +8,7 @@ returns c = record {
   tokens = c.tokens_of_states.ensures;
   known = c.tokens_are_known.ensures;
   only_accepts = c.unused_symbols_end.ensures;
+  named = c.states_are_named.ensures.after;
+  told = c.states_tell.ensures.told;
   begins = c.whole_to_the_next.ensures.begins;
 }

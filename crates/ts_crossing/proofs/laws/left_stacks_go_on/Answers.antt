@@ -6,7 +6,7 @@ use Rattle.spec_crossing.specs.Leaving.{EndsBefore}
 use Rattle.ts_laying.specs.Sound.{bare_link, bare_links}
 use Rattle.ts_table.specs.Ranks.{unit_rank}
 use Rattle.ts_reductions.specs.Sound.{parsing_from}
-use Rattle.ts_crossing.proofs.LeftLemmas.{reads, head_at_place, config_is, left_own}
+use Rattle.ts_crossing.proofs.LeftLemmas.{reads, head_at_place, config_is, left_own, left_stand}
 use Rattle.ts_crossing.proofs.laws.left_stacks_go_on.Goals as goal
 
 pub returns-clause-reached : goal.returns-clause-reached
@@ -27,3 +27,6 @@ returns-clause-serves c t text base g h numbers stacks k sound there s left b re
 
 pub returns-clause-own : goal.returns-clause-own
 returns-clause-own c t text base g h numbers stacks k sound there s left own = left_own c.leave_laws_hold.ensures t text base g sound h there numbers stacks k s left own
+
+pub returns-clause-stand : goal.returns-clause-stand
+returns-clause-stand c t text base g h numbers stacks k sound there s left table states named st = left_stand c.leave_laws_hold.ensures t text base g sound h there numbers stacks k s left table states named st
