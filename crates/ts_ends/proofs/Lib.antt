@@ -5,3 +5,4 @@ pub mod OutcomeLemmas
 pub mod WayLemmas
 pub mod RootLemmas
 pub mod BestLemmas
+pub mod OwnLemmas

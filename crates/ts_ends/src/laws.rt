@@ -1,24 +1,31 @@
 //! The laws of other crates that the proofs here rest on, and laws of what ended, each a function
 //! without a body. No value goes in or out.
-ghost use Rattle.std.specs.Prelude.{◌≡◌, ℕ, ◌<◌, ◌≤◌, ◌⊎◌, List, Option, Some, None, []};
+ghost use Rattle.std.specs.Prelude.{◌≡◌, ℕ, ◌<◌, ◌≤◌, ◌⊎◌, List, length, Option, Some, None, []};
 ghost use Rattle.ts_base.specs.Bytes.{Bytes};
 ghost use Rattle.spec_runs.specs.BareTrees.{KeepsAll};
 ghost use Rattle.spec_trees.specs.declared.tree.Tree.{Tree};
-ghost use Rattle.spec_trees.specs.Trees.{bare};
+ghost use Rattle.spec_trees.specs.Trees.{state_of, children_of, bare};
+ghost use Rattle.spec_forced.specs.Sound.{States, IsSound};
 ghost use Rattle.spec_graph.specs.Outcomes.{IsBestOfGraph, IsLastOfGraph};
 ghost use Rattle.spec_crossing.specs.Resting.{AccountsForGraph};
 ghost use Rattle.ts_graph.specs.declared.view.GraphView.{GraphView};
 ghost use Rattle.ts_graph.specs.Down.{KeepNumbers};
 ghost use Rattle.ts_table.specs.declared.view.ParseTable.{ParseTable};
+ghost use Rattle.ts_table.specs.Tables.{IsTable};
 ghost use Rattle.ts_laying.specs.Sound.{bare_links};
+ghost use Rattle.ts_steps.specs.Good.{EachTree};
+ghost use Rattle.ts_steps.specs.Heads.{AreStatesOf, IsOwnWithin};
 ghost use Rattle.ts_reductions.specs.Sound.{Base as AnyBase, parsing_from, parsing_of, IsSoundBy};
+ghost use Rattle.ts_reductions.specs.Keeping.{AreOwn, StandOnGraph};
 ghost use Rattle.ts_shifts.specs.Looking.{IsHeadAt};
 ghost use Rattle.ts_ends.specs.declared.ends.Ends.{Ends as AnyEnds};
-ghost use Rattle.ts_ends.specs.Laws.{EndLaws};
+ghost use Rattle.ts_ends.specs.Laws.{EndLaws, RootLaws};
 ghost use Rattle.ts_ends.specs.Choosing.{IsPastStuck};
-ghost use Rattle.ts_ends.specs.Ends.{AreEnds, AreLater};
-ghost use Rattle.ts_ends.specs.Best.{IsBestOn};
+ghost use Rattle.ts_ends.specs.Ends.{Accepts, AreEnds, AreLater};
+ghost use Rattle.ts_ends.specs.Best.{IsRootOn, IsBestOn};
 
+use spec_crossing::ways_are_read;
+use spec_forced::{stacks_stay_sound, states_tell};
 use spec_lexing::{fewer_tokens, one_answer, token_within};
 use spec_reuse::{no_new_tokens, some_move_stays};
 use spec_runs::{
@@ -27,6 +34,7 @@ use spec_runs::{
 };
 use ts_node::{accepted_is_node, made_nodes_are_in_form};
 use ts_shifts::passed_heads_go_on;
+use ts_steps::states_are_named;
 
 /// The laws of graphs, and of accepted roots, hold.
 pub(crate) fn end_laws_hold()
@@ -44,6 +52,18 @@ pub(crate) fn end_laws_hold()
     some_move_stays();
     accepted_is_node();
     made_nodes_are_in_form();
+}
+
+/// The laws of roots that are sound hold.
+fn root_laws_hold()
+    ensures { RootLaws }
+{
+    bare_trees();
+    moves_have_their_place();
+    ways_are_read();
+    states_are_named();
+    states_tell();
+    stacks_stay_sound();
 }
 
 /// Bare trees keep all that counts.
@@ -108,3 +128,21 @@ pub fn ends_account()
     ensures none { (t : ParseTable) (text : Bytes) (g : GraphView) (heads : List ℕ)
         → heads ≡ [] → IsBestOn t text g heads None }
 {}
+
+/// The root on a way from a head that accepts has no state; and its children are a parser's own,
+/// where the trees of the graph are. If these stand besides, the root is sound.
+pub fn roots_are_own()
+    ensures own { (t : ParseTable) (text : Bytes) (base : AnyBase) (g : GraphView) (h : ℕ)
+        (b : Tree)
+        → IsSoundBy t text base g → Accepts (parsing_of t text) g.heads h
+        → IsRootOn g (length text) h b → AreOwn t.grammar g
+        → EachTree (IsOwnWithin t.grammar) (children_of b) × (state_of b ≡ None) }
+    ensures sound { (t : ParseTable) (text : Bytes) (base : AnyBase) (g : GraphView) (h : ℕ)
+        (b : Tree)
+        → IsSoundBy t text base g → Accepts (parsing_of t text) g.heads h
+        → IsRootOn g (length text) h b → IsTable t
+        → (states : States) → AreStatesOf t states → AreOwn t.grammar g
+        → StandOnGraph t.grammar states text base g → IsSound t.grammar states text b }
+{
+    root_laws_hold();
+}

@@ -12,4 +12,4 @@ mod roots;
 pub use best::best_of;
 pub use choosing::{keep, stick};
 pub use ends::{Ends, see_ends};
-pub use laws::{ends_account, ends_begin, ends_stay, ends_tell_the_outcome};
+pub use laws::{ends_account, ends_begin, ends_stay, ends_tell_the_outcome, roots_are_own};
