@@ -34,8 +34,8 @@ BELOW = "ts_base ts_core ts_text spec_grammar spec_trees ts_node ts_order ts_cur
 NODE = 24
 RULE_NODE = 72
 REPETITION = 48
-RUN = 96
-ELEMENT = 8
+RUN = 144
+ELEMENT = 20
 # The count of owners of what is shared.
 OWNERS = 8
 # The most elements and children together in a leaf of a run.
