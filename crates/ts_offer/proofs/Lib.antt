@@ -3,3 +3,4 @@ pub mod LeapLemmas
 pub mod WayLemmas
 pub mod TopLemmas
 pub mod RunLemmas
+pub mod StopLemmas

@@ -1,5 +1,5 @@
 -- What is ahead on the way down a tree, turn by turn.
-use Rattle.std.proofs.Common.{◌≡◌, ℕ, zero, suc, ◌+◌, ◌-◌, ◌*◌, ◌<◌, ◌≤◌, ◌⊎◌, inl, inr, sym, ap, subst, ◌∙◌, refl, arith, List, [], ◌∷◌, ◌++◌, length, take, drop, slice_get, Some, None}
+use Rattle.std.proofs.Common.{◌≡◌, ℕ, zero, suc, ◌+◌, ◌-◌, ◌*◌, ◌<◌, ◌≤◌, ◌⊎◌, inl, inr, sym, ap, subst, ◌∙◌, refl, arith, List, [], ◌∷◌, ◌++◌, length, take, drop, slice_get, Option, Some, None, unwrap_or}
 use Rattle.std.proofs.lemmas.List.{drop_all}
 use Rattle.std.proofs.lemmas.Option.{slice_get_within}
 use Rattle.spec_trees.specs.declared.tree.Tree.{Tree}
@@ -10,7 +10,7 @@ use Rattle.spec_trees.specs.Inside as nodes
 use Rattle.spec_reuse.specs.Places.{IsIn, here, inside, later, IsWhole, lead_of}
 use Rattle.ts_offer.specs.declared.way.Turn.{Turn}
 use Rattle.ts_offer.specs.declared.way.Ahead.{Ahead}
-use Rattle.ts_offer.specs.Ways.{rest_of, IsAhead, IsBegun, IsTurn, AreTurns, StandsIn, AllStandIn, IsOn, weight, IsNext, IsPast, IsInto, IsReached, IsLater, IsPassed, IsEntered}
+use Rattle.ts_offer.specs.Ways.{rest_of, IsAhead, IsBegun, IsTurn, AreTurns, StandsIn, AllStandIn, start_of, HasBegun, AllHaveBegun, IsOn, weight, IsNext, IsPast, IsInto, IsReached, IsLater, IsPassed, IsEntered}
 use Rattle.ts_offer.proofs.PlaceLemmas.{drop_at, lie, none_in, split, single, wide, whole_children, whole_one, whole_drop, AllWhole, child_depth}
 
 -- ---- lists of turns
@@ -33,7 +33,7 @@ ahead_pop (s ∷ ts) t u at (inr h) = by (ahead_pop ts t u at h)
     by (inr k) = inr k
 
 -- where the turns stand
-stand_pop : (root : Tree) (ts : List Turn) (t : Turn) → AllStandIn root (ts ++ t ∷ []) → AllStandIn root ts × StandsIn root t
+pub stand_pop : (root : Tree) (ts : List Turn) (t : Turn) → AllStandIn root (ts ++ t ∷ []) → AllStandIn root ts × StandsIn root t
 stand_pop root [] t h = (tt, h.0)
 stand_pop root (s ∷ ts) t h =
     let r = stand_pop root ts t h.1 in
@@ -55,16 +55,71 @@ stand_at root (s ∷ ts) (suc k) t h e = stand_at root ts k t h.1 e
 stand_past : (root : Tree) (t s : Turn) (c : Tree) → IsPast t c s → StandsIn root t → StandsIn root s
 stand_past root t s c p h at e = subst (λ (x : Tree). IsIn (children_of root) (lead_of root) x at) (sym p.node) (h at (sym p.begins ∙ e))
 
+-- where they have begun
+pub begun_pop : (root : Tree) (place : ℕ) (ts : List Turn) (t : Turn) → AllHaveBegun root place (ts ++ t ∷ []) → AllHaveBegun root place ts × HasBegun root place t
+begun_pop root place [] t h = (tt, h.0)
+begun_pop root place (s ∷ ts) t h =
+    let r = begun_pop root place ts t h.1 in
+    ((h.0, r.0), r.1)
+
+begun_push : (root : Tree) (place : ℕ) (ts : List Turn) (t : Turn) → AllHaveBegun root place ts → HasBegun root place t → AllHaveBegun root place (ts ++ t ∷ [])
+begun_push root place [] t h k = (k, tt)
+begun_push root place (s ∷ ts) t h k = (h.0, begun_push root place ts t h.1 k)
+
+begun_later : (root : Tree) (place more : ℕ) (ts : List Turn) → place ≤ more → AllHaveBegun root place ts → AllHaveBegun root more ts
+begun_later root place more [] le h = tt
+begun_later root place more (t ∷ ts) le h = (
+  record { before = λ at is. omega (arith, h.0.before at is, le); whole = h.0.whole; passed = h.0.passed },
+  begun_later root place more ts le h.1,
+)
+
+pub spans_before : (ts : List Tree) (k : ℕ) (c : Tree) → slice_get ts k ≡ Some c → all_spans (take (k + 1) ts) ≡ all_spans (take k ts) + span_of c
+spans_before ts k c e =
+    let n : k + 1 ≡ suc k = omega arith in
+    ap (λ (j : ℕ). all_spans (take j ts)) n ∙ by ts k e
+  where
+    by : (us : List Tree) (j : ℕ) → slice_get us j ≡ Some c → all_spans (take (suc j) us) ≡ all_spans (take j us) + span_of c
+    by [] j h = let f : ⊥ = omega (arith, slice_get_within [] j c h) in elim f [ ]
+    by (u ∷ us) zero h =
+        let s : Some u ≡ Some c = h in
+        let d : span_of u ≡ span_of c = cc in
+        omega (arith, d)
+    by (u ∷ us) (suc j) h = omega (arith, by us j h)
+
+begun_past : (root : Tree) (place : ℕ) (t s : Turn) (c : Tree) → slice_get (children_of t.node.now) t.next ≡ Some c → IsPast t c s → HasBegun root place t → HasBegun root place s
+begun_past root place t s c e p h =
+    let n : all_spans (take s.next (children_of s.node.now)) ≡ all_spans (take (t.next + 1) (children_of t.node.now)) =
+    ap (λ (k : ℕ). all_spans (take k (children_of s.node.now))) p.next ∙ ap (λ (x : Tree). all_spans (take (t.next + 1) (children_of x))) p.node in
+    let start : start_of root s ≡ start_of root t = ap (λ (o : Option ℕ). unwrap_or o (lead_of root)) p.begins in
+    record {
+      before = λ at is. h.before at (sym p.begins ∙ is);
+      whole = λ is. p.node ∙ h.whole (sym p.begins ∙ is);
+      passed = omega (arith, n, start, p.place, h.passed, spans_before (children_of t.node.now) t.next c e);
+    }
+
+begun_into : (root : Tree) (place : ℕ) (t i : Turn) (c : Tree) → IsInto t c i → t.place < place → HasBegun root place i
+begun_into root place t i c p less =
+    let none : all_spans (take i.next (children_of i.node.now)) ≡ 0 = ap (λ (k : ℕ). all_spans (take k (children_of i.node.now))) p.next in
+    let start : start_of root i ≡ t.place = ap (λ (o : Option ℕ). unwrap_or o (lead_of root)) p.begins in
+    record {
+      before = λ at is.
+          let q : Some t.place ≡ Some at = sym p.begins ∙ is in
+          let d : t.place ≡ at = cc in
+          omega (arith, d, less);
+      whole = λ is. absurd (let q : ◌≡◌ {A = Option ℕ} (Some t.place) None = sym p.begins ∙ is in cc);
+      passed = omega (arith, none, start, p.place);
+    }
+
 -- where the nodes in the last turn begin, and its depth
-abbrev last_place : ℕ → List Turn → ℕ
+abbrev pub last_place : ℕ → List Turn → ℕ
 last_place end [] = end
 last_place end (t ∷ ts) = last_place t.place ts
 
-abbrev last_depth : ℕ → List Turn → ℕ
+abbrev pub last_depth : ℕ → List Turn → ℕ
 last_depth deep [] = deep
 last_depth deep (t ∷ ts) = last_depth (tree_depth t.node.now) ts
 
-turns_pop : (end deep : ℕ) (ts : List Turn) (t : Turn) → AreTurns end deep (ts ++ t ∷ []) → AreTurns end deep ts × IsTurn (last_place end ts) (last_depth deep ts) t
+pub turns_pop : (end deep : ℕ) (ts : List Turn) (t : Turn) → AreTurns end deep (ts ++ t ∷ []) → AreTurns end deep ts × IsTurn (last_place end ts) (last_depth deep ts) t
 turns_pop end deep [] t h = (tt, h.0)
 turns_pop end deep (s ∷ ts) t h =
     let r = turns_pop s.place (tree_depth s.node.now) ts t h.1 in
@@ -101,24 +156,11 @@ low end deep (t ∷ ts) u at h (inl k) =
     omega (arith, r.0, last_before t.place (tree_depth t.node.now) ts h.1)
 low end deep (t ∷ ts) u at h (inr k) = low t.place (tree_depth t.node.now) ts u at h.1 k
 
-length-snoc : {X : Type 0} (xs : List X) (x : X) → length (xs ++ x ∷ []) ≡ 1 + length xs
+pub length-snoc : {X : Type 0} (xs : List X) (x : X) → length (xs ++ x ∷ []) ≡ 1 + length xs
 length-snoc [] x = refl
 length-snoc (y ∷ xs) x = omega (arith, length-snoc xs x)
 
 -- ---- one step
-
-pub spans_before : (ts : List Tree) (k : ℕ) (c : Tree) → slice_get ts k ≡ Some c → all_spans (take (k + 1) ts) ≡ all_spans (take k ts) + span_of c
-spans_before ts k c e =
-    let n : k + 1 ≡ suc k = omega arith in
-    ap (λ (j : ℕ). all_spans (take j ts)) n ∙ by ts k e
-  where
-    by : (us : List Tree) (j : ℕ) → slice_get us j ≡ Some c → all_spans (take (suc j) us) ≡ all_spans (take j us) + span_of c
-    by [] j h = let f : ⊥ = omega (arith, slice_get_within [] j c h) in elim f [ ]
-    by (u ∷ us) zero h =
-        let s : Some u ≡ Some c = h in
-        let d : span_of u ≡ span_of c = cc in
-        omega (arith, d)
-    by (u ∷ us) (suc j) h = omega (arith, by us j h)
 
 rest_is : (t s : Turn) (c : Tree) → slice_get (children_of t.node.now) t.next ≡ Some c → IsPast t c s → rest_of t ≡ c ∷ rest_of s
 rest_is t s c e p =
@@ -137,10 +179,6 @@ past_turn end deep t s c e p h =
       next = omega (arith, n, p.next, slice_get_within (children_of t.node.now) t.next c e);
       within = omega (arith, r, p.place, h.within);
       falls = omega (arith, d, h.falls);
-      begun = λ at is.
-          let a : all_spans (take s.next (children_of s.node.now)) ≡ all_spans (take (t.next + 1) (children_of t.node.now)) =
-          ap (λ (k : ℕ). all_spans (take k (children_of s.node.now))) p.next ∙ ap (λ (x : Tree). all_spans (take (t.next + 1) (children_of x))) p.node in
-          omega (arith, h.begun at (sym p.begins ∙ is), p.place, a, spans_before (children_of t.node.now) t.next c e);
     }
 
 -- the next child and the rest
@@ -169,6 +207,7 @@ over root size ts t place w past =
       whole = w.whole;
       turns = p.0;
       stand = (stand_pop root ts t w.stand).0;
+      begun = (begun_pop root place ts t w.begun).0;
       room = w.room;
       all = λ u at h le some. by u at (ahead_pop ts t u at (w.all u at h le some));
       only = λ u at h. w.only u at (ahead_push ts t u at (inl h));
@@ -187,6 +226,7 @@ passed root size ts t s c place w e past le =
       whole = w.whole;
       turns = turns_push (span_of root) (1 + tree_depth root) ts s p.0 (past_turn _ _ t s c e past p.1);
       stand = (let r = stand_pop root ts t w.stand in stand_push root ts s r.0 (stand_past root t s c past r.1));
+      begun = (let r = begun_pop root place ts t w.begun in begun_push root place ts s r.0 (begun_past root place t s c e past r.1));
       room = w.room;
       all = λ u at h after some. by whole u at after some (ahead_pop ts t u at (w.all u at h after some));
       only = λ u at h. w.only u at (back u at (ahead_pop ts s u at h));
@@ -226,11 +266,6 @@ into_turn t i s c end deep e past into h =
       next = omega (arith, into.next);
       within = omega (arith, r, into.place, past.place, (whole c nodes.itself).sized.within);
       falls = omega (arith, d, q, child_depth t.node.now t.next c e);
-      begun = λ at is.
-          let f : Some t.place ≡ Some at = sym into.begins ∙ is in
-          let g : t.place ≡ at = cc in
-          let n : all_spans (take i.next (children_of i.node.now)) ≡ 0 = ap (λ (k : ℕ). all_spans (take k (children_of i.node.now))) into.next in
-          omega (arith, into.place, g, n);
     }
 
 -- a child that begins before the place is gone into
@@ -247,6 +282,7 @@ entered root size ts t s i c place w e past into lt =
       whole = w.whole;
       turns = turns_push (span_of root) (1 + tree_depth root) (ts ++ s ∷ []) i a k;
       stand = (let r = stand_pop root ts t w.stand in stand_push root (ts ++ s ∷ []) i (stand_push root ts s r.0 (stand_past root t s c past r.1)) stand_in);
+      begun = (let r = begun_pop root place ts t w.begun in begun_push root place (ts ++ s ∷ []) i (begun_push root place ts s r.0 (begun_past root place t s c e past r.1)) (begun_into root place t i c into lt));
       room = w.room;
       all = λ u at h after some. by u at after (ahead_pop ts t u at (w.all u at h after some));
       only = λ u at h. w.only u at (back u at (ahead_pop (ts ++ s ∷ []) i u at h));
@@ -318,6 +354,8 @@ first_way root size t w room node begins next place =
     let q : lead_of root ≡ t.place = sym place in
     let s : all_spans (rest_of t) ≡ all_spans (children_of root) = ap all_spans r in
     let d : tree_depth t.node.now ≡ tree_depth root = ap tree_depth node in
+    let start : start_of root t ≡ lead_of root = ap (λ (o : Option ℕ). unwrap_or o (lead_of root)) begins in
+    let none : all_spans (take t.next (children_of t.node.now)) ≡ 0 = ap (λ (k : ℕ). all_spans (take k (children_of t.node.now))) next in
     record {
       whole = w;
       turns = (
@@ -326,11 +364,18 @@ first_way root size t w room node begins next place =
           next = omega (arith, next);
           within = omega (arith, s, place, (w root nodes.itself).sized.within);
           falls = omega (arith, d);
-          begun = λ at is. let f : None ≡ Some at = sym begins ∙ is in cc;
         },
         tt,
       );
       stand = ((λ at is. let q : None ≡ Some at = sym begins ∙ is in cc), tt);
+      begun = (
+        record {
+          before = λ at is. let q : None ≡ Some at = sym begins ∙ is in cc;
+          whole = λ is. node;
+          passed = omega (arith, place, start, none);
+        },
+        tt,
+      );
       room = room;
       all = λ u at h le some. inl (subst (λ (xs : List Tree). IsIn xs t.place u at) (sym r) (subst (λ (p : ℕ). IsIn (children_of root) p u at) q h));
       only = λ u at h. back u at r q h;
@@ -353,6 +398,7 @@ later_way root size ts place more w le = record {
   whole = w.whole;
   turns = w.turns;
   stand = w.stand;
+  begun = begun_later root place more ts le w.begun;
   room = w.room;
   all = λ u at h after some. w.all u at h (omega (arith, le, after)) some;
   only = w.only;
@@ -442,6 +488,7 @@ roomier root size more ts us place w e le =
       whole = v.whole;
       turns = v.turns;
       stand = v.stand;
+      begun = v.begun;
       room = omega (arith, v.room, le);
       all = v.all;
       only = v.only;
@@ -456,7 +503,10 @@ pop_turn root size xs ts t place w e =
 
 pub pop_begun : (root : Tree) (size : ℕ) (xs ts : List Turn) (t : Turn) (place : ℕ) → IsOn root size xs place → xs ≡ ts ++ t ∷ [] → IsBegun t
 pop_begun root size xs ts t place w e =
-    (turns_pop (span_of root) (1 + tree_depth root) ts t (popped root size xs ts t place w e).turns).1.begun
+    λ at is.
+    let h : HasBegun root place t = (begun_pop root place ts t (popped root size xs ts t place w e).begun).1 in
+    let start : start_of root t ≡ at = ap (λ (o : Option ℕ). unwrap_or o (lead_of root)) is in
+    omega (arith, start, h.passed)
 
 pub go_over : (root : Tree) (size more : ℕ) (xs ts : List Turn) (t : Turn) (place : ℕ) → IsOn root size xs place → xs ≡ ts ++ t ∷ [] → (t.next < length (children_of t.node.now) → ⊥) → size ≤ more → IsOn root more ts place
 go_over root size more xs ts t place w e h le = roomier root size more ts ts place (over root size ts t place (popped root size xs ts t place w e) h) refl le

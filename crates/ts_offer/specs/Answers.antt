@@ -1,5 +1,5 @@
 -- What is answered at a place for a state.
-use Rattle.std.specs.Prelude.{◌≡◌, ℕ, ◌+◌, ◌<◌, ◌≤◌, true, length, drop, Option, Some, None, All}
+use Rattle.std.specs.Prelude.{◌≡◌, ℕ, suc, ◌+◌, ◌-◌, ◌<◌, ◌≤◌, true, length, drop, Option, Some, None, All}
 use Rattle.spec_trees.specs.declared.tree.Tree.{Tree}
 use Rattle.spec_trees.specs.declared.tree.Stretch.{Stretch}
 use Rattle.spec_trees.specs.Trees.{symbol_of, state_of, elements_of, children_of}
@@ -37,6 +37,11 @@ pub record IsStretchAt (tree : Tree) (place state symbol : ℕ) (s : Stretch) : 
   pub run : IsSettledRun node from to
   pub begins : at + bytes_before from (stretch_in node) ≡ place
   pub stretch_is : s ≡ elements_between from to node
+
+-- the element of this number and the one before it have bytes
+pub record IsParted (node : Tree) (from : ℕ) : Type 0 where
+  pub before : bytes_before (from - 1) (stretch_in node) < bytes_before from (stretch_in node)
+  pub after : bytes_before from (stretch_in node) < bytes_before (suc from) (stretch_in node)
 
 -- the elements with their children
 abbrev pub stretch_of : Elements → Stretch

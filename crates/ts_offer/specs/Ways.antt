@@ -1,7 +1,8 @@
 -- Where the search through a tree stands, and what it finds. For private clauses and proofs alone.
-use Rattle.std.specs.Prelude.{◌≡◌, ℕ, ◌+◌, ◌-◌, ◌*◌, ◌<◌, ◌≤◌, ◌⊎◌, ◌++◌, List, [], ◌∷◌, length, take, drop, slice_get, Option, Some, None, vec_capacity}
+use Rattle.std.specs.Prelude.{◌≡◌, ℕ, suc, ◌+◌, ◌-◌, ◌*◌, ◌<◌, ◌≤◌, ◌⊎◌, ◌++◌, List, [], ◌∷◌, length, take, drop, slice_get, Option, Some, None, unwrap_or, vec_capacity}
 use Rattle.spec_trees.specs.declared.tree.Tree.{Tree}
-use Rattle.spec_trees.specs.Trees.{children_of, span_of, all_spans, all_nodes, tree_depth}
+use Rattle.spec_trees.specs.Trees.{elements_of, children_of, span_of, all_spans, all_nodes, tree_depth}
+use Rattle.spec_trees.specs.Made.{stretch_in, bytes_before, settled_first}
 use Rattle.spec_reuse.specs.Places.{IsIn, IsWhole, lead_of}
 use Rattle.spec_reuse.specs.Offered.{IsFit}
 use Rattle.ts_offer.specs.declared.way.Turn.{Turn}
@@ -30,7 +31,6 @@ pub record IsTurn (end deep : ℕ) (t : Turn) : Type 0 where
   pub next : t.next ≤ length (children_of t.node.now)
   pub within : t.place + all_spans (rest_of t) ≤ end
   pub falls : tree_depth t.node.now < deep
-  pub begun : IsBegun t
 
 -- turns one in another, the outermost first
 abbrev pub AreTurns : ℕ → ℕ → List Turn → Type 0
@@ -47,11 +47,28 @@ abbrev pub AllStandIn : Tree → List Turn → Type 0
 AllStandIn root [] = Unit {0}
 AllStandIn root (t ∷ ts) = StandsIn root t × AllStandIn root ts
 
+-- where the children of a turn's node begin
+abbrev pub start_of : Tree → Turn → ℕ
+start_of root t = unwrap_or t.begins (lead_of root)
+
+-- Its node begins before the place, unless it is the root, and the children up to the next one take
+-- all bytes up to where that begins.
+pub record HasBegun (root : Tree) (place : ℕ) (t : Turn) : Type 0 where
+  pub before : (at : ℕ) → t.begins ≡ Some at → at < place
+  pub whole : t.begins ≡ None → t.node.now ≡ root
+  pub passed : t.place ≡ start_of root t + all_spans (take t.next (children_of t.node.now))
+
+-- so does each of some turns
+abbrev pub AllHaveBegun : Tree → ℕ → List Turn → Type 0
+AllHaveBegun root place [] = Unit {0}
+AllHaveBegun root place (t ∷ ts) = HasBegun root place t × AllHaveBegun root place ts
+
 -- All nodes with bytes in the root that begin at a place or later are ahead, and no others.
 pub record IsOn (root : Tree) (size : ℕ) (ts : List Turn) (place : ℕ) : Type 0 where
   pub whole : IsWhole root
   pub turns : AreTurns (span_of root) (1 + tree_depth root) ts
   pub stand : AllStandIn root ts
+  pub begun : AllHaveBegun root place ts
   pub room : 1 + tree_depth root ≤ size
   pub all : (u : Tree) (at : ℕ) → IsIn (children_of root) (lead_of root) u at
       → place ≤ at → 0 < span_of u → IsAhead ts u at
@@ -93,6 +110,13 @@ pub record IsReached (t : Turn) (place : ℕ) (a : Ahead) : Type 0 where
   pub begins : a.place ≡ t.place
   pub from : place ≤ t.place
   pub past : place < t.place + span_of a.node.now
+
+-- the node ahead is the next child of the last turn
+pub record IsReachedLast (ts : List Turn) (place : ℕ) (a : Ahead) : Type 0 where
+  pub turns : List Turn
+  pub turn : Turn
+  pub are : ts ≡ turns ++ turn ∷ []
+  pub reached : IsReached turn place a
 
 -- a turn in the same node, or a later one: the children between end at the place or before it
 pub record IsLater (t : Turn) (place : ℕ) (s : Turn) : Type 0 where
@@ -163,3 +187,30 @@ pub record IsTop (t : Tree) (state : ℕ) (found : Tree) : Type 0 where
 abbrev pub IsTopmostAt : Tree → ℕ → Option Tree → Type 0
 IsTopmostAt t state None = (u : Tree) (place : ℕ) → IsIn (t ∷ []) place u place → IsFit state u → ⊥
 IsTopmostAt t state (Some found) = IsTop t state found
+
+-- A node, with the place where it begins, has a child with bytes that begins at a later place, and
+-- no node in it reaches over that place.
+pub record PartsAt (v : Tree) (at place : ℕ) : Type 0 where
+  pub before : at < place
+  pub child : Tree
+  pub there : IsIn (children_of v) at child place
+  pub some : 0 < span_of child
+  pub inner : (u : Tree) (b : ℕ) → IsIn (children_of v) at u b → b < place
+      → b + span_of u ≤ place
+
+-- the last turn is in the node
+pub record IsLastIn (ts : List Turn) (v : Tree) (at : ℕ) : Type 0 where
+  pub turn : Turn
+  pub last : slice_get ts (length ts - 1) ≡ Some turn
+  pub node : turn.node.now ≡ v
+  pub begins : turn.begins ≡ Some at
+
+-- In a node that begins at a place, a settled element begins at another, and is not the first. That
+-- element and the one before it have bytes.
+pub record HasRunAt (node : Tree) (at place from : ℕ) : Type 0 where
+  pub begins : at + bytes_before from (stretch_in node) ≡ place
+  pub later : 0 < from
+  pub there : from < length (elements_of node)
+  pub settled : 0 < settled_first (drop from (elements_of node))
+  pub before : bytes_before (from - 1) (stretch_in node) < bytes_before from (stretch_in node)
+  pub after : bytes_before from (stretch_in node) < bytes_before (suc from) (stretch_in node)

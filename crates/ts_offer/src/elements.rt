@@ -1,9 +1,10 @@
 //! Elements of an old repetition that may be taken over at once: a node, where it begins and a
 //! place go in, and its settled elements from there on come out.
-ghost use Rattle.std.specs.Prelude.{◌≡◌, ◌+◌, ◌<◌, IfSome, length};
+ghost use Rattle.std.specs.Prelude.{◌≡◌, ℕ, ◌+◌, ◌<◌, IfSome, None, length, drop};
 ghost use Rattle.spec_trees.specs.Trees.{elements_of};
-ghost use Rattle.spec_trees.specs.Made.{bytes_before, stretch_in};
+ghost use Rattle.spec_trees.specs.Made.{bytes_before, settled_first, stretch_in};
 ghost use Rattle.ts_offer.specs.Answers.{IsSettledRun};
+ghost use Rattle.ts_offer.specs.Ways.{HasRunAt};
 
 use ts_node::Node;
 
@@ -21,6 +22,7 @@ pub(crate) fn elements_at<'t>(node: &'t Node, at: u32, place: u32) -> Option<Ele
     ensures node { IfSome result (λ e. e.node.now ≡ node.now) }
     ensures run { IfSome result (λ e. IsSettledRun node.now e.from e.to) }
     ensures begins { IfSome result (λ e. at + bytes_before e.from (stretch_in node.now) ≡ place) }
+    ensures none { (from : ℕ) → HasRunAt node.now at place from → result ≡ None → ⊥ }
 {
     if place < at {
         return None;
@@ -38,6 +40,8 @@ fn settled_elements<'t>(node: &'t Node, from: u32) -> Option<Elements<'t>>
     ensures node { IfSome result (λ e. e.node.now ≡ node.now) }
     ensures from { IfSome result (λ e. e.from ≡ from) }
     ensures run { IfSome result (λ e. IsSettledRun node.now e.from e.to) }
+    ensures none { 0 < from → 0 < settled_first (drop from (elements_of node.now))
+        → result ≡ None → ⊥ }
 {
     let _ = node.elements();
     let count = node.settled_from(from);

@@ -1,10 +1,10 @@
 //! Offers: a place and a state go in, and a node that may be taken over there comes out, or none;
 //! or elements of a repetition of a symbol.
-ghost use Rattle.std.specs.Prelude.{◌≡◌, ◌<◌, ◌≤◌, ℕ, max, length, Some, IfSome, option_copied};
+ghost use Rattle.std.specs.Prelude.{◌≡◌, ◌<◌, ◌≤◌, ℕ, max, length, Some, None, IfSome, option_copied};
 ghost use Rattle.spec_trees.specs.declared.tree.Tree.{Tree};
 ghost use Rattle.spec_trees.specs.declared.tree.Stretch.{Stretch};
 ghost use Rattle.spec_trees.specs.Trees.{elements_of};
-ghost use Rattle.ts_offer.specs.Answers.{IsOfferAt, IsStretchAt, stretch_of};
+ghost use Rattle.ts_offer.specs.Answers.{IsOfferAt, IsParted, IsStretchAt, stretch_of};
 
 use crate::elements::Elements;
 use ts_core::Symbol;
@@ -44,7 +44,8 @@ pub trait Offers<'t> {
 
     /// Elements that begin at a place, behind a repetition of a symbol that has a state below it,
     /// and may be taken over there at once. A place may be asked for that lies before one that was
-    /// asked for; no node may be asked for then that lies before that one.
+    /// asked for; no node may be asked for then that lies before that one. At other places all that
+    /// there are are found, if the first of them and the element before it have bytes.
     fn elements_at(&mut self, place: u32, state: u16, symbol: Symbol) -> Option<Elements<'t>>
         ensures least { least self.new ≤ max (least self.old) place }
         ensures tree { tree self.new ≡ tree self.old }
@@ -54,7 +55,10 @@ pub trait Offers<'t> {
         ensures same { (p s : ℕ) (t : Tree) → gives self.new p s t → gives self.old p s t }
         ensures lent { (p s y : ℕ) (e : Stretch) → lends self.new p s y e → lends self.old p s y e }
         ensures told { (t : Tree) → tree self.old ≡ Some t
-            → IfSome result (λ e. IsStretchAt t place state symbol.0 (stretch_of e)) };
+            → IfSome result (λ e. IsStretchAt t place state symbol.0 (stretch_of e)) }
+        ensures none { least self.old ≤ place → (t : Tree) → tree self.old ≡ Some t → (s : Stretch)
+            (w : IsStretchAt t place state symbol.0 s) → IsParted w.node w.from
+            → result ≡ None → ⊥ };
 }
 
 /// Offers no node.

@@ -1,11 +1,12 @@
 //! Offers from an old tree: a marked tree goes in, and its topmost fit nodes and settled elements
 //! come out.
-ghost use Rattle.std.specs.Prelude.{◌≡◌, ◌↔◌, ◌≤◌, max, Some, IfOk, IfSome, IsTrue, option_copied};
+ghost use Rattle.std.specs.Prelude.{◌≡◌, ◌↔◌, ◌≤◌, ℕ, max, Some, None, IfOk, IfSome, IsTrue, option_copied};
+ghost use Rattle.spec_trees.specs.declared.tree.Stretch.{Stretch};
 ghost use Rattle.spec_trees.specs.declared.tree.Tree.{Tree};
 ghost use Rattle.spec_trees.specs.Trees.{state_of, symbol_of};
 ghost use Rattle.spec_reuse.specs.Offered.{IsFit};
-ghost use Rattle.ts_offer.specs.Answers.{IsOfferAt, IsSettledRun, IsStretchAt, offering, stretch_of};
-ghost use Rattle.ts_offer.specs.Ways.{LeadsTo, StandsIn};
+ghost use Rattle.ts_offer.specs.Answers.{IsOfferAt, IsParted, IsSettledRun, IsStretchAt, offering, stretch_of};
+ghost use Rattle.ts_offer.specs.Ways.{HasRunAt, LeadsTo, StandsIn};
 
 use crate::elements::{Elements, elements_at};
 use crate::offers::Offers;
@@ -74,6 +75,9 @@ impl<'t> Old<'t> {
         ensures found { IfSome result
             (λ e. IsStretchAt self.old.tree place state symbol.0 (stretch_of e)) }
         ensures run { IfSome result (λ e. IsSettledRun e.node.now e.from e.to) }
+        ensures none { self.old.least ≤ place → (s : Stretch)
+            (w : IsStretchAt self.old.tree place state symbol.0 s) → IsParted w.node w.from
+            → result ≡ None → ⊥ }
         ensures new { self.new ≡ offering self.old.tree (max self.old.least place) }
     {
         self.least = self.least.max(place);
@@ -92,6 +96,9 @@ fn elements_in<'t>(turn: Turn<'t>, place: u32, state: u16, symbol: Symbol) -> Op
     ensures found { (root : Tree) → StandsIn root turn.entry
         → IfSome result (λ e. IsStretchAt root place state symbol.0 (stretch_of e)) }
     ensures run { IfSome result (λ e. IsSettledRun e.node.now e.from e.to) }
+    ensures none { (at from : ℕ) → turn.entry.begins ≡ Some at
+        → symbol_of turn.entry.node.now ≡ symbol.0 → state_of turn.entry.node.now ≡ Some state
+        → HasRunAt turn.entry.node.now at place from → result ≡ None → ⊥ }
 {
     match turn.begins {
         Some(at) => {

@@ -1,9 +1,9 @@
 //! The way down a tree: a place goes in, and the next node that reaches past it comes out, where
 //! places do not fall; or the node in which the way stands.
-ghost use Rattle.std.specs.Prelude.{◌≡◌, ◌+◌, ◌<◌, ◌≤◌, ℕ, true, length, take, vec_capacity, IfOk, IfSome};
+ghost use Rattle.std.specs.Prelude.{◌≡◌, ◌+◌, ◌-◌, ◌<◌, ◌≤◌, ℕ, true, length, take, slice_get, vec_capacity, IfOk, IfSome};
 ghost use Rattle.spec_trees.specs.Trees.{all_spans, children_of, elements_of};
 ghost use Rattle.spec_trees.specs.Made.{most_span};
-ghost use Rattle.ts_offer.specs.Ways.{IsBegun, IsLater, IsWay, LeadsTo, IsLeft, StandsIn, TurnsTo, rest_of};
+ghost use Rattle.ts_offer.specs.Ways.{IsBegun, IsLater, IsWay, LeadsTo, IsLeft, IsReachedLast, StandsIn, TurnsTo, rest_of};
 
 use crate::topmost::{lead, span};
 use std::alloc::{AllocError, Global};
@@ -80,7 +80,8 @@ impl<'t> Way<'t> {
     /// The turn in the node that begins last among those in which the way stands.
     pub(crate) fn innermost(&self) -> Option<Turn<'t>>
         requires { (place : ℕ) × IsWay self.now place }
-        ensures { IfSome result (StandsIn self.now.root.now) }
+        ensures stands { IfSome result (StandsIn self.now.root.now) }
+        ensures last { result ≡ slice_get self.now.turns.items (length self.now.turns.items - 1) }
     {
         match self.turns.as_slice().last() {
             Some(turn) => Some(*turn),
@@ -95,6 +96,7 @@ impl<'t> Way<'t> {
         ensures way { IsWay self.new place }
         ensures root { self.new.root.now ≡ self.old.root.now }
         ensures next { LeadsTo self.old.root.now place result }
+        ensures last { IfSome result (IsReachedLast self.new.turns.items place) }
     {
         while let Some(turn) = self.turns.pop() {
             match toward(turn, place) {

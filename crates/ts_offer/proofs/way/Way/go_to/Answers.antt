@@ -54,3 +54,6 @@ loop-turn-preserved c = record {
       c.loop-turn.invariant.way c.in-Some.ensures.items c.in-Into.ensures c.put-in-Into.ensures.turns c.put-in-Into-2.ensures.turns (omega (arith, c.pop.ensures.capacity, c.put-in-Into.ensures.room, c.put-in-Into-2.ensures.room)));
   root = c.put-in-Into-2.ensures.root ∙ (c.put-in-Into.ensures.root ∙ c.loop-turn.invariant.root);
 }
+
+pub returns-in-Next-clause-last : goal.returns-in-Next-clause-last
+returns-in-Next-clause-last c = record { turns = c.pop.new.self.items; turn = c.in-Some.turn; are = c.put.ensures.turns; reached = c.in-Next.ensures }
