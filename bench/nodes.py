@@ -39,7 +39,7 @@ ELEMENT = 20
 # The count of owners of what is shared.
 OWNERS = 8
 # The most elements and children together in a leaf of a run.
-LEAF = 768
+LEAF = 128
 # The most bytes of a text.
 TEXT = 2**20
 

@@ -14,7 +14,7 @@ use std::alloc::{AllocError, Global};
 use ts_base::{List, Shared};
 
 /// The most elements and children together in a leaf, but for a leaf of one long element.
-const MOST_IN_LEAF: u64 = 768;
+const MOST_IN_LEAF: u64 = 128;
 
 /// The most elements and children together in the last leaf of a run that has other owners, and is
 /// so copied for each element by which it is lengthened.
