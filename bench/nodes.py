@@ -32,7 +32,7 @@ BELOW = "ts_base ts_core ts_text spec_grammar spec_trees ts_node ts_order ts_cur
 
 # Bytes of each struct; its fields lie in their order, an enum has a tag of its own.
 NODE = 24
-RULE_NODE = 72
+RULE_NODE = 64
 REPETITION = 48
 RUN = 144
 ELEMENT = 20

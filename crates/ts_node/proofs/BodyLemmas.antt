@@ -135,7 +135,7 @@ first_pad_within (k ∷ ks) = omega arith
 
 pub room : (symbol : ℕ) (p : Option ℕ) (dynamic : ℤ) (extent : ℕ) (state : Option ℕ) (es : List Element) (ks : List Tree) → IsNode (node_over symbol p dynamic extent state es ks) → HasRoom es ks
 room symbol p dynamic extent state es ks n =
-    let s : Summary = record { symbol = record { 0 = symbol }; depth = 0; nodes = 0; pad = first_pad ks; size = all_spans ks - first_pad ks; extent = extent; state = state; settled = true; dynamic = dynamic } in
+    let s : Summary = record { symbol = record { 0 = symbol }; depth = 0; nodes = 0; pad = first_pad ks; size = all_spans ks - first_pad ks; extent = extent; state = state; settled = true; production = 0; dynamic = dynamic } in
     let t : Tree = node_over symbol p dynamic extent state es ks in
     let a : pad_of t ≡ first_pad ks = ap (λ (x : Tree-F Tree). x.pad) (out-roll-Tree (layer s p es ks)) in
     let b : size_of t ≡ all_spans ks - first_pad ks = ap (λ (x : Tree-F Tree). x.size) (out-roll-Tree (layer s p es ks)) in

@@ -79,7 +79,7 @@ extra_leaf_node l n = leaf_node (extra_leaf l) (short_leaf l n) (past_leaf l n)
 pub as_extra_is : (l : Leaf) (t : Tree) → leaf_tree l ≡ t → leaf_tree (extra_leaf l) ≡ as_extra t
 as_extra_is l t e = ap (λ (x : Tree-F Tree). roll-Tree (record x { extra = true })) (sym (out_leaf l t e))
 
-pub tells_leaf : (l : Leaf) → IsNode (leaf_tree l) → Tells (record { symbol = l.symbol; depth = 1; nodes = 1; pad = l.pad; size = l.size; extent = l.extent; state = l.state; settled = l.settled; dynamic = pos 0 }) (leaf_tree l)
+pub tells_leaf : (l : Leaf) → IsNode (leaf_tree l) → Tells (record { symbol = l.symbol; depth = 1; nodes = 1; pad = l.pad; size = l.size; extent = l.extent; state = l.state; settled = l.settled; production = 0; dynamic = pos 0 }) (leaf_tree l)
 tells_leaf l n =
     let o : leaf_layer l ≡ out-Tree (leaf_tree l) = sym (out-roll-Tree (leaf_layer l)) in
     record {

@@ -32,7 +32,7 @@ pub record IsRemade (n s : Summary) (new_pad new_size : ℕ) (es : List Element)
   pub whole : All HoldsNodes ks
 
 abbrev remade_summary : Summary → ℕ → ℕ → Summary
-remade_summary s pad size = record { symbol = s.symbol; depth = 0; nodes = 0; pad = pad; size = size; extent = s.extent; state = s.state; settled = false; dynamic = s.dynamic }
+remade_summary s pad size = record { symbol = s.symbol; depth = 0; nodes = 0; pad = pad; size = size; extent = s.extent; state = s.state; settled = false; production = s.production; dynamic = s.dynamic }
 
 remade_layer : (s : Summary) (p : Option ℕ) (es : List Element) (ks : List Tree) (t : Tree) (pad size : ℕ) (cs : List (ℕ × Tree)) (loose : List ℕ) → body_tree s p es ks ≡ t
     → remade t pad size cs loose ≡ body_tree (remade_summary s pad size) p (loosened loose es) (replaced cs ks)

@@ -52,6 +52,7 @@ impl Summary {
         ensures extent { result.extent ≡ self.now.extent }
         ensures state { result.state ≡ self.now.state }
         ensures settled { result.settled ≡ false }
+        ensures production { result.production ≡ self.now.production }
         ensures dynamic { result.dynamic ≡ self.now.dynamic }
     {
         Summary {
@@ -63,6 +64,7 @@ impl Summary {
             extent: self.extent,
             state: self.state,
             settled: false,
+            production: self.production,
             dynamic: self.dynamic,
         }
     }
@@ -83,14 +85,7 @@ impl RuleNode {
     {
         let children = with_changes(alloc, self.children.as_slice(), changed)?;
         let summary = self.summary.remade(pad, size, 0, sums(children.as_slice()));
-        let body = Shared::new(
-            alloc,
-            RuleNode {
-                summary,
-                production: self.production,
-                children,
-            },
-        )?;
+        let body = Shared::new(alloc, RuleNode { summary, children })?;
         Ok(Node {
             kind: Kind::Rule(body),
         })

@@ -69,7 +69,7 @@ impl Node {
 }
 
 /// What a node with these children says of itself.
-fn summary(head: Head, pad: u32, elements: u32, sums: Sums) -> Summary
+fn summary(head: Head, production: u32, pad: u32, elements: u32, sums: Sums) -> Summary
     requires pad { pad ≤ sums.spans }
     requires short { sums.spans < 2 ^ 32 }
     requires few { 1 + (elements + sums.nodes) < 2 ^ 32 }
@@ -82,6 +82,7 @@ fn summary(head: Head, pad: u32, elements: u32, sums: Sums) -> Summary
     ensures extent { result.extent ≡ head.extent }
     ensures state { result.state ≡ head.state }
     ensures settled { result.settled ≡ true }
+    ensures production { result.production ≡ production }
     ensures dynamic { result.dynamic ≡ head.dynamic }
 {
     Summary {
@@ -93,6 +94,7 @@ fn summary(head: Head, pad: u32, elements: u32, sums: Sums) -> Summary
         extent: head.extent,
         state: head.state,
         settled: true,
+        production,
         dynamic: head.dynamic,
     }
 }
@@ -106,15 +108,8 @@ fn over(alloc: Global, head: Head, number: u32, children: List<Node>) -> Result<
 {
     let pad = pad_of_first(children.as_slice());
     let sums = sums(children.as_slice());
-    let summary = summary(head, pad, 0, sums);
-    let body = Shared::new(
-        alloc,
-        RuleNode {
-            summary,
-            production: number,
-            children,
-        },
-    )?;
+    let summary = summary(head, number, pad, 0, sums);
+    let body = Shared::new(alloc, RuleNode { summary, children })?;
     Ok(Node {
         kind: Kind::Rule(body),
     })
@@ -129,7 +124,7 @@ pub(crate) fn over_run(alloc: Global, head: Head, run: Shared<Run>) -> Result<No
 {
     let counts = run.get().counts();
     let pad = run.get().pad_of_first();
-    let summary = summary(head, pad, counts.elements, counts.sums);
+    let summary = summary(head, 0, pad, counts.elements, counts.sums);
     let body = Shared::new(alloc, Repetition { summary, run })?;
     Ok(Node {
         kind: Kind::Repetition(body),

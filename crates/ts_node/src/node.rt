@@ -49,6 +49,8 @@ pub(crate) struct Summary {
     pub extent: u32,
     pub state: Option<u16>,
     pub settled: bool,
+    /// The number of a rule's production, and 0 for every other node. It lies where a gap would be.
+    pub production: u32,
     pub dynamic: i64,
 }
 
@@ -57,7 +59,6 @@ pub(crate) struct Summary {
 #[derive(Drop)]
 pub(crate) struct RuleNode {
     pub summary: Summary,
-    pub production: u32,
     pub children: List<Node>,
 }
 
@@ -187,16 +188,16 @@ impl Model for RuleNode {
     ghost use Rattle.spec_trees.specs.Trees.{node_count};
     ghost use Rattle.ts_node.specs.Held.{body_tree, IsSummary};
 
-    ghost view = { λ a. body_tree a.summary (Some a.production) [] a.children };
+    ghost view = { λ a. body_tree a.summary (Some a.summary.production) [] a.children };
 
     ghost invariant = { λ a. IsSummary a.summary
-        (body_tree a.summary (Some a.production) [] a.children) };
+        (body_tree a.summary (Some a.summary.production) [] a.children) };
 
     ghost size = { λ t. 4 * node_count t };
 
     ghost use Rattle.ts_node.specs.Falls.{children_fall};
 
-    ghost size_decreases = { λ a h. children_fall a.summary a.production a.children };
+    ghost size_decreases = { λ a h. children_fall a.summary a.summary.production a.children };
 }
 
 impl Model for Repetition {
@@ -262,7 +263,7 @@ impl RuleNode {
     pub(crate) fn production(&self) -> u32
         ensures { production_of self.now ≡ Some result }
     {
-        self.production
+        self.summary.production
     }
 
     #[tactic(auto, using(crate::proofs::BodyLemmas::children_are, crate::proofs::BodyLemmas::elements_are, crate::proofs::BodyLemmas::few_children))]
@@ -357,6 +358,7 @@ impl Leaf {
             extent: self.extent,
             state: self.state,
             settled: self.settled,
+            production: 0,
             dynamic: 0,
         }
     }

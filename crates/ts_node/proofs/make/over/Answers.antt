@@ -1,7 +1,7 @@
-use Rattle.std.proofs.Common.{arith, ◌≡◌, ◌<◌, ◌≤◌, ◌+◌, ◌-◌, ◌∙◌, ap, length, subst, [], List, Some}
+use Rattle.std.proofs.Common.{arith, ◌≡◌, ◌<◌, ◌≤◌, ◌+◌, ◌-◌, ◌∙◌, ap, sym, length, subst, [], ℕ, List, Some}
 use Rattle.spec_trees.specs.declared.tree.Tree.{Tree}
 use Rattle.spec_trees.specs.Trees.{first_pad, all_spans, all_nodes, greatest_depth}
-use Rattle.ts_node.specs.Held.{IsSum}
+use Rattle.ts_node.specs.Held.{body_tree, IsSum, IsSummary}
 use Rattle.ts_node.proofs.BodyLemmas.{HasRoom, IsOver, room, over_kept}
 use Rattle.ts_node.proofs.make.over.Goals as goal
 
@@ -56,4 +56,5 @@ invariant_of-new c =
       dynamic = c.summary-summary.ensures.dynamic;
       whole = q.whole;
     } in
-    over_kept c.summary-summary.result c.args.head.symbol (Some c.args.number) c.args.head.dynamic c.args.head.extent c.args.head.state [] c.args.children o c.requires
+    let kept : IsSummary c.summary-summary.result (body_tree c.summary-summary.result (Some c.args.number) [] c.args.children) = over_kept c.summary-summary.result c.args.head.symbol (Some c.args.number) c.args.head.dynamic c.args.head.extent c.args.head.state [] c.args.children o c.requires in
+    subst (λ (n : ℕ). IsSummary c.summary-summary.result (body_tree c.summary-summary.result (Some n) [] c.args.children)) (sym c.summary-summary.ensures.production) kept

@@ -1,8 +1,8 @@
-use Rattle.std.proofs.Common.{arith, ◌≡◌, ◌<◌, ◌+◌, ◌∙◌, ap, sym, length, subst, [], List, Some}
+use Rattle.std.proofs.Common.{arith, ◌≡◌, ◌<◌, ◌+◌, ◌∙◌, ap, sym, length, subst, [], ℕ, List, Some}
 use Rattle.spec_trees.specs.declared.tree.Tree.{Tree}
 use Rattle.spec_trees.specs.Trees.{all_nodes, greatest_depth, children_of}
 use Rattle.spec_trees.specs.Made.{replaced}
-use Rattle.ts_node.specs.Held.{IsSum}
+use Rattle.ts_node.specs.Held.{body_tree, IsSum, IsSummary}
 use Rattle.ts_node.proofs.BodyLemmas.{children_are, few_children}
 use Rattle.ts_node.proofs.RemakeLemmas.{HasRoomStill, IsRemade, room_still, all_within, length-replaced, loosened_none, remade_kept, remade_is}
 use Rattle.ts_node.proofs.node.RuleNode.remake.Goals as goal
@@ -33,7 +33,7 @@ remade-summary-requires c =
     let q0 : IsSum c.sums.result c.as_slice-2.result.now = c.sums.ensures in
     let q : IsSum c.sums.result c.in_ok-children.children = subst (λ (ts : List Tree). IsSum c.sums.result ts) a q0 in
     let r : HasRoomStill [] c.in_ok-children.children =
-    room_still c.self.inside.summary (Some c.self.inside.production) [] [] c.self.inside.children c.in_ok-children.children c.args.self.now c.args.pad c.args.size c.args.changed.now c.args.loose.now c.self.view_is (sym (loosened_none c.args.loose.now)) new c.requires.node in
+    room_still c.self.inside.summary (Some c.self.inside.summary.production) [] [] c.self.inside.children c.in_ok-children.children c.args.self.now c.args.pad c.args.size c.args.changed.now c.args.loose.now c.self.view_is (sym (loosened_none c.args.loose.now)) new c.requires.node in
     let few : 1 + (0 + c.sums.result.nodes) < 4294967296 = omega (arith, r.few, q.nodes) in
     let shallow : 1 + c.sums.result.depth < 65536 = omega (arith, r.shallow, q.depth) in
     record { few = few; shallow = shallow }
@@ -63,7 +63,8 @@ invariant_of-new c =
       dynamic = c.remade-summary.ensures.dynamic;
       whole = q.whole;
     } in
-    remade_kept c.remade-summary.result c.self.inside.summary (Some c.self.inside.production) [] [] c.self.inside.children c.in_ok-children.children c.args.self.now c.args.pad c.args.size c.args.changed.now c.args.loose.now c.self.view_is (sym (loosened_none c.args.loose.now)) new o c.requires.node
+    let kept : IsSummary c.remade-summary.result (body_tree c.remade-summary.result (Some c.self.inside.summary.production) [] c.in_ok-children.children) = remade_kept c.remade-summary.result c.self.inside.summary (Some c.self.inside.summary.production) [] [] c.self.inside.children c.in_ok-children.children c.args.self.now c.args.pad c.args.size c.args.changed.now c.args.loose.now c.self.view_is (sym (loosened_none c.args.loose.now)) new o c.requires.node in
+    subst (λ (n : ℕ). IsSummary c.remade-summary.result (body_tree c.remade-summary.result (Some n) [] c.in_ok-children.children)) (sym c.remade-summary.ensures.production) kept
 
 pub returns : goal.returns
 returns c =
@@ -91,4 +92,4 @@ returns c =
       whole = q.whole;
     } in
     let e : c.in_ok-body.body ≡ _ = c.in_ok-body.ensures in
-    e ∙ remade_is c.remade-summary.result c.self.inside.summary (Some c.self.inside.production) [] [] c.self.inside.children c.in_ok-children.children c.args.self.now c.args.pad c.args.size c.args.changed.now c.args.loose.now c.self.view_is (sym (loosened_none c.args.loose.now)) new o
+    e ∙ ap (λ (n : ℕ). body_tree c.remade-summary.result (Some n) [] c.in_ok-children.children) c.remade-summary.ensures.production ∙ remade_is c.remade-summary.result c.self.inside.summary (Some c.self.inside.summary.production) [] [] c.self.inside.children c.in_ok-children.children c.args.self.now c.args.pad c.args.size c.args.changed.now c.args.loose.now c.self.view_is (sym (loosened_none c.args.loose.now)) new o
