@@ -2,6 +2,8 @@ pub mod BeforeLemmas
 pub mod EndLemmas
 pub mod LeaveLemmas
 pub mod UnusedLemmas
+pub mod SpellLemmas
+pub mod MadeLemmas
 pub mod ReadLemmas
 pub mod RestLemmas
 pub mod HaltLemmas

@@ -1,14 +1,17 @@
 //! Laws of the definitions, each a function without a body: what other crates may use of them.
 
-ghost use Rattle.std.specs.Prelude.{◌≡◌, ℕ, ◌+◌, ◌<◌, ◌≤◌, ◌⊎◌, List, [], ◌∷◌, ◌++◌, length, Option, Some, None};
+ghost use Rattle.std.specs.Prelude.{◌≡◌, ℕ, ◌+◌, ◌<◌, ◌≤◌, ◌⊎◌, false, List, [], ◌∷◌, ◌++◌, length, Option, Some, None};
+ghost use Rattle.std.specs.List.{Contains};
 ghost use Rattle.ts_base.specs.Bytes.{Bytes};
 ghost use Rattle.ts_core.specs.declared.flat.FlatGrammar.{FlatGrammar};
 ghost use Rattle.spec_lexing.specs.Lexing.{Found};
 ghost use Rattle.spec_tables.specs.Actions.{Move, Act, accept};
 ghost use Rattle.spec_tables.specs.Fit.{Fit};
 ghost use Rattle.spec_trees.specs.declared.tree.Tree.{Tree};
-ghost use Rattle.spec_trees.specs.Trees.{span_of, all_spans, bare};
-ghost use Rattle.spec_trees.specs.Made.{filling};
+ghost use Rattle.spec_trees.specs.Trees.{elements_of, children_of, span_of, all_spans, bare};
+ghost use Rattle.spec_trees.specs.Inside.{IsNodeIn};
+ghost use Rattle.spec_trees.specs.Made.{filling, AreCounted};
+ghost use Rattle.spec_trees.specs.Choice.{code_of, IsInForm};
 ghost use Rattle.spec_runs.specs.Configurations.{Configuration, NextIs};
 ghost use Rattle.spec_runs.specs.Moves.{IsUnused};
 ghost use Rattle.spec_runs.specs.Runs.{StepsOn, Run, IsReached, ComesTooDeep, AcceptsTree, StopsAt};
@@ -18,7 +21,7 @@ ghost use Rattle.spec_graph.specs.declared.graph.Head.{Head};
 ghost use Rattle.spec_graph.specs.declared.graph.Link.{Link};
 ghost use Rattle.spec_graph.specs.States.{AreStates, AreRanks};
 ghost use Rattle.spec_graph.specs.Laying.{Parsing, from_start, Lays, IsBegun};
-ghost use Rattle.spec_graph.specs.Grounded.{IsGrounded};
+ghost use Rattle.spec_graph.specs.Grounded.{Spells, IsMadeTree, IsGrounded};
 ghost use Rattle.spec_graph.specs.Links.{IsAt, IsWay, way_trees, IsGraph, IsWholeTo};
 ghost use Rattle.spec_graph.specs.Laws.{GraphLaws};
 ghost use Rattle.spec_crossing.specs.Laws.{ServingLaws};
@@ -181,6 +184,30 @@ pub fn unused_symbols_end()
     ensures { (g : FlatGrammar) (symbol : ℕ) → IsUnused g symbol
         → (above below : List ℕ) (token : ℕ) (move : Move)
         → Act g (above ++ symbol ∷ below) token move → move ≡ accept }
+{
+    laws_hold();
+}
+
+/// The code of a tree is spelled well, if each node in it is in the form of the grammar, and its
+/// elements have just its children.
+pub fn trees_are_spelled()
+    ensures { (g : FlatGrammar) (t : Tree) → IsInForm g t
+        → ((u : Tree) → IsNodeIn t u → AreCounted (elements_of u) (children_of u))
+        → Spells g false 1 (code_of t) }
+{}
+
+/// Where a tree is such as moves make, its bare tree is too.
+pub fn bare_trees_are_made()
+    ensures { (g : FlatGrammar) (t : Tree) → IsMadeTree g t → IsMadeTree g (bare t) }
+{
+    bare_trees();
+}
+
+/// The tree of each link of a graph is such as moves make.
+pub fn links_are_made()
+    ensures { (P : Parsing) → Fit P.grammar → AreStates P.grammar P.goto → IsGrounded P
+        → (heads : List Head) (links : List Link) → IsGraph P heads links
+        → (l : Link) → Contains links l → IsMadeTree P.grammar l.tree }
 {
     laws_hold();
 }

@@ -5,6 +5,6 @@
 mod laws;
 
 pub use laws::{
-    followed_graphs_rest, one_stack_goes_on, runs_end, stacks_are_laid, unused_symbols_end,
-    ways_are_read,
+    bare_trees_are_made, followed_graphs_rest, links_are_made, one_stack_goes_on, runs_end,
+    stacks_are_laid, trees_are_spelled, unused_symbols_end, ways_are_read,
 };
