@@ -23,7 +23,7 @@ use Rattle.ts_steps.specs.LiveHeads.{config_of, HaveStates, IsGoodStack, read_on
 use Rattle.ts_steps.proofs.StackLemmas.{SaysLeaf, says_leaf, says_extra, leaf_good, extra_good, leaf_bare, Pushes, pushed_stack, pushed_there, pushed_good, same_config, state_top, span_bare}
 use Rattle.ts_steps.specs.declared.ahead.TokenAhead.{TokenAhead}
 use Rattle.ts_steps.specs.Laws.{SoundLaws}
-use Rattle.ts_steps.specs.Heads.{AreStatesOf, state_where, IsOwnWithin, IsOwnHead, StandOnHead, IsMoveAhead, IsExtraAhead, CanTake, IsTaken}
+use Rattle.ts_steps.specs.Heads.{AreStatesOf, state_where, IsOwnWithin, IsMadeNode, IsOwnHead, StandOnHead, IsMoveAhead, IsExtraAhead, CanTake, IsTaken}
 use Rattle.ts_steps.proofs.NodeLemmas.{filling_fills, filling_extra}
 use Rattle.ts_steps.proofs.OwnLemmas.{own_leaf, own_self}
 use Rattle.ts_steps.proofs.TableLemmas.{state_after, came}
@@ -38,17 +38,27 @@ not_some (Some n) e h = let k : Some n ≡ None = e in cc
 leaf_own : (g : FlatGrammar) (token pad size extent : ℕ) (state : Option ℕ) (extra : Bool) (u : Tree) → IsGoodTree g u → SaysLeaf token pad size extent state extra u → IsOwnWithin g u
 leaf_own g token pad size extent state extra u good says = own_leaf g u says.children (record { good = good; filled = λ h. absurd (not_some (production_of u) says.production h) })
 
+-- and one that a move makes
+leaf_made : (g : FlatGrammar) (token pad size extent : ℕ) (state : Option ℕ) (extra : Bool) (u : Tree) → IsToken g token → SaysLeaf token pad size extent state extra u → IsMadeNode g u
+leaf_made g token pad size extent state extra u low says = record {
+  numberless = λ h. says.production;
+  pad = λ h. absurd (let k = low.1 in omega (arith, h, k, says.symbol));
+  span = λ h. absurd (let k = low.1 in omega (arith, h, k, says.symbol));
+  extra = λ h. (record { production = says.production; elements = says.elements }, says.children);
+}
+
 -- ---- one more tree
 
 module _ (t : ParseTable) (size : ℕ) (old new : List (List Layer)) (h : StackHead) (top : ℕ) (u : Tree) (state : ℕ) (p : Pushes old new h.top top u state) where
-  pub own_push : IsOwnHead t size old h → IsStateOf t (filling (u ∷ trees_on (stack_at old h.top))) state → IsGoodTree t.grammar u → IsOwnWithin t.grammar u → h.place + span_of u ≤ size → h.place + node_extent u ≤ suc size
+  pub own_push : IsOwnHead t size old h → IsStateOf t (filling (u ∷ trees_on (stack_at old h.top))) state → IsGoodTree t.grammar u → IsOwnWithin t.grammar u → IsMadeNode t.grammar u → h.place + span_of u ≤ size → h.place + node_extent u ≤ suc size
       → (place : ℕ) → place ≡ h.place + span_of u → IsOwnHead t size new (record { top = top; place = place })
-  own_push b st good own within reach place is = record {
+  own_push b st good own made within reach place is = record {
     live = record {
       there = pushed_there old new h.top top u state p;
       stack = subst (λ (n : ℕ). IsGoodStack t size (stack_at new top) n) (sym is) (pushed_good t size h.place old new h.top top u state p b.live.stack st good within reach);
     };
     own = subst (λ (s : List Layer). EachTree (IsOwnWithin t.grammar) (trees_on s)) (sym (pushed_stack old new h.top top u state p)) (own, b.own);
+    made = subst (λ (s : List Layer). EachTree (IsMadeNode t.grammar) (trees_on s)) (sym (pushed_stack old new h.top top u state p)) (made, b.made);
   }
 
   -- its trees stand, if the tree on top does, for the state below it
@@ -73,7 +83,7 @@ shift_own t size old new h f r u state top p is node b ahead low st =
     let good = leaf_good f.token.0 f.pad f.size f.extent r t.grammar u is node low ahead.some in
     own_push t size old new h top u state p b
     (subst (λ (x : List ℕ). IsStateOf t x state) (sym (filling_fills u (trees_on (stack_at old h.top)) says.extra_is ∙ ap (λ (n : ℕ). n ∷ read_on old h) says.symbol)) st)
-    good (leaf_own t.grammar f.token.0 f.pad f.size f.extent r false u good says) (omega (arith, says.span, ahead.past, ahead.reach)) (omega (arith, says.extent_is, ahead.reach)) (h.place + (f.pad + f.size)) (omega (arith, says.span))
+    good (leaf_own t.grammar f.token.0 f.pad f.size f.extent r false u good says) (leaf_made t.grammar f.token.0 f.pad f.size f.extent r false u low says) (omega (arith, says.span, ahead.past, ahead.reach)) (omega (arith, says.extent_is, ahead.reach)) (h.place + (f.pad + f.size)) (omega (arith, says.span))
 
 pub pass_own : (t : ParseTable) (size : ℕ) (old new : List (List Layer)) (h : StackHead) (f : FoundToken) (r : Option ℕ) (u : Tree) (state top : ℕ) → Pushes old new h.top top u state → u ≡ as_extra (leaf_of f.token.0 f.pad f.size f.extent r) → IsNode u
     → IsOwnHead t size old h → LiesAhead size h.place f → IsToken t.grammar f.token.0 → state ≡ state_on (stack_at old h.top) → IsOwnHead t size new (record { top = top; place = h.place + (f.pad + f.size) })
@@ -83,7 +93,7 @@ pass_own t size old new h f r u state top p is node b ahead low st =
     own_push t size old new h top u state p b
     (subst (λ (x : List ℕ). IsStateOf t x state) (sym (filling_extra u (trees_on (stack_at old h.top)) says.extra_is))
     (subst (λ (n : ℕ). IsStateOf t (read_on old h) n) (sym st) (state_top t (stack_at old h.top) b.live.stack.states)))
-    good (leaf_own t.grammar f.token.0 f.pad f.size f.extent r true u good says) (omega (arith, says.span, ahead.past, ahead.reach)) (omega (arith, says.extent_is, ahead.reach)) (h.place + (f.pad + f.size)) (omega (arith, says.span))
+    good (leaf_own t.grammar f.token.0 f.pad f.size f.extent r true u good says) (leaf_made t.grammar f.token.0 f.pad f.size f.extent r true u low says) (omega (arith, says.span, ahead.past, ahead.reach)) (omega (arith, says.extent_is, ahead.reach)) (h.place + (f.pad + f.size)) (omega (arith, says.span))
 
 -- ---- configurations
 
@@ -188,7 +198,7 @@ taken laws t size old new h u state top place p b own settled can is =
       can = can;
       put = pushed_stack old new h.top top u state p;
       config = push_config laws old new h u (bare u) state top place p refl is;
-      live = own_push t size old new h top u state p b can.leads k.good own (omega (arith, past, reach)) reach place is;
+      live = own_push t size old new h top u state p b can.leads k.good own can.made (omega (arith, past, reach)) reach place is;
     }
 
 pub taken_stands : (laws : SoundLaws) (t : ParseTable) (size : ℕ) (states : States) (text : Bytes) (old new : List (List Layer)) (h : StackHead) (u : Tree) (state top : ℕ) → Pushes old new h.top top u state → IsOwnHead t size old h

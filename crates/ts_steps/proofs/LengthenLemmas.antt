@@ -31,7 +31,8 @@ use Rattle.ts_steps.specs.MoveLaws.{Laws}
 use Rattle.ts_steps.specs.Laws.{LengthLaws}
 use Rattle.ts_steps.specs.Good.{EachTree, IsLight, IsGoodTree, AreGoodTrees}
 use Rattle.ts_steps.specs.LiveHeads.{config_of, HaveStates, IsGoodStack, read_on}
-use Rattle.ts_steps.specs.Heads.{AreStatesOf, IsOwnWithin, IsOwnHead, StandOnHead}
+use Rattle.ts_steps.proofs.OverLemmas.{made_over}
+use Rattle.ts_steps.specs.Heads.{AreStatesOf, IsOwnWithin, IsMadeNode, IsOwnHead, StandOnHead}
 use Rattle.ts_steps.specs.Reparsing.{IsOffered, IsLent}
 use Rattle.ts_steps.specs.Lengthening.{IsListOn, IsListEnd, HasRoom, IsLengthened}
 use Rattle.ts_steps.proofs.NodeLemmas.{all_spans-append, greatest_depth-append, each_append, each_right, own_forms, forms_each, forms_append, form_of_some, small_each, small_append, small_inside, few_enough, filling_fills, all_start, Says, good_over}
@@ -164,6 +165,9 @@ module _ (t : ParseTable) (size : ℕ) (old : List (List Layer)) (h : StackHead)
   own_all : EachTree (IsOwnWithin g) (list ∷ trees_on low)
   own_all = each_right (IsOwnWithin g) w.extras (list ∷ trees_on low) (subst (λ (l : List Tree). EachTree (IsOwnWithin g) l) trees own.own)
 
+  made_all : EachTree (IsMadeNode g) (list ∷ trees_on low)
+  made_all = each_right (IsMadeNode g) w.extras (list ∷ trees_on low) (subst (λ (l : List Tree). EachTree (IsMadeNode g) l) trees own.made)
+
   module _ (laws : Laws) (lengths : LengthLaws) (table : IsTable t) (short : size ≤ most_span) (s : Stretch) (lent : IsLent g s) (section : IsSection s) (u : Tree) (u_node : IsNode u) (part : IsPartOf u s) (x : ℕ) (room : HasRoom size e.place h.place list s x) where
     abbrev es : List Element
     es = elements_of list ++ s.elements
@@ -244,6 +248,9 @@ module _ (t : ParseTable) (size : ℕ) (old : List (List Layer)) (h : StackHead)
         subst (λ (l : List Tree). EachTree (IsOwnWithin g) l) (sym kids_are) (each_append (IsOwnWithin g) (children_of list) s.children (own_children g list own_all.0) (each_own g s.children lent.offered)) in
         own_over g longer (record { good = good.0; filled = λ rule. good.1.span ∙ sym same ∙ sym (ap all_spans kids_are) }) (λ k v at. each_at (IsOwnWithin g) (children_of longer) k v kids at)
 
+    longer_made : IsMadeNode g longer
+    longer_made = made_over g (symbol_of list) None (total_of list +ℤ (all_values s.elements +ℤ all_totals s.children)) x (state_of list) es ks (λ h. refl)
+
     -- ---- the stack with it
 
     -- the same symbols
@@ -275,6 +282,7 @@ module _ (t : ParseTable) (size : ℕ) (old : List (List Layer)) (h : StackHead)
               stack = subst (λ (l : List Layer). IsGoodStack t size l place) (sym put) (subst (λ (n : ℕ). IsGoodStack t size (layer_with longer w.list.layer.state ∷ low) n) at stack);
             };
             own = subst (λ (l : List Layer). EachTree (IsOwnWithin g) (trees_on l)) (sym put) (longer_own, own_all.1);
+            made = subst (λ (l : List Layer). EachTree (IsMadeNode g) (trees_on l)) (sym put) (longer_made, made_all.1);
           }
 
       symbols : read_on new k ≡ read_on old h

@@ -7,7 +7,9 @@ pub mod PutLemmas
 pub mod AcceptLemmas
 pub mod OwnLemmas
 pub mod TableLemmas
+pub mod OverLemmas
 pub mod HeadLemmas
+pub mod BeginLemmas
 pub mod ReduceLemmas
 pub mod MadeLemmas
 pub mod RootLemmas

@@ -34,7 +34,8 @@ use Rattle.ts_steps.proofs.MakingLemmas.{dropped}
 use Rattle.ts_steps.proofs.PutLemmas.{can_reduce, can_put, stands}
 use Rattle.ts_steps.specs.declared.ahead.TokenAhead.{TokenAhead}
 use Rattle.ts_steps.specs.Laws.{SoundLaws}
-use Rattle.ts_steps.specs.Heads.{AreStatesOf, state_where, IsOwnWithin, IsOwnHead, StandOnHead, IsMoveAhead}
+use Rattle.ts_steps.proofs.OverLemmas.{made_reduced}
+use Rattle.ts_steps.specs.Heads.{AreStatesOf, state_where, IsOwnWithin, IsMadeNode, IsOwnHead, StandOnHead, IsMoveAhead}
 use Rattle.ts_steps.specs.Reducing.{CoversMaking, IsWithoutChoice, IsNodePut}
 use Rattle.ts_steps.proofs.OwnLemmas.{own_over, own_children, each_at}
 use Rattle.ts_steps.proofs.TableLemmas.{state_after, valid_tokens}
@@ -224,18 +225,23 @@ module _ (laws : Laws) (t : ParseTable) (size number on : ℕ) (old : List (List
               );
             }
 
-        pub done_own : EachTree (IsOwnWithin g) (trees_on (stack_at old h.top)) → IsOwnHead t size new (record { top = top; place = h.place })
-        done_own each =
+        pub done_own : EachTree (IsOwnWithin g) (trees_on (stack_at old h.top)) → EachTree (IsMadeNode g) (trees_on (stack_at old h.top)) → IsOwnHead t size new (record { top = top; place = h.place })
+        done_own each each_made =
             let all : EachTree (IsOwnWithin g) (reverse extras ++ (reverse children ++ trees_on below)) = subst (λ (l : List Tree). EachTree (IsOwnWithin g) l) gat.trees each in
             let front = each_left (IsOwnWithin g) (reverse extras) (reverse children ++ trees_on below) all in
             let rest = each_right (IsOwnWithin g) (reverse extras) (reverse children ++ trees_on below) all in
             let kids : EachTree (IsOwnWithin g) children =
             subst (λ (l : List Tree). EachTree (IsOwnWithin g) l) (reverse-reverse children) (each_turned (IsOwnWithin g) (reverse children) (each_left (IsOwnWithin g) (reverse children) (trees_on below) rest)) in
+            let all_made : EachTree (IsMadeNode g) (reverse extras ++ (reverse children ++ trees_on below)) = subst (λ (l : List Tree). EachTree (IsMadeNode g) l) gat.trees each_made in
+            let rest_made = each_right (IsMadeNode g) (reverse extras) (reverse children ++ trees_on below) all_made in
             let own : IsOwnWithin g u = subst (λ (x : Tree). IsOwnWithin g x) (sym u_is) (node_own laws g number l.left.0 line.production extent children can s shallow kids) in
             record {
               live = live;
               own = subst (λ (l : List Tree). EachTree (IsOwnWithin g) l) (sym trees)
                   (each_append (IsOwnWithin g) (reverse extras) (u ∷ trees_on below) front (own, each_right (IsOwnWithin g) (reverse children) (trees_on below) rest));
+              made = subst (λ (l : List Tree). EachTree (IsMadeNode g) l) (sym trees)
+                  (each_append (IsMadeNode g) (reverse extras) (u ∷ trees_on below) (each_left (IsMadeNode g) (reverse extras) (reverse children ++ trees_on below) all_made)
+                  (subst (λ (x : Tree). IsMadeNode g x) (sym u_is) (made_reduced g number extent s children), each_right (IsMadeNode g) (reverse children) (trees_on below) rest_made));
             }
 
         -- what the node is

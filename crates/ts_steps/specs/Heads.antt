@@ -1,15 +1,15 @@
 -- Stacks whose trees stand: what is known of a stack of a parser, and what is seen from it.
-use Rattle.std.specs.Prelude.{◌≡◌, ℕ, ◌+◌, ◌≤◌, suc, Bool, true, if◌then◌else◌, List, ◌∷◌, length, drop, slice_get, Option, Some, None, IsTrue}
+use Rattle.std.specs.Prelude.{◌≡◌, ℕ, ◌+◌, ◌<◌, ◌≤◌, suc, Bool, true, if◌then◌else◌, List, [], ◌∷◌, length, drop, slice_get, Option, Some, None, IsTrue}
 use Rattle.std.proofs.Common.{is_some}
 use Rattle.ts_base.specs.Bytes.{Bytes}
 use Rattle.ts_core.specs.declared.flat.FlatGrammar.{FlatGrammar}
-use Rattle.spec_grammar.specs.Symbols.{is_extra}
+use Rattle.spec_grammar.specs.Symbols.{start_symbol, is_extra}
 use Rattle.spec_lexing.specs.Lexing.{token}
 use Rattle.spec_tables.specs.Actions.{Move}
 use Rattle.spec_trees.specs.declared.tree.Tree.{Tree}
-use Rattle.spec_trees.specs.Trees.{production_of, children_of, is_settled, node_extent, span_of, all_spans, bare}
+use Rattle.spec_trees.specs.Trees.{symbol_of, production_of, pad_of, elements_of, children_of, is_settled, is_extra_node, node_extent, span_of, all_spans, first_pad, bare}
 use Rattle.spec_trees.specs.Inside.{IsNodeIn}
-use Rattle.spec_trees.specs.Made.{filling}
+use Rattle.spec_trees.specs.Made.{IsLeaf, filling}
 use Rattle.spec_runs.specs.Configurations.{HasMove, pushed}
 use Rattle.spec_forced.specs.Forced.{IsDecided, IsOnlyMove}
 use Rattle.spec_forced.specs.Sound.{States, StandOnStack}
@@ -46,6 +46,15 @@ pub record IsOwnTree (g : FlatGrammar) (t : Tree) : Type 0 where
 abbrev pub IsOwnWithin : FlatGrammar → Tree → Type 0
 IsOwnWithin g t = (u : Tree) → IsNodeIn t u → is_settled u ≡ true → IsOwnTree g u
 
+-- The tree's own node is such as a move makes. It has no number where it has elements. If it is not
+-- that of a token, it begins where its first child begins, and has just its children's bytes. An
+-- extra is over a token.
+pub record IsMadeNode (g : FlatGrammar) (t : Tree) : Type 0 where
+  pub numberless : 0 < length (elements_of t) → production_of t ≡ None
+  pub pad : start_symbol g ≤ symbol_of t → pad_of t ≡ first_pad (children_of t)
+  pub span : start_symbol g ≤ symbol_of t → span_of t ≡ all_spans (children_of t)
+  pub extra : is_extra_node t ≡ true → IsLeaf t × (children_of t ≡ [])
+
 -- ---- the stack of a head
 
 -- The head is that of a live stack, whose trees a parser of the grammar made.
@@ -53,6 +62,7 @@ pub record IsOwnHead (t : ParseTable) (size : ℕ) (stacks : List (List Layer)) 
     : Type 0 where
   pub live : IsLiveHead t size stacks h
   pub own : EachTree (IsOwnWithin t.grammar) (trees_on (stack_at stacks h.top))
+  pub made : EachTree (IsMadeNode t.grammar) (trees_on (stack_at stacks h.top))
 
 -- the trees on the stack of the head stand where they lie in the text, and so do the settled nodes
 -- in them
@@ -89,10 +99,20 @@ pub record IsExtraAhead (t : ParseTable) (text : Bytes) (stacks : List (List Lay
 
 -- ---- nodes that are taken over
 
--- The node can be laid on the stack: its examined bytes lie in the text and its end, and the table
--- leads over its symbol.
+-- a node begins where its first child begins; without children, it has no bytes
+abbrev pub BeginsBy : ℕ → ℕ → List Tree → Type 0
+BeginsBy pad span [] = span ≡ 0
+BeginsBy pad span (t ∷ ts) = pad ≡ pad_of t
+
+-- the same of a tree's own node
+abbrev pub BeginsWithChild : Tree → Type 0
+BeginsWithChild t = BeginsBy (pad_of t) (span_of t) (children_of t)
+
+-- The node can be laid on the stack: it is such as a move makes, its examined bytes lie in the text
+-- and its end, and the table leads over its symbol.
 pub record CanTake (t : ParseTable) (size : ℕ) (stacks : List (List Layer)) (h : StackHead)
     (node : Tree) (state : ℕ) : Type 0 where
+  pub made : IsMadeNode t.grammar node
   pub reach : h.place + node_extent node ≤ suc size
   pub leads : IsStateOf t (filling (node ∷ trees_on (stack_at stacks h.top))) state
 

@@ -61,11 +61,12 @@ OnFork P (Stuck place) = Unit {0}
 OnFork P Deep = Unit {0}
 OnFork P (Forks k) = P k
 
--- Several moves stay at the stack. It is one that a parser made, and weighs no more than the one
--- from which it began.
+-- Several moves stay at the stack. It is one that a parser made, ends no earlier than the one from
+-- which it began, and weighs no more.
 pub record IsForkFrom (t : ParseTable) (text : Bytes) (old new : List (List Layer))
     (h k : StackHead) : Type 0 where
   pub own : IsOwnHead t (length text) new k
+  pub later : h.place ≤ k.place
   pub weight : config_weight t.grammar (length text) (config_of new k)
       ≤ config_weight t.grammar (length text) (config_of old h)
   pub fork : IsFork t.grammar text (config_of new k)

@@ -150,7 +150,7 @@ returns-clause-live c =
     let good : (place : ℕ) → IsGoodStack t s.size below place → CanPut t s.size place l.left.0 u extras → IsGoodStack t s.size (stack_at new top) (place + (span_of u + all_spans extras)) = λ place base can.
     subst (λ (es : List Tree). IsGoodStack t s.size (stack_at new top) (place + (span_of u + all_spans es))) slice
     (c.in_ok-top.ensures.good s.size place (subst (λ (x : List Layer). IsGoodStack t s.size x place) (sym c.cut_alone.ensures.stack) base) (subst (λ (es : List Tree). CanPut t s.size place l.left.0 u es) (sym slice) can)) in
-    done_own c.laws_hold.ensures t s.size c.args.number c.requires.stays.0 old h l c.requires.stays.1 line small extras children extent below all.gathered c.stands.ensures c.requires.setting.short state u w.0 w.1 new top c.in_ok-top.ensures.there trees good c.requires.live.own
+    done_own c.laws_hold.ensures t s.size c.args.number c.requires.stays.0 old h l c.requires.stays.1 line small extras children extent below all.gathered c.stands.ensures c.requires.setting.short state u w.0 w.1 new top c.in_ok-top.ensures.there trees good c.requires.live.own c.requires.live.made
 
 pub returns-clause-put : goal.returns-clause-put
 returns-clause-put c =

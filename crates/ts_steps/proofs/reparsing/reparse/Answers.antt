@@ -32,6 +32,7 @@ loop-next-preserved-in-Some g c =
       gives = λ place at t given. c.loop-next.invariant.gives place at t (c.in_ok-next.ensures.gives place at t given);
       lends = λ place at symbol s given. c.loop-next.invariant.lends place at symbol s (c.in_ok-next.ensures.lends place at symbol s given);
       live = w.2.taken.live;
+      later = (let before = c.loop-next.invariant.later in omega (arith, before, far));
       weight = (let fall = taken_falls c.laws_hold.ensures c.args.table.now c.stands.ensures.fit (c.unit_ranks.ensures c.args.table.now.grammar c.stands.ensures.fit) text c.loop-next.graph c.take.new.graph h c.in-Some.next c.loop-next.invariant.live w.0 w.2 in let most = c.loop-next.invariant.weight in omega (arith, fall, most));
       stands = λ states are honest lent first.
           stands_taken c.laws_hold.ensures c.sound_laws_hold.ensures c.pushed_whole.ensures.meet c.only_runs_meet.ensures.joined c.args.table.now states text (config_of c.args.graph.now c.args.start) c.loop-next.graph c.take.new.graph h c.in-Some.next w.0 c.stands.ensures are
@@ -62,6 +63,7 @@ loop-next-preserved-in-On g c =
       gives = λ place at t given. c.loop-next.invariant.gives place at t (c.in_ok-next.ensures.gives place at t given);
       lends = λ place at symbol s given. c.loop-next.invariant.lends place at symbol s (c.in_ok-next.ensures.lends place at symbol s given);
       live = go.own;
+      later = (let before = c.loop-next.invariant.later in omega (arith, before, far));
       weight = (let fall = step_falls c.laws_hold.ensures c.args.table.now c.stands.ensures.fit (c.unit_ranks.ensures c.args.table.now.grammar c.stands.ensures.fit) text c.loop-next.graph c.go_on.new.graph h c.in-On.next c.loop-next.invariant.live go.step in let most = c.loop-next.invariant.weight in omega (arith, fall, most));
       stands = λ states are honest lent first. stands_on c.only_runs_meet.ensures.joined c.only_runs_meet.ensures.step c.args.table.now states text (config_of c.args.graph.now c.args.start) c.loop-next.graph c.go_on.new.graph h c.in-On.next (c.loop-next.invariant.stands states are honest lent first) go.step (go.stand states are);
       known = none_known (IsTokenAhead c.args.table.now text c.go_on.new.graph c.in-On.next);
@@ -118,6 +120,12 @@ loop-next-preserved-in-Some-2 g c =
       gives = λ place at t given. c.loop-next.invariant.gives place at t (c.in_ok-next.ensures.gives place at t (c.in_ok-longer-in-Reduced.ensures.gives place at t given));
       lends = λ place at symbol s given. c.loop-next.invariant.lends place at symbol s (c.in_ok-next.ensures.lends place at symbol s (c.in_ok-longer-in-Reduced.ensures.lends place at symbol s given));
       live = w.3.own;
+      later = (
+          let before = c.loop-next.invariant.later in
+          let first = step_place c.args.table.now text c.loop-next.graph c.go_on.new.graph h c.in-Reduced.next led.0.step in
+          let second = w.3.later in
+          omega (arith, before, first, second)
+          );
       weight = (
           let first = step_falls c.laws_hold.ensures c.args.table.now c.stands.ensures.fit (c.unit_ranks.ensures c.args.table.now.grammar c.stands.ensures.fit) text c.loop-next.graph c.go_on.new.graph h c.in-Reduced.next c.loop-next.invariant.live led.0.step in
           let second = lengthened_falls c.laws_hold.ensures c.args.table.now c.stands.ensures.fit (c.unit_ranks.ensures c.args.table.now.grammar c.stands.ensures.fit) text c.go_on.new.graph c.take_elements.new.graph c.in-Reduced.next c.in-Some-2.longer led.0.own w.0 w.1 w.3 in
@@ -154,6 +162,7 @@ loop-next-preserved g c =
       gives = λ place at t given. c.loop-next.invariant.gives place at t (c.in_ok-next.ensures.gives place at t (c.in_ok-longer-in-Reduced.ensures.gives place at t given));
       lends = λ place at symbol s given. c.loop-next.invariant.lends place at symbol s (c.in_ok-next.ensures.lends place at symbol s (c.in_ok-longer-in-Reduced.ensures.lends place at symbol s given));
       live = go.0.own;
+      later = (let before = c.loop-next.invariant.later in let far = step_place c.args.table.now text c.loop-next.graph c.take_elements.new.graph h c.in-Reduced.next go.0.step in omega (arith, before, far));
       weight = (let fall = step_falls c.laws_hold.ensures c.args.table.now c.stands.ensures.fit (c.unit_ranks.ensures c.args.table.now.grammar c.stands.ensures.fit) text c.loop-next.graph c.take_elements.new.graph h c.in-Reduced.next c.loop-next.invariant.live go.0.step in let most = c.loop-next.invariant.weight in omega (arith, fall, most));
       stands = λ states are honest lent first. stands_on c.only_runs_meet.ensures.joined c.only_runs_meet.ensures.step c.args.table.now states text (config_of c.args.graph.now c.args.start) c.loop-next.graph c.take_elements.new.graph h c.in-Reduced.next (c.loop-next.invariant.stands states are honest lent first) go.0.step (go.0.stand states are);
       known = λ f e.
@@ -168,6 +177,7 @@ loop-next-init g c = record {
   gives = λ place at t given. given;
   lends = λ place at symbol s given. given;
   live = c.requires.live;
+  later = omega arith;
   weight = omega arith;
   stands = λ states are honest lent first. record { meet = c.only_runs_meet.ensures.same c.args.table.now.grammar (g.L.Text.Content.bytes c.args.text.now) (config_of c.args.graph.now c.args.start); stand = first };
   known = none_known (IsTokenAhead c.args.table.now (g.L.Text.Content.bytes c.args.text.now) c.args.graph.now c.args.start);
@@ -186,7 +196,7 @@ returns-in-Ended-clause-forks g c =
     let text = g.L.Text.Content.bytes c.args.text.now in
     let long = sym (c.requires.setting.size_is) in
     ends_fork c.args.table.now text (λ stacks k. IsForkFrom c.args.table.now text c.args.graph.now stacks c.args.start k) c.loop-next.graph c.go_on.new.graph c.loop-next.head c.in-Ended.result
-    (λ several. record { own = c.loop-next.invariant.live; weight = c.loop-next.invariant.weight; fork = several })
+    (λ several. record { own = c.loop-next.invariant.live; later = c.loop-next.invariant.later; weight = c.loop-next.invariant.weight; fork = several })
     (ends_at c.args.table.now text c.loop-next.graph c.take.new.graph c.go_on.new.graph c.loop-next.head c.in-Ended.result c.in_ok-next-in-None.field-0 (c.in_ok-next.ensures.kept c.in-None.is) c.in-Ended.is
     (c.in_ok-next-in-None.ensures text long (sees_kept c.args.table.now text c.loop-next.graph c.take.new.graph c.loop-next.head c.look_once-lexed.result (c.in_ok-next.ensures.kept c.in-None.is) c.look_once-lexed.ensures.sees)))
 

@@ -17,6 +17,7 @@ invariant-loop-next g l = record {
   gives : (place state : ℕ) (t : Tree) → g.O.Offers.gives l.offers place state t → g.O.Offers.gives l.initial.offers place state t;
   lends : (place state symbol : ℕ) (s : Stretch) → g.O.Offers.lends l.offers place state symbol s → g.O.Offers.lends l.initial.offers place state symbol s;
   live : IsOwnHead l.table (length (g.L.Text.Content.bytes l.text)) l.graph l.head;
+  later : l.fn.start.place ≤ l.head.place;
   weight : config_weight l.table.grammar (length (g.L.Text.Content.bytes l.text)) (config_of l.graph l.head) ≤ config_weight l.table.grammar (length (g.L.Text.Content.bytes l.text)) (config_of l.initial.graph l.fn.start);
   stands : (states : States) → AreStatesOf l.table states → AreHonest l.table.grammar states (g.L.Text.Content.bytes l.text) (g.O.Offers.gives l.initial.offers)
       → AreHonestlyLent l.table.grammar states (g.L.Text.Content.bytes l.text) (g.O.Offers.lends l.initial.offers)
