@@ -3,16 +3,20 @@ use Rattle.std.proofs.Common.{◌≡◌, ◌∙◌, sym, refl, subst, ℕ, zero,
 use Rattle.std.specs.List.{Contains}
 use Rattle.std.proofs.lemmas.Option.{slice_get_within}
 use Rattle.ts_base.specs.Bytes.{Bytes}
+use Rattle.spec_graph.specs.declared.graph.Head.{Head}
+use Rattle.spec_graph.specs.Laying.{Parsing, extra_tree}
+use Rattle.spec_graph.specs.Links.{HasGrown}
 use Rattle.ts_graph.specs.declared.view.GraphView.{GraphView}
 use Rattle.ts_table.specs.declared.view.ParseTable.{ParseTable}
 use Rattle.ts_table.specs.Tables.{IsTable}
-use Rattle.ts_laying.specs.Laying.{Grows}
+use Rattle.ts_laying.specs.Sound.{bare_links}
+use Rattle.ts_laying.specs.Laying.{Grows, HasPassed, IsNewHead}
 use Rattle.ts_reductions.specs.declared.reducing.Reduced.{Reduced}
 use Rattle.ts_reductions.specs.declared.reducing.Reduced.TheVariants.{Done, TooDeep}
 use Rattle.ts_reductions.specs.declared.setting.Setting.{Setting}
 use Rattle.ts_reductions.specs.declared.top.Top.{Top}
 use Rattle.ts_reductions.specs.Asking.{IsTop}
-use Rattle.ts_reductions.specs.Sound.{Base, IsSoundBy}
+use Rattle.ts_reductions.specs.Sound.{Base, parsing_from, IsSoundBy}
 use Rattle.ts_reductions.proofs.KeepLemmas.{keeps_on}
 use Rattle.ts_shifts.specs.declared.sights.Sights.{Sights}
 use Rattle.ts_shifts.specs.Looking.{AllStandAt, HasAllAt}
@@ -22,6 +26,7 @@ use Rattle.ts_sweeps.specs.Sweeping.{CanSweep, IsWholeBy, last_key, AreSwept, Is
 use Rattle.ts_places.specs.declared.following.Passed.{Passed}
 use Rattle.ts_places.specs.declared.following.Passed.TheVariants.{Over, Deep, Idle}
 use Rattle.ts_shifts.proofs.SmallLemmas.{at_contained, read_at}
+use Rattle.ts_shifts.proofs.GrowLemmas.{link_stays}
 use Rattle.ts_places.specs.declared.frontier.Frontier.{Frontier}
 use Rattle.ts_places.specs.Laws.{PlaceLaws}
 use Rattle.ts_places.specs.Frontiers.{AreThoseAt, HasNoneBetween, IsNextPlace, IsLastPlace, IsNextOpen}
@@ -111,6 +116,19 @@ module _ (t : ParseTable) (text : Bytes) (s : Setting) (base : Base) (most : ℕ
 
 -- ---- all that was done at a place
 
+passed_stays : (P : Parsing) (mid new : GraphView) → HasGrown P mid.heads (bare_links mid.links) new.heads (bare_links new.links) → (h : ℕ) → HasPassed P mid h → HasPassed P new h
+passed_stays P mid new grown h p = record {
+  read = p.read;
+  from = p.from;
+  late = p.late;
+  at = grown.heads_stay h p.read p.from p.at;
+  symbol = p.symbol;
+  pad = p.pad;
+  size = p.size;
+  passes = p.passes;
+  link = link_stays P mid.heads new.heads (bare_links mid.links) (bare_links new.links) grown h (extra_tree p.symbol p.pad p.size) (p.from + (p.pad + p.size)) p.read p.link;
+}
+
 module _ (laws : PlaceLaws) (t : ParseTable) (table : IsTable t) (text : Bytes) (s : Setting) (base : Base) (most : ℕ) (old : GraphView) (place : ℕ) (before after : Sights) (can : CanPass t text s base most old place before) where
   module _ (mid new : GraphView) (swept : AreSwept t text base old mid place after) (shifts : AreShifted t text base mid new place) where
     grows : Grows old new
@@ -121,6 +139,24 @@ module _ (laws : PlaceLaws) (t : ParseTable) (table : IsTable t) (text : Bytes) 
           let n = shifts.grows.links m.0 m.1 in
           (n.0, n.1, n.2 ∙ m.2, n.3 ∙ m.3, laws.through n.0.tree m.0.tree l.tree n.4 m.4, (let x = m.5 in let y = n.5 in omega (arith, x, y)));
     }
+
+    abbrev P : Parsing
+    P = parsing_from t text base
+
+    new_heads : (h : ℕ) (head : Head) → slice_get new.heads h ≡ Some head → (slice_get old.heads h ≡ Some head) ⊎ ((place ≤ head.place) ⊎ HasPassed P new h)
+    new_heads h head is = by (shifts.behind h head is)
+      where
+        at : (head.place ≡ place) ⊎ HasPassed P mid h → (place ≤ head.place) ⊎ HasPassed P new h
+        at (inl here) = inl (omega (arith, here))
+        at (inr passed) = inr (passed_stays P mid new shifts.grown h passed)
+
+        more : (slice_get old.heads h ≡ Some head) ⊎ IsNewHead P mid place h head → (slice_get old.heads h ≡ Some head) ⊎ ((place ≤ head.place) ⊎ HasPassed P new h)
+        more (inl was) = inl was
+        more (inr n) = inr (at n.1)
+
+        by : (slice_get mid.heads h ≡ Some head) ⊎ (place < head.place) → (slice_get old.heads h ≡ Some head) ⊎ ((place ≤ head.place) ⊎ HasPassed P new h)
+        by (inl was) = more (swept.more.only h head was)
+        by (inr past) = inr (inl (omega (arith, past)))
 
     all_still : HasAllAt new place swept.seen.heads
     all_still h st = by (shifts.behind h st.0 st.1)
@@ -140,7 +176,12 @@ module _ (laws : PlaceLaws) (t : ParseTable) (table : IsTable t) (text : Bytes) 
 
     pub all_passed : IsPassed t text base most old new place after
     all_passed = record {
-      followed = record { grows = grows; keeps = keeps_on t.grammar text base old mid new swept.more.keeps shifts.keeps; seen = seen_still };
+      followed = record {
+        grows = grows;
+        only = new_heads;
+        keeps = keeps_on t.grammar text base old mid new swept.more.keeps shifts.keeps;
+        seen = seen_still;
+      };
       whole = record {
         early = let e = can.whole.early in omega (arith, e);
         ranks = can.whole.ranks;

@@ -1,17 +1,18 @@
 -- What is done at a place of a graph, and where the graph goes on.
-use Rattle.std.specs.Prelude.{◌≡◌, ℕ, suc, ◌<◌, ◌≤◌, Option, Some, None, length}
+use Rattle.std.specs.Prelude.{◌≡◌, ℕ, suc, ◌<◌, ◌≤◌, ◌⊎◌, Option, Some, None, length, slice_get}
 use Rattle.ts_base.specs.Bytes.{Bytes}
+use Rattle.spec_graph.specs.declared.graph.Head.{Head}
 use Rattle.spec_graph.specs.States.{AreRanks}
 use Rattle.ts_graph.specs.declared.view.GraphView.{GraphView}
 use Rattle.ts_table.specs.declared.view.ParseTable.{ParseTable}
 use Rattle.ts_table.specs.Ranks.{unit_rank}
-use Rattle.ts_laying.specs.Laying.{Grows}
+use Rattle.ts_laying.specs.Laying.{Grows, HasPassed}
 use Rattle.ts_reductions.specs.declared.setting.Setting.{Setting}
 use Rattle.ts_reductions.specs.declared.top.Top.{Top}
 use Rattle.ts_reductions.specs.Asking.{IsTop}
 use Rattle.ts_reductions.specs.Keeping.{KeepsTrees}
 use Rattle.ts_reductions.specs.Lines.{IsSetting}
-use Rattle.ts_reductions.specs.Sound.{Base, IsSoundBy}
+use Rattle.ts_reductions.specs.Sound.{Base, parsing_from, IsSoundBy}
 use Rattle.ts_shifts.specs.declared.sights.Sights.{Sights}
 use Rattle.ts_shifts.specs.Passing.{first_key}
 use Rattle.ts_shifts.specs.Shifting.{AreAllSights}
@@ -44,11 +45,15 @@ pub record CanFollow (t : ParseTable) (text : Bytes) (s : Setting) (base : Base)
 
 -- ---- after
 
--- All that is asked for at the place was done, and the new trees are such as a parser makes. These
--- are all sights there.
+-- All that is asked for at the place was done, and the new trees are such as a parser makes. Each new
+-- head stands at the place or past it, or an extra is passed there. These are all sights at the
+-- place.
 pub record IsFollowed (t : ParseTable) (text : Bytes) (base : Base) (old new : GraphView)
     (place : ℕ) (sights : Sights) : Type 0 where
   pub grows : Grows old new
+  pub only : (h : ℕ) (head : Head) → slice_get new.heads h ≡ Some head
+      → (slice_get old.heads h ≡ Some head)
+      ⊎ ((place ≤ head.place) ⊎ HasPassed (parsing_from t text base) new h)
   pub keeps : KeepsTrees t.grammar text base old new
   pub seen : AreAllSights t text base new place sights
 
