@@ -27,7 +27,7 @@ use Rattle.ts_laying.specs.Sound.{bare_link, bare_links}
 use Rattle.ts_steps.specs.declared.head.StackHead.{StackHead}
 use Rattle.ts_steps.specs.Good.{EachTree, AreGoodTrees}
 use Rattle.ts_steps.specs.LiveHeads.{config_of, HaveStates, IsGoodStack}
-use Rattle.ts_steps.specs.Heads.{AreStatesOf, IsOwnWithin, IsOwnHead, StandOnHead}
+use Rattle.ts_steps.specs.Heads.{AreStatesOf, IsOwnWithin, IsMadeNode, IsOwnHead, StandOnHead}
 use Rattle.ts_crossing.specs.Laws.{LeaveLaws}
 use Rattle.ts_reductions.specs.Sound.{Base, parsing_from, IsSoundBy}
 use Rattle.ts_reductions.specs.Keeping.{AreOwn, StandOnGraph}
@@ -35,6 +35,7 @@ use Rattle.ts_crossing.specs.Leaving.{IsStack, state_at, layers_of, IsLeft}
 use Rattle.ts_crossing.proofs.BareLemmas.{filling_bare, spans_bare}
 use Rattle.ts_crossing.proofs.MemberLemmas.{contained_at, read_at, bare_member, place_is_at}
 use Rattle.ts_crossing.proofs.PartLemmas.{stack_new, end_by_both, spans_turned}
+use Rattle.ts_crossing.proofs.MadeLemmas.{node_made}
 use Rattle.ts_crossing.proofs.TableLemmas.{leads_state}
 
 -- ---- one tree after another
@@ -153,6 +154,16 @@ module _ (laws : LeaveLaws) (t : ParseTable) (text : Bytes) (base : Base) (g : G
   own_trees own [] (l ∷ way) a = absurd a
   own_trees own (k ∷ numbers) (l ∷ way) a = (own l (contained_at g.links k l a.0), own_trees own numbers way a.1)
 
+  made_nodes : (numbers : List ℕ) (way : List Link) → AreAt g.links numbers way → EachTree (IsMadeNode t.grammar) (trees way)
+  made_nodes numbers [] a = tt
+  made_nodes [] (l ∷ way) a = absurd a
+  made_nodes (k ∷ numbers) (l ∷ way) a =
+      let p = sound.laid.parsed in (
+        node_made laws.keeps t.grammar l.tree
+            (laws.made P p.fit p.states p.grounded g.heads bares sound.laid.graph (bare_link l) (bare_member g.links l (contained_at g.links k l a.0))),
+        made_nodes numbers way a.1,
+      )
+
   good_trees : AreOwn t.grammar g → (numbers : List ℕ) (way : List Link) → AreAt g.links numbers way → AreGoodTrees t.grammar (trees way)
   good_trees own numbers [] a = tt
   good_trees own [] (l ∷ way) a = absurd a
@@ -235,6 +246,7 @@ module _ (laws : LeaveLaws) (t : ParseTable) (text : Bytes) (base : Base) (g : G
             });
       };
       own = subst (λ (ls : List Layer). EachTree (IsOwnWithin t.grammar) (trees_on ls)) (sym left.stack) (own_trees own numbers s.way s.at);
+      made = subst (λ (ls : List Layer). EachTree (IsMadeNode t.grammar) (trees_on ls)) (sym left.stack) (made_nodes numbers s.way s.at);
     }
 
     pub left_stand : IsTable t → (states : States) → AreStatesOf t states → StandOnGraph t.grammar states text base g → StandOnHead t states text stacks k

@@ -4,6 +4,7 @@ pub mod MemberLemmas
 pub mod NumberLemmas
 pub mod PartLemmas
 pub mod ForkLemmas
+pub mod MadeLemmas
 pub mod StandLemmas
 pub mod KeepLemmas
 pub mod LayLemmas

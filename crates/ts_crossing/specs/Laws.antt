@@ -1,13 +1,16 @@
 -- The laws of other crates that the proofs here rest on.
-use Rattle.std.specs.Prelude.{◌≡◌, ℕ, List, [], ◌∷◌, ◌++◌, drop}
+use Rattle.std.specs.Prelude.{◌≡◌, ℕ, false, List, [], ◌∷◌, ◌++◌, drop}
+use Rattle.std.specs.List.{Contains}
 use Rattle.ts_base.specs.Bytes.{Bytes}
 use Rattle.ts_core.specs.declared.flat.FlatGrammar.{FlatGrammar}
 use Rattle.ts_core.specs.declared.symbol.Symbol.{Symbol}
 use Rattle.spec_tables.specs.Actions.{Move, Act, accept}
 use Rattle.spec_tables.specs.Fit.{Fit}
 use Rattle.spec_trees.specs.declared.tree.Tree.{Tree}
-use Rattle.spec_trees.specs.Trees.{node_extent, all_spans}
-use Rattle.spec_trees.specs.Made.{filling}
+use Rattle.spec_trees.specs.Trees.{node_extent, elements_of, children_of, all_spans, bare}
+use Rattle.spec_trees.specs.Inside.{IsNodeIn}
+use Rattle.spec_trees.specs.Made.{filling, AreCounted}
+use Rattle.spec_trees.specs.Choice.{code_of, IsInForm}
 use Rattle.spec_runs.specs.BareTrees.{KeepsAll}
 use Rattle.spec_runs.specs.Configurations.{AreValidTokens}
 use Rattle.spec_runs.specs.Moves.{IsUnused}
@@ -17,7 +20,7 @@ use Rattle.spec_graph.specs.declared.graph.Head.{Head}
 use Rattle.spec_graph.specs.declared.graph.Link.{Link}
 use Rattle.spec_graph.specs.States.{AreStates, AreRanks}
 use Rattle.spec_graph.specs.Laying.{Parsing}
-use Rattle.spec_graph.specs.Grounded.{IsGrounded}
+use Rattle.spec_graph.specs.Grounded.{Spells, IsMadeTree, IsGrounded}
 use Rattle.spec_graph.specs.Replacing.{Replaces}
 use Rattle.spec_graph.specs.Links.{IsAt, IsWay, way_trees, IsGraph, IsWholeTo, HasStood}
 use Rattle.ts_table.specs.declared.view.ParseTable.{ParseTable}
@@ -50,8 +53,8 @@ pub record EnterLaws : Type 0 where
       → HasStood P heads links
       → IsWholeTo P rank heads links (record { look = P.place; begins = P.place; rank = most })
 
--- For proofs alone: laws of bare trees, of nodes that stand, and of what is read where a way leads
--- down.
+-- For proofs alone: laws of bare trees, of nodes that stand, of what is read where a way leads down,
+-- and of trees of links.
 pub record LeaveLaws : Type 0 where
   pub keeps : (t : Tree) → KeepsAll t
   pub symbols : (P : Parsing) → Fit P.grammar → AreStates P.grammar P.goto → IsGrounded P
@@ -68,3 +71,13 @@ pub record LeaveLaws : Type 0 where
       → (heads : List Head) (links : List Link) → IsGraph P heads links
       → (h place : ℕ) (read : List ℕ) (way : List Link) → IsAt P heads h read place
       → IsWay links h way 0 → all_spans (way_trees way) ≡ place
+  pub made : (P : Parsing) → Fit P.grammar → AreStates P.grammar P.goto → IsGrounded P
+      → (heads : List Head) (links : List Link) → IsGraph P heads links
+      → (l : Link) → Contains links l → IsMadeTree P.grammar l.tree
+
+-- For proofs alone: laws of trees such as moves make.
+pub record MadeLaws : Type 0 where
+  pub spelled : (g : FlatGrammar) (t : Tree) → IsInForm g t
+      → ((u : Tree) → IsNodeIn t u → AreCounted (elements_of u) (children_of u))
+      → Spells g false 1 (code_of t)
+  pub bare_made : (g : FlatGrammar) (t : Tree) → IsMadeTree g t → IsMadeTree g (bare t)

@@ -8,5 +8,5 @@ mod laws;
 mod leaving;
 
 pub use entering::{Entered, enter};
-pub use laws::left_stacks_go_on;
+pub use laws::{left_stacks_go_on, own_stacks_enter};
 pub use leaving::{Left, leave, one_stack};

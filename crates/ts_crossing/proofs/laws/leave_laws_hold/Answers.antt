@@ -7,4 +7,5 @@ returns c = record {
   named = c.states_are_named.ensures.after;
   tells = c.states_tell.ensures.after;
   spans = c.ways_are_read.ensures.spans;
+  made = c.links_are_made.ensures;
 }

@@ -3,6 +3,7 @@ use Rattle.spec_runs.specs.Configurations.{Configuration}
 use Rattle.spec_runs.specs.Runs.{IsReached}
 use Rattle.spec_packing.specs.Serving.{ComesToServe}
 use Rattle.spec_crossing.specs.Leaving.{EndsBefore}
+use Rattle.spec_crossing.specs.Resting.{Rests}
 use Rattle.ts_laying.specs.Sound.{bare_link, bare_links}
 use Rattle.ts_table.specs.Ranks.{unit_rank}
 use Rattle.ts_reductions.specs.Sound.{parsing_from}
@@ -24,6 +25,15 @@ returns-clause-serves c t text base g h numbers stacks k sound there s left b re
     (c.one_stack_goes_on.ensures.serves (parsing_from t text base) sound.laid.parsed.fit sound.laid.parsed.states b reached begun (unit_rank t.grammar) most ranked g.heads (bare_links g.links)
     sound.laid.graph n whole early h k.place (reads laws t text base g sound h there numbers stacks k s left).0 (map bare_link s.way)
     at alone s.only s.token d rd serves)
+
+pub returns-clause-rests : goal.returns-clause-rests
+returns-clause-rests c t text base g h numbers stacks k sound there s left b begun most ranked n whole early alone before stuck account r =
+    let laws = c.leave_laws_hold.ensures in
+    let at = head_at_place laws t text base g sound h there numbers stacks k s left in
+    subst (λ (d : Configuration). Rests t.grammar text stuck d) (sym (config_is laws t text base g sound h there numbers stacks k s left))
+    (c.followed_graphs_rest.ensures.leaves (parsing_from t text base) sound.laid.parsed.fit sound.laid.parsed.states b r.reached begun (unit_rank t.grammar) most ranked g.heads (bare_links g.links)
+    sound.laid.graph n whole early before stuck account r h k.place (reads laws t text base g sound h there numbers stacks k s left).0 (map bare_link s.way)
+    at alone s.only s.token)
 
 pub returns-clause-own : goal.returns-clause-own
 returns-clause-own c t text base g h numbers stacks k sound there s left own = left_own c.leave_laws_hold.ensures t text base g sound h there numbers stacks k s left own
