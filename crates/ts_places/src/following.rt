@@ -1,7 +1,7 @@
 //! Follows a graph of stacks over one place of a text: the graph and the heads that stand there or
 //! past it go in; the graph with all reductions, shifts and passed extras of the place comes out,
 //! with what was seen there and the next place at which a head stands.
-ghost use Rattle.std.specs.Prelude.{◌≡◌, ℕ, ◌≤◌, IfOk, OnOk};
+ghost use Rattle.std.specs.Prelude.{◌≡◌, ℕ, ◌≤◌, IfOk};
 ghost use Rattle.ts_reductions.specs.Sound.{Base as AnyBase, IsSoundBy, IsSoundOver};
 ghost use Rattle.ts_shifts.specs.Looking.{AllStandAt, HasAllAt};
 ghost use Rattle.ts_shifts.specs.Shifting.{AreAllSights};
@@ -63,7 +63,7 @@ fn look_at<L: Tokens>(
     requires made { L.made_for lexer.old table.now }
     requires sound { IsSoundOver table.now (L.Text.bytes text.now) graph.now }
     requires stand { (look : ℕ) × AllStandAt graph.now look heads.now }
-    ensures made { OnOk result (L.made_for lexer.new table.now) }
+    ensures made { L.made_for lexer.new table.now }
     ensures sights { IfOk result (λ sights. (base : AnyBase) (look : ℕ)
         → IsSoundBy table.now (L.Text.bytes text.now) base graph.now → base.place ≤ look
         → AllStandAt graph.now look heads.now → HasAllAt graph.now look heads.now
@@ -88,7 +88,7 @@ fn pass_place<L: Tokens>(
     requires made { L.made_for lexer.old table.now }
     requires ready { (base : AnyBase) × (most : ℕ) × CanPass table.now (L.Text.bytes text.now)
         setting.now base most graph.old place sights.old }
-    ensures made { OnOk result (L.made_for lexer.new table.now) }
+    ensures made { L.made_for lexer.new table.now }
     ensures passes { IfOk result (λ passed. (base : AnyBase) (most : ℕ)
         → CanPass table.now (L.Text.bytes text.now) setting.now base most graph.old place
         sights.old
@@ -139,7 +139,7 @@ pub fn follow_place<L: Tokens>(
     requires made { L.made_for lexer.old table.now }
     requires ready { (base : AnyBase) × (most : ℕ) × CanFollow table.now
         (L.Text.bytes text.now) setting.now base most graph.old place frontier.old }
-    ensures made { OnOk result (L.made_for lexer.new table.now) }
+    ensures made { L.made_for lexer.new table.now }
     ensures follows { IfOk result (λ followed. (base : AnyBase) (most : ℕ)
         → CanFollow table.now (L.Text.bytes text.now) setting.now base most graph.old place
         frontier.old

@@ -102,7 +102,7 @@ pub fn look_all<L: Tokens>(
     requires made { L.made_for lexer.old table.now }
     requires sound { IsSoundOver table.now (L.Text.bytes text.now) graph.now }
     requires stand { (look : ℕ) × AllStandAt graph.now look numbers.now }
-    ensures made { OnOk result (L.made_for lexer.new table.now) }
+    ensures made { L.made_for lexer.new table.now }
     ensures sights { OnOk result ((look : ℕ) (before : List ℕ)
         → AllStandAt graph.now look numbers.now
         → AreSights table.now (L.Text.bytes text.now) graph.now look before sights.old

@@ -44,7 +44,7 @@ fn look_new<L: Tokens>(
 ) -> Result<(), AllocError>
     requires made { L.made_for lexer.old table.now }
     requires sound { IsSoundOver table.now (L.Text.bytes text.now) graph.now }
-    ensures made { OnOk result (L.made_for lexer.new table.now) }
+    ensures made { L.made_for lexer.new table.now }
     ensures sights { OnOk result ((base : AnyBase) (old : GraphView) → from ≡ length old.heads
         → KeepNumbers old.heads graph.now.heads
         → IsSoundBy table.now (L.Text.bytes text.now) base graph.now
@@ -71,7 +71,7 @@ fn sweep_one<L: Tokens>(
     requires made { L.made_for lexer.old table.now }
     requires ready { (base : AnyBase) × CanSweep table.now (L.Text.bytes text.now) base
         setting.now graph.old seek.look sights.old }
-    ensures made { OnOk result (L.made_for lexer.new table.now) }
+    ensures made { L.made_for lexer.new table.now }
     ensures swept { IfOk result (λ swept. (base : AnyBase) (most : ℕ) (start : GraphView)
         → CanSweep table.now (L.Text.bytes text.now) base setting.now graph.old seek.look
         sights.old
@@ -125,7 +125,7 @@ pub fn sweep<L: Tokens>(
     requires made { L.made_for lexer.old table.now }
     requires ready { (base : AnyBase) × CanSweep table.now (L.Text.bytes text.now) base
         setting.now graph.old place sights.old }
-    ensures made { OnOk result (L.made_for lexer.new table.now) }
+    ensures made { L.made_for lexer.new table.now }
     ensures swept { IfOk result (λ reduced. (base : AnyBase) (most : ℕ)
         → CanSweep table.now (L.Text.bytes text.now) base setting.now graph.old place sights.old
         → AreRanks table.now.grammar (unit_rank table.now.grammar) most
