@@ -11,6 +11,7 @@ use Rattle.spec_trees.specs.Made.{most_span}
 use Rattle.spec_trees.specs.Trees.{children_of, state_of, tree_depth, bare}
 use Rattle.spec_runs.specs.Configurations.{Configuration, pushed, token_tree, IsReduction}
 use Rattle.spec_forced.specs.Sound.{States, IsSound}
+use Rattle.spec_crossing.specs.Resting.{Withstands}
 use Rattle.ts_table.specs.declared.view.ParseTable.{ParseTable}
 use Rattle.ts_table.specs.Tables.{IsTable, IsStateOf, ActsBy}
 use Rattle.ts_gss.specs.declared.layer.Layer.{Layer}
@@ -25,7 +26,7 @@ use Rattle.ts_steps.specs.Looking.{IsTokenAhead}
 use Rattle.ts_glr.specs.declared.acting.Moved.{Moved}
 use Rattle.ts_glr.specs.declared.acting.Moved.TheVariants.{To, Ended, TooDeep}
 use Rattle.ts_glr.specs.Lists.{OfEach, Any}
-use Rattle.ts_glr.specs.Steps.{Withstands, KeepsBest, ActionLeads, IsTooDeep, StandAfter, IsSoundRoot, IsActed}
+use Rattle.ts_glr.specs.Steps.{KeepsBest, ActionLeads, IsTooDeep, StandAfter, IsSoundRoot, IsActed}
 use Rattle.ts_glr.specs.Search.{heads_of, is_deep, Acting}
 use Rattle.ts_glr.proofs.ListLemmas.{each_append, each_map, any_left, any_right}
 use Rattle.ts_glr.proofs.RootLemmas.{one_root}

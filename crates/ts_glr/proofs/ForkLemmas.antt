@@ -7,7 +7,9 @@ use Rattle.spec_trees.specs.declared.tree.Tree.{Tree}
 use Rattle.spec_trees.specs.Trees.{children_of, state_of}
 use Rattle.spec_runs.specs.Configurations.{Configuration}
 use Rattle.spec_runs.specs.Runs.{StepsOn, shift_token, pass_extra, reduce_trees, ComesTooDeep}
+use Rattle.spec_forced.specs.OnlyRuns.{IsFork}
 use Rattle.spec_forced.specs.Sound.{States, IsSound}
+use Rattle.spec_crossing.specs.Resting.{Rests}
 use Rattle.ts_table.specs.declared.view.ParseTable.{ParseTable}
 use Rattle.ts_table.specs.Tables.{most_actions}
 use Rattle.ts_gss.specs.declared.layer.Layer.{Layer}
@@ -22,12 +24,16 @@ use Rattle.ts_glr.specs.Lists.{OfEach}
 use Rattle.ts_glr.specs.Laws.{PackingLaws}
 use Rattle.ts_glr.specs.Joining.{IsTakenOut, JoinsOne}
 use Rattle.ts_glr.specs.Steps.{HasForm, StandAfter}
-use Rattle.ts_glr.specs.Search.{Spent, Searching, Rests, Owns, AllStand}
+use Rattle.ts_glr.specs.Search.{Spent, Searching, Owns, AllStand}
 use Rattle.ts_glr.specs.Outcomes.{EndsAs, IsOwnOutcome, IsSoundOutcome}
 use Rattle.ts_glr.specs.Weights.{head_weight, live_weight}
-use Rattle.ts_glr.specs.Forks.{Following, LeavesOne, EndsAll}
+use Rattle.ts_glr.specs.Turns.{turn_weight}
+use Rattle.ts_glr.specs.declared.forking.Forked.{Forked}
+use Rattle.ts_glr.specs.declared.forking.Forked.TheVariants.{One, Over}
+use Rattle.ts_glr.specs.Forks.{Following, LeavesOne, EndsAll, ComesTo}
 use Rattle.ts_glr.proofs.ListLemmas.{each_append, each_map, each_left, each_right, each_last}
-use Rattle.ts_glr.proofs.StackLemmas.{own_stays, stand_stays, stay_grown}
+use Rattle.ts_glr.proofs.TurnLemmas.{turn_lt}
+use Rattle.ts_glr.proofs.StackLemmas.{own_stays, config_stays, stand_stays, stay_grown}
 use Rattle.ts_glr.proofs.LightLemmas.{StepsFall, live_falls, followed_falls, joined_falls, left_lighter}
 use Rattle.ts_glr.proofs.SearchLemmas.{search_rests, rests_search, search_taken, search_joined, search_more, deep_ends, fresh_ends, form_ends}
 
@@ -219,7 +225,7 @@ module _ (packing : PackingLaws) (falls : StepsFall) (t : ParseTable) (fit : Fit
           record {
             own = head_own.0;
             far = head_own.1;
-            lighter = left_lighter t (length text) stacks live k (head_weight t.grammar (length text) first h) live_is f.lighter;
+            lighter = turn_lt t.grammar (length text) (config_of first h) (config_of stacks k) head_own.1 (left_lighter t (length text) stacks live k (head_weight t.grammar (length text) first h) live_is f.lighter);
             empty = empty;
             none = none;
             rests = λ r. rests_search packing t fit text stacks k stuck (subst (λ (o : Option Tree). Searching t text stacks (k ∷ []) o stuck) none (subst (λ (l : List StackHead). Searching t text stacks l best stuck) alone (taken_search r)));
@@ -266,3 +272,44 @@ module _ (packing : PackingLaws) (falls : StepsFall) (t : ParseTable) (fit : Fit
           search = λ r. search_more packing t fit text (trees_on (stack_at stacks k.top)) stacks new (most_actions t) rest live' k best best' stuck stuck' (stay_grown stacks new rest grows) (taken_search r) sp;
           stand = λ states are s. stand_more t text states are (most_actions t) stacks new rest live' k best best' stuck stuck' grows rest_own (taken_stand states are s) sp;
         }
+
+-- ---- the same from a stack that stays
+
+module _ (t : ParseTable) (text : Bytes) (first mid : List (List Layer)) (h : StackHead) (grows : GainsStacks first mid) (own : IsOwnHead t (length text) first h) where
+  same : config_of mid h ≡ config_of first h
+  same = config_stays t (length text) first mid h grows own.live
+
+  stands : (states : States) → StandOnHead t states text first h → StandOnHead t states text mid h
+  stands states stand = stand_stays t states text first mid h grows own.live.there stand
+
+  rests_there : (before : Option ℕ) → Rests t.grammar text before (config_of first h) → Rests t.grammar text before (config_of mid h)
+  rests_there before r = subst (λ (c : Configuration). Rests t.grammar text before c) (sym same) r
+
+  pub comes_from : (stacks : List (List Layer)) (before stuck : Option ℕ) (live : List StackHead) (best : Option Tree) (o : Forked) → ComesTo t text mid stacks before stuck live best h o → ComesTo t text first stacks before stuck live best h o
+  comes_from stacks before stuck live best (One k) w = record {
+    own = w.own;
+    far = w.far;
+    lighter = subst (λ (c : Configuration). turn_weight t.grammar (length text) (config_of stacks k) < turn_weight t.grammar (length text) c) same w.lighter;
+    empty = w.empty;
+    none = w.none;
+    rests = λ r. w.rests (rests_there before r);
+    stand = λ states are stand. w.stand states are (stands states stand);
+  }
+  comes_from stacks before stuck live best (Over out) w = record {
+    form = w.form;
+    own = w.own;
+    fresh = λ r. w.fresh (rests_there before r);
+    sound = λ states are stand. w.sound states are (stands states stand);
+  }
+
+  pub again_own : (now : List (List Layer)) → now ≡ mid → IsOwnHead t (length text) now h
+  again_own now is = subst (λ (ss : List (List Layer)). IsOwnHead t (length text) ss h) (sym is) (own_stays t (length text) first mid h grows own)
+
+  pub again_fork : (now : List (List Layer)) → now ≡ mid → IsFork t.grammar text (config_of first h) → IsFork t.grammar text (config_of now h)
+  again_fork now is fork = subst (λ (ss : List (List Layer)). IsFork t.grammar text (config_of ss h)) (sym is) (subst (λ (c : Configuration). IsFork t.grammar text c) (sym same) fork)
+
+  pub again_comes : (now stacks : List (List Layer)) (before before' stuck : Option ℕ) (live : List StackHead) (best : Option Tree) (o : Forked) → now ≡ mid → before' ≡ before
+      → ComesTo t text now stacks before' stuck live best h o → ComesTo t text first stacks before stuck live best h o
+  again_comes now stacks before before' stuck live best o is same_stuck w =
+      comes_from stacks before stuck live best o
+      (subst (λ (ss : List (List Layer)). ComesTo t text ss stacks before stuck live best h o) is (subst (λ (b : Option ℕ). ComesTo t text now stacks b stuck live best h o) same_stuck w))

@@ -13,4 +13,7 @@ pub mod SearchLemmas
 pub mod FollowLemmas
 pub mod RestLemmas
 pub mod ParseLemmas
+pub mod TurnLemmas
 pub mod ForkLemmas
+pub mod SpreadLemmas
+pub mod CrossLemmas

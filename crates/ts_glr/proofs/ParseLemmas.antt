@@ -11,6 +11,7 @@ use Rattle.spec_runs.specs.Runs.{Run}
 use Rattle.spec_runs.specs.Outcomes.{Fresh, deep_outcome, tree_outcome, stuck_outcome}
 use Rattle.spec_forced.specs.OnlyRuns.{OnlyRun}
 use Rattle.spec_forced.specs.Sound.{States, IsSound}
+use Rattle.spec_crossing.specs.Resting.{IsPastStuck, Rests}
 use Rattle.ts_table.specs.declared.view.ParseTable.{ParseTable}
 use Rattle.ts_gss.specs.declared.layer.Layer.{Layer}
 use Rattle.ts_steps.specs.declared.head.StackHead.{StackHead}
@@ -20,13 +21,13 @@ use Rattle.ts_steps.specs.declared.reparsed.Reparsed.{Reparsed}
 use Rattle.ts_steps.specs.declared.reparsed.Reparsed.TheVariants.{Accepted, Stuck, Deep, Forks}
 use Rattle.ts_steps.specs.Heads.{IsOwnWithin, IsOwnHead, StandOnHead}
 use Rattle.ts_steps.specs.Reparsing.{OnFork, IsForkFrom, IsOwnResult, IsResult}
-use Rattle.ts_steps.specs.Weights.{config_weight}
 use Rattle.ts_glr.specs.declared.outcome.Outcome.{Outcome}
 use Rattle.ts_glr.specs.declared.forking.Forked.{Forked}
 use Rattle.ts_glr.specs.declared.forking.Forked.TheVariants.{One, Over}
 use Rattle.ts_glr.specs.Laws.{PackingLaws}
-use Rattle.ts_glr.specs.Search.{IsPastStuck, Rests}
+use Rattle.ts_glr.specs.Turns.{turn_weight}
 use Rattle.ts_glr.specs.Forks.{LeavesOne, EndsAll, ComesTo}
+use Rattle.ts_glr.proofs.TurnLemmas.{turn_le}
 use Rattle.ts_glr.proofs.RestLemmas.{Through, rests_start, rests_on, rests_tree, rests_stuck, rests_deep}
 
 -- ---- the start
@@ -38,6 +39,7 @@ own_start t size stacks is = subst (λ (s : List (List Layer)). IsOwnHead t size
     stack = record { states = tt; good = tt; spans = refl; reach = tt; within = omega arith };
   };
   own = tt;
+  made = tt;
 })
 
 pub start_rests : (packing : PackingLaws) (t : ParseTable) → Fit t.grammar → (states : States) (text : Bytes) (stacks : List (List Layer)) (stuck : Option ℕ) → stacks ≡ [] ∷ [] → stuck ≡ None
@@ -84,6 +86,6 @@ module _ (t : ParseTable) (text : Bytes) (first stacks : List (List Layer)) (bef
 
 -- what is left weighs less than the stack from which the turn began
 pub turn_falls : (t : ParseTable) (text : Bytes) (old mid new : List (List Layer)) (h f k : StackHead) → IsForkFrom t text old mid h f
-    → config_weight t.grammar (length text) (config_of new k) < config_weight t.grammar (length text) (config_of mid f)
-    → config_weight t.grammar (length text) (config_of new k) < config_weight t.grammar (length text) (config_of old h)
-turn_falls t text old mid new h f k fork less = let le = fork.weight in omega (arith, le, less)
+    → turn_weight t.grammar (length text) (config_of new k) < turn_weight t.grammar (length text) (config_of mid f)
+    → turn_weight t.grammar (length text) (config_of new k) < turn_weight t.grammar (length text) (config_of old h)
+turn_falls t text old mid new h f k fork less = let le = turn_le t.grammar (length text) (config_of old h) (config_of mid f) fork.later fork.weight in omega (arith, le, less)

@@ -11,8 +11,8 @@ use Rattle.spec_runs.specs.Runs.{Run, run_here, run_on, IsReached, ComesTooDeep,
 use Rattle.spec_runs.specs.Outcomes.{Fresh, deep_outcome, tree_outcome, stuck_outcome}
 use Rattle.spec_forced.specs.OnlyRuns.{IsOnlyStep, OnlyRun, only_here, only_on, GoesTooDeep, GoesToTree, GoesToStop, FreshFrom}
 use Rattle.spec_packing.specs.Serving.{ServesConfiguration, ComesToServe}
+use Rattle.spec_crossing.specs.Resting.{IsPastStuck, AccountsFor, Rests}
 use Rattle.ts_glr.specs.Laws.{PackingLaws}
-use Rattle.ts_glr.specs.Search.{IsPastStuck, AccountsFor, Rests}
 
 run_chain : (g : FlatGrammar) (text : Bytes) (a b c : Configuration) → Run g text a b → Run g text b c → Run g text a c
 run_chain g text a _ c (run_here _) s = s

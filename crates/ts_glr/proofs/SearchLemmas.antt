@@ -10,6 +10,7 @@ use Rattle.spec_runs.specs.Configurations.{Configuration, starting}
 use Rattle.spec_runs.specs.Runs.{StepsOn, Run, run_here, run_on, IsReached, ComesTooDeep}
 use Rattle.spec_runs.specs.Outcomes.{SomeIsTooDeep, Fresh}
 use Rattle.spec_packing.specs.Serving.{ServesConfiguration, ComesToServe}
+use Rattle.spec_crossing.specs.Resting.{AccountsFor, Rests}
 use Rattle.ts_table.specs.declared.view.ParseTable.{ParseTable}
 use Rattle.ts_gss.specs.declared.layer.Layer.{Layer}
 use Rattle.ts_steps.specs.declared.head.StackHead.{StackHead}
@@ -20,7 +21,7 @@ use Rattle.ts_steps.specs.Heads.{IsOwnHead}
 use Rattle.ts_glr.specs.Steps.{HasForm, StandAfter}
 use Rattle.ts_glr.specs.Laws.{PackingLaws}
 use Rattle.ts_glr.specs.Joining.{IsTakenOut, HeadServes, JoinsOne}
-use Rattle.ts_glr.specs.Search.{StackStays, StacksStay, AccountsFor, Keeps, Spent, Searching, Rests}
+use Rattle.ts_glr.specs.Search.{StackStays, StacksStay, Keeps, Spent, Searching}
 use Rattle.ts_glr.specs.Outcomes.{value_of_outcome, EndsAs, IsTreeOf}
 use Rattle.ts_glr.proofs.ListLemmas.{each_append, each_map, each_both, each_left, each_right, any_left, any_right, any_cases, any_map, any_both, each_last, any_last}
 use Rattle.ts_glr.proofs.StackLemmas.{live_kept, config_kept}

@@ -16,6 +16,7 @@ use Rattle.spec_trees.specs.Trees.{bare}
 use Rattle.spec_trees.specs.Made.{as_extra}
 use Rattle.spec_runs.specs.Configurations.{Configuration, stack_symbols, pushed, token_tree, HasMove, NextIs}
 use Rattle.spec_runs.specs.Runs.{StepsOn, shift_token, pass_extra, reduce_trees, CanMove, ComesTooDeep, StopsAt}
+use Rattle.spec_crossing.specs.Resting.{Withstands, IsPastStuck}
 use Rattle.ts_table.specs.declared.view.ParseTable.{ParseTable}
 use Rattle.ts_table.specs.Tables.{IsTable, IsStateOf, ActsBy, reduces, accepts}
 use Rattle.ts_gss.specs.declared.layer.Layer.{Layer}
@@ -25,8 +26,8 @@ use Rattle.ts_steps.specs.MoveLaws.{Laws}
 use Rattle.ts_steps.specs.LiveHeads.{config_of, IsRootOf}
 use Rattle.ts_steps.specs.Heads.{IsOwnHead}
 use Rattle.ts_glr.specs.Lists.{Any}
-use Rattle.ts_glr.specs.Steps.{SeesToken, Withstands, ActionLeads, IsTooDeep, StandAfter}
-use Rattle.ts_glr.specs.Search.{Acting, IsPastStuck, Spent}
+use Rattle.ts_glr.specs.Steps.{SeesToken, ActionLeads, IsTooDeep, StandAfter}
+use Rattle.ts_glr.specs.Search.{Acting, Spent}
 use Rattle.ts_glr.proofs.ListLemmas.{each_map, each_at, any_to}
 use Rattle.ts_glr.proofs.LexLemmas.{next_valid}
 use Rattle.ts_glr.proofs.RootLemmas.{root_accepted, accepts_root}

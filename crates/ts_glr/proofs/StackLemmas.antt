@@ -19,7 +19,7 @@ use Rattle.ts_steps.specs.declared.found.FoundToken.{FoundToken}
 use Rattle.ts_steps.specs.Good.{EachTree}
 use Rattle.ts_steps.specs.MoveLaws.{Laws}
 use Rattle.ts_steps.specs.LiveHeads.{config_of, HaveStates, IsGoodStack, IsLiveHead, read_on, GainsStacks}
-use Rattle.ts_steps.specs.Heads.{IsOwnWithin, IsOwnHead, StandOnHead}
+use Rattle.ts_steps.specs.Heads.{IsOwnWithin, IsMadeNode, IsOwnHead, StandOnHead}
 use Rattle.ts_steps.specs.Looking.{IsTokenAhead}
 use Rattle.ts_glr.specs.Search.{StackStays, StacksStay}
 
@@ -58,6 +58,7 @@ pub own_stays : (t : ParseTable) (size : ℕ) (old new : List (List Layer)) (h :
 own_stays t size old new h g o = record {
   live = live_stays t size old new h g o.live;
   own = subst (λ (ts : List Tree). EachTree (IsOwnWithin t.grammar) ts) (sym (trees_stay old new h g o.live.there)) o.own;
+  made = subst (λ (ts : List Tree). EachTree (IsMadeNode t.grammar) ts) (sym (trees_stay old new h g o.live.there)) o.made;
 }
 
 pub stand_stays : (t : ParseTable) (states : States) (text : Bytes) (old new : List (List Layer)) (h : StackHead) → GainsStacks old new → h.top < length old → StandOnHead t states text old h → StandOnHead t states text new h

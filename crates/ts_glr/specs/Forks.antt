@@ -5,20 +5,21 @@ use Rattle.ts_base.specs.Bytes.{Bytes}
 use Rattle.spec_trees.specs.declared.tree.Tree.{Tree}
 use Rattle.spec_runs.specs.Outcomes.{Fresh}
 use Rattle.spec_forced.specs.Sound.{States}
+use Rattle.spec_crossing.specs.Resting.{Rests}
 use Rattle.ts_table.specs.declared.view.ParseTable.{ParseTable}
 use Rattle.ts_table.specs.Tables.{most_actions}
 use Rattle.ts_gss.specs.declared.layer.Layer.{Layer}
 use Rattle.ts_steps.specs.declared.head.StackHead.{StackHead}
 use Rattle.ts_steps.specs.LiveHeads.{config_of}
 use Rattle.ts_steps.specs.Heads.{AreStatesOf, IsOwnHead, StandOnHead}
-use Rattle.ts_steps.specs.Weights.{config_weight}
 use Rattle.ts_glr.specs.declared.outcome.Outcome.{Outcome}
 use Rattle.ts_glr.specs.declared.forking.Forked.{Forked}
 use Rattle.ts_glr.specs.declared.forking.Forked.TheVariants.{One, Over}
 use Rattle.ts_glr.specs.Outcomes.{value_of_outcome, IsTreeOf, IsOwnOutcome, IsSoundOutcome}
 use Rattle.ts_glr.specs.Steps.{HasForm}
-use Rattle.ts_glr.specs.Search.{Searching, Rests, Owns, AllStand}
+use Rattle.ts_glr.specs.Search.{Searching, Owns, AllStand}
 use Rattle.ts_glr.specs.Weights.{head_weight, live_weight}
+use Rattle.ts_glr.specs.Turns.{turn_weight}
 
 -- What is known under way, from the first head on. All that is known of runs and of nodes that
 -- stand goes back to what is so of that head.
@@ -40,8 +41,8 @@ pub record LeavesOne (t : ParseTable) (text : Bytes) (first stacks : List (List 
     : Type 0 where
   pub own : IsOwnHead t (length text) stacks k
   pub far : h.place ≤ k.place
-  pub lighter : config_weight t.grammar (length text) (config_of stacks k)
-      < config_weight t.grammar (length text) (config_of first h)
+  pub lighter : turn_weight t.grammar (length text) (config_of stacks k)
+      < turn_weight t.grammar (length text) (config_of first h)
   pub empty : live ≡ []
   pub none : best ≡ None
   pub rests : Rests t.grammar text before (config_of first h)

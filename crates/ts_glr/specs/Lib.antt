@@ -5,4 +5,7 @@ pub mod Laws
 pub mod Joining
 pub mod Search
 pub mod Outcomes
+pub mod Turns
 pub mod Forks
+pub mod CrossLaws
+pub mod Spreading

@@ -7,10 +7,11 @@ use Rattle.ts_core.specs.declared.flat.FlatGrammar.{FlatGrammar}
 use Rattle.spec_trees.specs.declared.tree.Tree.{Tree}
 use Rattle.spec_trees.specs.Trees.{children_of, state_of, bare}
 use Rattle.spec_runs.specs.Configurations.{Configuration}
-use Rattle.spec_runs.specs.Runs.{StepsOn, IsReached, ComesTooDeep, AcceptsTree, StopsAt}
+use Rattle.spec_runs.specs.Runs.{StepsOn, IsReached, AcceptsTree, StopsAt}
 use Rattle.spec_runs.specs.Outcomes.{SomeAccepts, SomeStopsAt}
 use Rattle.spec_forced.specs.Sound.{States, IsSound}
 use Rattle.spec_packing.specs.Serving.{ComesToServe}
+use Rattle.spec_crossing.specs.Resting.{Withstands, IsPastStuck, AccountsFor}
 use Rattle.ts_table.specs.declared.view.ParseTable.{ParseTable}
 use Rattle.ts_gss.specs.declared.layer.Layer.{Layer}
 use Rattle.ts_gss.specs.Stacks.{stack_at}
@@ -22,7 +23,7 @@ use Rattle.ts_steps.specs.Heads.{IsOwnWithin, IsOwnHead, StandOnHead}
 use Rattle.ts_glr.specs.declared.acting.Moved.{Moved}
 use Rattle.ts_glr.specs.declared.acting.Moved.TheVariants.{To, Ended, TooDeep}
 use Rattle.ts_glr.specs.Lists.{OfEach, Any}
-use Rattle.ts_glr.specs.Steps.{Withstands, ActionLeads, IsTooDeep, StandAfter, IsSoundRoot}
+use Rattle.ts_glr.specs.Steps.{ActionLeads, IsTooDeep, StandAfter, IsSoundRoot}
 
 -- the heads that an action came to
 abbrev pub heads_of : Moved → List StackHead
@@ -64,17 +65,6 @@ pub record Acting (t : ParseTable) (text : Bytes) (trees : List Tree) (stacks : 
   pub from : (b : Tree) → best ≡ Some b
       → (first ≡ Some b) ⊎ (Any (λ a. a ≡ Accept) done × IsRootOf c.stack (bare b))
   pub root : (b : Tree) → best ≡ Some b → (first ≡ Some b) ⊎ IsSoundRoot t text trees b
-
--- there is a greatest stuck place so far, which is no less
-abbrev pub IsPastStuck : Option ℕ → ℕ → Type 0
-IsPastStuck stuck q = (r : ℕ) × (stuck ≡ Some r) × (q ≤ r)
-
--- all ends of runs at the configuration are accounted for
-pub record AccountsFor (g : FlatGrammar) (text : Bytes) (best : Option Tree) (stuck : Option ℕ)
-    (c : Configuration) : Type 0 where
-  pub accepted : (u : Tree) → AcceptsTree g text c u → Withstands best u
-  pub places : (q : ℕ) → StopsAt g text c q → IsPastStuck stuck q
-  pub shallow : ComesTooDeep g text c → ⊥
 
 -- what is known of trees and places is kept, and what is new is an end of a run at the
 -- configuration
@@ -119,15 +109,6 @@ pub record Searching (t : ParseTable) (text : Bytes) (stacks : List (List Layer)
   pub tree_from : (b : Tree) → best ≡ Some b → SomeAccepts t.grammar text (bare b)
   pub stuck_from : (q : ℕ) → stuck ≡ Some q → SomeStopsAt t.grammar text q
   pub some : HasSome live best stuck
-
--- Where one live head is left, and no tree is accepted: the configuration is reached, and the ends
--- at each other one that is reached are known, or it leads to one that may stand for that.
-pub record Rests (g : FlatGrammar) (text : Bytes) (stuck : Option ℕ) (c : Configuration)
-    : Type 0 where
-  pub reached : IsReached g text c
-  pub done : (d : Configuration) → IsReached g text d
-      → AccountsFor g text None stuck d ⊎ ComesToServe g text c d
-  pub stuck_from : (q : ℕ) → stuck ≡ Some q → SomeStopsAt g text q
 
 -- ---- what is kept of the stacks
 

@@ -9,9 +9,10 @@ use Rattle.spec_lexing.specs.Lexing.{token}
 use Rattle.spec_trees.specs.declared.tree.Tree.{Tree}
 use Rattle.spec_trees.specs.Trees.{children_of, state_of, tree_depth, bare}
 use Rattle.spec_trees.specs.Made.{most_depth}
-use Rattle.spec_trees.specs.Choice.{Better, IsInForm}
+use Rattle.spec_trees.specs.Choice.{IsInForm}
 use Rattle.spec_runs.specs.Configurations.{Configuration, NextIs, IsReduction, token_tree, pushed}
 use Rattle.spec_forced.specs.Sound.{States, StandOnStack, IsSound}
+use Rattle.spec_crossing.specs.Resting.{Withstands}
 use Rattle.ts_table.specs.declared.view.ParseTable.{ParseTable}
 use Rattle.ts_gss.specs.declared.layer.Layer.{Layer}
 use Rattle.ts_gss.specs.Stacks.{stack_at, trees_on}
@@ -31,10 +32,6 @@ pub record SeesToken (g : FlatGrammar) (text : Bytes) (c : Configuration) (f : F
   pub next : NextIs g text c (token f.token f.pad f.size)
 
 -- ---- the best tree so far
-
--- there is a best tree so far, and this one is not better
-abbrev pub Withstands : Option Tree → Tree → Type 0
-Withstands best u = (b : Tree) × (best ≡ Some b) × (Better u (bare b) → ⊥)
 
 -- of the best tree so far and a new one, one was kept than which neither is better
 pub record KeepsBest (old new : Option Tree) (t : Tree) : Type 0 where

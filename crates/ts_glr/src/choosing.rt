@@ -4,8 +4,8 @@ ghost use Rattle.std.specs.Prelude.{◌≡◌, ℕ, ◌≤◌, ◌⊎◌, Some, 
 ghost use Rattle.ts_core.specs.declared.flat.FlatGrammar.{FlatGrammar};
 ghost use Rattle.spec_trees.specs.Trees.{bare};
 ghost use Rattle.spec_trees.specs.Choice.{IsInForm};
-ghost use Rattle.ts_glr.specs.Steps.{Withstands, KeepsBest, HasForm};
-ghost use Rattle.ts_glr.specs.Search.{IsPastStuck};
+ghost use Rattle.spec_crossing.specs.Resting.{Withstands, IsPastStuck};
+ghost use Rattle.ts_glr.specs.Steps.{KeepsBest, HasForm};
 
 use crate::laws::laws_hold;
 use ts_node::Node;

@@ -1,8 +1,10 @@
-//! Following all ways to read a text from a stack on at which several moves stay: the stack goes
-//! in; the one that is left comes out, or what the text comes to.
-ghost use Rattle.std.specs.Prelude.{◌≡◌, [], true, length, None, IfOk};
+//! Following all ways to read a text on plain stacks, from one on at which several moves stay: the
+//! stack goes in; the one that is left comes out, or what the text comes to, or that it took many
+//! steps.
+ghost use Rattle.std.specs.Prelude.{◌≡◌, [], true, length, None, IfOk, IfSome};
 ghost use Rattle.ts_glr.specs.Forks.{ComesTo};
 ghost use Rattle.ts_glr.specs.Outcomes.{EndsAs};
+ghost use Rattle.ts_steps.specs.LiveHeads.{GainsStacks};
 ghost use Rattle.ts_steps.specs.Settings.{IsParseSetting};
 ghost use Rattle.ts_steps.specs.Heads.{IsOwnHead};
 
@@ -46,8 +48,25 @@ fn is_left_alone(readings: &Readings) -> bool
     readings.live.is_empty() && readings.best.is_none()
 }
 
+/// Takes one off the steps that are left, where there is a limit, and tells whether one was left.
+fn spend(left: &mut Option<u32>) -> bool
+    ensures { left.old ≡ None → (result ≡ true) × (left.new ≡ None) }
+{
+    match *left {
+        None => true,
+        Some(count) => {
+            if count == 0 {
+                return false;
+            }
+            *left = Some(count - 1);
+            true
+        }
+    }
+}
+
 /// Follows all ways to read a text from a stack on, until one stack is left, before any tree is
-/// accepted, or there is none.
+/// accepted, or there is none. None where there is a limit, and no more steps were left; all stacks
+/// stay then.
 pub(crate) fn follow_all<L: Tokens>(
     alloc: Global,
     table: &Table,
@@ -56,16 +75,20 @@ pub(crate) fn follow_all<L: Tokens>(
     text: &L::Text,
     readings: &mut Readings,
     start: StackHead,
-) -> Result<Forked, AllocError>
+    limit: Option<u32>,
+) -> Result<Option<Forked>, AllocError>
     requires made { L.made_for lexer.old table.now }
     requires setting { IsParseSetting table.now (length (L.Text.bytes text.now)) setting.now }
     requires own { IsOwnHead table.now (length (L.Text.bytes text.now)) readings.old.graph start }
     requires alone { readings.old.live.items ≡ [] }
     requires best { readings.old.best ≡ None }
     ensures made { L.made_for lexer.new table.now }
-    ensures follows { IfOk result (ComesTo table.now (L.Text.bytes text.now) readings.old.graph
-        readings.new.graph readings.old.stuck readings.new.stuck readings.new.live.items
-        readings.new.best start) }
+    ensures follows { IfOk result (λ o. IfSome o (ComesTo table.now (L.Text.bytes text.now)
+        readings.old.graph readings.new.graph readings.old.stuck readings.new.stuck
+        readings.new.live.items readings.new.best start)) }
+    ensures grows { IfOk result (λ o. o ≡ None
+        → GainsStacks readings.old.graph readings.new.graph) }
+    ensures whole { limit ≡ None → IfOk result (λ o. o ≡ None → ⊥) }
 {
     laws_hold();
     packing_laws_hold();
@@ -73,19 +96,23 @@ pub(crate) fn follow_all<L: Tokens>(
     steps_fall();
     let ends_deep = advance(alloc, table, setting, lexer, text, readings, start)?;
     if ends_deep {
-        return Ok(Forked::Over(Outcome::Deep));
+        return Ok(Some(Forked::Over(Outcome::Deep)));
     }
+    let mut left = limit;
     while let Some(head) = next_head(&readings.graph, &mut readings.live) {
         if is_left_alone(readings) {
-            return Ok(Forked::One(head));
+            return Ok(Some(Forked::One(head)));
+        }
+        if !spend(&mut left) {
+            return Ok(None);
         }
         if join(&readings.graph, &mut readings.live, head) {
             continue;
         }
         let deep = advance(alloc, table, setting, lexer, text, readings, head)?;
         if deep {
-            return Ok(Forked::Over(Outcome::Deep));
+            return Ok(Some(Forked::Over(Outcome::Deep)));
         }
     }
-    Ok(Forked::Over(outcome(readings)))
+    Ok(Some(Forked::Over(outcome(readings))))
 }

@@ -1,7 +1,10 @@
 //! The laws of other crates that the proofs here rest on. No value goes in or out.
 ghost use Rattle.ts_steps.specs.MoveLaws.{Laws};
 ghost use Rattle.ts_glr.specs.Laws.{PackingLaws};
+ghost use Rattle.ts_glr.specs.CrossLaws.{LeftLaws, OverLaws};
 
+use spec_crossing::followed_graphs_rest;
+use spec_graph::graphs_are_sound;
 use spec_lexing::{beginnings, token_within};
 use spec_packing::{
     configurations_serve, ends_are_served, no_better_through, runs_are_served, trees_serve,
@@ -10,6 +13,8 @@ use spec_runs::{
     bare_trees, empty_rules_are_unused, moves_have_their_place, one_reduction, one_sight,
     repetitions_repeat, start_is_no_repetition,
 };
+use ts_crossing::left_stacks_go_on;
+use ts_ends::{ends_account, roots_are_own};
 
 /// All laws hold.
 pub(crate) fn laws_hold()
@@ -35,4 +40,22 @@ pub(crate) fn packing_laws_hold()
     configurations_serve();
     ends_are_served();
     runs_are_served();
+}
+
+/// The laws of a stack that is left in a graph hold.
+pub(crate) fn left_laws_hold()
+    ensures { LeftLaws }
+{
+    bare_trees();
+    left_stacks_go_on();
+}
+
+/// The laws of what ended in a graph hold.
+pub(crate) fn over_laws_hold()
+    ensures { OverLaws }
+{
+    graphs_are_sound();
+    followed_graphs_rest();
+    ends_account();
+    roots_are_own();
 }

@@ -4,6 +4,7 @@
 
 mod acting;
 mod choosing;
+mod crossing;
 mod following;
 mod forking;
 mod joining;
@@ -11,6 +12,8 @@ mod laws;
 mod outcome;
 mod parsing;
 mod readings;
+mod spread;
+mod turning;
 
 pub use outcome::Outcome;
 pub use parsing::{parse, parse_with};

@@ -7,15 +7,16 @@ ghost use Rattle.spec_trees.specs.declared.tree.Stretch.{Stretch};
 ghost use Rattle.spec_trees.specs.Made.{most_span};
 ghost use Rattle.spec_runs.specs.Outcomes.{Fresh};
 ghost use Rattle.spec_forced.specs.Sound.{States};
+ghost use Rattle.spec_crossing.specs.Resting.{IsPastStuck};
 ghost use Rattle.ts_steps.specs.Heads.{AreStatesOf};
 ghost use Rattle.ts_steps.specs.Reparsing.{AreHonest, AreHonestlyLent, IsLent, IsOffered};
 ghost use Rattle.ts_glr.specs.Outcomes.{value_of_outcome, IsTreeOf, IsOwnOutcome, IsSoundOutcome};
-ghost use Rattle.ts_glr.specs.Search.{IsPastStuck};
 
-use crate::forking::{Forked, follow_all};
+use crate::forking::Forked;
 use crate::laws::{laws_hold, packing_laws_hold};
 use crate::outcome::Outcome;
 use crate::readings::readings_of;
+use crate::turning::follow_fork;
 use spec_forced::only_runs_are_one_way;
 use std::alloc::{AllocError, Global};
 use ts_lexer::{Content, Tokens};
@@ -72,6 +73,7 @@ pub fn parse_with<'t, L: Tokens, O: Offers<'t>>(
     table.stands();
     let setting = parse_setting(alloc, table, text.len())?;
     let mut readings = readings_of(alloc);
+    let mut kept = None;
     let mut head = StackHead { top: 0, place: 0 };
     loop {
         let graph = &mut readings.graph;
@@ -82,7 +84,16 @@ pub fn parse_with<'t, L: Tokens, O: Offers<'t>>(
             }
             Reparsed::Deep => return Ok(Outcome::Deep),
             Reparsed::Forks(fork) => {
-                match follow_all(alloc, table, &setting, lexer, text, &mut readings, fork)? {
+                match follow_fork(
+                    alloc,
+                    table,
+                    &setting,
+                    lexer,
+                    text,
+                    &mut readings,
+                    &mut kept,
+                    fork,
+                )? {
                     Forked::One(next) => head = next,
                     Forked::Over(outcome) => return Ok(outcome),
                 }

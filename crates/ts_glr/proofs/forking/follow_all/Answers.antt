@@ -1,5 +1,6 @@
-use Rattle.std.proofs.Common.{sym, subst, List, length}
+use Rattle.std.proofs.Common.{◌∙◌, sym, subst, true≢false, List, length}
 use Rattle.ts_steps.specs.declared.head.StackHead.{StackHead}
+use Rattle.ts_steps.proofs.StackLemmas.{grows_more}
 use Rattle.ts_glr.specs.Joining.{IsTakenOut}
 use Rattle.ts_glr.proofs.ForkLemmas.{no_form, begins, first_deep, all_own, some_end, all_over, head_own, rest_live, one_left, taken_deep, joins, follows_falls, follows}
 use Rattle.ts_glr.proofs.LightLemmas.{joined_falls}
@@ -18,6 +19,8 @@ loop-head-init g c =
     let text = g.L.Text.Content.bytes c.args.text.now in
     record {
       made = c.in_ok-ends_deep.ensures.made;
+      grows = c.in_ok-ends_deep.ensures.grows;
+      whole = λ none. none;
       follows = begins c.packing_laws_hold.ensures c.steps_fall.ensures c.args.table.now c.stands.ensures.fit text c.args.readings.now.graph c.args.readings.now.stuck c.args.start c.requires.own c.advance.new.readings.graph c.args.readings.now.live.items c.advance.new.readings.live.items c.args.readings.now.best c.advance.new.readings.best c.advance.new.readings.stuck c.requires.alone c.requires.best c.in_ok-ends_deep.ensures.grows c.in_ok-ends_deep.ensures.form
           (c.in_ok-ends_deep.ensures.done c.if-ends_deep.false);
     }
@@ -31,6 +34,12 @@ pub returns-then-is_left_alone-clause-follows : goal.returns-then-is_left_alone-
 returns-then-is_left_alone-clause-follows g c =
     let text = g.L.Text.Content.bytes c.args.text.now in
     one_left c.packing_laws_hold.ensures c.steps_fall.ensures c.args.table.now c.stands.ensures.fit text c.args.readings.now.graph c.args.readings.now.stuck c.args.start c.requires.own c.loop-head.readings.graph c.loop-head.readings.stuck c.loop-head.readings.live.items c.loop-head.readings.best c.loop-head.invariant.follows c.next_head.new.live.items c.in-Some.head c.in-Some.ensures (c.is_left_alone.ensures.live c.if-is_left_alone.true) (c.is_left_alone.ensures.best c.if-is_left_alone.true)
+
+pub returns-then-not-spend-clause-grows : goal.returns-then-not-spend-clause-grows
+returns-then-not-spend-clause-grows g c = λ none. c.loop-head.invariant.grows
+
+pub returns-then-not-spend-clause-whole : goal.returns-then-not-spend-clause-whole
+returns-then-not-spend-clause-whole g c = λ endless none. true≢false (sym (c.spend.ensures (c.loop-head.invariant.whole endless)).0 ∙ c.if-not-spend.true)
 
 pub join-requires : goal.join-requires
 join-requires g c =
@@ -47,6 +56,8 @@ loop-head-preserved-then-join g c =
     let text = g.L.Text.Content.bytes c.args.text.now in
     record {
       made = c.loop-head.invariant.made;
+      grows = c.loop-head.invariant.grows;
+      whole = λ none. (c.spend.ensures (c.loop-head.invariant.whole none)).1;
       follows = joins c.packing_laws_hold.ensures c.steps_fall.ensures c.args.table.now c.stands.ensures.fit text c.args.readings.now.graph c.args.readings.now.stuck c.args.start c.requires.own c.loop-head.readings.graph c.loop-head.readings.stuck c.loop-head.readings.live.items c.loop-head.readings.best c.loop-head.invariant.follows c.next_head.new.live.items c.in-Some.head c.in-Some.ensures c.join.new.live.items (c.join.ensures.joined c.if-join.true);
     }
 
@@ -78,6 +89,8 @@ loop-head-preserved g c =
     let k : IsTakenOut c.loop-head.readings.graph c.loop-head.readings.live.items c.join.new.live.items c.in-Some.head = subst (λ (l : List StackHead). IsTakenOut c.loop-head.readings.graph c.loop-head.readings.live.items l c.in-Some.head) (sym (c.join.ensures.alone c.if-join.false)) c.in-Some.ensures in
     record {
       made = c.in_ok-deep.ensures.made;
+      grows = grows_more c.args.readings.now.graph c.loop-head.readings.graph c.advance-in-Some.new.readings.graph c.loop-head.invariant.grows c.in_ok-deep.ensures.grows;
+      whole = λ none. (c.spend.ensures (c.loop-head.invariant.whole none)).1;
       follows = follows c.packing_laws_hold.ensures c.steps_fall.ensures c.args.table.now c.stands.ensures.fit text c.args.readings.now.graph c.args.readings.now.stuck c.args.start c.requires.own c.loop-head.readings.graph c.loop-head.readings.stuck c.loop-head.readings.live.items c.loop-head.readings.best c.loop-head.invariant.follows c.join.new.live.items c.in-Some.head k c.advance-in-Some.new.readings.graph c.advance-in-Some.new.readings.live.items c.advance-in-Some.new.readings.best c.advance-in-Some.new.readings.stuck c.in_ok-deep.ensures.grows (c.in_ok-deep.ensures.done c.if-deep.false) c.in_ok-deep.ensures.form;
     }
 

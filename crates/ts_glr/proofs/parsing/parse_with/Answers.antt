@@ -4,8 +4,8 @@ use Rattle.ts_steps.specs.Reparsing.{IsForkFrom}
 use Rattle.ts_glr.proofs.ParseLemmas.{own_start, start_rests, accepts_sound, stuck_at, too_deep, fork_rests, own_root, at_fork, leaves_one, ends_all, turn_falls}
 use Rattle.ts_glr.proofs.parsing.parse_with.Goals as goal
 
-pub loop-readings-init : goal.loop-readings-init
-loop-readings-init g c =
+pub loop-kept-init : goal.loop-kept-init
+loop-kept-init g c =
     let text = g.L.Text.Content.bytes c.args.text.now in
     record {
       made = c.requires.made;
@@ -15,6 +15,7 @@ loop-readings-init g c =
       own = own_start c.args.table.now (length text) c.readings_of-readings.result.graph c.readings_of-readings.ensures.graph;
       empty = c.readings_of-readings.ensures.live;
       best = c.readings_of-readings.ensures.best;
+      kept = tt;
       rests = λ states are honest lent. start_rests c.packing_laws_hold.ensures c.args.table.now c.stands.ensures.fit states text c.readings_of-readings.result.graph c.readings_of-readings.result.stuck c.readings_of-readings.ensures.graph c.readings_of-readings.ensures.stuck;
     }
 
@@ -22,16 +23,16 @@ pub reparse-requires : goal.reparse-requires
 reparse-requires g c κs = (
   (refl, tt),
   (
-    c.loop-readings.invariant.made,
+    c.loop-kept.invariant.made,
     (
       subst (λ (n : ℕ). IsParseSetting c.args.table.now n c.in_ok-setting.setting) c.len.ensures c.in_ok-setting.ensures,
       (
-        c.loop-readings.invariant.own,
+        c.loop-kept.invariant.own,
         (
-          c.loop-readings.invariant.least,
+          c.loop-kept.invariant.least,
           (
-            (λ place state t given. c.requires.own place state t (c.loop-readings.invariant.gives place state t given)),
-            λ place state symbol s given. c.requires.lent place state symbol s (c.loop-readings.invariant.lends place state symbol s given),
+            (λ place state t given. c.requires.own place state t (c.loop-kept.invariant.gives place state t given)),
+            λ place state symbol s given. c.requires.lent place state symbol s (c.loop-kept.invariant.lends place state symbol s given),
           ),
         ),
       ),
@@ -39,45 +40,54 @@ reparse-requires g c κs = (
   ),
 )
 
-pub follow_all-requires-clause-setting : goal.follow_all-requires-clause-setting
-follow_all-requires-clause-setting g c = subst (λ (n : ℕ). IsParseSetting c.args.table.now n c.in_ok-setting.setting) c.len.ensures c.in_ok-setting.ensures
+pub follow_fork-requires-clause-setting : goal.follow_fork-requires-clause-setting
+follow_fork-requires-clause-setting g c = subst (λ (n : ℕ). IsParseSetting c.args.table.now n c.in_ok-setting.setting) c.len.ensures c.in_ok-setting.ensures
 
-pub follow_all-requires-clause-own : goal.follow_all-requires-clause-own
-follow_all-requires-clause-own g c =
+pub follow_fork-requires-clause-own : goal.follow_fork-requires-clause-own
+follow_fork-requires-clause-own g c =
     let text = g.L.Text.Content.bytes c.args.text.now in
-    (at_fork (λ k. IsForkFrom c.args.table.now text c.loop-readings.readings.graph c.reparse.new.graph c.loop-readings.head k) c.in_ok-root.field-0 c.in-Forks.fork c.in-Forks.is c.in_ok-root.ensures.forks).own
+    (at_fork (λ k. IsForkFrom c.args.table.now text c.loop-kept.readings.graph c.reparse.new.graph c.loop-kept.head k) c.in_ok-root.field-0 c.in-Forks.fork c.in-Forks.is c.in_ok-root.ensures.forks).own
 
-pub follow_all-requires-clause-alone : goal.follow_all-requires-clause-alone
-follow_all-requires-clause-alone g c = c.loop-readings.invariant.empty
-
-pub follow_all-requires-clause-best : goal.follow_all-requires-clause-best
-follow_all-requires-clause-best g c = c.loop-readings.invariant.best
-
-pub loop-readings-smaller : goal.loop-readings-smaller
-loop-readings-smaller g c =
+pub follow_fork-requires-clause-fork : goal.follow_fork-requires-clause-fork
+follow_fork-requires-clause-fork g c =
     let text = g.L.Text.Content.bytes c.args.text.now in
-    let fork = at_fork (λ k. IsForkFrom c.args.table.now text c.loop-readings.readings.graph c.reparse.new.graph c.loop-readings.head k) c.in_ok-root.field-0 c.in-Forks.fork c.in-Forks.is c.in_ok-root.ensures.forks in
-    let left = leaves_one c.args.table.now text c.reparse.new.graph c.follow_all.new.readings.graph c.loop-readings.readings.stuck c.follow_all.new.readings.stuck c.follow_all.new.readings.live.items c.follow_all.new.readings.best c.in-Forks.fork c.in_ok-next-in-Forks.field-0 c.in_ok-next-in-Forks.ensures.follows c.in-One.next c.in-One.is in
-    turn_falls c.args.table.now text c.loop-readings.readings.graph c.reparse.new.graph c.follow_all.new.readings.graph c.loop-readings.head c.in-Forks.fork c.in-One.next fork left.lighter
+    (at_fork (λ k. IsForkFrom c.args.table.now text c.loop-kept.readings.graph c.reparse.new.graph c.loop-kept.head k) c.in_ok-root.field-0 c.in-Forks.fork c.in-Forks.is c.in_ok-root.ensures.forks).fork
 
-pub loop-readings-preserved : goal.loop-readings-preserved
-loop-readings-preserved g c =
+pub follow_fork-requires-clause-kept : goal.follow_fork-requires-clause-kept
+follow_fork-requires-clause-kept g c = c.loop-kept.invariant.kept
+
+pub follow_fork-requires-clause-alone : goal.follow_fork-requires-clause-alone
+follow_fork-requires-clause-alone g c = c.loop-kept.invariant.empty
+
+pub follow_fork-requires-clause-best : goal.follow_fork-requires-clause-best
+follow_fork-requires-clause-best g c = c.loop-kept.invariant.best
+
+pub loop-kept-smaller : goal.loop-kept-smaller
+loop-kept-smaller g c =
     let text = g.L.Text.Content.bytes c.args.text.now in
-    let left = leaves_one c.args.table.now text c.reparse.new.graph c.follow_all.new.readings.graph c.loop-readings.readings.stuck c.follow_all.new.readings.stuck c.follow_all.new.readings.live.items c.follow_all.new.readings.best c.in-Forks.fork c.in_ok-next-in-Forks.field-0 c.in_ok-next-in-Forks.ensures.follows c.in-One.next c.in-One.is in
+    let fork = at_fork (λ k. IsForkFrom c.args.table.now text c.loop-kept.readings.graph c.reparse.new.graph c.loop-kept.head k) c.in_ok-root.field-0 c.in-Forks.fork c.in-Forks.is c.in_ok-root.ensures.forks in
+    let left = leaves_one c.args.table.now text c.reparse.new.graph c.follow_fork.new.readings.graph c.loop-kept.readings.stuck c.follow_fork.new.readings.stuck c.follow_fork.new.readings.live.items c.follow_fork.new.readings.best c.in-Forks.fork c.in_ok-next-in-Forks.field-0 c.in_ok-next-in-Forks.ensures.follows c.in-One.next c.in-One.is in
+    turn_falls c.args.table.now text c.loop-kept.readings.graph c.reparse.new.graph c.follow_fork.new.readings.graph c.loop-kept.head c.in-Forks.fork c.in-One.next fork left.lighter
+
+pub loop-kept-preserved : goal.loop-kept-preserved
+loop-kept-preserved g c =
+    let text = g.L.Text.Content.bytes c.args.text.now in
+    let left = leaves_one c.args.table.now text c.reparse.new.graph c.follow_fork.new.readings.graph c.loop-kept.readings.stuck c.follow_fork.new.readings.stuck c.follow_fork.new.readings.live.items c.follow_fork.new.readings.best c.in-Forks.fork c.in_ok-next-in-Forks.field-0 c.in_ok-next-in-Forks.ensures.follows c.in-One.next c.in-One.is in
     let near : g.O.Offers.least c.reparse.new.offers ≤ c.in-Forks.fork.place = at_fork (λ k. g.O.Offers.least c.reparse.new.offers ≤ k.place) c.in_ok-root.field-0 c.in-Forks.fork c.in-Forks.is c.in_ok-root.ensures.least in
     let far = left.far in
     record {
       made = c.in_ok-next-in-Forks.ensures.made;
       least = omega (arith, near, far);
-      gives = λ place state t given. c.loop-readings.invariant.gives place state t (c.in_ok-root.ensures.gives place state t given);
-      lends = λ place state symbol s given. c.loop-readings.invariant.lends place state symbol s (c.in_ok-root.ensures.lends place state symbol s given);
+      gives = λ place state t given. c.loop-kept.invariant.gives place state t (c.in_ok-root.ensures.gives place state t given);
+      lends = λ place state symbol s given. c.loop-kept.invariant.lends place state symbol s (c.in_ok-root.ensures.lends place state symbol s given);
       own = left.own;
       empty = left.empty;
       best = left.none;
+      kept = c.in_ok-next-in-Forks.ensures.kept;
       rests = λ states are honest lent.
-          let before = c.loop-readings.invariant.rests states are honest lent in
-          let result = c.in_ok-root.ensures.fresh states are (λ place state t given. honest place state t (c.loop-readings.invariant.gives place state t given)) (λ place state symbol s given. lent place state symbol s (c.loop-readings.invariant.lends place state symbol s given)) before.1 in
-          let fork = fork_rests c.packing_laws_hold.ensures c.args.table.now c.stands.ensures.fit states text c.loop-readings.readings.graph c.reparse.new.graph c.loop-readings.head c.loop-readings.readings.stuck c.in_ok-root.field-0 result before.0 c.only_runs_are_one_way.ensures.through c.only_runs_are_one_way.ensures.run c.in-Forks.fork c.in-Forks.is in
+          let before = c.loop-kept.invariant.rests states are honest lent in
+          let result = c.in_ok-root.ensures.fresh states are (λ place state t given. honest place state t (c.loop-kept.invariant.gives place state t given)) (λ place state symbol s given. lent place state symbol s (c.loop-kept.invariant.lends place state symbol s given)) before.1 in
+          let fork = fork_rests c.packing_laws_hold.ensures c.args.table.now c.stands.ensures.fit states text c.loop-kept.readings.graph c.reparse.new.graph c.loop-kept.head c.loop-kept.readings.stuck c.in_ok-root.field-0 result before.0 c.only_runs_are_one_way.ensures.through c.only_runs_are_one_way.ensures.run c.in-Forks.fork c.in-Forks.is in
           (left.rests fork.0, left.stand states are fork.1);
     }
 
@@ -90,37 +100,37 @@ returns-in-Accepted-clause-own g c = let own = own_root c.args.table.now c.in_ok
 pub returns-in-Accepted-clause-fresh : goal.returns-in-Accepted-clause-fresh
 returns-in-Accepted-clause-fresh g c states are honest lent =
     let text = g.L.Text.Content.bytes c.args.text.now in
-    let before = c.loop-readings.invariant.rests states are honest lent in
-    let result = c.in_ok-root.ensures.fresh states are (λ place state t given. honest place state t (c.loop-readings.invariant.gives place state t given)) (λ place state symbol s given. lent place state symbol s (c.loop-readings.invariant.lends place state symbol s given)) before.1 in
-    accepts_sound c.packing_laws_hold.ensures c.args.table.now c.stands.ensures.fit states text c.loop-readings.readings.graph c.reparse.new.graph c.loop-readings.head c.loop-readings.readings.stuck c.in_ok-root.field-0 result before.0 c.in-Accepted.root c.in-Accepted.is
+    let before = c.loop-kept.invariant.rests states are honest lent in
+    let result = c.in_ok-root.ensures.fresh states are (λ place state t given. honest place state t (c.loop-kept.invariant.gives place state t given)) (λ place state symbol s given. lent place state symbol s (c.loop-kept.invariant.lends place state symbol s given)) before.1 in
+    accepts_sound c.packing_laws_hold.ensures c.args.table.now c.stands.ensures.fit states text c.loop-kept.readings.graph c.reparse.new.graph c.loop-kept.head c.loop-kept.readings.stuck c.in_ok-root.field-0 result before.0 c.in-Accepted.root c.in-Accepted.is
 
 pub returns-in-Stuck-clause-fresh : goal.returns-in-Stuck-clause-fresh
 returns-in-Stuck-clause-fresh g c states are honest lent =
     let text = g.L.Text.Content.bytes c.args.text.now in
-    let before = c.loop-readings.invariant.rests states are honest lent in
-    let result = c.in_ok-root.ensures.fresh states are (λ place state t given. honest place state t (c.loop-readings.invariant.gives place state t given)) (λ place state symbol s given. lent place state symbol s (c.loop-readings.invariant.lends place state symbol s given)) before.1 in
-    (stuck_at c.packing_laws_hold.ensures c.args.table.now c.stands.ensures.fit states text c.loop-readings.readings.graph c.reparse.new.graph c.loop-readings.head c.loop-readings.readings.stuck c.in_ok-root.field-0 result before.0 c.in-Stuck.place c.furthest.result c.in-Stuck.is c.furthest.ensures.mine c.furthest.ensures.others c.furthest.ensures.from, tt)
+    let before = c.loop-kept.invariant.rests states are honest lent in
+    let result = c.in_ok-root.ensures.fresh states are (λ place state t given. honest place state t (c.loop-kept.invariant.gives place state t given)) (λ place state symbol s given. lent place state symbol s (c.loop-kept.invariant.lends place state symbol s given)) before.1 in
+    (stuck_at c.packing_laws_hold.ensures c.args.table.now c.stands.ensures.fit states text c.loop-kept.readings.graph c.reparse.new.graph c.loop-kept.head c.loop-kept.readings.stuck c.in_ok-root.field-0 result before.0 c.in-Stuck.place c.furthest.result c.in-Stuck.is c.furthest.ensures.mine c.furthest.ensures.others c.furthest.ensures.from, tt)
 
 pub returns-in-Deep-clause-fresh : goal.returns-in-Deep-clause-fresh
 returns-in-Deep-clause-fresh g c states are honest lent =
     let text = g.L.Text.Content.bytes c.args.text.now in
-    let before = c.loop-readings.invariant.rests states are honest lent in
-    let result = c.in_ok-root.ensures.fresh states are (λ place state t given. honest place state t (c.loop-readings.invariant.gives place state t given)) (λ place state symbol s given. lent place state symbol s (c.loop-readings.invariant.lends place state symbol s given)) before.1 in
-    (too_deep c.packing_laws_hold.ensures c.args.table.now c.stands.ensures.fit states text c.loop-readings.readings.graph c.reparse.new.graph c.loop-readings.head c.loop-readings.readings.stuck c.in_ok-root.field-0 result before.0 c.in-Deep.is, tt)
+    let before = c.loop-kept.invariant.rests states are honest lent in
+    let result = c.in_ok-root.ensures.fresh states are (λ place state t given. honest place state t (c.loop-kept.invariant.gives place state t given)) (λ place state symbol s given. lent place state symbol s (c.loop-kept.invariant.lends place state symbol s given)) before.1 in
+    (too_deep c.packing_laws_hold.ensures c.args.table.now c.stands.ensures.fit states text c.loop-kept.readings.graph c.reparse.new.graph c.loop-kept.head c.loop-kept.readings.stuck c.in_ok-root.field-0 result before.0 c.in-Deep.is, tt)
 
 pub returns-in-Over-clause-form : goal.returns-in-Over-clause-form
 returns-in-Over-clause-form g c =
-    (ends_all c.args.table.now (g.L.Text.Content.bytes c.args.text.now) c.reparse.new.graph c.follow_all.new.readings.graph c.loop-readings.readings.stuck c.follow_all.new.readings.stuck c.follow_all.new.readings.live.items c.follow_all.new.readings.best c.in-Forks.fork c.in_ok-next-in-Forks.field-0 c.in_ok-next-in-Forks.ensures.follows c.in-Over.outcome c.in-Over.is).form
+    (ends_all c.args.table.now (g.L.Text.Content.bytes c.args.text.now) c.reparse.new.graph c.follow_fork.new.readings.graph c.loop-kept.readings.stuck c.follow_fork.new.readings.stuck c.follow_fork.new.readings.live.items c.follow_fork.new.readings.best c.in-Forks.fork c.in_ok-next-in-Forks.field-0 c.in_ok-next-in-Forks.ensures.follows c.in-Over.outcome c.in-Over.is).form
 
 pub returns-in-Over-clause-own : goal.returns-in-Over-clause-own
 returns-in-Over-clause-own g c =
-    (ends_all c.args.table.now (g.L.Text.Content.bytes c.args.text.now) c.reparse.new.graph c.follow_all.new.readings.graph c.loop-readings.readings.stuck c.follow_all.new.readings.stuck c.follow_all.new.readings.live.items c.follow_all.new.readings.best c.in-Forks.fork c.in_ok-next-in-Forks.field-0 c.in_ok-next-in-Forks.ensures.follows c.in-Over.outcome c.in-Over.is).own
+    (ends_all c.args.table.now (g.L.Text.Content.bytes c.args.text.now) c.reparse.new.graph c.follow_fork.new.readings.graph c.loop-kept.readings.stuck c.follow_fork.new.readings.stuck c.follow_fork.new.readings.live.items c.follow_fork.new.readings.best c.in-Forks.fork c.in_ok-next-in-Forks.field-0 c.in_ok-next-in-Forks.ensures.follows c.in-Over.outcome c.in-Over.is).own
 
 pub returns-in-Over-clause-fresh : goal.returns-in-Over-clause-fresh
 returns-in-Over-clause-fresh g c states are honest lent =
     let text = g.L.Text.Content.bytes c.args.text.now in
-    let all = ends_all c.args.table.now text c.reparse.new.graph c.follow_all.new.readings.graph c.loop-readings.readings.stuck c.follow_all.new.readings.stuck c.follow_all.new.readings.live.items c.follow_all.new.readings.best c.in-Forks.fork c.in_ok-next-in-Forks.field-0 c.in_ok-next-in-Forks.ensures.follows c.in-Over.outcome c.in-Over.is in
-    let before = c.loop-readings.invariant.rests states are honest lent in
-    let result = c.in_ok-root.ensures.fresh states are (λ place state t given. honest place state t (c.loop-readings.invariant.gives place state t given)) (λ place state symbol s given. lent place state symbol s (c.loop-readings.invariant.lends place state symbol s given)) before.1 in
-    let fork = fork_rests c.packing_laws_hold.ensures c.args.table.now c.stands.ensures.fit states text c.loop-readings.readings.graph c.reparse.new.graph c.loop-readings.head c.loop-readings.readings.stuck c.in_ok-root.field-0 result before.0 c.only_runs_are_one_way.ensures.through c.only_runs_are_one_way.ensures.run c.in-Forks.fork c.in-Forks.is in
+    let all = ends_all c.args.table.now text c.reparse.new.graph c.follow_fork.new.readings.graph c.loop-kept.readings.stuck c.follow_fork.new.readings.stuck c.follow_fork.new.readings.live.items c.follow_fork.new.readings.best c.in-Forks.fork c.in_ok-next-in-Forks.field-0 c.in_ok-next-in-Forks.ensures.follows c.in-Over.outcome c.in-Over.is in
+    let before = c.loop-kept.invariant.rests states are honest lent in
+    let result = c.in_ok-root.ensures.fresh states are (λ place state t given. honest place state t (c.loop-kept.invariant.gives place state t given)) (λ place state symbol s given. lent place state symbol s (c.loop-kept.invariant.lends place state symbol s given)) before.1 in
+    let fork = fork_rests c.packing_laws_hold.ensures c.args.table.now c.stands.ensures.fit states text c.loop-kept.readings.graph c.reparse.new.graph c.loop-kept.head c.loop-kept.readings.stuck c.in_ok-root.field-0 result before.0 c.only_runs_are_one_way.ensures.through c.only_runs_are_one_way.ensures.run c.in-Forks.fork c.in-Forks.is in
     (all.fresh fork.0, all.sound states are fork.1)

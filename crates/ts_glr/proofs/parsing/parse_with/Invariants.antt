@@ -1,16 +1,18 @@
 use Rattle.std.proofs.Common.{◌≡◌, ℕ, ◌≤◌, [], length, None}
+use Rattle.std.specs.Prelude.{IfSome}
 use Rattle.spec_trees.specs.declared.tree.Tree.{Tree}
 use Rattle.spec_trees.specs.declared.tree.Stretch.{Stretch}
 use Rattle.spec_forced.specs.Sound.{States}
+use Rattle.spec_crossing.specs.Resting.{Rests}
 use Rattle.ts_steps.specs.LiveHeads.{config_of}
+use Rattle.ts_reductions.specs.Lines.{IsSetting}
 use Rattle.ts_steps.specs.Heads.{AreStatesOf, IsOwnHead, StandOnHead}
 use Rattle.ts_steps.specs.Reparsing.{AreHonest, AreHonestlyLent}
-use Rattle.ts_steps.specs.Weights.{config_weight}
-use Rattle.ts_glr.specs.Search.{Rests}
+use Rattle.ts_glr.specs.Turns.{turn_weight}
 use Rattle.ts_glr.proofs.parsing.parse_with.Given as goal
 
-abbrev pub invariant-loop-readings : goal.invariant-loop-readings
-invariant-loop-readings g l = record {
+abbrev pub invariant-loop-kept : goal.invariant-loop-kept
+invariant-loop-kept g l = record {
   made : g.L.Tokens.made_for l.lexer l.table;
   least : g.O.Offers.least l.offers ≤ l.head.place;
   gives : (place state : ℕ) (t : Tree) → g.O.Offers.gives l.offers place state t → g.O.Offers.gives l.initial.offers place state t;
@@ -18,10 +20,11 @@ invariant-loop-readings g l = record {
   own : IsOwnHead l.table (length (g.L.Text.Content.bytes l.text)) l.readings.graph l.head;
   empty : l.readings.live.items ≡ [];
   best : l.readings.best ≡ None;
+  kept : IfSome l.kept (IsSetting l.table (length (g.L.Text.Content.bytes l.text)));
   rests : (states : States) → AreStatesOf l.table states → AreHonest l.table.grammar states (g.L.Text.Content.bytes l.text) (g.O.Offers.gives l.initial.offers)
       → AreHonestlyLent l.table.grammar states (g.L.Text.Content.bytes l.text) (g.O.Offers.lends l.initial.offers)
       → Rests l.table.grammar (g.L.Text.Content.bytes l.text) l.readings.stuck (config_of l.readings.graph l.head) × StandOnHead l.table states (g.L.Text.Content.bytes l.text) l.readings.graph l.head;
 }
 
-abbrev pub decreases-loop-readings : goal.decreases-loop-readings
-decreases-loop-readings g l = config_weight l.table.grammar (length (g.L.Text.Content.bytes l.text)) (config_of l.readings.graph l.head)
+abbrev pub decreases-loop-kept : goal.decreases-loop-kept
+decreases-loop-kept g l = turn_weight l.table.grammar (length (g.L.Text.Content.bytes l.text)) (config_of l.readings.graph l.head)

@@ -1,0 +1,144 @@
+-- All ways to read a text on the graph: what is known at first, and after each place.
+use Rattle.std.proofs.Common.{◌≡◌, subst, ℕ, suc, ◌<◌, ◌≤◌, List, length, arith}
+use Rattle.ts_base.specs.Bytes.{Bytes}
+use Rattle.spec_graph.specs.States.{AreRanks}
+use Rattle.ts_graph.specs.declared.view.GraphView.{GraphView}
+use Rattle.ts_graph.specs.Down.{KeepNumbers}
+use Rattle.ts_table.specs.declared.view.ParseTable.{ParseTable}
+use Rattle.ts_table.specs.Ranks.{unit_rank}
+use Rattle.ts_gss.specs.declared.layer.Layer.{Layer}
+use Rattle.ts_laying.specs.Laying.{head_at}
+use Rattle.ts_reductions.specs.declared.setting.Setting.{Setting}
+use Rattle.ts_reductions.specs.Lines.{IsSetting}
+use Rattle.ts_reductions.specs.Sound.{Base, base_at, IsSoundBy}
+use Rattle.ts_steps.specs.declared.head.StackHead.{StackHead}
+use Rattle.ts_steps.specs.Heads.{IsOwnHead}
+use Rattle.ts_shifts.specs.declared.sights.Sights.{Sights}
+use Rattle.ts_shifts.specs.Looking.{IsHeadAt}
+use Rattle.ts_shifts.specs.Shifting.{AreAllSights}
+use Rattle.ts_sweeps.specs.Sweeping.{IsTooDeep}
+use Rattle.ts_places.specs.declared.following.Next.{Next}
+use Rattle.ts_places.specs.declared.following.Next.TheVariants.{Place, Nowhere, TooDeep}
+use Rattle.ts_places.specs.declared.frontier.Frontier.{Frontier}
+use Rattle.ts_places.specs.Frontiers.{AreOpen}
+use Rattle.ts_places.specs.Following.{GoesOnAt, IsOver, Follows}
+use Rattle.ts_ends.specs.declared.ends.Ends.{Ends}
+use Rattle.ts_ends.specs.Ends.{AreEnds, AreLater}
+use Rattle.ts_crossing.specs.Entering.{IsEntered}
+use Rattle.ts_glr.specs.declared.spread.Spread.{Spread}
+use Rattle.ts_glr.specs.declared.spread.Passed.{Passed}
+use Rattle.ts_glr.specs.declared.spread.Passed.TheVariants as passed
+use Rattle.ts_glr.specs.Spreading.{IsSpread, IsSpreadOut, IsSpreadDeep, PassesTo}
+
+-- for proofs alone: what ended stays so where a graph grows, and where no heads stand
+abbrev pub Stays : Type 0
+Stays = (t : ParseTable) (text : Bytes) (old new : GraphView) (from to : ℕ) (ends : Ends) (base : Base) → IsSoundBy t text base new → KeepNumbers old.heads new.heads → AreLater t text base old new to
+    → AreEnds t text old from to ends → AreEnds t text new from to ends
+
+abbrev pub PassesOver : Type 0
+PassesOver = (t : ParseTable) (text : Bytes) (g : GraphView) (from to next : ℕ) (ends : Ends) → ((place h : ℕ) → to ≤ place → place < next → IsHeadAt g place h → ⊥) → to ≤ next
+    → AreEnds t text g from to ends → AreEnds t text g from next ends
+
+-- for proofs alone: the ends at the place were put to those before
+abbrev pub Sees : ParseTable → GraphView → Sights → Ends → Ends → Type 0
+Sees t g sights old new = (text : Bytes) (base : Base) (from look : ℕ) → AreAllSights t text base g look sights → from ≤ look → AreEnds t text g from look old → AreEnds t text g from (suc look) new
+
+module _ (t : ParseTable) (text : Bytes) (s : Setting) (first : List (List Layer)) (h : StackHead) where
+  -- at first
+  pub begun : (most : ℕ) → AreRanks t.grammar (unit_rank t.grammar) most → IsOwnHead t (length text) first h → IsSetting t (length text) s → (g : GraphView) (place : ℕ) (frontier : Frontier) (ends : Ends)
+      → IsEntered t text first h g place → AreOpen g place frontier.heads.items → AreEnds t text g place place ends → IsSpread t text s first h (record { graph = g; frontier = frontier; ends = ends; place = place })
+  begun most ranks own setting g place frontier ends e are_open none = record {
+    base = base_at e.stack place;
+    most = most;
+    begun = e.begun;
+    can = record {
+      setting = setting;
+      whole = record { early = omega arith; ranks = ranks; sound = e.sound; whole = e.whole most ranks };
+      are_open = are_open;
+    };
+    ends = none;
+    within = e.sound.laid.within e.top.0 (head_at e.top.1 place) e.top.2;
+    own = e.own own.own;
+    stand = e.stand;
+  }
+
+  module _ (stays : Stays) (passes : PassesOver) (old : Spread) (p : IsSpread t text s first h old) (g : GraphView) (frontier : Frontier) (sights : Sights) (ends : Ends) (sees : Sees t g sights old.ends ends) where
+    -- after a place
+    module _ (next : ℕ) (on : GoesOnAt t text p.base p.most old.graph g old.place frontier sights next) where
+      ends_on : AreEnds t text g p.base.place next ends
+      ends_on =
+          let f = on.followed in
+          let before = stays t text old.graph g p.base.place old.place old.ends p.base f.seen.sound f.grows.stay f.only p.ends in
+          let past = on.at.past in
+          passes t text g p.base.place (suc old.place) next ends (λ place k low high st. on.at.between place k (omega (arith, low)) high st) (omega (arith, past))
+          (sees text p.base p.base.place old.place f.seen p.can.whole.early before)
+
+      pub spread_on : IsSpread t text s first h (record { graph = g; frontier = frontier; ends = ends; place = next }) × (old.place < next)
+      spread_on = (
+        record {
+          base = p.base;
+          most = p.most;
+          begun = p.begun;
+          can = record { setting = p.can.setting; whole = on.whole; are_open = on.at.are_open };
+          ends = ends_on;
+          within = (
+              let st = on.at.there in
+              let w = on.whole.sound.laid.within on.at.head st.0 st.1 in
+              let e = st.2 in
+              omega (arith, w, e));
+          own = on.followed.keeps.own p.own;
+          stand = λ states are stand. on.followed.keeps.stand states p.own (p.stand states are stand);
+        },
+        on.at.past,
+      )
+
+    -- after the last
+    module _ (place : ℕ) (over : IsOver t text p.base p.most old.graph g old.place sights) where
+      ends_over : AreEnds t text g p.base.place (suc (length text)) ends
+      ends_over =
+          let f = over.followed in
+          let within = p.within in
+          let before = stays t text old.graph g p.base.place old.place old.ends p.base f.seen.sound f.grows.stay f.only p.ends in
+          passes t text g p.base.place (suc old.place) (suc (length text)) ends (λ at k low high st. over.last k (st.0, st.1, (let e = st.2 in omega (arith, low, e)))) (omega (arith, within))
+          (sees text p.base p.base.place old.place f.seen p.can.whole.early before)
+
+      pub spread_over : IsSpreadOut t text first h (record { graph = g; frontier = frontier; ends = ends; place = place })
+      spread_over =
+          let within = p.within in
+          let early = p.can.whole.early in
+          record {
+            base = p.base;
+            most = p.most;
+            begun = p.begun;
+            low = omega (arith, within, early);
+            whole = over.whole (suc (length text)) (omega (arith, within));
+            ends = ends_over;
+            own = over.followed.keeps.own p.own;
+            stand = λ states are stand. over.followed.keeps.stand states p.own (p.stand states are stand);
+          }
+
+  -- where a node would be too deep
+  pub spread_deep : (old new : Spread) (p : IsSpread t text s first h old) → IsTooDeep t text p.base new.graph → IsSpreadDeep t text first h new
+  spread_deep old new p deep = record { base = p.base; begun = p.begun; deep = deep }
+
+-- ---- by the answer
+
+module _ (t : ParseTable) (text : Bytes) (base : Base) (most : ℕ) (old new : GraphView) (place : ℕ) (before after : Frontier) (sights : Sights) (n : Next) (f : Follows t text base most old new place before after sights n) where
+  pub on_by : (next : ℕ) → n ≡ Place next → GoesOnAt t text base most old new place after sights next
+  on_by next is = subst (λ (x : Next). Follows t text base most old new place before after sights x) is f
+
+  pub over_by : n ≡ Nowhere → IsOver t text base most old new place sights
+  over_by is = subst (λ (x : Next). Follows t text base most old new place before after sights x) is f
+
+  pub deep_by : n ≡ TooDeep → IsTooDeep t text base new
+  deep_by is = subst (λ (x : Next). Follows t text base most old new place before after sights x) is f
+
+module _ (t : ParseTable) (text : Bytes) (s : Setting) (first : List (List Layer)) (h : StackHead) (old new : Spread) (x : Passed) (p : PassesTo t text s first h old new x) where
+  pub passed_on : x ≡ passed.On → IsSpread t text s first h new × (old.place < new.place)
+  passed_on is = subst (λ (y : Passed). PassesTo t text s first h old new y) is p
+
+  pub passed_over : x ≡ passed.Over → IsSpreadOut t text first h new
+  passed_over is = subst (λ (y : Passed). PassesTo t text s first h old new y) is p
+
+  pub passed_deep : x ≡ passed.Deep → IsSpreadDeep t text first h new
+  passed_deep is = subst (λ (y : Passed). PassesTo t text s first h old new y) is p

@@ -1,0 +1,96 @@
+-- All ways to read a text on the graph of stacks, from a stack on at which several moves stay. It
+-- serves private clauses and proofs alone.
+use Rattle.std.specs.Prelude.{◌≡◌, ℕ, ◌<◌, ◌≤◌, suc, List, [], ◌∷◌, length, Option, None}
+use Rattle.ts_base.specs.Bytes.{Bytes}
+use Rattle.spec_forced.specs.Sound.{States}
+use Rattle.spec_graph.specs.Laying.{IsBegun}
+use Rattle.ts_table.specs.declared.view.ParseTable.{ParseTable}
+use Rattle.ts_gss.specs.declared.layer.Layer.{Layer}
+use Rattle.ts_steps.specs.declared.head.StackHead.{StackHead}
+use Rattle.ts_steps.specs.LiveHeads.{config_of}
+use Rattle.ts_steps.specs.Heads.{AreStatesOf, StandOnHead}
+use Rattle.ts_reductions.specs.declared.setting.Setting.{Setting}
+use Rattle.ts_reductions.specs.Sound.{Base, parsing_from}
+use Rattle.ts_reductions.specs.Keeping.{AreOwn, StandOnGraph}
+use Rattle.ts_sweeps.specs.Sweeping.{IsTooDeep}
+use Rattle.ts_places.specs.Following.{IsWholeAt, CanFollow}
+use Rattle.ts_ends.specs.Ends.{AreEnds}
+use Rattle.ts_crossing.specs.declared.leaving.Left.{Left}
+use Rattle.ts_crossing.specs.Leaving.{IsStack, IsLeft}
+use Rattle.ts_glr.specs.declared.spread.Spread.{Spread}
+use Rattle.ts_glr.specs.declared.spread.Passed.{Passed}
+use Rattle.ts_glr.specs.declared.spread.Passed.TheVariants.{On, Over, Deep, Idle}
+use Rattle.ts_glr.specs.declared.crossing.Asked.{Asked}
+use Rattle.ts_glr.specs.declared.crossing.Asked.TheVariants.{Waits, Fails, Leaves}
+use Rattle.ts_glr.specs.declared.crossing.Crossed.{Crossed}
+use Rattle.ts_glr.specs.declared.crossing.Crossed.TheVariants.{One, Told, Nowhere}
+use Rattle.ts_glr.specs.Forks.{LeavesOne, EndsAll}
+
+-- The graph is sound over the stack of the head but for the extras on top. All that is asked for
+-- before the place was done, these are the heads that stand there or past it, and the ends before.
+-- A parser made the trees of the graph, and they stand where those on the stack of the head do.
+pub record IsSpread (t : ParseTable) (text : Bytes) (s : Setting) (first : List (List Layer))
+    (h : StackHead) (spread : Spread) : Type 0 where
+  pub base : Base
+  pub most : ℕ
+  pub begun : IsBegun (parsing_from t text base) (config_of first h)
+  pub can : CanFollow t text s base most spread.graph spread.place spread.frontier
+  pub ends : AreEnds t text spread.graph base.place spread.place spread.ends
+  pub within : spread.place ≤ length text
+  pub own : AreOwn t.grammar spread.graph
+  pub stand : (states : States) → AreStatesOf t states → StandOnHead t states text first h
+      → StandOnGraph t.grammar states text base spread.graph
+
+-- all that is asked for was done, to the end of the text
+pub record IsSpreadOut (t : ParseTable) (text : Bytes) (first : List (List Layer))
+    (h : StackHead) (spread : Spread) : Type 0 where
+  pub base : Base
+  pub most : ℕ
+  pub begun : IsBegun (parsing_from t text base) (config_of first h)
+  pub low : base.place ≤ length text
+  pub whole : IsWholeAt t text base most spread.graph (suc (length text))
+  pub ends : AreEnds t text spread.graph base.place (suc (length text)) spread.ends
+  pub own : AreOwn t.grammar spread.graph
+  pub stand : (states : States) → AreStatesOf t states → StandOnHead t states text first h
+      → StandOnGraph t.grammar states text base spread.graph
+
+-- some node would be too deep
+pub record IsSpreadDeep (t : ParseTable) (text : Bytes) (first : List (List Layer))
+    (h : StackHead) (spread : Spread) : Type 0 where
+  pub base : Base
+  pub begun : IsBegun (parsing_from t text base) (config_of first h)
+  pub deep : IsTooDeep t text base spread.graph
+
+-- what following the graph over a place came to
+abbrev pub PassesTo : ParseTable → Bytes → Setting → List (List Layer) → StackHead → Spread → Spread
+    → Passed → Type 0
+PassesTo t text s first h old new On =
+    IsSpread t text s first h new × (old.place < new.place)
+PassesTo t text s first h old new Over = IsSpreadOut t text first h new
+PassesTo t text s first h old new Deep = IsSpreadDeep t text first h new
+PassesTo t text s first h old new Idle = Unit {0}
+
+-- One head waits alone, past the place, and nothing was accepted. These are the trees of the only
+-- way down from it.
+pub record IsLeftOf (spread : Spread) (from : ℕ) (l : Left) : Type 0 where
+  pub head : ℕ
+  pub numbers : List ℕ
+  pub stack : IsStack spread.graph head numbers
+  pub is : IsLeft spread.graph head stack.way l.stacks l.head
+  pub alone : spread.frontier.heads.items ≡ head ∷ []
+  pub none : spread.ends.accepting.items ≡ []
+  pub past : from < spread.place
+
+-- what asking for one stack that is left came to
+abbrev pub AsksFor : Spread → ℕ → Asked → Type 0
+AsksFor spread from Waits = Unit {0}
+AsksFor spread from Fails = Unit {0}
+AsksFor spread from (Leaves l) = IsLeftOf spread from l
+
+-- what following the graph came to, from a stack on: one that is left, or the outcome
+abbrev pub Crosses : ParseTable → Bytes → List (List Layer) → Option ℕ → StackHead → Crossed
+    → Type 0
+Crosses t text first before h (One l stuck) =
+    LeavesOne t text first l.stacks before stuck [] None h l.head
+Crosses t text first before h (Told out) = EndsAll t text first before h out
+Crosses t text first before h Nowhere = Unit {0}

@@ -1,0 +1,121 @@
+//! The ways to read a text on the graph of stacks: the stack from which they go on goes in, and the
+//! graph is followed over one place after another, with what ends there.
+ghost use Rattle.std.specs.Prelude.{◌≤◌, List, length, IfOk};
+ghost use Rattle.ts_base.specs.Bytes.{Bytes};
+ghost use Rattle.spec_trees.specs.Made.{most_span};
+ghost use Rattle.spec_forced.specs.OnlyRuns.{IsFork};
+ghost use Rattle.ts_table.specs.declared.view.ParseTable.{ParseTable};
+ghost use Rattle.ts_table.specs.Tables.{IsTable};
+ghost use Rattle.ts_gss.specs.declared.layer.Layer.{Layer};
+ghost use Rattle.ts_steps.specs.declared.head.StackHead.{StackHead as AnyHead};
+ghost use Rattle.ts_steps.specs.LiveHeads.{config_of};
+ghost use Rattle.ts_steps.specs.Heads.{IsOwnHead};
+ghost use Rattle.ts_reductions.specs.declared.setting.Setting.{Setting as AnySetting};
+ghost use Rattle.ts_reductions.specs.Lines.{IsSetting};
+ghost use Rattle.ts_glr.specs.Spreading.{IsSpread, PassesTo};
+
+use std::alloc::{AllocError, Global};
+use ts_crossing::{Entered, enter, own_stacks_enter};
+use ts_ends::{Ends, ends_begin, ends_stay, see_ends};
+use ts_graph::Graph;
+use ts_gss::Graph as Stacks;
+use ts_lexer::Tokens;
+use ts_places::{Followed, Frontier, Next, follow_place, frontier_at};
+use ts_reductions::Setting;
+use ts_steps::StackHead;
+use ts_table::{Table, unit_ranks};
+
+/// All ways to read a text from a stack on, as far as they were followed.
+#[derive(Drop)]
+pub(crate) struct Spread {
+    pub graph: Graph,
+    /// The heads that are still to be followed.
+    pub frontier: Frontier,
+    pub ends: Ends,
+    /// All that is asked for before this place was done.
+    pub place: u32,
+}
+
+/// What following them over a place came to.
+#[derive(Clone, Copy)]
+pub(crate) enum Passed {
+    On,
+    Over,
+    /// A node would be too deep.
+    Deep,
+    /// A reduction over nothing is asked for. Nothing was done.
+    Idle,
+}
+
+/// The beginning: the stack of the head alone.
+pub(crate) fn spread_from(
+    alloc: Global,
+    stacks: &Stacks,
+    start: StackHead,
+) -> Result<Spread, AllocError>
+    requires { (t : ParseTable) × (text : Bytes) × IsTable t × (length text ≤ most_span)
+        × IsOwnHead t (length text) stacks.now start
+        × IsFork t.grammar text (config_of stacks.now start) }
+    ensures { IfOk result (λ spread. (t : ParseTable) (text : Bytes) (s : AnySetting)
+        → IsTable t → length text ≤ most_span → IsOwnHead t (length text) stacks.now start
+        → IsFork t.grammar text (config_of stacks.now start) → IsSetting t (length text) s
+        → IsSpread t text s stacks.now start spread) }
+{
+    own_stacks_enter();
+    unit_ranks();
+    ends_begin();
+    let Entered { graph, place } = enter(alloc, stacks, start)?;
+    let frontier = frontier_at(alloc, &graph, place)?;
+    Ok(Spread {
+        graph,
+        frontier,
+        ends: Ends::new(alloc),
+        place,
+    })
+}
+
+impl Spread {
+    /// Follows all ways over one place.
+    pub(crate) fn pass<L: Tokens>(
+        &mut self,
+        alloc: Global,
+        table: &Table,
+        setting: &Setting,
+        lexer: &mut L,
+        text: &L::Text,
+    ) -> Result<Passed, AllocError>
+        requires made { L.made_for lexer.old table.now }
+        requires ready { (first : List (List Layer)) × (h : AnyHead)
+            × IsSpread table.now (L.Text.bytes text.now) setting.now first h self.old }
+        ensures made { L.made_for lexer.new table.now }
+        ensures passes { IfOk result (λ passed. (first : List (List Layer)) (h : AnyHead)
+            → IsSpread table.now (L.Text.bytes text.now) setting.now first h self.old
+            → PassesTo table.now (L.Text.bytes text.now) setting.now first h self.old self.new
+            passed) }
+    {
+        ends_stay();
+        let Followed { sights, next } = follow_place(
+            alloc,
+            table,
+            setting,
+            lexer,
+            text,
+            &mut self.graph,
+            &mut self.frontier,
+            self.place,
+        )?;
+        match next {
+            Next::TooDeep => Ok(Passed::Deep),
+            Next::Nothing => Ok(Passed::Idle),
+            Next::Nowhere => {
+                see_ends(table, &self.graph, &sights, &mut self.ends)?;
+                Ok(Passed::Over)
+            }
+            Next::Place(place) => {
+                see_ends(table, &self.graph, &sights, &mut self.ends)?;
+                self.place = place;
+                Ok(Passed::On)
+            }
+        }
+    }
+}

@@ -1,0 +1,198 @@
+//! Following all ways to read a text from a stack on at which several moves stay, on plain stacks
+//! first, and on the graph of stacks where that takes many steps: the stack goes in; the one that
+//! is left comes out, or what the text comes to.
+ghost use Rattle.std.specs.Prelude.{◌≡◌, ◌≤◌, [], length, None, IfOk, IfSome, OnOk};
+ghost use Rattle.spec_trees.specs.Made.{most_span};
+ghost use Rattle.spec_forced.specs.OnlyRuns.{IsFork};
+ghost use Rattle.ts_steps.specs.LiveHeads.{config_of};
+ghost use Rattle.ts_steps.specs.Settings.{IsParseSetting};
+ghost use Rattle.ts_steps.specs.Heads.{IsOwnHead};
+ghost use Rattle.ts_reductions.specs.Lines.{IsSetting};
+ghost use Rattle.ts_glr.specs.Forks.{ComesTo};
+
+use crate::crossing::{Crossed, cross};
+use crate::forking::{Forked, follow_all};
+use crate::readings::Readings;
+use std::alloc::{AllocError, Global};
+use ts_lexer::Tokens;
+use ts_reductions::{Setting, setting_of};
+use ts_steps::{ParseSetting, StackHead};
+use ts_table::Table;
+
+/// How many steps are followed on plain stacks. Where the ways to read a text come together soon,
+/// these cost less than the graph.
+const MOST_STEPS: u32 = 256;
+
+/// What stays the same on the graph of stacks, which is made where there is none yet.
+fn take_setting(
+    alloc: Global,
+    table: &Table,
+    kept: &mut Option<Setting>,
+    size: u32,
+) -> Result<Setting, AllocError>
+    requires short { size ≤ most_span }
+    requires kept { IfSome kept.old (IsSetting table.now size) }
+    ensures { IfOk result (IsSetting table.now size) }
+{
+    match kept.take() {
+        Some(setting) => Ok(setting),
+        None => {
+            let setting = setting_of(alloc, table, size)?;
+            Ok(setting)
+        }
+    }
+}
+
+/// Goes back to where nothing was followed from a stack on. All stacks stay.
+fn begin_anew(alloc: Global, readings: &mut Readings, stuck: Option<u32>)
+    ensures graph { readings.new.graph ≡ readings.old.graph }
+    ensures stuck { readings.new.stuck ≡ stuck }
+    ensures live { readings.new.live.items ≡ [] }
+    ensures best { readings.new.best ≡ None }
+{
+    readings.stuck = stuck;
+    readings.live = Vec::new(alloc);
+    readings.best = None;
+}
+
+/// Follows all ways on the graph of stacks. None where it does not tell what they come to; nothing
+/// is changed then.
+fn follow_graph<L: Tokens>(
+    alloc: Global,
+    table: &Table,
+    setting: &Setting,
+    lexer: &mut L,
+    text: &L::Text,
+    readings: &mut Readings,
+    start: StackHead,
+) -> Result<Option<Forked>, AllocError>
+    requires made { L.made_for lexer.old table.now }
+    requires setting { IsSetting table.now (length (L.Text.bytes text.now)) setting.now }
+    requires short { length (L.Text.bytes text.now) ≤ most_span }
+    requires own { IsOwnHead table.now (length (L.Text.bytes text.now)) readings.old.graph start }
+    requires fork { IsFork table.now.grammar (L.Text.bytes text.now)
+        (config_of readings.old.graph start) }
+    requires alone { readings.old.live.items ≡ [] }
+    requires best { readings.old.best ≡ None }
+    ensures made { L.made_for lexer.new table.now }
+    ensures follows { IfOk result (λ o. IfSome o (ComesTo table.now (L.Text.bytes text.now)
+        readings.old.graph readings.new.graph readings.old.stuck readings.new.stuck
+        readings.new.live.items readings.new.best start)) }
+    ensures kept { IfOk result (λ o. o ≡ None → readings.new ≡ readings.old) }
+{
+    let stacks = &readings.graph;
+    let known = readings.stuck;
+    match cross(alloc, table, setting, lexer, text, stacks, start, known)? {
+        Crossed::One(left, stuck) => {
+            readings.graph = left.stacks;
+            readings.stuck = stuck;
+            Ok(Some(Forked::One(left.head)))
+        }
+        Crossed::Told(outcome) => Ok(Some(Forked::Over(outcome))),
+        Crossed::Nowhere => Ok(None),
+    }
+}
+
+/// Follows all ways on plain stacks, in however many steps.
+fn follow_plain<L: Tokens>(
+    alloc: Global,
+    table: &Table,
+    setting: &ParseSetting,
+    lexer: &mut L,
+    text: &L::Text,
+    readings: &mut Readings,
+    start: StackHead,
+) -> Result<Forked, AllocError>
+    requires made { L.made_for lexer.old table.now }
+    requires setting { IsParseSetting table.now (length (L.Text.bytes text.now)) setting.now }
+    requires own { IsOwnHead table.now (length (L.Text.bytes text.now)) readings.old.graph start }
+    requires alone { readings.old.live.items ≡ [] }
+    requires best { readings.old.best ≡ None }
+    ensures made { L.made_for lexer.new table.now }
+    ensures follows { IfOk result (ComesTo table.now (L.Text.bytes text.now) readings.old.graph
+        readings.new.graph readings.old.stuck readings.new.stuck readings.new.live.items
+        readings.new.best start) }
+{
+    match follow_all(alloc, table, setting, lexer, text, readings, start, None)? {
+        Some(forked) => Ok(forked),
+        None => unreachable!(),
+    }
+}
+
+/// Follows all ways on the graph of stacks, and without a limit on plain stacks where it does not
+/// tell what they come to.
+fn follow_long<L: Tokens>(
+    alloc: Global,
+    table: &Table,
+    setting: &ParseSetting,
+    lexer: &mut L,
+    text: &L::Text,
+    readings: &mut Readings,
+    kept: &mut Option<Setting>,
+    start: StackHead,
+) -> Result<Forked, AllocError>
+    requires made { L.made_for lexer.old table.now }
+    requires setting { IsParseSetting table.now (length (L.Text.bytes text.now)) setting.now }
+    requires own { IsOwnHead table.now (length (L.Text.bytes text.now)) readings.old.graph start }
+    requires fork { IsFork table.now.grammar (L.Text.bytes text.now)
+        (config_of readings.old.graph start) }
+    requires kept { IfSome kept.old (IsSetting table.now (length (L.Text.bytes text.now))) }
+    requires alone { readings.old.live.items ≡ [] }
+    requires best { readings.old.best ≡ None }
+    ensures made { L.made_for lexer.new table.now }
+    ensures follows { IfOk result (ComesTo table.now (L.Text.bytes text.now) readings.old.graph
+        readings.new.graph readings.old.stuck readings.new.stuck readings.new.live.items
+        readings.new.best start) }
+    ensures kept { OnOk result (IfSome kept.new
+        (IsSetting table.now (length (L.Text.bytes text.now)))) }
+{
+    let lines = take_setting(alloc, table, kept, setting.size)?;
+    let found = follow_graph(alloc, table, &lines, lexer, text, readings, start)?;
+    *kept = Some(lines);
+    match found {
+        Some(forked) => Ok(forked),
+        None => {
+            let forked = follow_plain(alloc, table, setting, lexer, text, readings, start)?;
+            Ok(forked)
+        }
+    }
+}
+
+/// Follows all ways to read a text from a stack on, until one stack is left, before any tree is
+/// accepted, or there is none.
+pub(crate) fn follow_fork<L: Tokens>(
+    alloc: Global,
+    table: &Table,
+    setting: &ParseSetting,
+    lexer: &mut L,
+    text: &L::Text,
+    readings: &mut Readings,
+    kept: &mut Option<Setting>,
+    start: StackHead,
+) -> Result<Forked, AllocError>
+    requires made { L.made_for lexer.old table.now }
+    requires setting { IsParseSetting table.now (length (L.Text.bytes text.now)) setting.now }
+    requires own { IsOwnHead table.now (length (L.Text.bytes text.now)) readings.old.graph start }
+    requires fork { IsFork table.now.grammar (L.Text.bytes text.now)
+        (config_of readings.old.graph start) }
+    requires kept { IfSome kept.old (IsSetting table.now (length (L.Text.bytes text.now))) }
+    requires alone { readings.old.live.items ≡ [] }
+    requires best { readings.old.best ≡ None }
+    ensures made { L.made_for lexer.new table.now }
+    ensures follows { IfOk result (ComesTo table.now (L.Text.bytes text.now) readings.old.graph
+        readings.new.graph readings.old.stuck readings.new.stuck readings.new.live.items
+        readings.new.best start) }
+    ensures kept { OnOk result (IfSome kept.new
+        (IsSetting table.now (length (L.Text.bytes text.now)))) }
+{
+    let before = readings.stuck;
+    let some = Some(MOST_STEPS);
+    match follow_all(alloc, table, setting, lexer, text, readings, start, some)? {
+        Some(forked) => Ok(forked),
+        None => {
+            begin_anew(alloc, readings, before);
+            let forked = follow_long(alloc, table, setting, lexer, text, readings, kept, start)?;
+            Ok(forked)
+        }
+    }
+}
