@@ -53,8 +53,8 @@ pub record EnterLaws : Type 0 where
       → HasStood P heads links
       → IsWholeTo P rank heads links (record { look = P.place; begins = P.place; rank = most })
 
--- For proofs alone: laws of bare trees, of nodes that stand, of what is read where a way leads down,
--- and of trees of links.
+-- For proofs alone: laws of bare trees, of nodes that stand, of what is read where a way leads
+-- down, and of trees of links.
 pub record LeaveLaws : Type 0 where
   pub keeps : (t : Tree) → KeepsAll t
   pub symbols : (P : Parsing) → Fit P.grammar → AreStates P.grammar P.goto → IsGrounded P

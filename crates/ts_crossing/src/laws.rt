@@ -82,12 +82,12 @@ pub fn own_stacks_enter()
     made_laws_hold();
 }
 
-/// A stack that is left in a graph is reached by a run, where a run came to the stack over which the
-/// graph is sound. All that runs come to from there ends in the graph before a place, or is served
-/// from the stack that is left, where its head stands alone at the place or past it; so where all
-/// runs rest at the first stack, and the ends before the place are accounted for, they rest at the
-/// one that is left. And a parser made it, if a parser made the trees of the graph; and its trees
-/// stand, if those of the graph do.
+/// A stack that is left in a graph is reached by a run, where a run came to the stack over which
+/// the graph is sound. All that runs come to from there ends in the graph before a place, or is
+/// served from the stack that is left, where its head stands alone at the place or past it; so where
+/// all runs rest at the first stack, and the ends before the place are accounted for, they rest at
+/// the one that is left. And a parser made it, if a parser made the trees of the graph; and its
+/// trees stand, if those of the graph do.
 pub fn left_stacks_go_on()
     ensures reached { (t : ParseTable) (text : Bytes) (base : AnyBase) (g : GraphView) (h : ℕ)
         (numbers : List ℕ) (stacks : List (List Layer)) (k : AnyHead)

@@ -45,9 +45,9 @@ pub record CanFollow (t : ParseTable) (text : Bytes) (s : Setting) (base : Base)
 
 -- ---- after
 
--- All that is asked for at the place was done, and the new trees are such as a parser makes. Each new
--- head stands at the place or past it, or an extra is passed there. These are all sights at the
--- place.
+-- All that is asked for at the place was done, and the new trees are such as a parser makes. Each
+-- new head stands at the place or past it, or an extra is passed there. These are all sights at
+-- the place.
 pub record IsFollowed (t : ParseTable) (text : Bytes) (base : Base) (old new : GraphView)
     (place : ℕ) (sights : Sights) : Type 0 where
   pub grows : Grows old new

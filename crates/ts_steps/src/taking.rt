@@ -94,9 +94,9 @@ fn is_made(table: &Table, node: &Node) -> bool
 }
 
 /// Takes a node over whole: it is put on the stack as one more owner of it, with the state to which
-/// the table leads over its symbol. None where the table does not lead over it, where it was examined
-/// past the end of the text, which has so many bytes, or where no move makes such a node; nothing is
-/// put there then.
+/// the table leads over its symbol. None where the table does not lead over it, where it was
+/// examined past the end of the text, which has so many bytes, or where no move makes such a node;
+/// nothing is put there then.
 ///
 /// # Errors
 ///
