@@ -180,6 +180,11 @@ all_loosened edit es ks base loose k c at past a =
     ∙ ap (λ (us : List Element). a.done ++ marked_elements edit us (drop c ks) at) (sym none)
     ∙ sym a.all
 
+-- where there are no elements none is marked
+pub none_loosened : (edit : Edit) (es : List Element) (ks : List Tree) (base : ℕ) (loose : List ℕ) → length es ≡ 0 → loose ≡ [] → loosened loose es ≡ marked_elements edit es ks base
+none_loosened edit [] ks base loose h e = ap (λ (x : List ℕ). loosened x []) e
+none_loosened edit (d ∷ es) ks base loose h e = absurd (omega (arith, h))
+
 pub next_known : (edit : Edit) (n k at : ℕ) (d : Element) (old new : List ℕ) → All (λ (i : ℕ). i < n) old → k < n → Loosens edit d k at old new → All (λ (i : ℕ). i < n) new
 next_known edit n k at d old new a h (inl s) = subst (λ (x : List ℕ). All (λ (i : ℕ). i < n) x) (sym s.1) a
 next_known edit n k at d old new a h (inr s) = subst (λ (x : List ℕ). All (λ (i : ℕ). i < n) x) (sym s.1)

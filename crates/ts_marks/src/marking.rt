@@ -34,81 +34,106 @@ pub fn mark(alloc: Global, tree: &Node, edit: &Edit) -> Result<Node, AllocError>
     let own = start.moved(tree.pad());
     let end = start.moved(whole);
     let first = lead(tree);
-    let changed = changed_children(alloc, tree, first, start)?;
-    let loose = loose_elements(alloc, tree, first, start)?;
+    let reached = reached_in(alloc, tree, first, start)?;
     remake(
         alloc,
         tree,
         own,
         end - own,
-        changed.as_slice(),
-        loose.as_slice(),
+        reached.changed.as_slice(),
+        reached.loose.as_slice(),
     )
 }
 
-/// The children of a node that the edit reached, by their numbers, as they become.
+/// What an edit reached in a node: the children by their numbers, as they become, and the numbers
+/// of the elements that were settled.
+#[derive(Drop)]
+struct Reached {
+    changed: Vec<(u32, Node)>,
+    loose: Vec<u32>,
+}
+
+/// What the edit reached in a node.
 #[cycle(walk)]
-fn changed_children<'e>(
+fn reached_in<'e>(
     alloc: Global,
     node: &Node,
     place: u32,
     passed: Passed<'e>,
-) -> Result<Vec<(u32, Node)>, AllocError>
+) -> Result<Reached, AllocError>
     requires from { passed.from ≤ place }
     requires short { place + all_spans (children_of node.now) ≤ most_span }
     requires moved { moved passed.edit.now (place + all_spans (children_of node.now)) ≤ most_span }
-    ensures changes { IfOk result (λ changed. replaced changed.items (children_of node.now)
+    ensures changes { IfOk result (λ r. replaced r.changed.items (children_of node.now)
         ≡ all_marked passed.entry.edit.now (children_of node.now) place) }
-    ensures within { IfOk result (λ changed.
-        All (λ change. change.0 < length (children_of node.now)) changed.items) }
+    ensures within { IfOk result (λ r.
+        All (λ change. change.0 < length (children_of node.now)) r.changed.items) }
+    ensures loose { IfOk result (λ r. loosened r.loose.items (elements_of node.now)
+        ≡ marked_elements passed.entry.edit.now (elements_of node.now) (children_of node.now)
+        place) }
+    ensures known { IfOk result (λ r.
+        All (λ k. k < length (elements_of node.now)) r.loose.items) }
 {
     if node.elements() == 0 {
-        changed_one_by_one(alloc, node, place, passed)
+        reached_one_by_one(alloc, node, place, passed)
     } else {
-        changed_in_elements(alloc, node, place, passed)
+        reached_in_elements(alloc, node, place, passed)
     }
 }
 
-/// The same, where each child is looked at.
+/// The same of a node without elements: each child is looked at.
 #[cycle(walk)]
-fn changed_one_by_one<'e>(
+fn reached_one_by_one<'e>(
     alloc: Global,
     node: &Node,
     place: u32,
     passed: Passed<'e>,
-) -> Result<Vec<(u32, Node)>, AllocError>
+) -> Result<Reached, AllocError>
+    requires none { length (elements_of node.now) ≡ 0 }
     requires from { passed.from ≤ place }
     requires short { place + all_spans (children_of node.now) ≤ most_span }
     requires moved { moved passed.edit.now (place + all_spans (children_of node.now)) ≤ most_span }
-    ensures changes { IfOk result (λ changed. replaced changed.items (children_of node.now)
+    ensures changes { IfOk result (λ r. replaced r.changed.items (children_of node.now)
         ≡ all_marked passed.entry.edit.now (children_of node.now) place) }
-    ensures within { IfOk result (λ changed.
-        All (λ change. change.0 < length (children_of node.now)) changed.items) }
+    ensures within { IfOk result (λ r.
+        All (λ change. change.0 < length (children_of node.now)) r.changed.items) }
+    ensures loose { IfOk result (λ r. loosened r.loose.items (elements_of node.now)
+        ≡ marked_elements passed.entry.edit.now (elements_of node.now) (children_of node.now)
+        place) }
+    ensures known { IfOk result (λ r.
+        All (λ k. k < length (elements_of node.now)) r.loose.items) }
 {
     let mut changed = Vec::new(alloc);
+    let loose = Vec::new(alloc);
     let end = node.children();
     add_children(alloc, node, 0, end, place, passed, &mut changed)?;
-    Ok(changed)
+    Ok(Reached { changed, loose })
 }
 
 /// The same of a repetition: elements that the edit did not reach are passed at once.
 #[cycle(walk)]
-fn changed_in_elements<'e>(
+fn reached_in_elements<'e>(
     alloc: Global,
     node: &Node,
     place: u32,
     passed: Passed<'e>,
-) -> Result<Vec<(u32, Node)>, AllocError>
+) -> Result<Reached, AllocError>
     requires repetition { 0 < length (elements_of node.now) }
     requires from { passed.from ≤ place }
     requires short { place + all_spans (children_of node.now) ≤ most_span }
     requires moved { moved passed.edit.now (place + all_spans (children_of node.now)) ≤ most_span }
-    ensures changes { IfOk result (λ changed. replaced changed.items (children_of node.now)
+    ensures changes { IfOk result (λ r. replaced r.changed.items (children_of node.now)
         ≡ all_marked passed.entry.edit.now (children_of node.now) place) }
-    ensures within { IfOk result (λ changed.
-        All (λ change. change.0 < length (children_of node.now)) changed.items) }
+    ensures within { IfOk result (λ r.
+        All (λ change. change.0 < length (children_of node.now)) r.changed.items) }
+    ensures loose { IfOk result (λ r. loosened r.loose.items (elements_of node.now)
+        ≡ marked_elements passed.entry.edit.now (elements_of node.now) (children_of node.now)
+        place) }
+    ensures known { IfOk result (λ r.
+        All (λ k. k < length (elements_of node.now)) r.loose.items) }
 {
     let mut changed = Vec::new(alloc);
+    let mut loose = Vec::new(alloc);
     let mut passed = passed;
     let first = first_reached(node, 0, place, passed);
     let end = node.elements();
@@ -116,12 +141,13 @@ fn changed_in_elements<'e>(
     while k < end {
         let at = place + node.offset(k);
         passed = passed.up_to(at);
+        add_loose(node.element(k), k, at, passed, &mut loose)?;
         let from = node.children_before(k);
         let to = node.children_before(k + 1);
         add_children(alloc, node, from, to, at, passed, &mut changed)?;
         k = first_reached(node, k + 1, place, passed);
     }
-    Ok(changed)
+    Ok(Reached { changed, loose })
 }
 
 /// Adds to the changes those children from one number on, up to another, that the edit reached.
@@ -153,36 +179,6 @@ fn add_children<'e>(
         at += span(child);
     }
     Ok(())
-}
-
-/// The numbers of the elements of a node that were settled, and that the edit reached.
-fn loose_elements<'e>(
-    alloc: Global,
-    node: &Node,
-    place: u32,
-    passed: Passed<'e>,
-) -> Result<Vec<u32>, AllocError>
-    requires from { passed.from ≤ place }
-    requires short { place + all_spans (children_of node.now) ≤ most_span }
-    requires moved { moved passed.edit.now (place + all_spans (children_of node.now)) ≤ most_span }
-    ensures loose { IfOk result (λ loose. loosened loose.items (elements_of node.now)
-        ≡ marked_elements passed.entry.edit.now (elements_of node.now) (children_of node.now)
-        place) }
-    ensures known { IfOk result (λ loose.
-        All (λ k. k < length (elements_of node.now)) loose.items) }
-{
-    let mut loose = Vec::new(alloc);
-    let mut passed = passed;
-    let first = first_reached(node, 0, place, passed);
-    let end = node.elements();
-    let mut k = first;
-    while k < end {
-        let at = place + node.offset(k);
-        passed = passed.up_to(at);
-        add_loose(node.element(k), k, at, passed, &mut loose)?;
-        k = first_reached(node, k + 1, place, passed);
-    }
-    Ok(loose)
 }
 
 /// The number of the first element from the one at `k` on that the next part may meet, or that is
@@ -291,14 +287,13 @@ fn remade<'e>(
     let start = passed.moved(place);
     let own = passed.moved(place + node.pad());
     let end = passed.moved(place + whole);
-    let changed = changed_children(alloc, node, place, passed)?;
-    let loose = loose_elements(alloc, node, place, passed)?;
+    let reached = reached_in(alloc, node, place, passed)?;
     remake(
         alloc,
         node,
         own - start,
         end - own,
-        changed.as_slice(),
-        loose.as_slice(),
+        reached.changed.as_slice(),
+        reached.loose.as_slice(),
     )
 }

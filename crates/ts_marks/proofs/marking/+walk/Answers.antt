@@ -1,20 +1,21 @@
-use Rattle.std.proofs.Common.{◌≡◌, ◌+◌, ◌-◌, ◌<◌, ◌≤◌, ◌∙◌, ℕ, ap, sym, subst, refl, inl, arith, List, [], length, take, All}
+use Rattle.std.proofs.Common.{◌≡◌, ◌+◌, ◌-◌, ◌<◌, ◌≤◌, ◌∙◌, ℕ, ap, sym, subst, refl, inl, arith, List, [], length, take, drop, All}
 use Rattle.std.proofs.lemmas.List.{take_all}
 use Rattle.std.proofs.lemmas.List.Elements.{All-nil}
 use Rattle.std.proofs.lemmas.Result.{IfOk-weaker}
 use Rattle.ts_text.specs.declared.edit.Edit.{Edit}
 use Rattle.spec_trees.specs.declared.tree.Tree.{Tree}
+use Rattle.spec_trees.specs.declared.tree.Element.{Element}
 use Rattle.spec_trees.specs.Trees.{children_of, elements_of, pad_of, span_of, all_spans}
 use Rattle.spec_trees.specs.Made.{most_span, bytes_before, children_count, loosened, remade, replaced, stretch_in}
 use Rattle.spec_reuse.specs.Changes.{moved}
 use Rattle.spec_reuse.specs.Marked.{all_marked, marked_below, marked_elements}
 use Rattle.ts_node.proofs.ElementLemmas.{some_counted, count_within}
 use Rattle.ts_node.proofs.PlaceLemmas.{count_rises, bytes_rise}
-use Rattle.ts_marks.specs.Passing.{Adds, AddsChildren, AreDone, AreDoneTo, StayTo, spans_between}
+use Rattle.ts_marks.specs.Passing.{Adds, AddsChildren, AreDone, AreDoneTo, AreLoosened, AreLoosenedTo, Loosens, StayTo, spans_between}
 use Rattle.ts_marks.proofs.MovedLemmas.{moved_rises}
 use Rattle.ts_marks.proofs.MarkedLemmas.{stays, child_depth}
 use Rattle.ts_marks.proofs.RemadeLemmas.{below_is, below_can, edges_short, moved_short, next_done, next_within}
-use Rattle.ts_marks.proofs.ElementLemmas.{bytes_within}
+use Rattle.ts_marks.proofs.ElementLemmas.{begin_loosened, next_loosened, all_loosened, none_loosened, next_known, next_count, next_bytes, bytes_within}
 use Rattle.ts_marks.proofs.SkipLemmas.{between_next, between_end, between_within, element_end, begin_done, all_done}
 use Rattle.ts_marks.proofs.marking.+walk.Goals as goal
 
@@ -22,17 +23,20 @@ pub add_changed-returns-then-not-is_reached : goal.add_changed-returns-then-not-
 add_changed-returns-then-not-is_reached t c =
     inl (stays c.args.passed.edit.now c.args.child.now c.args.place c.args.passed.passed.whole c.nodes.ensures.whole (c.is_reached.ensures.settled c.if-not-is_reached.true) (c.is_reached.ensures.unmet c.if-not-is_reached.true), refl)
 
-pub changed_children-changed_one_by_one-requires : goal.changed_children-changed_one_by_one-requires
-changed_children-changed_one_by_one-requires t c = (omega (arith, c.decreases), (c.requires.from, (c.requires.short, c.requires.moved)))
+pub reached_in-reached_one_by_one-requires : goal.reached_in-reached_one_by_one-requires
+reached_in-reached_one_by_one-requires t c = (
+  omega (arith, c.decreases),
+  (omega (arith, c.if-elements-eq0.true, c.elements.ensures.count), (c.requires.from, (c.requires.short, c.requires.moved))),
+)
 
-pub changed_children-changed_in_elements-requires : goal.changed_children-changed_in_elements-requires
-changed_children-changed_in_elements-requires t c = (
+pub reached_in-reached_in_elements-requires : goal.reached_in-reached_in_elements-requires
+reached_in-reached_in_elements-requires t c = (
   omega (arith, c.decreases),
   (omega (arith, c.if-elements-eq0.false, c.elements.ensures.count), (c.requires.from, (c.requires.short, c.requires.moved))),
 )
 
-pub changed_one_by_one-add_children-requires : goal.changed_one_by_one-add_children-requires
-changed_one_by_one-add_children-requires t c =
+pub reached_one_by_one-add_children-requires : goal.reached_one_by_one-add_children-requires
+reached_one_by_one-add_children-requires t c =
     let ks = children_of c.args.node.now in
     let bytes : spans_between 0 c.children-end.result ks ≤ all_spans ks = omega (arith, between_within ks 0 c.children-end.result) in (
       omega (arith, c.decreases),
@@ -51,8 +55,8 @@ changed_one_by_one-add_children-requires t c =
       ),
     )
 
-pub changed_one_by_one-returns-clause-changes : goal.changed_one_by_one-returns-clause-changes
-changed_one_by_one-returns-clause-changes t c =
+pub reached_one_by_one-returns-clause-changes : goal.reached_one_by_one-returns-clause-changes
+reached_one_by_one-returns-clause-changes t c =
     let e = c.args.passed.edit.now in
     let ks = children_of c.args.node.now in
     let start : AreDone e ks c.args.place c.new-changed.result.items 0 c.args.place =
@@ -60,44 +64,61 @@ changed_one_by_one-returns-clause-changes t c =
     all_done e ks c.args.place c.add_children.new.changed.items c.children-end.result (c.args.place + spans_between 0 c.children-end.result ks) (omega (arith, c.children-end.ensures))
     (c.in_ok-add_children.ensures.done c.args.place start)
 
-pub changed_one_by_one-returns-clause-within : goal.changed_one_by_one-returns-clause-within
-changed_one_by_one-returns-clause-within t c =
+pub reached_one_by_one-returns-clause-within : goal.reached_one_by_one-returns-clause-within
+reached_one_by_one-returns-clause-within t c =
     let n = length (children_of c.args.node.now) in
     c.in_ok-add_children.ensures.within
     (subst (λ (cs : List (ℕ × Tree)). All (λ (x : ℕ × Tree). x.0 < n) cs) (sym c.new-changed.ensures.items) (All-nil (λ (x : ℕ × Tree). x.0 < n)))
 
-pub changed_in_elements-returns-clause-changes : goal.changed_in_elements-returns-clause-changes
-changed_in_elements-returns-clause-changes t c =
+pub reached_one_by_one-returns-clause-loose : goal.reached_one_by_one-returns-clause-loose
+reached_one_by_one-returns-clause-loose t c =
+    none_loosened c.args.passed.edit.now (elements_of c.args.node.now) (children_of c.args.node.now) c.args.place c.new-loose.result.items c.requires.none c.new-loose.ensures.items
+
+pub reached_one_by_one-returns-clause-known : goal.reached_one_by_one-returns-clause-known
+reached_one_by_one-returns-clause-known t c =
+    let n = length (elements_of c.args.node.now) in
+    subst (λ (ls : List ℕ). All (λ (k : ℕ). k < n) ls) (sym c.new-loose.ensures.items) (All-nil (λ (k : ℕ). k < n))
+
+pub reached_in_elements-returns-clause-changes : goal.reached_in_elements-returns-clause-changes
+reached_in_elements-returns-clause-changes t c =
     let n = c.args.node.now in
     let own : children_count (elements_of n) ≡ length (children_of n) = some_counted (elements_of n) (children_of n) c.requires.repetition c.elements-end.ensures.own in
     let all : take c.loop-k.k (elements_of n) ≡ elements_of n = take_all c.loop-k.k (elements_of n) (omega (arith, c.loop-k-test.false, c.elements-end.ensures.count)) in
     let count : children_count (take c.loop-k.k (elements_of n)) ≡ children_count (elements_of n) = ap children_count all in
     all_done c.args.passed.edit.now (children_of n) c.args.place c.loop-k.changed.items (children_count (take c.loop-k.k (elements_of n))) (c.args.place + bytes_before c.loop-k.k (stretch_in n)) (omega (arith, own, count)) c.loop-k.invariant.done
 
-pub changed_in_elements-loop-k-init : goal.changed_in_elements-loop-k-init
-changed_in_elements-loop-k-init t c =
+pub reached_in_elements-returns-clause-loose : goal.reached_in_elements-returns-clause-loose
+reached_in_elements-returns-clause-loose t c =
+    all_loosened c.args.passed.edit.now (elements_of c.args.node.now) (children_of c.args.node.now) c.args.place c.loop-k.loose.items c.loop-k.k _ _ (omega (arith, c.loop-k-test.false, c.elements-end.ensures.count)) c.loop-k.invariant.loosened
+
+pub reached_in_elements-loop-k-init : goal.reached_in_elements-loop-k-init
+reached_in_elements-loop-k-init t c =
     let e = c.args.passed.edit.now in
     let n = c.args.node.now in
     let none : bytes_before 0 (stretch_in n) ≡ 0 = refl in
     let start : AreDoneTo e n c.args.place [] 0 = begin_done e (children_of n) c.args.place (c.args.place + bytes_before 0 (stretch_in n)) (omega (arith, none)) in
     let here : AreDoneTo e n c.args.place c.new-changed.result.items 0 = subst (λ (cs : List (ℕ × Tree)). AreDoneTo e n c.args.place cs 0) (sym c.new-changed.ensures.items) start in
+    let first : AreLoosenedTo e n c.args.place [] 0 = begin_loosened e (elements_of n) (children_of n) c.args.place (c.args.place + bytes_before 0 (stretch_in n)) (omega (arith, none)) in
+    let own : AreLoosenedTo e n c.args.place c.new-loose.result.items 0 = subst (λ (ls : List ℕ). AreLoosenedTo e n c.args.place ls 0) (sym c.new-loose.ensures.items) first in
     record {
       edit = refl;
       until = c.first_reached-first.ensures.within;
       from = omega (arith, c.requires.from);
       done = c.first_reached-first.ensures.stay.children c.new-changed.result.items here;
       within = subst (λ (cs : List (ℕ × Tree)). All (λ (x : ℕ × Tree). x.0 < length (children_of n)) cs) (sym c.new-changed.ensures.items) (All-nil (λ (x : ℕ × Tree). x.0 < length (children_of n)));
+      loosened = c.first_reached-first.ensures.stay.elements c.new-loose.result.items own;
+      known = subst (λ (ls : List ℕ). All (λ (i : ℕ). i < length (elements_of n)) ls) (sym c.new-loose.ensures.items) (All-nil (λ (i : ℕ). i < length (elements_of n)));
     }
 
-pub changed_in_elements-overflow_add-at : goal.changed_in_elements-overflow_add-at
-changed_in_elements-overflow_add-at t c =
+pub reached_in_elements-overflow_add-at : goal.reached_in_elements-overflow_add-at
+reached_in_elements-overflow_add-at t c =
     omega (arith, c.offset.ensures, bytes_within (children_of c.args.node.now) (children_count (take c.loop-k.k (elements_of c.args.node.now))), c.requires.short)
 
-pub changed_in_elements-up_to-passed-requires-clause-from : goal.changed_in_elements-up_to-passed-requires-clause-from
-changed_in_elements-up_to-passed-requires-clause-from t c = omega (arith, c.loop-k.invariant.from, c.offset.ensures)
+pub reached_in_elements-up_to-passed-requires-clause-from : goal.reached_in_elements-up_to-passed-requires-clause-from
+reached_in_elements-up_to-passed-requires-clause-from t c = omega (arith, c.loop-k.invariant.from, c.offset.ensures)
 
-pub changed_in_elements-up_to-passed-requires-clause-short : goal.changed_in_elements-up_to-passed-requires-clause-short
-changed_in_elements-up_to-passed-requires-clause-short t c =
+pub reached_in_elements-up_to-passed-requires-clause-short : goal.reached_in_elements-up_to-passed-requires-clause-short
+reached_in_elements-up_to-passed-requires-clause-short t c =
     let n = c.args.node.now in
     let at : c.args.place + c.offset.result ≡ c.args.place + bytes_before c.loop-k.k (stretch_in n) = omega (arith, c.offset.ensures) in
     let s : moved c.args.passed.edit.now (c.args.place + c.offset.result) ≤ most_span =
@@ -105,8 +126,8 @@ changed_in_elements-up_to-passed-requires-clause-short t c =
     (omega (arith, at, bytes_within (children_of n) (children_count (take c.loop-k.k (elements_of n))))) c.requires.moved in
     subst (λ (e : Edit). moved e (c.args.place + c.offset.result) ≤ most_span) (sym c.loop-k.invariant.edit) s
 
-pub changed_in_elements-add_children-requires : goal.changed_in_elements-add_children-requires
-changed_in_elements-add_children-requires t c =
+pub reached_in_elements-add_children-requires : goal.reached_in_elements-add_children-requires
+reached_in_elements-add_children-requires t c =
     let n = c.args.node.now in
     let es = elements_of n in
     let ks = children_of n in
@@ -134,15 +155,15 @@ changed_in_elements-add_children-requires t c =
       ),
     )
 
-pub changed_in_elements-first_reached-k-requires-clause-from : goal.changed_in_elements-first_reached-k-requires-clause-from
-changed_in_elements-first_reached-k-requires-clause-from t c =
+pub reached_in_elements-first_reached-k-requires-clause-from : goal.reached_in_elements-first_reached-k-requires-clause-from
+reached_in_elements-first_reached-k-requires-clause-from t c =
     omega (arith, c.up_to-passed.ensures.from, c.offset.ensures, bytes_rise (stretch_in c.args.node.now) c.loop-k.k (c.loop-k.k + 1) (omega arith))
 
-pub changed_in_elements-loop-k-smaller : goal.changed_in_elements-loop-k-smaller
-changed_in_elements-loop-k-smaller t c = omega (arith, c.loop-k-test.true, c.elements-end.ensures.count, c.first_reached-k.ensures.later)
+pub reached_in_elements-loop-k-smaller : goal.reached_in_elements-loop-k-smaller
+reached_in_elements-loop-k-smaller t c = omega (arith, c.loop-k-test.true, c.elements-end.ensures.count, c.first_reached-k.ensures.later)
 
-pub changed_in_elements-loop-k-preserved : goal.changed_in_elements-loop-k-preserved
-changed_in_elements-loop-k-preserved t c =
+pub reached_in_elements-loop-k-preserved : goal.reached_in_elements-loop-k-preserved
+reached_in_elements-loop-k-preserved t c =
     let e = c.args.passed.edit.now in
     let n = c.args.node.now in
     let es = elements_of n in
@@ -164,6 +185,19 @@ changed_in_elements-loop-k-preserved t c =
     let after : AreDoneTo e n c.args.place new (k + 1) =
     subst (λ (m : ℕ). AreDone e ks c.args.place new (children_count (take (k + 1) es)) m) end
     (subst (λ (m : ℕ). AreDone e ks c.args.place new m (at + spans_between c.children_before-from.result c.children_before-to.result ks)) to (adds.done c.args.place before)) in
+    let d : Element = c.element.result in
+    let off0 : Loosens e d k at c.loop-k.loose.items c.add_loose.new.loose.items =
+    subst (λ (x : Edit). Loosens x d k at c.loop-k.loose.items c.add_loose.new.loose.items) edit c.in_ok-add_loose.ensures in
+    let here = c.args.place + bytes_before k (stretch_in n) in
+    let off : Loosens e d k here c.loop-k.loose.items c.add_loose.new.loose.items = subst (λ (m : ℕ). Loosens e d k m c.loop-k.loose.items c.add_loose.new.loose.items) (sym begin) off0 in
+    let count : children_count (take (k + 1) es) ≡ children_count (take k es) + d.children = next_count es k d c.element.ensures in
+    let bytes : bytes_before (k + 1) (stretch_in n) ≡ bytes_before k (stretch_in n) + all_spans (take d.children (drop (children_count (take k es)) ks)) = next_bytes ks (children_count (take k es)) d.children (children_count (take (k + 1) es)) count in
+    let next : AreLoosened e es ks c.args.place c.add_loose.new.loose.items (k + 1) (children_count (take k es) + d.children) (here + all_spans (take d.children (drop (children_count (take k es)) ks))) =
+    next_loosened e es ks c.args.place c.loop-k.loose.items c.add_loose.new.loose.items k (children_count (take k es)) here d c.loop-k.invariant.loosened c.element.ensures off in
+    let then_at : here + all_spans (take d.children (drop (children_count (take k es)) ks)) ≡ c.args.place + bytes_before (k + 1) (stretch_in n) = omega (arith, bytes) in
+    let loosened_after : AreLoosenedTo e n c.args.place c.add_loose.new.loose.items (k + 1) =
+    subst (λ (m : ℕ). AreLoosened e es ks c.args.place c.add_loose.new.loose.items (k + 1) (children_count (take (k + 1) es)) m) then_at
+    (subst (λ (m : ℕ). AreLoosened e es ks c.args.place c.add_loose.new.loose.items (k + 1) m (here + all_spans (take d.children (drop (children_count (take k es)) ks)))) (sym count) next) in
     let stay : StayTo e n c.args.place (k + 1) c.first_reached-k.result = subst (λ (x : Edit). StayTo x n c.args.place (k + 1) c.first_reached-k.result) edit c.first_reached-k.ensures.stay in
     record {
       edit = edit;
@@ -171,6 +205,8 @@ changed_in_elements-loop-k-preserved t c =
       from = omega (arith, c.up_to-passed.ensures.from, c.offset.ensures, bytes_rise (stretch_in n) k c.first_reached-k.result (omega (arith, c.first_reached-k.ensures.later)));
       done = stay.children new after;
       within = adds.within c.loop-k.invariant.within;
+      loosened = stay.elements c.add_loose.new.loose.items loosened_after;
+      known = next_known e (length es) k at d c.loop-k.loose.items c.add_loose.new.loose.items c.loop-k.invariant.known (omega (arith, c.loop-k-test.true, c.elements-end.ensures.count)) off0;
     }
 
 pub add_children-up_to-passed-requires-clause-short : goal.add_children-up_to-passed-requires-clause-short
@@ -236,8 +272,8 @@ pub remade-moved-own-requires-clause-short : goal.remade-moved-own-requires-clau
 remade-moved-own-requires-clause-short t c =
     subst (λ (n : ℕ). moved c.args.passed.edit.now (c.args.place + n) ≤ most_span) (sym c.pad.ensures) (edges_short c.args.passed.edit.now c.args.node.now c.args.place c.requires.moved).1
 
-pub remade-changed_children-requires : goal.remade-changed_children-requires
-remade-changed_children-requires t c = (
+pub remade-reached_in-requires : goal.remade-reached_in-requires
+remade-reached_in-requires t c = (
   omega (arith, c.decreases),
   (
     c.requires.from,
@@ -247,13 +283,6 @@ remade-changed_children-requires t c = (
     ),
   ),
 )
-
-pub remade-loose_elements-requires-clause-short : goal.remade-loose_elements-requires-clause-short
-remade-loose_elements-requires-clause-short t c = omega (arith, c.requires.short, c.span-whole.ensures.node.sized.within)
-
-pub remade-loose_elements-requires-clause-moved : goal.remade-loose_elements-requires-clause-moved
-remade-loose_elements-requires-clause-moved t c =
-    moved_short c.args.passed.edit.now (c.args.place + all_spans (children_of c.args.node.now)) (c.args.place + span_of c.args.node.now) (omega (arith, c.span-whole.ensures.node.sized.within)) c.requires.moved
 
 pub remade-overflow_sub-own : goal.remade-overflow_sub-own
 remade-overflow_sub-own t c =
@@ -271,9 +300,9 @@ remade-remake-requires-clause-node t c =
     let o : c.moved-own.result ≡ moved c.args.passed.edit.now (c.args.place + pad_of c.args.node.now) = c.moved-own.ensures ∙ ap (λ (n : ℕ). moved c.args.passed.edit.now (c.args.place + n)) c.pad.ensures in
     let e : c.moved-end.result ≡ moved c.args.passed.edit.now (c.args.place + span_of c.args.node.now) = c.moved-end.ensures ∙ ap (λ (n : ℕ). moved c.args.passed.edit.now (c.args.place + n)) c.span-whole.ensures.span in
     let d : replaced c.as_slice.result.now (children_of c.args.node.now) ≡ all_marked c.args.passed.edit.now (children_of c.args.node.now) c.args.place =
-    ap (λ (cs : List (ℕ × Tree)). replaced cs (children_of c.args.node.now)) c.as_slice.ensures.value ∙ c.in_ok-changed.ensures.changes in
+    ap (λ (cs : List (ℕ × Tree)). replaced cs (children_of c.args.node.now)) c.as_slice.ensures.value ∙ c.in_ok-reached.ensures.changes in
     let f : loosened c.as_slice-2.result.now (elements_of c.args.node.now) ≡ marked_elements c.args.passed.edit.now (elements_of c.args.node.now) (children_of c.args.node.now) c.args.place =
-    ap (λ (ks : List ℕ). loosened ks (elements_of c.args.node.now)) c.as_slice-2.ensures.value ∙ c.in_ok-loose.ensures.loose in
+    ap (λ (ks : List ℕ). loosened ks (elements_of c.args.node.now)) c.as_slice-2.ensures.value ∙ c.in_ok-reached.ensures.loose in
     c.remade_is_node.ensures c.args.node.now (c.moved-own.result - c.moved-start.result) (c.moved-end.result - c.moved-own.result) c.as_slice.result.now c.as_slice-2.result.now
     (below_can c.args.passed.edit.now c.args.node.now c.args.place c.moved-start.result c.moved-own.result c.moved-end.result c.as_slice.result.now c.as_slice-2.result.now c.args.passed.passed.whole c.span-whole.ensures.whole c.moved-start.ensures o e d f c.requires.moved)
 
@@ -282,9 +311,9 @@ remade-returns t c =
     let o : c.moved-own.result ≡ moved c.args.passed.edit.now (c.args.place + pad_of c.args.node.now) = c.moved-own.ensures ∙ ap (λ (n : ℕ). moved c.args.passed.edit.now (c.args.place + n)) c.pad.ensures in
     let e : c.moved-end.result ≡ moved c.args.passed.edit.now (c.args.place + span_of c.args.node.now) = c.moved-end.ensures ∙ ap (λ (n : ℕ). moved c.args.passed.edit.now (c.args.place + n)) c.span-whole.ensures.span in
     let d : replaced c.as_slice.result.now (children_of c.args.node.now) ≡ all_marked c.args.passed.edit.now (children_of c.args.node.now) c.args.place =
-    ap (λ (cs : List (ℕ × Tree)). replaced cs (children_of c.args.node.now)) c.as_slice.ensures.value ∙ c.in_ok-changed.ensures.changes in
+    ap (λ (cs : List (ℕ × Tree)). replaced cs (children_of c.args.node.now)) c.as_slice.ensures.value ∙ c.in_ok-reached.ensures.changes in
     let f : loosened c.as_slice-2.result.now (elements_of c.args.node.now) ≡ marked_elements c.args.passed.edit.now (elements_of c.args.node.now) (children_of c.args.node.now) c.args.place =
-    ap (λ (ks : List ℕ). loosened ks (elements_of c.args.node.now)) c.as_slice-2.ensures.value ∙ c.in_ok-loose.ensures.loose in
+    ap (λ (ks : List ℕ). loosened ks (elements_of c.args.node.now)) c.as_slice-2.ensures.value ∙ c.in_ok-reached.ensures.loose in
     let is : remade c.args.node.now (c.moved-own.result - c.moved-start.result) (c.moved-end.result - c.moved-own.result) c.as_slice.result.now c.as_slice-2.result.now ≡ marked_below c.args.passed.edit.now c.args.node.now c.args.place =
     below_is c.args.passed.edit.now c.args.node.now c.args.place c.moved-start.result c.moved-own.result c.moved-end.result c.as_slice.result.now c.as_slice-2.result.now c.moved-start.ensures o e d f c.requires.reached in
     IfOk-weaker c.remake.result _ _ (λ x h. h ∙ is) c.remake.ensures

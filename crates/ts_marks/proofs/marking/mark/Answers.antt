@@ -24,13 +24,8 @@ moved-end-requires-clause-short c =
     subst (λ (e : Edit). moved e c.span-whole.result ≤ most_span) (sym c.start-start.ensures.edit)
     (moved_short c.args.edit.now c.span-whole.result (span_of c.args.tree.now) (omega (arith, c.span-whole.ensures.span)) (edit_short (span_of c.args.tree.now) c.args.edit.now c.requires))
 
-pub changed_children-requires-clause-moved : goal.changed_children-requires-clause-moved
-changed_children-requires-clause-moved c =
-    subst (λ (e : Edit). moved e (c.lead-first.result + all_spans (children_of c.args.tree.now)) ≤ most_span) (sym c.start-start.ensures.edit)
-    (moved_short c.args.edit.now (c.lead-first.result + all_spans (children_of c.args.tree.now)) (span_of c.args.tree.now) (omega (arith, c.lead-first.ensures, c.span-whole.ensures.node.sized.within)) (edit_short (span_of c.args.tree.now) c.args.edit.now c.requires))
-
-pub loose_elements-requires-clause-moved : goal.loose_elements-requires-clause-moved
-loose_elements-requires-clause-moved c =
+pub reached_in-requires-clause-moved : goal.reached_in-requires-clause-moved
+reached_in-requires-clause-moved c =
     subst (λ (e : Edit). moved e (c.lead-first.result + all_spans (children_of c.args.tree.now)) ≤ most_span) (sym c.start-start.ensures.edit)
     (moved_short c.args.edit.now (c.lead-first.result + all_spans (children_of c.args.tree.now)) (span_of c.args.tree.now) (omega (arith, c.lead-first.ensures, c.span-whole.ensures.node.sized.within)) (edit_short (span_of c.args.tree.now) c.args.edit.now c.requires))
 
@@ -45,10 +40,10 @@ remake-requires-clause-node c =
     let o : c.moved-own.result ≡ moved c.args.edit.now (pad_of c.args.tree.now) = c.moved-own.ensures ∙ ap (λ (e : Edit). moved e c.pad.result) c.start-start.ensures.edit ∙ ap (λ (n : ℕ). moved c.args.edit.now n) c.pad.ensures in
     let e : c.moved-end.result ≡ moved c.args.edit.now (span_of c.args.tree.now) = c.moved-end.ensures ∙ ap (λ (e : Edit). moved e c.span-whole.result) c.start-start.ensures.edit ∙ ap (λ (n : ℕ). moved c.args.edit.now n) c.span-whole.ensures.span in
     let d : replaced c.as_slice.result.now (children_of c.args.tree.now) ≡ all_marked c.args.edit.now (children_of c.args.tree.now) (lead_of c.args.tree.now) =
-    ap (λ (cs : List (ℕ × Tree)). replaced cs (children_of c.args.tree.now)) c.as_slice.ensures.value ∙ c.in_ok-changed.ensures.changes
+    ap (λ (cs : List (ℕ × Tree)). replaced cs (children_of c.args.tree.now)) c.as_slice.ensures.value ∙ c.in_ok-reached.ensures.changes
     ∙ ap (λ (e : Edit). all_marked e (children_of c.args.tree.now) c.lead-first.result) c.start-start.ensures.edit ∙ ap (λ (n : ℕ). all_marked c.args.edit.now (children_of c.args.tree.now) n) c.lead-first.ensures in
     let f : loosened c.as_slice-2.result.now (elements_of c.args.tree.now) ≡ marked_elements c.args.edit.now (elements_of c.args.tree.now) (children_of c.args.tree.now) (lead_of c.args.tree.now) =
-    ap (λ (ks : List ℕ). loosened ks (elements_of c.args.tree.now)) c.as_slice-2.ensures.value ∙ c.in_ok-loose.ensures.loose
+    ap (λ (ks : List ℕ). loosened ks (elements_of c.args.tree.now)) c.as_slice-2.ensures.value ∙ c.in_ok-reached.ensures.loose
     ∙ ap (λ (x : Edit). marked_elements x (elements_of c.args.tree.now) (children_of c.args.tree.now) c.lead-first.result) c.start-start.ensures.edit
     ∙ ap (λ (n : ℕ). marked_elements c.args.edit.now (elements_of c.args.tree.now) (children_of c.args.tree.now) n) c.lead-first.ensures in
     c.remade_is_node.ensures c.args.tree.now c.moved-own.result (c.moved-end.result - c.moved-own.result) c.as_slice.result.now c.as_slice-2.result.now
@@ -59,10 +54,10 @@ returns c =
     let o : c.moved-own.result ≡ moved c.args.edit.now (pad_of c.args.tree.now) = c.moved-own.ensures ∙ ap (λ (e : Edit). moved e c.pad.result) c.start-start.ensures.edit ∙ ap (λ (n : ℕ). moved c.args.edit.now n) c.pad.ensures in
     let e : c.moved-end.result ≡ moved c.args.edit.now (span_of c.args.tree.now) = c.moved-end.ensures ∙ ap (λ (e : Edit). moved e c.span-whole.result) c.start-start.ensures.edit ∙ ap (λ (n : ℕ). moved c.args.edit.now n) c.span-whole.ensures.span in
     let d : replaced c.as_slice.result.now (children_of c.args.tree.now) ≡ all_marked c.args.edit.now (children_of c.args.tree.now) (lead_of c.args.tree.now) =
-    ap (λ (cs : List (ℕ × Tree)). replaced cs (children_of c.args.tree.now)) c.as_slice.ensures.value ∙ c.in_ok-changed.ensures.changes
+    ap (λ (cs : List (ℕ × Tree)). replaced cs (children_of c.args.tree.now)) c.as_slice.ensures.value ∙ c.in_ok-reached.ensures.changes
     ∙ ap (λ (e : Edit). all_marked e (children_of c.args.tree.now) c.lead-first.result) c.start-start.ensures.edit ∙ ap (λ (n : ℕ). all_marked c.args.edit.now (children_of c.args.tree.now) n) c.lead-first.ensures in
     let f : loosened c.as_slice-2.result.now (elements_of c.args.tree.now) ≡ marked_elements c.args.edit.now (elements_of c.args.tree.now) (children_of c.args.tree.now) (lead_of c.args.tree.now) =
-    ap (λ (ks : List ℕ). loosened ks (elements_of c.args.tree.now)) c.as_slice-2.ensures.value ∙ c.in_ok-loose.ensures.loose
+    ap (λ (ks : List ℕ). loosened ks (elements_of c.args.tree.now)) c.as_slice-2.ensures.value ∙ c.in_ok-reached.ensures.loose
     ∙ ap (λ (x : Edit). marked_elements x (elements_of c.args.tree.now) (children_of c.args.tree.now) c.lead-first.result) c.start-start.ensures.edit
     ∙ ap (λ (n : ℕ). marked_elements c.args.edit.now (elements_of c.args.tree.now) (children_of c.args.tree.now) n) c.lead-first.ensures in
     let is : remade c.args.tree.now c.moved-own.result (c.moved-end.result - c.moved-own.result) c.as_slice.result.now c.as_slice-2.result.now ≡ marked c.args.edit.now c.args.tree.now =
