@@ -173,6 +173,10 @@ loosened_is_set [] k there = absurd (omega (arith, there))
 loosened_is_set (e ∷ es) zero there = refl
 loosened_is_set (e ∷ es) (suc k) there = ap (λ (l : List Element). e ∷ l) (loosened_is_set es k (omega (arith, there)))
 
+-- where an element is set to the same one, not settled
+pub loosened_by_set : (es new : List Element) (k : ℕ) (other : Element) → k < length es → new ≡ set es k other → other ≡ loose_element (get_or es k blank) → new ≡ loosened_at k es
+loosened_by_set es new k other there is other_is = is ∙ ap (λ (e : Element). set es k e) other_is ∙ sym (loosened_is_set es k there)
+
 loosened_append_left : (xs ys : List Element) (k : ℕ) → k < length xs → loosened_at k (xs ++ ys) ≡ loosened_at k xs ++ ys
 loosened_append_left [] ys k h = absurd (omega (arith, h))
 loosened_append_left (x ∷ xs) ys zero h = refl
@@ -194,6 +198,14 @@ pub loosened_right : (s t w : Stretch) (k : ℕ) → joined_stretch s t ≡ w �
 loosened_right s t w k e h =
     ap (λ (l : List Element). stretch l (s.children ++ t.children)) (sym (loosened_append_right s.elements t.elements k h))
     ∙ ap (λ (v : Stretch). loosened_stretch v k) e
+
+-- ---- one child replaced, and one element not settled
+
+pub both_left : (s t w : Stretch) (k : ℕ) (child : Tree) (e : ℕ) → joined_stretch s t ≡ w → k < length s.children → e < length s.elements → joined_stretch (loosened_stretch (changed s k child) e) t ≡ loosened_stretch (changed w k child) e
+both_left s t w k child e v h i = loosened_left (changed s k child) t (changed w k child) e (changed_left s t w k child v h) i
+
+pub both_right : (s t w : Stretch) (k : ℕ) (child : Tree) (e : ℕ) → joined_stretch s t ≡ w → length s.children ≤ k → length s.elements ≤ e → joined_stretch s (loosened_stretch (changed t (k - length s.children) child) (e - length s.elements)) ≡ loosened_stretch (changed w k child) e
+both_right s t w k child e v h i = loosened_right s (changed t (k - length s.children) child) (changed w k child) e (changed_right s t w k child v h) i
 
 -- what a section of these says of itself
 pub section_tells : (c : Counts) (s : Stretch) → IsCount c s → IsSection s

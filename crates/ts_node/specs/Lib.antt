@@ -5,3 +5,4 @@ pub mod Standing
 pub mod Leaves
 pub mod Kinds
 pub mod Places
+pub mod Sides

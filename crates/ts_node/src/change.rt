@@ -1,8 +1,8 @@
 //! What an edit leaves of a node: a node, its new pad and size and its changed children go in, and
 //! the node with these, not settled, comes out.
-ghost use Rattle.std.specs.Prelude.{◌≡◌, ◌+◌, ◌<◌, ◌^◌, false, All, IfOk, length};
+ghost use Rattle.std.specs.Prelude.{◌≡◌, ◌+◌, ◌<◌, ◌^◌, false, All, IfOk, length, set};
 ghost use Rattle.spec_trees.specs.Trees.{children_of, elements_of};
-ghost use Rattle.spec_trees.specs.Made.{loosened, remade, replaced, IsNode};
+ghost use Rattle.spec_trees.specs.Made.{loosened, loosened_at, remade, replaced, IsNode};
 ghost use Rattle.ts_node.specs.Held.{stretch};
 
 use crate::node::{Kind, Node, Repetition, RuleNode, Run, Summary, Sums};
@@ -146,8 +146,27 @@ fn remade_run(
     ensures { IfOk result (λ new. new
         ≡ stretch (loosened loose.now run.now.elements) (replaced changed.now run.now.children)) }
 {
+    if changed.len() == 1 && loose.len() == 1 {
+        return run_with_one(alloc, run, &changed[0], loose[0]);
+    }
     let over = run_with_changes(alloc, run, changed)?;
     run_loosened(alloc, &over, loose)
+}
+
+/// The run with one of its children replaced, and one of its elements not settled.
+fn run_with_one(
+    alloc: Global,
+    run: &Shared<Run>,
+    change: &(u32, Node),
+    e: u32,
+) -> Result<Shared<Run>, AllocError>
+    requires within { change.now.0 < length run.now.children }
+    requires known { e < length run.now.elements }
+    ensures { IfOk result (λ new. new ≡ stretch (loosened_at e run.now.elements)
+        (set run.now.children change.now.0 change.now.1)) }
+{
+    let (k, node) = change;
+    Run::with_both(alloc, run, *k, node.try_clone()?, e)
 }
 
 /// The run with those of its children replaced.

@@ -5,6 +5,7 @@ ghost use Rattle.spec_trees.specs.declared.tree.Stretch.{Stretch};
 ghost use Rattle.spec_trees.specs.Trees.{first_pad};
 ghost use Rattle.spec_trees.specs.Made.{children_count, loose_element, loosened_at};
 ghost use Rattle.ts_node.specs.Held.{joined_stretch, stretch, changed, loosened_stretch, IsCount};
+ghost use Rattle.ts_node.specs.Sides.{IsSideOf};
 
 use crate::counts::{both, count, counts_of_one, together};
 use crate::node::{Counts, Node, Run, Shape};
@@ -544,6 +545,68 @@ impl Run {
         }
     }
 
+    /// The run with another child at `k`, and the element at `e` not settled. A part in which both
+    /// lie is copied once.
+    pub(crate) fn with_both(
+        alloc: Global,
+        run: &Shared<Run>,
+        k: u32,
+        child: Node,
+        e: u32,
+    ) -> Result<Shared<Run>, AllocError>
+        requires child { k < length run.now.children }
+        requires element { e < length run.now.elements }
+        ensures { IfOk result (λ new. new ≡ loosened_stretch (changed run.now k child) e) }
+    {
+        let _ = run.get().counts();
+        match &run.get().shape {
+            Shape::Leaf(elements, children) => {
+                Run::leaf_with_both(alloc, elements.as_slice(), children.as_slice(), k, child, e)
+            }
+            Shape::Branch(left, right) => {
+                let low = left.get().counts();
+                let _ = right.get().counts();
+                match side_of(low, k, e) {
+                    Side::Left => {
+                        let new = Run::with_both(alloc, left, k, child, e)?;
+                        Run::branch(alloc, new, right.try_clone()?)
+                    }
+                    Side::Right => {
+                        let (j, d) = (k - low.children, e - low.elements);
+                        let new = Run::with_both(alloc, right, j, child, d)?;
+                        Run::branch(alloc, left.try_clone()?, new)
+                    }
+                    Side::Both => {
+                        let over = Run::with_child(alloc, run, k, child)?;
+                        Run::with_loose(alloc, &over, e)
+                    }
+                }
+            }
+        }
+    }
+
+    /// A leaf of these, with another child at `k`, and the element at `e` not settled.
+    fn leaf_with_both(
+        alloc: Global,
+        elements: &[Element],
+        children: &[Node],
+        k: u32,
+        child: Node,
+        e: u32,
+    ) -> Result<Shared<Run>, AllocError>
+        requires child { k < length children.now }
+        requires element { e < length elements.now }
+        requires own { children_count elements.now ≡ length children.now }
+        requires fits { length elements.now < 2 ^ 32 }
+        requires wide { length children.now < 2 ^ 32 }
+        ensures { IfOk result (λ run. run
+            ≡ stretch (loosened_at e elements.now) (set children.now k child)) }
+    {
+        let kept = with_other(alloc, elements, e, loose(elements[e as usize]))?;
+        let nodes = with_node(alloc, children, k, child)?;
+        Run::leaf(alloc, kept, nodes)
+    }
+
     /// A leaf of these, with the element at `k` not settled.
     fn leaf_loosened(
         alloc: Global,
@@ -604,6 +667,27 @@ impl Run {
     }
 }
 
+/// The part of a branch in which a child and an element lie.
+enum Side {
+    Left,
+    Right,
+    Both,
+}
+
+/// The part of a branch in which the child at `k` and the element at `e` lie, where so much is
+/// counted of its left part.
+fn side_of(low: Counts, k: u32, e: u32) -> Side
+    ensures { IsSideOf low k e result }
+{
+    if k < low.children && e < low.elements {
+        Side::Left
+    } else if k >= low.children && e >= low.elements {
+        Side::Right
+    } else {
+        Side::Both
+    }
+}
+
 /// Whether both are small enough to be one leaf.
 fn fit_one_leaf(left: &Run, right: &Run) -> bool {
     size(left) + size(right) <= MOST_IN_LEAF
@@ -659,6 +743,18 @@ fn with_other(
 {
     let mut kept = List::with_capacity(alloc, elements.len())?;
     copy_elements(elements, &mut kept)?;
+    let mut kept = kept.into_vec();
+    kept[k as usize] = other;
+    Ok(List::from_vec(kept))
+}
+
+/// The nodes, shared, with another at `k`.
+fn with_node(alloc: Global, nodes: &[Node], k: u32, other: Node) -> Result<List<Node>, AllocError>
+    requires { k < length nodes.now }
+    ensures { IfOk result (λ new. new ≡ set nodes.now k other) }
+{
+    let mut kept = List::with_capacity(alloc, nodes.len())?;
+    copy(nodes, &mut kept)?;
     let mut kept = kept.into_vec();
     kept[k as usize] = other;
     Ok(List::from_vec(kept))
