@@ -2,6 +2,7 @@ mod AskLemmas
 mod BeginLemmas
 mod DoesLemmas
 mod EndLemmas
+mod FindLemmas
 mod JournalLemmas
 mod LoopLemmas
 mod NextLemmas
@@ -9,6 +10,7 @@ mod OrderLemmas
 mod ReplyLemmas
 mod RunningLemmas
 mod ScriptLemmas
+mod SightLemmas
 mod StartLemmas
 mod StepLemmas
 mod ToldLemmas

@@ -5,10 +5,12 @@ ghost use Rattle.ts_base.specs.Bytes.{Bytes};
 ghost use Rattle.ts_lexer.specs.Lexers.{IsLexerOf};
 ghost use Rattle.ts_script.specs.declared.plan.Plan.{Plan as AnyPlan};
 ghost use Rattle.ts_replay.specs.Running.{CanRun, IsRunAt, HasNext, steps_left, AreDone, SameOthers, MayTakeStep, IsStepTaken};
+ghost use Rattle.ts_replay.specs.Sights.{StandsFor};
 
 use crate::begun::Asker;
 use crate::counting::document_of;
 use crate::document::{Client, Document};
+use crate::sighted::Sighted;
 use crate::stepping::answer;
 use spec_history::Finder;
 use std::alloc::Global;
@@ -38,15 +40,19 @@ pub(crate) fn run<F: Finder>(
         → IsRunAt (F.finds finder.now) plan openings order.now [] table.now
         documents.new.items clients.new.items }
 {
-    take_all(alloc, table, finder, lexer, documents, clients, order);
-    take_rest(alloc, table, finder, lexer, documents, clients);
+    let mut kept = None;
+    take_all(
+        alloc, table, finder, &mut kept, lexer, documents, clients, order,
+    );
+    take_rest(alloc, table, finder, &mut kept, lexer, documents, clients);
 }
 
 /// Runs the next step of each client in the order, where it has one.
-fn take_all<F: Finder>(
+fn take_all<'f, F: Finder>(
     alloc: Global,
     table: &Table,
-    finder: &F,
+    finder: &'f F,
+    kept: &mut Option<Sighted<'f>>,
     lexer: &mut Lexer,
     documents: &mut Vec<Document>,
     clients: &mut Vec<Client>,
@@ -54,9 +60,11 @@ fn take_all<F: Finder>(
 )
     requires lexer { IsLexerOf lexer.old table.now }
     requires form { F.form finder.now ≡ table.now.grammar }
+    requires kept { StandsFor (F.form finder.now) kept.old }
     requires can { CanRun (F.finds finder.now) (F.count finder.now) table.now
         documents.old.items clients.old.items }
     ensures lexer { IsLexerOf lexer.new table.now }
+    ensures kept { StandsFor (F.form finder.now) kept.new }
     ensures can { CanRun (F.finds finder.now) (F.count finder.now) table.now
         documents.new.items clients.new.items }
     ensures runs { (plan : AnyPlan) (openings : AnyList Bytes)
@@ -70,6 +78,7 @@ fn take_all<F: Finder>(
             alloc,
             table,
             finder,
+            kept,
             lexer,
             documents,
             clients,
@@ -79,16 +88,18 @@ fn take_all<F: Finder>(
 }
 
 /// Runs all steps that are left, the first client's first.
-fn take_rest<F: Finder>(
+fn take_rest<'f, F: Finder>(
     alloc: Global,
     table: &Table,
-    finder: &F,
+    finder: &'f F,
+    kept: &mut Option<Sighted<'f>>,
     lexer: &mut Lexer,
     documents: &mut Vec<Document>,
     clients: &mut Vec<Client>,
 )
     requires lexer { IsLexerOf lexer.old table.now }
     requires form { F.form finder.now ≡ table.now.grammar }
+    requires kept { StandsFor (F.form finder.now) kept.old }
     requires can { CanRun (F.finds finder.now) (F.count finder.now) table.now
         documents.old.items clients.old.items }
     ensures lexer { IsLexerOf lexer.new table.now }
@@ -100,15 +111,18 @@ fn take_rest<F: Finder>(
         documents.new.items clients.new.items }
 {
     for client in 0..clients.len() {
-        take_own(alloc, table, finder, lexer, documents, clients, client);
+        take_own(
+            alloc, table, finder, kept, lexer, documents, clients, client,
+        );
     }
 }
 
 /// Runs the next step of a client, if there is one.
-fn take_next<F: Finder>(
+fn take_next<'f, F: Finder>(
     alloc: Global,
     table: &Table,
-    finder: &F,
+    finder: &'f F,
+    kept: &mut Option<Sighted<'f>>,
     lexer: &mut Lexer,
     documents: &mut Vec<Document>,
     clients: &mut Vec<Client>,
@@ -116,9 +130,11 @@ fn take_next<F: Finder>(
 )
     requires lexer { IsLexerOf lexer.old table.now }
     requires form { F.form finder.now ≡ table.now.grammar }
+    requires kept { StandsFor (F.form finder.now) kept.old }
     requires can { CanRun (F.finds finder.now) (F.count finder.now) table.now
         documents.old.items clients.old.items }
     ensures lexer { IsLexerOf lexer.new table.now }
+    ensures kept { StandsFor (F.form finder.now) kept.new }
     ensures can { CanRun (F.finds finder.now) (F.count finder.now) table.now
         documents.new.items clients.new.items }
     ensures runs { (plan : AnyPlan) (openings : AnyList Bytes) (order rest : AnyList ℕ)
@@ -128,15 +144,18 @@ fn take_next<F: Finder>(
         documents.new.items clients.new.items }
 {
     if has_next(clients, client) {
-        take_step(alloc, table, finder, lexer, documents, clients, client);
+        take_step(
+            alloc, table, finder, kept, lexer, documents, clients, client,
+        );
     }
 }
 
 /// Runs all steps of a client that are left.
-fn take_own<F: Finder>(
+fn take_own<'f, F: Finder>(
     alloc: Global,
     table: &Table,
-    finder: &F,
+    finder: &'f F,
+    kept: &mut Option<Sighted<'f>>,
     lexer: &mut Lexer,
     documents: &mut Vec<Document>,
     clients: &mut Vec<Client>,
@@ -144,10 +163,12 @@ fn take_own<F: Finder>(
 )
     requires lexer { IsLexerOf lexer.old table.now }
     requires form { F.form finder.now ≡ table.now.grammar }
+    requires kept { StandsFor (F.form finder.now) kept.old }
     requires can { CanRun (F.finds finder.now) (F.count finder.now) table.now
         documents.old.items clients.old.items }
     requires before { AreDone clients.old.items client }
     ensures lexer { IsLexerOf lexer.new table.now }
+    ensures kept { StandsFor (F.form finder.now) kept.new }
     ensures can { CanRun (F.finds finder.now) (F.count finder.now) table.now
         documents.new.items clients.new.items }
     ensures count { length clients.new.items ≡ length clients.old.items }
@@ -159,7 +180,9 @@ fn take_own<F: Finder>(
         documents.new.items clients.new.items }
 {
     while has_next(clients, client) {
-        take_step(alloc, table, finder, lexer, documents, clients, client);
+        take_step(
+            alloc, table, finder, kept, lexer, documents, clients, client,
+        );
     }
 }
 
@@ -171,10 +194,11 @@ fn has_next(clients: &Vec<Client>, client: usize) -> bool
 }
 
 /// Runs the next step of a client.
-fn take_step<F: Finder>(
+fn take_step<'f, F: Finder>(
     alloc: Global,
     table: &Table,
-    finder: &F,
+    finder: &'f F,
+    kept: &mut Option<Sighted<'f>>,
     lexer: &mut Lexer,
     documents: &mut Vec<Document>,
     clients: &mut Vec<Client>,
@@ -182,10 +206,12 @@ fn take_step<F: Finder>(
 )
     requires lexer { IsLexerOf lexer.old table.now }
     requires form { F.form finder.now ≡ table.now.grammar }
+    requires kept { StandsFor (F.form finder.now) kept.old }
     requires can { CanRun (F.finds finder.now) (F.count finder.now) table.now
         documents.old.items clients.old.items }
     requires next { HasNext clients.old.items client }
     ensures lexer { IsLexerOf lexer.new table.now }
+    ensures kept { StandsFor (F.form finder.now) kept.new }
     ensures can { CanRun (F.finds finder.now) (F.count finder.now) table.now
         documents.new.items clients.new.items }
     ensures count { length clients.new.items ≡ length clients.old.items }
@@ -202,6 +228,7 @@ fn take_step<F: Finder>(
         alloc,
         table,
         finder,
+        kept,
         lexer,
         documents,
         &mut clients[client],
@@ -210,10 +237,11 @@ fn take_step<F: Finder>(
 }
 
 /// Runs the next step of the client of this number.
-fn step_of<F: Finder>(
+fn step_of<'f, F: Finder>(
     alloc: Global,
     table: &Table,
-    finder: &F,
+    finder: &'f F,
+    kept: &mut Option<Sighted<'f>>,
     lexer: &mut Lexer,
     documents: &mut Vec<Document>,
     client: &mut Client,
@@ -221,8 +249,10 @@ fn step_of<F: Finder>(
 )
     requires lexer { IsLexerOf lexer.old table.now }
     requires form { F.form finder.now ≡ table.now.grammar }
+    requires kept { StandsFor (F.form finder.now) kept.old }
     requires may { MayTakeStep (F.count finder.now) table.now documents.old.items client.old }
     ensures lexer { IsLexerOf lexer.new table.now }
+    ensures kept { StandsFor (F.form finder.now) kept.new }
     ensures taken { IsStepTaken (F.finds finder.now) number
         documents.old.items client.old documents.new.items client.new }
 {
@@ -237,6 +267,7 @@ fn step_of<F: Finder>(
         alloc,
         table,
         finder,
+        kept,
         lexer,
         &mut documents[place],
         &mut client.held[place],

@@ -1,26 +1,28 @@
 //! One step of a client on its document: the document, the version that the client holds and the
 //! step go in; the reply comes out, and the document and the held version are changed.
-ghost use Rattle.std.specs.Prelude.{◌≡◌, ℕ, ◌<◌, All, length, IfOk};
+ghost use Rattle.std.specs.Prelude.{◌≡◌, ℕ, ◌<◌, length, IfOk};
 ghost use Rattle.ts_shelf.specs.Entries.{RisesWithin};
 ghost use Rattle.ts_text.specs.declared.edit.Edit.{Edit as AnyEdit};
 ghost use Rattle.ts_docs.specs.Steps.{newest};
 ghost use Rattle.ts_docs.specs.Versions.{Drafts, IsOfTable};
 ghost use Rattle.ts_lexer.specs.Lexers.{IsLexerOf};
 ghost use Rattle.ts_script.specs.declared.plan.ScriptStep.TheVariants as script_step;
-ghost use Rattle.spec_runs.specs.Outcomes.{tree_outcome, Fresh};
 ghost use Rattle.spec_history.specs.Legal.{CanEdit};
 ghost use Rattle.ts_replay.specs.Replays.{AsksAmong};
-ghost use Rattle.ts_replay.specs.Steps.{Place, place, MayStep, NeedsRoom, DoesStep, Does};
+ghost use Rattle.ts_replay.specs.Sights.{StandsFor};
+ghost use Rattle.ts_replay.specs.Steps.{place, MayStep, NeedsRoom, DoesStep, Does};
 
 use crate::beginning::begin;
 use crate::begun::{Asker, Begun};
 use crate::document::Document;
+use crate::finding::found;
+use crate::keeping::keep_for;
+use crate::sighted::Sighted;
 use spec_history::Finder;
 use std::alloc::{AllocError, Global};
 use ts_base::Shared;
 use ts_docs::{Draft, Event, Told, Version, step};
 use ts_lexer::Lexer;
-use ts_node::Node;
 use ts_replies::Reply;
 use ts_script::ScriptStep;
 use ts_shelf::{Offered, Seen};
@@ -29,11 +31,13 @@ use ts_table::Table;
 /// How many looks an await makes at most.
 const MOST_LOOKS: u64 = 10_000_000;
 
-/// Does a step. Out of memory is its reply, and then nothing is changed.
-pub(crate) fn answer<F: Finder>(
+/// Does a step. Out of memory is its reply, and then nothing is changed. The visible tree of a
+/// version is kept from a step that asks queries for the next one that does.
+pub(crate) fn answer<'f, F: Finder>(
     alloc: Global,
     table: &Table,
-    finder: &F,
+    finder: &'f F,
+    kept: &mut Option<Sighted<'f>>,
     lexer: &mut Lexer,
     document: &mut Document,
     held: &mut Shared<Version>,
@@ -46,18 +50,21 @@ pub(crate) fn answer<F: Finder>(
     requires room { NeedsRoom step.now document.old.book.room }
     requires form { F.form finder.now ≡ table.now.grammar }
     requires asks { AsksAmong (F.count finder.now) step.now }
+    requires kept { StandsFor (F.form finder.now) kept.old }
     ensures lexer { IsLexerOf lexer.new table.now }
+    ensures kept { StandsFor (F.form finder.now) kept.new }
     ensures does { Does (F.finds finder.now) asker.client asker.number
         (place document.old.turn document.old.book held.old) step.now result
         (place document.new.turn document.new.book held.new) }
 {
+    keep_for(kept, step);
     let base = held.get();
     match begin(alloc, table, lexer, base, base.number(), asker, step) {
         Begun::Told(reply) => reply,
         Begun::Offer { draft, made } => offer(document, held, draft, made),
         Begun::Look => look(document, held),
         Begun::Await(wanted) => wait(document, held, wanted),
-        Begun::Ask { root, queries } => found(alloc, finder, base, root, queries),
+        Begun::Ask { root, queries } => found(alloc, finder, kept, held, root, queries),
     }
 }
 
@@ -181,27 +188,5 @@ fn see(document: &mut Document) -> Result<Seen<Shared<Version>>, AllocError>
         Ok(Told::Seen(seen)) => Ok(seen),
         Ok(Told::Offered(_)) => unreachable!(),
         Err(fault) => Err(fault),
-    }
-}
-
-/// What queries find in the tree of the held version.
-fn found<F: Finder>(
-    alloc: Global,
-    finder: &F,
-    held: &Version,
-    root: &Node,
-    queries: &[u32],
-) -> Reply
-    requires form { F.form finder.now ≡ held.now.table.grammar }
-    requires fresh { Fresh held.now.table.grammar held.now.text (tree_outcome root.now) }
-    requires there { All (λ (number : ℕ). number < F.count finder.now) queries.now }
-    ensures does { (client number at : ℕ) (before : Place) → before.held ≡ held.now
-        → Does (F.finds finder.now) client number before (script_step.Query at queries.now) result
-        before }
-{
-    let version = held.number();
-    match finder.find(alloc, held.text(), root, queries) {
-        Ok(results) => Reply::Results { results, version },
-        Err(_) => Reply::Memory { version },
     }
 }

@@ -6,6 +6,7 @@ use Rattle.ts_replay.proofs.running.take_all.Goals as goal
 pub loop-client-preserved : goal.loop-client-preserved
 loop-client-preserved g c = record {
   lexer = c.take_next.ensures.lexer;
+  kept = c.take_next.ensures.kept;
   can = c.take_next.ensures.can;
   runs = λ plan openings at.
       let there : c.loop-client.client-index < length c.args.order.now = search rules in

@@ -8,6 +8,7 @@ take_step-requires-clause-next g c = c.has_next.ensures.0 c.loop-alloc-test.true
 pub loop-alloc-preserved : goal.loop-alloc-preserved
 loop-alloc-preserved g c = record {
   lexer = c.take_step.ensures.lexer;
+  kept = c.take_step.ensures.kept;
   can = c.take_step.ensures.can;
   count = c.take_step.ensures.count ∙ c.loop-alloc.invariant.count;
   others = λ k other. c.take_step.ensures.others k other ∙ c.loop-alloc.invariant.others k other;

@@ -1,4 +1,5 @@
-use Rattle.std.proofs.Common.{◌∙◌, sym, ap, subst}
+use Rattle.std.proofs.Common.{◌∙◌, sym, ap, refl, subst}
+use Rattle.spec_runs.specs.Outcomes.{tree_outcome, Fresh}
 use Rattle.ts_table.specs.declared.view.ParseTable.{ParseTable}
 use Rattle.ts_docs.specs.declared.parsed.ParsedText.{ParsedText}
 use Rattle.ts_docs.specs.Versions.{Drafts}
@@ -48,10 +49,10 @@ returns-in-Await-clause-does g c =
     (c.wait.ensures.does c.args.asker.client c.args.asker.number b.0)
 
 pub found-requires-clause-form : goal.found-requires-clause-form
-found-requires-clause-form g c = c.requires.form ∙ sym (ap (λ (t : ParseTable). t.grammar) (ap (λ (v : ParsedText). v.table) c.get-base.ensures ∙ c.requires.table))
+found-requires-clause-form g c = c.requires.form ∙ sym (ap (λ (t : ParseTable). t.grammar) c.requires.table)
 
 pub found-requires-clause-fresh : goal.found-requires-clause-fresh
-found-requires-clause-fresh g c = c.in-Ask.ensures.begins.fresh
+found-requires-clause-fresh g c = subst (λ (v : ParsedText). Fresh v.table.grammar v.text (tree_outcome c.in-Ask.root.now)) c.get-base.ensures c.in-Ask.ensures.begins.fresh
 
 pub found-requires-clause-there : goal.found-requires-clause-there
 found-requires-clause-there g c = subst (AsksAmong (g.F.Finder.count c.args.finder.now)) c.in-Ask.ensures.begins.step_is c.requires.asks
@@ -61,4 +62,19 @@ returns-in-Ask-clause-does g c =
     let p = place c.args.document.now.turn c.args.document.now.book c.args.held.now in
     let b = c.in-Ask.ensures.begins in
     subst (λ (s : ScriptStep). Does (g.F.Finder.finds c.args.finder.now) c.args.asker.client c.args.asker.number p s c.found.result p) (sym b.step_is)
-    (c.found.ensures.does c.args.asker.client c.args.asker.number b.document p (sym c.get-base.ensures))
+    (c.found.ensures.does c.args.asker.client c.args.asker.number b.document p refl)
+
+pub found-requires-clause-kept : goal.found-requires-clause-kept
+found-requires-clause-kept g c = c.keep_for.ensures (g.F.Finder.form c.args.finder.now) c.requires.kept
+
+pub returns-in-Told-clause-kept : goal.returns-in-Told-clause-kept
+returns-in-Told-clause-kept g c = c.keep_for.ensures (g.F.Finder.form c.args.finder.now) c.requires.kept
+
+pub returns-in-Offer-clause-kept : goal.returns-in-Offer-clause-kept
+returns-in-Offer-clause-kept g c = c.keep_for.ensures (g.F.Finder.form c.args.finder.now) c.requires.kept
+
+pub returns-in-Look-clause-kept : goal.returns-in-Look-clause-kept
+returns-in-Look-clause-kept g c = c.keep_for.ensures (g.F.Finder.form c.args.finder.now) c.requires.kept
+
+pub returns-in-Await-clause-kept : goal.returns-in-Await-clause-kept
+returns-in-Await-clause-kept g c = c.keep_for.ensures (g.F.Finder.form c.args.finder.now) c.requires.kept
