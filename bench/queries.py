@@ -5,11 +5,12 @@
 
 PROGRAM is `crates/ts_cli/out/ts_cli` if none is given, which `./hemshale build` makes. What takes longer than SECONDS
 by the clock (300 if none are given) or more than 4 GiB of memory is stopped, and that is said. Each query is asked in
-steps of its own in a replay of one document. The time of a step is the processor time of a replay with nine of them
-less that of one with one, by eight, and of both the quickest of three counts, so that tables, parsing and the printed
-tree do not count, but the visible tree that each step makes and the printed matches do. The four queries of calls are
-asked together in one step, too, and one of two patterns whose matches come in turns. The inputs, which this script
-writes:
+steps of its own in a replay of one document, which no step edits. The first step that asks queries of a version makes
+its visible tree, which is kept until a step looks. So a "first" step here is one behind a look, and a "later" one is
+behind one that asked the same. The time of either is the processor time of a replay with nine such steps less that of
+one with one, by eight, and of each the quickest of three counts, so that tables, parsing and the printed tree do not
+count. The printed matches do in both, and the visible tree in first steps alone. The four queries of calls are asked
+together in one step, too, and one of two patterns whose matches come in turns. The inputs, which this script writes:
 
 - a C-like text of 1 MiB, with one function of 65,000 calls: some 1,100,000 visible nodes
 - up to 10,000 siblings of two kinds: all of one, and four of one and one of the other in turn
@@ -102,10 +103,10 @@ def ended(child, seconds):
         time.sleep(0.05)
 
 
-def replayed(program, grammar, folder, queries, asks, seconds):
-    """The seconds of processor time, the most memory in MiB and what was printed of so many steps with the queries."""
+def replayed(program, grammar, folder, queries, steps, seconds):
+    """The seconds of processor time, the most memory in MiB and what was printed of these steps with the queries."""
     script = line(op="open", path=f"{folder}/text") + "".join(line(op="load", source=query) for query in queries)
-    script += line(client=0, op="query", document=0, queries=list(range(len(queries)))) * asks
+    script += steps
     with open(f"{folder}/script", "w") as out:
         out.write(script)
     with open(f"{folder}/printed", "wb") as printed:
@@ -142,16 +143,20 @@ def measure(program, name, grammar, text, queries, seconds):
         with open(f"{folder}/text", "w") as out:
             out.write(text)
         for asked in queries:
+            query = line(client=0, op="query", document=0, queries=list(range(len(asked))))
+            look = line(client=0, op="look", document=0)
             try:
-                few = quickest(program, path, folder, asked, FEW, seconds)
-                many = quickest(program, path, folder, asked, MANY, seconds)
+                few = quickest(program, path, folder, asked, query * FEW, seconds)
+                kept = quickest(program, path, folder, asked, query * MANY, seconds)
+                anew = quickest(program, path, folder, asked, (look + query) * MANY, seconds)
             except Stopped as why:
                 print(f"{name}, {asked}: {why}", flush=True)
                 continue
-            nodes, step = few[2][0].count(b"],[") + 1, (many[0] - few[0]) / (MANY - FEW)
+            nodes = few[2][0].count(b"],[") + 1
+            first, later = ((many[0] - few[0]) / (MANY - FEW) for many in (anew, kept))
             print(
-                f"{name}, {nodes:,} nodes, {asked}: {step:.3f} s a step, {matches_in(few[2])}"
-                f" ({few[0]:.2f} s and {few[1]} MiB with one step)",
+                f"{name}, {nodes:,} nodes, {asked}: {first:.3f} s a first step, {later:.3f} s a later one,"
+                f" {matches_in(few[2])} ({few[0]:.2f} s and {few[1]} MiB with one step)",
                 flush=True,
             )
 
