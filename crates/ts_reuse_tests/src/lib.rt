@@ -9,6 +9,8 @@ mod elements;
 #[cfg(test)]
 mod lexing;
 #[cfg(test)]
+mod marks;
+#[cfg(test)]
 mod offers;
 
 pub use anywhere::Anywhere;
