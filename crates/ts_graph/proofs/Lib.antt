@@ -6,3 +6,4 @@ pub mod BetweenLemmas
 pub mod PackLemmas
 pub mod PartLemmas
 pub mod WayLemmas
+pub mod LatestLemmas

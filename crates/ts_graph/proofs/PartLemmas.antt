@@ -8,7 +8,7 @@ use Rattle.spec_graph.specs.declared.graph.Head.{Head}
 use Rattle.spec_graph.specs.declared.graph.Link.{Link}
 use Rattle.ts_graph.specs.declared.ways.Part.{Part}
 use Rattle.ts_graph.specs.Down.{links_down, links_from, place_at, HoldsEachOnce}
-use Rattle.ts_graph.specs.Parts.{below_at, way_of, part_of, next_of, nexts_of, all_nexts, undone_of, undone_among, CanGoOn, highest}
+use Rattle.ts_graph.specs.Parts.{below_at, way_of, part_of, next_of, nexts_of, all_nexts, undone_of, undone_among, leads, undone_to, all_undone, CanGoOn, highest}
 use Rattle.ts_graph.proofs.ListLemmas.{Has, has_contained, has_flat, has_mapped}
 use Rattle.ts_graph.proofs.DownLemmas.{down_has}
 
@@ -48,6 +48,22 @@ undone_has parts q h =
     by p there false e (inr w) = absurd w
     by p there false e (inl is) = (subst (λ (x : Part). Has parts x) is there, subst (λ (x : Part). 0 < x.wanting) is (some p.wanting e))
 
+-- the same of those that may lead to a place
+pub all_undone_has : (heads : List Head) (place : Option ℕ) (parts : List Part) (q : Part) → Has (all_undone heads place parts) q → Has parts q × (0 < q.wanting)
+all_undone_has heads place parts q h =
+    let r = has_flat (undone_to heads place) parts q h in
+    by r.0 r.1 (leads heads place r.0.way.below r.0.wanting) r.2
+  where
+    only : (p : Part) → Has parts p → Has (p ∷ []) q → Has parts q
+    only p there (inl e) = subst (λ (x : Part). Has parts x) e there
+    only p there (inr f) = absurd f
+
+    by : (p : Part) → Has parts p → (b : Bool) → Has (if b then undone_of p else []) q → Has parts q × (0 < q.wanting)
+    by p there true w =
+        let u = undone_has (p ∷ []) q (subst (λ (xs : List Part). Has xs q) (sym (append-nil (undone_of p))) w) in
+        (only p there u.0, u.1)
+    by p there false w = absurd w
+
 -- a way with one more link, taken apart
 pub record IsNext (links : List Link) (parts : List Part) (q : Part) : Type 0 where
   pub part : Part
@@ -69,14 +85,25 @@ next_has links parts q h =
 pub below_is : (links : List Link) (k : ℕ) (l : Link) → slice_get links k ≡ Some l → below_at links k ≡ l.below
 below_is links k l at = ap (λ (o : Option Link). option_map_or (λ (m : Link). m.below) o 0) at
 
+read_link : (links : List Link) (k : ℕ) → k < length links → (l : Link) × (slice_get links k ≡ Some l)
+read_link [] k low = absurd (omega (arith, low))
+read_link (l ∷ links) zero low = (l, refl)
+read_link (l ∷ links) (suc k) low = read_link links k (omega (arith, low))
+
+pub behind_is : (links : List Link) (k : ℕ) → k < length links → (head : ℕ) → ((l : Link) → slice_get links k ≡ Some l → head ≡ l.below) → below_at links k ≡ head
+behind_is links k low head is = let l = read_link links k low in below_is links k l.0 l.1 ∙ sym (is l.0 l.1)
+
+pub behind_low : (heads : List Head) (links : List Link) → HoldsEachOnce heads links → (k : ℕ) → k < length links → (head : ℕ) → ((l : Link) → slice_get links k ≡ Some l → head ≡ l.below) → head < length heads
+behind_low heads links each k low head is = let l = read_link links k low in subst (λ (h : ℕ). h < length heads) (sym (is l.0 l.1)) (each.below_there k l.0 l.1)
+
 next_below : (links : List Link) (parts : List Part) (q : Part) (n : IsNext links parts q) → q.way.below ≡ n.link.below
 next_below links parts q n = sym (ap (λ (p : Part). p.way.below) n.is) ∙ below_is links n.number n.link n.at
 
 -- all of them can go on
-module _ (heads : List Head) (links : List Link) (each : HoldsEachOnce heads links) (parts : List Part) where
-  pub nexts_go_on : (q : Part) → Has (undone_among (all_nexts links parts)) q → CanGoOn heads q
+module _ (heads : List Head) (links : List Link) (each : HoldsEachOnce heads links) (place : Option ℕ) (parts : List Part) where
+  pub nexts_go_on : (q : Part) → Has (all_undone heads place (all_nexts links parts)) q → CanGoOn heads q
   nexts_go_on q h =
-      let u = undone_has (all_nexts links parts) q h in
+      let u = all_undone_has heads place (all_nexts links parts) q h in
       let n = next_has links parts q u.0 in
       let low = each.below_there n.number n.link n.at in
       (subst (λ (b : ℕ). b < length heads) (sym (next_below links parts q n)) low, u.1)
@@ -95,9 +122,9 @@ module _ (heads : List Head) (links : List Link) (each : HoldsEachOnce heads lin
       let g = all_low ps n (λ p h. each_low p (inr h)) in
       omega arith
 
-  next_low : (q : Part) → Has (undone_among (all_nexts links parts)) q → place_at heads q.way.below + 2 ≤ highest heads parts
+  next_low : (q : Part) → Has (all_undone heads place (all_nexts links parts)) q → place_at heads q.way.below + 2 ≤ highest heads parts
   next_low q h =
-      let u = undone_has (all_nexts links parts) q h in
+      let u = all_undone_has heads place (all_nexts links parts) q h in
       let n = next_has links parts q u.0 in
       let falls = each.falls n.number n.link n.at in
       let above = member_low parts n.part n.there in
@@ -105,22 +132,22 @@ module _ (heads : List Head) (links : List Link) (each : HoldsEachOnce heads lin
       let f : place_at heads q.way.below ≡ place_at heads n.link.below = ap (λ (x : ℕ). place_at heads x) (next_below links parts q n) in
       omega arith
 
-  pub highest_falls : (p : Part) → Has parts p → highest heads (undone_among (all_nexts links parts)) < highest heads parts
+  pub highest_falls : (p : Part) → Has parts p → highest heads (all_undone heads place (all_nexts links parts)) < highest heads parts
   highest_falls p there = by (highest heads parts) refl
     where
-      by : (n : ℕ) → highest heads parts ≡ n → highest heads (undone_among (all_nexts links parts)) < highest heads parts
+      by : (n : ℕ) → highest heads parts ≡ n → highest heads (all_undone heads place (all_nexts links parts)) < highest heads parts
       by zero e = absurd (let f = member_low parts p there in omega arith)
       by (suc n) e =
-          let f = all_low (undone_among (all_nexts links parts)) n (λ q h. let g = next_low q h in omega arith) in
+          let f = all_low (all_undone heads place (all_nexts links parts)) n (λ q h. let g = next_low q h in omega arith) in
           omega arith
 
 pub all_has : {X : Type 0} (P : X → Type 0) (xs : List X) → ((x : X) → Has xs x → P x) → All P xs
 all_has P xs each k d low = each (get_or xs k d) (has_contained xs (get_or xs k d) (Contains-get_or xs k d low))
 
 -- the way of no link can go on, where it wants more
-pub first_goes_on : (heads : List Head) (h count : ℕ) (p : Part) (parts : List Part) → p ≡ part_of (way_of [] h) count → parts ≡ undone_of p → h < length heads → (q : Part) → Has parts q → CanGoOn heads q
-first_goes_on heads h count p parts p_is is low q there =
-    let u = undone_has (p ∷ []) q (subst (λ (xs : List Part). Has xs q) (is ∙ sym (append-nil (undone_of p))) there) in
+pub first_goes_on : (heads : List Head) (place : Option ℕ) (h count : ℕ) (p : Part) (parts : List Part) → p ≡ part_of (way_of [] h) count → parts ≡ undone_to heads place p → h < length heads → (q : Part) → Has parts q → CanGoOn heads q
+first_goes_on heads place h count p parts p_is is low q there =
+    let u = all_undone_has heads place (p ∷ []) q (subst (λ (xs : List Part). Has xs q) (is ∙ sym (append-nil (undone_to heads place p))) there) in
     (by u.0, u.1)
   where
     by : Has (p ∷ []) q → q.way.below < length heads

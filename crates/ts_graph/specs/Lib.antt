@@ -2,3 +2,4 @@ pub mod Down
 pub mod Cells
 pub mod Ways
 pub mod Parts
+pub mod Latest

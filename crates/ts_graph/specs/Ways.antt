@@ -1,10 +1,12 @@
--- The ways down that a reduction takes.
-use Rattle.std.specs.Prelude.{◌≡◌, ℕ, List, [], ◌∷◌, length, slice_get, Some}
+-- The ways down that a reduction takes, and where they end.
+use Rattle.std.specs.Prelude.{◌≡◌, ℕ, ◌≤◌, List, [], ◌∷◌, length, slice_get, Some}
 use Rattle.std.specs.List.{Contains}
 use Rattle.spec_trees.specs.Made.{filling, EndsFilled}
+use Rattle.spec_graph.specs.declared.graph.Head.{Head}
 use Rattle.spec_graph.specs.declared.graph.Link.{Link}
 use Rattle.spec_graph.specs.Links.{IsWay, way_trees}
 use Rattle.ts_graph.specs.declared.ways.Way.{Way}
+use Rattle.ts_graph.specs.Down.{place_at}
 
 -- the links of these numbers, one after another
 abbrev pub AreAt : List Link → List ℕ → List Link → Type 0
@@ -27,3 +29,29 @@ pub record ListsWays (links : List Link) (h count : ℕ) (ways : List Way) : Typ
   pub all : (taken : List Link) (b : ℕ) → TakesFilled links h count taken b
       → (w : Way) × Contains ways w × AreAt links w.links taken × (w.below ≡ b)
   pub once : (i j : ℕ) (w : Way) → slice_get ways i ≡ Some w → slice_get ways j ≡ Some w → i ≡ j
+
+-- those of them that end at a head of a place
+pub record ListsWaysTo (heads : List Head) (links : List Link) (h count place : ℕ)
+    (ways : List Way) : Type 0 where
+  pub each : (w : Way) → Contains ways w
+      → (taken : List Link) × AreAt links w.links taken
+      × TakesFilled links h count taken w.below × (place_at heads w.below ≡ place)
+  pub all : (taken : List Link) (b : ℕ) → TakesFilled links h count taken b
+      → place_at heads b ≡ place
+      → (w : Way) × Contains ways w × AreAt links w.links taken × (w.below ≡ b)
+  pub once : (i j : ℕ) (w : Way) → slice_get ways i ≡ Some w → slice_get ways j ≡ Some w → i ≡ j
+
+-- such a way ends at a place, which is at most another
+pub record EndsBy (heads : List Head) (links : List Link) (h count most place : ℕ)
+    : Type 0 where
+  pub taken : List Link
+  pub below : ℕ
+  pub takes : TakesFilled links h count taken below
+  pub at : place_at heads below ≡ place
+  pub low : place ≤ most
+
+-- the latest of these places
+pub record IsLatestEnd (heads : List Head) (links : List Link) (h count most place : ℕ)
+    : Type 0 where
+  pub ends : EndsBy heads links h count most place
+  pub latest : (other : ℕ) → EndsBy heads links h count most other → other ≤ place

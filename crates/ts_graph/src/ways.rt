@@ -1,8 +1,8 @@
 //! Ways down from a head: a head and a count go in, and out come all ways down from it with so many
-//! trees that are no extras, the lowest tree being one of them.
-ghost use Rattle.std.specs.Prelude.{◌≡◌, ◌<◌, ◌++◌, [], All, length, IfOk, OnOk};
-ghost use Rattle.ts_graph.specs.Ways.{ListsWays};
-ghost use Rattle.ts_graph.specs.Parts.{way_of, part_of, wanting_past, next_of, nexts_of, all_nexts, done_of, undone_of, done_among, undone_among, CanGoOn};
+//! trees that are no extras, the lowest tree being one of them, or those that end at a place alone.
+ghost use Rattle.std.specs.Prelude.{◌≡◌, ℕ, ◌<◌, ◌++◌, [], All, length, false, IfOk, OnOk, IsTrue};
+ghost use Rattle.ts_graph.specs.Ways.{ListsWays, ListsWaysTo};
+ghost use Rattle.ts_graph.specs.Parts.{way_of, part_of, below_at, wanting_past, next_of, nexts_of, all_nexts, done_of, undone_of, done_to, undone_to, all_done, all_undone, leads, CanGoOn, ListsWaysIn};
 
 use crate::graph::Graph;
 use std::alloc::{AllocError, Global};
@@ -60,32 +60,71 @@ impl Graph {
         requires { head < length self.now.heads }
         ensures { IfOk result (λ ways. ListsWays self.now.links head count ways.items) }
     {
+        let ways = self.ways_in(alloc, head, count, None)?;
+        Ok(ways)
+    }
+
+    /// Those of the same ways that end at a head of a place. A way that cannot lead there takes no
+    /// memory.
+    ///
+    /// # Errors
+    ///
+    /// `AllocError` where memory runs out.
+    pub fn ways_to(
+        &self,
+        alloc: Global,
+        head: usize,
+        count: usize,
+        place: u32,
+    ) -> Result<Vec<Way>, AllocError>
+        requires { head < length self.now.heads }
+        ensures { IfOk result
+            (λ ways. ListsWaysTo self.now.heads self.now.links head count place ways.items) }
+    {
+        let ways = self.ways_in(alloc, head, count, Some(place))?;
+        Ok(ways)
+    }
+
+    /// The ways down to a place, or all of them where none is given.
+    fn ways_in(
+        &self,
+        alloc: Global,
+        head: usize,
+        count: usize,
+        place: Option<u32>,
+    ) -> Result<Vec<Way>, AllocError>
+        requires { head < length self.now.heads }
+        ensures { IfOk result
+            (λ ways. ListsWaysIn self.now.heads self.now.links head count place ways.items) }
+    {
         let _ = &self.heads;
         let mut done = Vec::new(alloc);
         let mut undone = Vec::new(alloc);
-        sort_out(no_way(alloc, head, count), &mut undone, &mut done)?;
+        self.take_in(place, no_way(alloc, head, count), &mut undone, &mut done)?;
         while !undone.is_empty() {
-            undone = self.lengthened(alloc, undone.as_slice(), &mut done)?;
+            undone = self.lengthened(alloc, place, undone.as_slice(), &mut done)?;
         }
         Ok(done)
     }
 
-    /// All ways that are one link longer than these. Those that are done are put with the others.
+    /// All ways that are one link longer than these and may lead to the place. Those that are done
+    /// are put with the others.
     fn lengthened(
         &self,
         alloc: Global,
+        place: Option<u32>,
         parts: &[Part],
         done: &mut Vec<Way>,
     ) -> Result<Vec<Part>, AllocError>
         requires { All (CanGoOn self.now.heads) parts.now }
-        ensures undone { IfOk result
-            (λ new. new.items ≡ undone_among (all_nexts self.now.links parts.now)) }
-        ensures done { OnOk result (done.new.items
-            ≡ done.old.items ++ done_among (all_nexts self.now.links parts.now)) }
+        ensures undone { IfOk result (λ new. new.items
+            ≡ all_undone self.now.heads place (all_nexts self.now.links parts.now)) }
+        ensures done { OnOk result (done.new.items ≡ done.old.items
+            ++ all_done self.now.heads place (all_nexts self.now.links parts.now)) }
     {
         let mut undone = Vec::new(alloc);
         for part in parts {
-            self.lengthen(alloc, part, &mut undone, done)?;
+            self.lengthen(alloc, place, part, &mut undone, done)?;
         }
         Ok(undone)
     }
@@ -94,23 +133,109 @@ impl Graph {
     fn lengthen(
         &self,
         alloc: Global,
+        place: Option<u32>,
         part: &Part,
         undone: &mut Vec<Part>,
         done: &mut Vec<Way>,
     ) -> Result<(), AllocError>
         requires { CanGoOn self.now.heads part.now }
-        ensures undone { OnOk result (undone.new.items
-            ≡ undone.old.items ++ undone_among (nexts_of self.now.links part.now)) }
-        ensures done { OnOk result
-            (done.new.items ≡ done.old.items ++ done_among (nexts_of self.now.links part.now)) }
+        ensures undone { OnOk result (undone.new.items ≡ undone.old.items
+            ++ all_undone self.now.heads place (nexts_of self.now.links part.now)) }
+        ensures done { OnOk result (done.new.items ≡ done.old.items
+            ++ all_done self.now.heads place (nexts_of self.now.links part.now)) }
     {
         let mut next = self.first_down(part.way.below);
         while let Some(link) = next {
-            let longer = self.longer(alloc, part, link)?;
-            sort_out(longer, undone, done)?;
+            self.take_on(alloc, place, part, link, undone, done)?;
             next = self.next_down(link);
         }
         Ok(())
+    }
+
+    /// The same with one link at its end. The way is made longer only where it may lead to the
+    /// place.
+    fn take_on(
+        &self,
+        alloc: Global,
+        place: Option<u32>,
+        part: &Part,
+        link: usize,
+        undone: &mut Vec<Part>,
+        done: &mut Vec<Way>,
+    ) -> Result<(), AllocError>
+        requires there { link < length self.now.links }
+        requires some { 0 < part.now.wanting }
+        ensures undone { OnOk result (undone.new.items ≡ undone.old.items
+            ++ undone_to self.now.heads place (next_of self.now.links part.now link)) }
+        ensures done { OnOk result (done.new.items ≡ done.old.items
+            ++ done_to self.now.heads place (next_of self.now.links part.now link)) }
+    {
+        if self.leads_over(place, part.wanting, link) {
+            let longer = self.longer(alloc, part, link)?;
+            sort_out(longer, undone, done)?;
+        }
+        Ok(())
+    }
+
+    /// Sorts out a way where it may lead to the place.
+    fn take_in(
+        &self,
+        place: Option<u32>,
+        part: Part,
+        undone: &mut Vec<Part>,
+        done: &mut Vec<Way>,
+    ) -> Result<(), AllocError>
+        requires { part.way.below < length self.now.heads }
+        ensures undone { OnOk result
+            (undone.new.items ≡ undone.old.items ++ undone_to self.now.heads place part) }
+        ensures done { OnOk result
+            (done.new.items ≡ done.old.items ++ done_to self.now.heads place part) }
+    {
+        if self.may_lead(place, part.way.below, part.wanting) {
+            sort_out(part, undone, done)?;
+        }
+        Ok(())
+    }
+
+    /// Whether a way that wants so many trees may lead to the place from a head: it ends there, or
+    /// goes down from above it.
+    fn may_lead(&self, place: Option<u32>, head: usize, wanting: usize) -> bool
+        requires { head < length self.now.heads }
+        ensures { result ≡ leads self.now.heads place head wanting }
+    {
+        let Some(end) = place else {
+            return true;
+        };
+        let at = self.head(head).place;
+        if wanting == 0 { at == end } else { end < at }
+    }
+
+    /// The same behind a link, where so many were wanting before it. A link that leads below the
+    /// place is passed over by its head alone.
+    fn leads_over(&self, place: Option<u32>, wanting: usize, link: usize) -> bool
+        requires there { link < length self.now.links }
+        requires some { 0 < wanting }
+        ensures { result ≡ leads self.now.heads place (below_at self.now.links link)
+            (wanting_past self.now.links wanting link) }
+    {
+        let _ = &self.heads;
+        let below = self.link(link).below;
+        if self.stands_below(place, below) {
+            return false;
+        }
+        self.may_lead(place, below, self.still_wanting(wanting, link))
+    }
+
+    /// Whether a head stands below the place.
+    fn stands_below(&self, place: Option<u32>, head: usize) -> bool
+        requires { head < length self.now.heads }
+        ensures { IsTrue result
+            → (wanting : ℕ) → leads self.now.heads place head wanting ≡ false }
+    {
+        match place {
+            Some(end) => self.head(head).place < end,
+            None => false,
+        }
     }
 
     /// A way with one more link at its end.
@@ -130,7 +255,7 @@ impl Graph {
     }
 
     /// How many trees that are no extras are wanting after a link.
-    fn still_wanting(&self, wanting: usize, link: usize) -> usize
+    pub(crate) fn still_wanting(&self, wanting: usize, link: usize) -> usize
         requires there { link < length self.now.links }
         requires some { 0 < wanting }
         ensures { result ≡ wanting_past self.now.links wanting link }

@@ -1,8 +1,8 @@
-use Rattle.std.proofs.Common.{◌∙◌, sym, ap, subst, ℕ, ◌<◌, ◌++◌, length, Option, Some}
+use Rattle.std.proofs.Common.{sym, subst, ℕ, ◌<◌, length, Option, Some}
 use Rattle.ts_graph.specs.declared.ways.Part.{Part}
 use Rattle.ts_graph.specs.declared.ways.Way.{Way}
 use Rattle.ts_graph.specs.Down.{links_from}
-use Rattle.ts_graph.specs.Parts.{done_of, undone_of}
+use Rattle.ts_graph.specs.Parts.{done_to, undone_to}
 use Rattle.ts_graph.proofs.BetweenLemmas.{GoDown, go_first, go_at, go_within, go_next, go_rest, go_shorter}
 use Rattle.ts_graph.proofs.PartLemmas.{Lengthens, lengthens_first, lengthens_more}
 use Rattle.ts_graph.proofs.graph.Graph.lengthen.Goals as goal
@@ -10,12 +10,12 @@ use Rattle.ts_graph.proofs.graph.Graph.lengthen.Goals as goal
 pub loop-next-init : goal.loop-next-init
 loop-next-init c = record {
   go = go_first c.args.self.now.links c.args.part.now.way.below c.first_down-next.result c.first_down-next.ensures;
-  undone_is = lengthens_first undone_of c.args.self.now.links c.args.part.now c.first_down-next.result c.args.undone.now.items c.first_down-next.ensures;
-  done_is = lengthens_first done_of c.args.self.now.links c.args.part.now c.first_down-next.result c.args.done.now.items c.first_down-next.ensures;
+  undone_is = lengthens_first (undone_to c.args.self.now.heads c.args.place) c.args.self.now.links c.args.part.now c.first_down-next.result c.args.undone.now.items c.first_down-next.ensures;
+  done_is = lengthens_first (done_to c.args.self.now.heads c.args.place) c.args.self.now.links c.args.part.now c.first_down-next.result c.args.done.now.items c.first_down-next.ensures;
 }
 
-pub longer-requires-clause-there : goal.longer-requires-clause-there
-longer-requires-clause-there c =
+pub take_on-requires-clause-there : goal.take_on-requires-clause-there
+take_on-requires-clause-there c =
     go_within c.args.self.now.links c.args.part.now.way.below c.in-Some.link
     (subst (λ (o : Option ℕ). GoDown c.args.self.now.links c.args.part.now.way.below o) c.in-Some.is c.loop-next.invariant.go)
 
@@ -44,10 +44,10 @@ loop-next-preserved c =
     let rest = go_rest links h c.in-Some.link c.next_down-next.result l.0 g l.1 (c.next_down-next.ensures l.0 l.1) in
     record {
       go = go_next links h c.in-Some.link c.next_down-next.result l.0 g l.1 (c.next_down-next.ensures l.0 l.1);
-      undone_is = lengthens_more undone_of links p c.in-Some.link c.next_down-next.result c.args.undone.now.items c.loop-next.undone.items c.sort_out.new.undone.items rest
-          (subst (λ (o : Option ℕ). Lengthens Part undone_of links p o c.args.undone.now.items c.loop-next.undone.items) c.in-Some.is i.undone_is)
-          (c.in_ok-sort_out.ensures.undone ∙ ap (λ (q : Part). c.loop-next.undone.items ++ undone_of q) c.in_ok-longer.ensures);
-      done_is = lengthens_more done_of links p c.in-Some.link c.next_down-next.result c.args.done.now.items c.loop-next.done.items c.sort_out.new.done.items rest
-          (subst (λ (o : Option ℕ). Lengthens Way done_of links p o c.args.done.now.items c.loop-next.done.items) c.in-Some.is i.done_is)
-          (c.in_ok-sort_out.ensures.done ∙ ap (λ (q : Part). c.loop-next.done.items ++ done_of q) c.in_ok-longer.ensures);
+      undone_is = lengthens_more (undone_to c.args.self.now.heads c.args.place) links p c.in-Some.link c.next_down-next.result c.args.undone.now.items c.loop-next.undone.items c.take_on.new.undone.items rest
+          (subst (λ (o : Option ℕ). Lengthens Part (undone_to c.args.self.now.heads c.args.place) links p o c.args.undone.now.items c.loop-next.undone.items) c.in-Some.is i.undone_is)
+          c.in_ok-take_on.ensures.undone;
+      done_is = lengthens_more (done_to c.args.self.now.heads c.args.place) links p c.in-Some.link c.next_down-next.result c.args.done.now.items c.loop-next.done.items c.take_on.new.done.items rest
+          (subst (λ (o : Option ℕ). Lengthens Way (done_to c.args.self.now.heads c.args.place) links p o c.args.done.now.items c.loop-next.done.items) c.in-Some.is i.done_is)
+          c.in_ok-take_on.ensures.done;
     }
