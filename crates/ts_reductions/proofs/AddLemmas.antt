@@ -12,7 +12,7 @@ use Rattle.spec_graph.specs.declared.graph.Link.{Link}
 use Rattle.ts_graph.specs.declared.view.GraphView.{GraphView}
 use Rattle.ts_graph.specs.declared.ways.Way.{Way}
 use Rattle.ts_graph.specs.Down.{place_at}
-use Rattle.ts_graph.specs.Ways.{AreAt, TakesFilled, ListsWays}
+use Rattle.ts_graph.specs.Ways.{AreAt, TakesFilled, ListsWaysTo}
 use Rattle.ts_table.specs.declared.view.ParseTable.{ParseTable}
 use Rattle.ts_table.specs.Tables.{actions_of}
 use Rattle.ts_table.specs.Ranks.{unit_rank}
@@ -192,7 +192,7 @@ module _ (t : ParseTable) (size : ℕ) (g : GraphView) (k : Batch) (old : List M
   deep_way top number links b d = deep_wider t size g k (OnWay top number links b) (ByNumber top number) (λ u n w c h. (h.0, h.1)) d
 
   -- all ways of a reduction, which is by a production with as many steps
-  pub all_ways : (top : Top) (number count : ℕ) (ways : List Way) (new : List Made) → ListsWays g.links top.head count ways → ((left : ℕ) (p : Production) → production_at t.grammar number ≡ Some (left, p) → length p.steps ≡ count)
+  pub all_ways : (top : Top) (number count : ℕ) (ways : List Way) (new : List Made) → ListsWaysTo g.heads g.links top.head count k.begins ways → ((left : ℕ) (p : Production) → production_at t.grammar number ≡ Some (left, p) → length p.steps ≡ count)
       → Adds t size g k (OnWays g.links top number ways) old new true → Adds t size g k (ByNumber top number) old new true
   all_ways top number count ways new lists steps a =
       adds_as t size g k (OnWays g.links top number ways) (ByNumber top number) old new (λ u n w c h. (h.0, h.1))
@@ -201,7 +201,7 @@ module _ (t : ParseTable) (size : ℕ) (g : GraphView) (k : Batch) (old : List M
       (h.0, h.1, z.0, z.1, z.2, z.3)) a
     where
       listed : (w : List Link) (c : ℕ) → IsAsked t g k top number w c → (z : Way) × Contains ways z × AreAt g.links z.links w × (z.below ≡ c)
-      listed w c asked = lists.all w c (subst (λ (m : ℕ). TakesFilled g.links top.head m w c) (steps asked.left asked.production asked.is) asked.takes)
+      listed w c asked = lists.all w c (subst (λ (m : ℕ). TakesFilled g.links top.head m w c) (steps asked.left asked.production asked.is) asked.takes) asked.begins
 
   -- a reduction by a production of another rank asks for nothing
   pub other_rank : (top : Top) (number left : ℕ) (p : Production) → production_at t.grammar number ≡ Some (left, p) → (unit_rank t.grammar left ≡ k.rank → ⊥) → Adds t size g k (ByNumber top number) old old true
@@ -215,11 +215,6 @@ module _ (t : ParseTable) (size : ℕ) (g : GraphView) (k : Batch) (old : List M
           let both : ◌≡◌ {A = ℕ × Production} (asked.left, asked.production) (left, p) = cc in
           let same : asked.left ≡ left = ap (λ (x : ℕ × Production). x.0) both in
           other (ap (unit_rank t.grammar) (sym same) ∙ asked.ranked)
-
-  -- a way that begins elsewhere asks for nothing
-  pub elsewhere : (top : Top) (number : ℕ) (links : List Link) (b : ℕ) → (place_at g.heads b ≡ k.begins → ⊥) → Adds t size g k (OnWay top number links b) old old true
-  elsewhere top number links b other =
-      adds_none t size g k (OnWay top number links b) old (λ u n w c h asked. other (ap (place_at g.heads) (sym h.3) ∙ asked.begins))
 
   -- what is made for one way
   pub one_made : (top : Top) (number : ℕ) (links : List Link) (b : ℕ) (m : Made) (new : List Made) → IsMadeFor t size g k top number links b m → new ≡ old ++ m ∷ [] → Adds t size g k (OnWay top number links b) old new true
@@ -283,8 +278,8 @@ module _ (t : ParseTable) (size : ℕ) (g : GraphView) (k : Batch) (old : List M
       all_actions t size g k old top head actions new at is (subst (λ (l : List Action). Adds t size g k (ByActions top l) old new true) (take_all i actions past) a)
 
   -- the ways of a reduction by a production of the key's rank
-  module _ (top : Top) (number : ℕ) (has : HasReduction t g top number) (l : Line) (line : IsLine t.grammar number l) (ranked : unit_rank t.grammar l.left.0 ≡ k.rank) (all : List Way) (lists : ListsWays g.links top.head l.steps all) where
-    pub asked_on : (way : List Link) (b : ℕ) → TakesFilled g.links top.head l.steps way b → place_at g.heads b ≡ k.begins → IsAsked t g k top number way b
+  module _ (top : Top) (number : ℕ) (has : HasReduction t g top number) (l : Line) (line : IsLine t.grammar number l) (ranked : unit_rank t.grammar l.left.0 ≡ k.rank) (all : List Way) (lists : ListsWaysTo g.heads g.links top.head l.steps k.begins all) where
+    asked_on : (way : List Link) (b : ℕ) → TakesFilled g.links top.head l.steps way b → place_at g.heads b ≡ k.begins → IsAsked t g k top number way b
     asked_on way b takes begins = record {
       head = has.head;
       at = has.at;
@@ -307,11 +302,11 @@ module _ (t : ParseTable) (size : ℕ) (g : GraphView) (k : Batch) (old : List M
     ways_end i new past a = all_ways t size g k old top number l.steps all new lists same_steps (subst (λ (ws : List Way). Adds t size g k (OnWays g.links top number ws) old new true) (take_all i all past) a)
 
     module _ (i : ℕ) (x : Way) (low : i < length all) (is : x ≡ get_or all i x) where
-      pub way_listed : (taken : List Link) × AreAt g.links x.links taken × TakesFilled g.links top.head l.steps taken x.below
+      pub way_listed : (taken : List Link) × AreAt g.links x.links taken × TakesFilled g.links top.head l.steps taken x.below × (place_at g.heads x.below ≡ k.begins)
       way_listed = lists.each x (item_in all all i x low is refl)
 
-      pub meant : place_at g.heads x.below ≡ k.begins → IsAsked t g k top number way_listed.0 x.below
-      meant = asked_on way_listed.0 x.below way_listed.2
+      pub meant : IsAsked t g k top number way_listed.0 x.below
+      meant = asked_on way_listed.0 x.below way_listed.2 way_listed.3
 
       pub ways_on : (mid new : List Made) → Adds t size g k (OnWays g.links top number (take i all)) old mid true → Adds t size g k (OnWay top number way_listed.0 x.below) mid new true → Adds t size g k (OnWays g.links top number (take (i + 1) all)) old new true
       ways_on mid new a b =

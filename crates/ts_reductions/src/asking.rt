@@ -4,8 +4,7 @@ ghost use Rattle.std.specs.Prelude.{◌≡◌, ℕ, List, length, Some, MatchOpt
 ghost use Rattle.ts_base.specs.Bytes.{Bytes};
 ghost use Rattle.spec_graph.specs.declared.graph.Link.{Link as AnyLink};
 ghost use Rattle.spec_runs.specs.Moves.{StandsBefore};
-ghost use Rattle.ts_graph.specs.Down.{place_at};
-ghost use Rattle.ts_graph.specs.Ways.{AreAt, TakesFilled};
+ghost use Rattle.ts_graph.specs.Ways.{AreAt};
 ghost use Rattle.ts_table.specs.Tables.{IsStateOf, goto_of};
 ghost use Rattle.ts_reductions.specs.Sound.{Base as AnyBase};
 ghost use Rattle.ts_reductions.specs.Asking.{HasAction, HasReduction, IsAsked, IsReadyAt, IsReady, IsMadeFor, IsAskedDeep, Adds, SomeAreDeep, AreMade, OnWay, ByNumber, ByAction, ByTop, ByTops};
@@ -104,8 +103,7 @@ fn make(
     }))
 }
 
-/// Adds what the reduction makes on a way, where it begins at the key's place. False where the node
-/// would be too deep.
+/// Adds what the reduction makes on a way. False where the node would be too deep.
 fn add_way(
     alloc: Global,
     table: &Table,
@@ -115,23 +113,17 @@ fn add_way(
     way: &Way,
     mades: &mut Vec<Made>,
 ) -> Result<bool, AllocError>
-    requires { (text : Bytes) × (links : List AnyLink) × (count : ℕ)
+    requires { (text : Bytes) × (links : List AnyLink)
         × IsReadyAt table.now text setting.now graph.now asked.batch asked.top
         × AreAt graph.now.links way.now.links links
-        × TakesFilled graph.now.links asked.top.head count links way.now.below
-        × (place_at graph.now.heads way.now.below ≡ asked.batch.begins
-        → IsAsked table.now graph.now asked.batch asked.top asked.number links way.now.below) }
+        × IsAsked table.now graph.now asked.batch asked.top asked.number links way.now.below }
     ensures { IfOk result (λ b. (text : Bytes) (links : List AnyLink)
         → IsReadyAt table.now text setting.now graph.now asked.batch asked.top
         → AreAt graph.now.links way.now.links links
-        → (place_at graph.now.heads way.now.below ≡ asked.batch.begins
-        → IsAsked table.now graph.now asked.batch asked.top asked.number links way.now.below)
+        → IsAsked table.now graph.now asked.batch asked.top asked.number links way.now.below
         → Adds table.now (length text) graph.now asked.batch
         (OnWay asked.top asked.number links way.now.below) mades.old.items mades.new.items b) }
 {
-    if graph.head(way.below).place != asked.batch.begins {
-        return Ok(true);
-    }
     match make(alloc, table, setting, graph, asked, way)? {
         Some(made) => {
             mades.push(made)?;
@@ -141,8 +133,8 @@ fn add_way(
     }
 }
 
-/// Adds what the reduction makes on all ways, where its production has the key's rank. False where
-/// a node would be too deep.
+/// Adds what the reduction makes on all ways down to the key's place, where its production has the
+/// key's rank. False where a node would be too deep.
 fn add_ways(
     alloc: Global,
     table: &Table,
@@ -165,7 +157,7 @@ fn add_ways(
     if *setting.ranks.get(usize::from(line.left.0)) != asked.batch.rank {
         return Ok(true);
     }
-    let ways = graph.ways(alloc, asked.top.head, line.steps)?;
+    let ways = graph.ways_to(alloc, asked.top.head, line.steps, asked.batch.begins)?;
     for way in ways.as_slice() {
         if !add_way(alloc, table, setting, graph, asked, way, mades)? {
             return Ok(false);

@@ -39,11 +39,12 @@ pub(crate) fn trees_up(
     ensures { IfOk result (λ nodes. (way : List AnyLink) → AreAt graph.now.links numbers.now way
         → nodes.items ≡ reverse (way_trees way)) }
 {
-    let mut nodes = Vec::new(alloc);
-    for number in numbers {
-        nodes.push(graph.node(*number).try_clone()?)?;
+    let mut nodes = Vec::with_capacity(alloc, numbers.len())?;
+    let mut left = numbers.len();
+    while left > 0 {
+        left -= 1;
+        nodes.push(graph.node(numbers[left]).try_clone()?)?;
     }
-    nodes.reverse();
     Ok(nodes)
 }
 
