@@ -1,3 +1,4 @@
 pub mod SeekLemmas
 pub mod KeyLemmas
 pub mod SweepLemmas
+pub mod TurnLemmas

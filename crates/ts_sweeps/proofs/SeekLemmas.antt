@@ -1,17 +1,16 @@
--- The first of the keys that are sought, by heads, actions and ways, one after another.
-use Rattle.std.proofs.Common.{◌≡◌, ◌∙◌, sym, ap, refl, subst, ℕ, ◌+◌, ◌<◌, ◌≤◌, ◌⊎◌, inl, inr, ⊎_elim, List, [], ◌∷◌, ◌++◌, length, take, get_or, slice_get, Option, Some, None, arith}
+-- The first of the keys that are sought, by heads and actions, one after another.
+use Rattle.std.proofs.Common.{◌≡◌, ◌∙◌, sym, ap, refl, subst, ℕ, ◌+◌, ◌-◌, ◌^◌, ◌<◌, ◌≤◌, ◌⊎◌, ◌↔◌, inl, inr, ⊎_elim, List, [], ◌∷◌, ◌++◌, length, take, drop, get_or, slice_get, Option, Some, None, arith}
 use Rattle.std.specs.List.{Contains}
-use Rattle.std.proofs.lemmas.List.{take_more, take_all}
-use Rattle.std.proofs.lemmas.List.Elements.{Contains-append_left, Contains-push, Contains-push_cases}
+use Rattle.std.proofs.Math.Nat.{mul-le-mul_right}
+use Rattle.std.proofs.lemmas.List.{take_more, take_all, drop_more, drop_all}
+use Rattle.std.proofs.lemmas.List.Elements.{Contains-append_left, Contains-append_right, Contains-append_cases, Contains-push, Contains-push_cases}
 use Rattle.ts_core.specs.declared.action.Action.{Action}
 use Rattle.ts_core.specs.declared.action.Action.TheVariants.{Reduce}
 use Rattle.ts_core.specs.declared.flat.Production.{Production}
 use Rattle.spec_graph.specs.declared.graph.Head.{Head}
 use Rattle.spec_graph.specs.declared.graph.Link.{Link}
 use Rattle.ts_graph.specs.declared.view.GraphView.{GraphView}
-use Rattle.ts_graph.specs.declared.ways.Way.{Way}
-use Rattle.ts_graph.specs.Down.{place_at}
-use Rattle.ts_graph.specs.Ways.{AreAt, TakesFilled, ListsWays}
+use Rattle.ts_graph.specs.Ways.{TakesFilled, EndsBy, IsLatestEnd}
 use Rattle.ts_table.specs.declared.view.ParseTable.{ParseTable}
 use Rattle.ts_table.specs.Tables.{actions_of}
 use Rattle.ts_table.specs.Ranks.{unit_rank}
@@ -20,8 +19,7 @@ use Rattle.ts_reductions.specs.declared.setting.Wanted.{Wanted}
 use Rattle.ts_reductions.specs.declared.top.Top.{Top}
 use Rattle.ts_reductions.specs.Asking.{IsAsked, HasReduction, ByNumber, ByAction, ByTop, ByTops}
 use Rattle.ts_reductions.specs.Lines.{HasProduction, IsWanted}
-use Rattle.ts_reductions.proofs.SmallLemmas.{place_is_at}
-use Rattle.ts_reductions.proofs.AddLemmas.{OnWays, ByActions, item_in}
+use Rattle.ts_reductions.proofs.AddLemmas.{ByActions}
 use Rattle.ts_sweeps.specs.declared.seeking.Seek.{Seek}
 use Rattle.ts_sweeps.specs.Turns.{turn_of, past, IsSooner}
 use Rattle.ts_sweeps.specs.Seeking.{batch_at, IsSought, Seeks, IsNext}
@@ -31,6 +29,10 @@ none_in x h = let low = h.1 in omega (arith, low)
 
 one_taken : {X : Type 0} (all : List X) (i : ℕ) (x : X) → i < length all → x ≡ get_or all i x → take i all ++ x ∷ [] ≡ take (i + 1) all
 one_taken {X = X} all i x low is = ap (λ (y : X). take i all ++ y ∷ []) is ∙ sym (take_more all i x low)
+
+-- of keys of one rank, the one that begins later has the greater number
+turn_up : (a b rank : ℕ) → a ≤ b → turn_of a rank ≤ turn_of b rank
+turn_up a b rank low = let m = mul-le-mul_right (2 ^ 32) low in omega (arith, m)
 
 module _ (t : ParseTable) (g : GraphView) (seek : Seek) where
   -- a key that is sought is one by a wider test
@@ -81,24 +83,35 @@ module _ (t : ParseTable) (g : GraphView) (seek : Seek) where
 
   -- ---- heads
 
-  pub no_tops : (old : Option Batch) → Seeks t g seek (ByTops []) old old
-  no_tops old = seeks_none (ByTops []) old (λ k u n w b h asked. none_in u h)
+  pub no_tops : (tops : List Top) (n : ℕ) (old : Option Batch) → length tops ≤ n → Seeks t g seek (ByTops (drop n tops)) old old
+  no_tops tops n old all =
+      subst (λ (l : List Top). Seeks t g seek (ByTops l) old old) (sym (drop_all n tops all))
+      (seeks_none (ByTops []) old (λ k u n w b h asked. none_in u h))
 
-  pub tops_on : (tops : List Top) (i : ℕ) (x : Top) (old mid new : Option Batch) → i < length tops → x ≡ get_or tops i x → Seeks t g seek (ByTops (take i tops)) old mid → Seeks t g seek (ByTop x) mid new
-      → Seeks t g seek (ByTops (take (i + 1) tops)) old new
-  tops_on tops i x old mid new low is a b =
-      subst (λ (l : List Top). Seeks t g seek (ByTops l) old new) (one_taken tops i x low is)
-      (seeks_more (ByTops (take i tops)) (ByTop x) (ByTops (take i tops ++ x ∷ []))
-      (λ k u n w c h asked. Contains-append_left (take i tops) (x ∷ []) u h)
-      (λ k u n w c e asked. subst (λ (y : Top). Contains (take i tops ++ x ∷ []) y) (sym e) (Contains-push (take i tops) x))
-      (λ u n w c h. ⊎_elim (λ p. inl p) (λ e. inr (sym e)) (Contains-push_cases (take i tops) x u h)) old mid new a b)
+  -- one more head, before those that were asked
+  pub tops_on : (tops : List Top) (left : ℕ) (x : Top) (old mid new : Option Batch) → 0 < left → left ≤ length tops → get_or tops (left - 1) x ≡ x → Seeks t g seek (ByTops (drop left tops)) old mid → Seeks t g seek (ByTop x) mid new
+      → Seeks t g seek (ByTops (drop (left - 1) tops)) old new
+  tops_on tops left x old mid new some few is a b =
+      subst (λ (l : List Top). Seeks t g seek (ByTops l) old new) (sym whole)
+      (seeks_more (ByTops (drop left tops)) (ByTop x) (ByTops (x ∷ drop left tops))
+      (λ k u n w c h asked. Contains-append_right (x ∷ []) (drop left tops) u h)
+      (λ k u n w c e asked. subst (λ (y : Top). Contains (x ∷ drop left tops) y) (sym e) (0, omega arith, refl))
+      (λ u n w c h. ⊎_elim (λ p. inr (sym (only u p))) (λ p. inl p) (Contains-append_cases (x ∷ []) (drop left tops) u h)) old mid new a b)
+    where
+      whole : drop (left - 1) tops ≡ x ∷ drop left tops
+      whole =
+          let next : (left - 1) + 1 ≡ left = omega (arith, some) in
+          drop_more tops (left - 1) x (omega (arith, some, few)) ∙ ap (λ (y : Top). y ∷ drop ((left - 1) + 1) tops) is ∙ ap (λ (n : ℕ). x ∷ drop n tops) next
+
+      only : (u : Top) → Contains (x ∷ []) u → x ≡ u
+      only u h = ⊎_elim (λ p. absurd (none_in u p)) (λ e. e) (Contains-push_cases [] x u h)
 
   -- the key of all heads
-  pub tops_end : (tops : List Top) (i : ℕ) (new : Option Batch) → length tops ≤ i → Seeks t g seek (ByTops (take i tops)) None new → IsNext t g seek tops new
-  tops_end tops i new long a = by new refl
+  pub tops_end : (tops : List Top) (left : ℕ) (new : Option Batch) → left ≡ 0 → Seeks t g seek (ByTops (drop left tops)) None new → IsNext t g seek tops new
+  tops_end tops left new none a = by new refl
     where
       all : Seeks t g seek (ByTops tops) None new
-      all = subst (λ (l : List Top). Seeks t g seek (ByTops l) None new) (take_all i tops long) a
+      all = subst (λ (n : ℕ). Seeks t g seek (ByTops (drop n tops)) None new) none a
 
       none_some : (k : Batch) → None ≡ Some k → ⊥
       none_some k e = cc
@@ -148,91 +161,96 @@ module _ (t : ParseTable) (g : GraphView) (seek : Seek) where
   pub no_reduction : (top : Top) (action : Action) (old : Option Batch) → ((n : ℕ) → action ≡ Reduce n → ⊥) → Seeks t g seek (ByAction top action) old old
   no_reduction top action old none = seeks_none (ByAction top action) old (λ k u n w b h asked. none n h.1)
 
-  -- ---- ways of one reduction
+  -- ---- one reduction
 
-  pub no_ways : (top : Top) (number : ℕ) (old : Option Batch) → Seeks t g seek (OnWays g.links top number []) old old
-  no_ways top number old = seeks_none (OnWays g.links top number []) old (λ k u n w b h asked. none_in h.2 h.3)
-
-  module _ (top : Top) (number : ℕ) (has : HasReduction t g top number) (left : ℕ) (p : Production) (is : HasProduction t number left p) (wanted : Wanted) (wants : IsWanted t left p wanted) (all : List Way) (lists : ListsWays g.links top.head wanted.steps all) where
+  module _ (top : Top) (number : ℕ) (has : HasReduction t g top number) (left : ℕ) (p : Production) (is : HasProduction t number left p) (wanted : Wanted) (wants : IsWanted t left p wanted) where
     same_production : (k : Batch) (w : List Link) (c : ℕ) → (asked : IsAsked t g k top number w c) → (asked.left ≡ left) × (asked.production ≡ p)
     same_production k w c asked =
         let f : ◌≡◌ {A = Option (ℕ × Production)} (Some (asked.left, asked.production)) (Some (left, p)) = sym asked.is ∙ is in
         let both : ◌≡◌ {A = ℕ × Production} (asked.left, asked.production) (left, p) = cc in
         (ap (λ (x : ℕ × Production). x.0) both, ap (λ (x : ℕ × Production). x.1) both)
 
-    takes_so : (k : Batch) (w : List Link) (c : ℕ) → IsAsked t g k top number w c → TakesFilled g.links top.head wanted.steps w c
-    takes_so k w c asked =
-        subst (λ (n : ℕ). TakesFilled g.links top.head n w c) (ap (λ (q : Production). length q.steps) (same_production k w c asked).1 ∙ sym wants.steps) asked.takes
+    own_asked : (k : Batch) (s : IsSought t g seek (ByNumber top number) k) → IsAsked t g k top number s.way s.b
+    own_asked k s = subst (λ (m : ℕ). IsAsked t g k top m s.way s.b) s.means.1 (subst (λ (y : Top). IsAsked t g k y s.number s.way s.b) s.means.0 s.asked)
 
-    moved : (k : Batch) (u : Top) (n : ℕ) (w : List Link) (c : ℕ) → u ≡ top → n ≡ number → IsAsked t g k u n w c → IsAsked t g k top number w c
-    moved k u n w c e f asked = subst (λ (m : ℕ). IsAsked t g k top m w c) f (subst (λ (y : Top). IsAsked t g k y n w c) e asked)
+    own_rank : (k : Batch) → IsSought t g seek (ByNumber top number) k → k.rank ≡ wanted.rank
+    own_rank k s =
+        let asked = own_asked k s in
+        sym asked.ranked ∙ ap (unit_rank t.grammar) (same_production k s.way s.b asked).0 ∙ sym wants.rank
 
-    pub ways_end : (i : ℕ) (old new : Option Batch) → length all ≤ i → Seeks t g seek (OnWays g.links top number (take i all)) old new → Seeks t g seek (ByNumber top number) old new
-    ways_end i old new long a =
-        seeks_as (OnWays g.links top number all) (ByNumber top number) old new (λ k u n w c h asked. (h.0, h.1))
-        (λ k u n w c h asked.
-        let z = lists.all w c (takes_so k w c (moved k u n w c h.0 h.1 asked)) in
-        (h.0, h.1, z.0, z.1, z.2, z.3))
-        (subst (λ (ws : List Way). Seeks t g seek (OnWays g.links top number ws) old new) (take_all i all long) a)
+    own_turn : (k : Batch) → IsSought t g seek (ByNumber top number) k → turn_of k.begins wanted.rank < seek.below
+    own_turn k s = subst (λ (r : ℕ). turn_of k.begins r < seek.below) (own_rank k s) s.after
 
-    module _ (i : ℕ) (x : Way) (low : i < length all) (item : x ≡ get_or all i x) where
-      pub listed : (taken : List Link) × AreAt g.links x.links taken × TakesFilled g.links top.head wanted.steps taken x.below
-      listed = lists.each x (item_in all all i x low item refl)
+    -- no key of its rank is sought
+    pub no_turn : (old : Option Batch) → ((begins : ℕ) → turn_of begins wanted.rank < seek.below → ⊥) → Seeks t g seek (ByNumber top number) old old
+    no_turn old none = record {
+      more = omega arith;
+      all = λ k s. absurd (none k.begins (own_turn k s));
+      each = λ k e. inl e;
+    }
 
-      module _ (head : Head) (at : slice_get g.heads x.below ≡ Some head) where
-        abbrev key : Batch
-        key = batch_at seek.look head.place wanted.rank
+    module _ (most : ℕ) (turns : (begins : ℕ) → (turn_of begins wanted.rank < seek.below) ↔ (begins ≤ most)) where
+      -- each key that is sought begins where a way ends
+      own_end : (k : Batch) → IsSought t g seek (ByNumber top number) k → EndsBy g.heads g.links top.head wanted.steps most k.begins
+      own_end k s =
+          let asked = own_asked k s in
+          record {
+            taken = s.way;
+            below = s.b;
+            takes = subst (λ (n : ℕ). TakesFilled g.links top.head n s.way s.b) (ap (λ (q : Production). length q.steps) (same_production k s.way s.b asked).1 ∙ sym wants.steps) asked.takes;
+            at = asked.begins;
+            low = (turns k.begins).0 (own_turn k s);
+          }
 
-        -- the key of this way is one that is asked for
-        own_asked : IsAsked t g key top number listed.0 x.below
-        own_asked = record {
-          head = has.head;
-          at = has.at;
-          acts = has.acts;
-          left = left;
-          production = p;
-          is = is;
-          ranked = sym wants.rank;
-          takes = subst (λ (n : ℕ). TakesFilled g.links top.head n listed.0 x.below) wants.steps listed.2;
-          begins = place_is_at g.heads x.below head at;
-        }
+      -- none of them comes before the one that was found
+      pub none_first : (old : Option Batch) → turn_of most wanted.rank < past old → Seeks t g seek (ByNumber top number) old old
+      none_first old late = record {
+        more = omega arith;
+        all = λ k s.
+            let low = turn_up k.begins most wanted.rank ((turns k.begins).0 (own_turn k s)) in
+            subst (λ (r : ℕ). turn_of k.begins r < past old) (sym (own_rank k s)) (omega (arith, late, low));
+        each = λ k e. inl e;
+      }
 
-        -- and it is the only one of this way
-        own_only : (k : Batch) (u : Top) (n : ℕ) (w : List Link) (c : ℕ) → u ≡ top → n ≡ number → x.below ≡ c → IsAsked t g k u n w c → turn_of k.begins k.rank ≡ turn_of head.place wanted.rank
-        own_only k u n w c e f low_is asked =
-            let a = moved k u n w c e f asked in
-            let begins : k.begins ≡ head.place = sym a.begins ∙ ap (place_at g.heads) (sym low_is) ∙ place_is_at g.heads x.below head at in
-            let rank : k.rank ≡ wanted.rank = sym a.ranked ∙ ap (unit_rank t.grammar) (same_production k w c a).0 ∙ sym wants.rank in
-            ap (λ (b : ℕ). turn_of b k.rank) begins ∙ ap (λ (r : ℕ). turn_of head.place r) rank
+      pub no_end : (old : Option Batch) → ((place : ℕ) → EndsBy g.heads g.links top.head wanted.steps most place → ⊥) → Seeks t g seek (ByNumber top number) old old
+      no_end old none = record {
+        more = omega arith;
+        all = λ k s. absurd (none k.begins (own_end k s));
+        each = λ k e. inl e;
+      }
 
-        pub ways_on : (old mid new : Option Batch) → Seeks t g seek (OnWays g.links top number (take i all)) old mid → IsSooner seek.below mid key new → Seeks t g seek (OnWays g.links top number (take (i + 1) all)) old new
-        ways_on old mid new a s =
-            subst (λ (ws : List Way). Seeks t g seek (OnWays g.links top number ws) old new) (one_taken all i x low item)
-            (record {
-              more = let m = a.more in let n = s.more in omega (arith, m, n);
-              all = λ k h. among k h (Contains-push_cases (take i all) x h.means.2 h.means.3);
-              each = λ k is. ⊎_elim (λ e. ⊎_elim (λ f. inl f) (λ h. inr (sought_as (OnWays g.links top number (take i all)) (OnWays g.links top number (take i all ++ x ∷ [])) (λ j u n w c h asked. (h.0, h.1, h.2, Contains-append_left (take i all) (x ∷ []) h.2 h.3, h.4, h.5)) k h)) (a.each k e))
-                  (λ h. inr (subst (λ (j : Batch). IsSought t g seek (OnWays g.links top number (take i all ++ x ∷ [])) j) (sym h.0) (own h.1))) (s.each k is);
-            })
-          where
-            own : turn_of head.place wanted.rank < seek.below → IsSought t g seek (OnWays g.links top number (take i all ++ x ∷ [])) key
-            own after = record {
-              top = top;
-              number = number;
-              way = listed.0;
-              b = x.below;
-              means = (refl, refl, x, Contains-push (take i all) x, listed.1, refl);
-              asked = own_asked;
-              look_is = refl;
-              after = after;
-            }
+      -- the key of the latest end is the first of them
+      pub latest_key : (place : ℕ) → IsLatestEnd g.heads g.links top.head wanted.steps most place → (old new : Option Batch) → IsSooner seek.below old (batch_at seek.look place wanted.rank) new → Seeks t g seek (ByNumber top number) old new
+      latest_key place latest old new s = record {
+        more = s.more;
+        all = λ k h.
+            let later = turn_up k.begins place wanted.rank (latest.latest k.begins (own_end k h)) in
+            let own = s.own after in
+            subst (λ (r : ℕ). turn_of k.begins r < past new) (sym (own_rank k h)) (omega (arith, later, own));
+        each = λ k e. ⊎_elim (λ f. inl f) (λ r. inr (subst (λ (b : Batch). IsSought t g seek (ByNumber top number) b) (sym r.0) sought)) (s.each k e);
+      }
+        where
+          after : turn_of place wanted.rank < seek.below
+          after = (turns place).1 latest.ends.low
 
-            among : (k : Batch) → (h : IsSought t g seek (OnWays g.links top number (take i all ++ x ∷ [])) k) → Contains (take i all) h.means.2 ⊎ (x ≡ h.means.2) → turn_of k.begins k.rank < past new
-            among k h (inl there) =
-                let v = a.all k (record { top = h.top; number = h.number; way = h.way; b = h.b; means = (h.means.0, h.means.1, h.means.2, there, h.means.4, h.means.5); asked = h.asked; look_is = h.look_is; after = h.after }) in
-                let n = s.more in
-                omega (arith, v, n)
-            among k h (inr e) =
-                let same : turn_of k.begins k.rank ≡ turn_of head.place wanted.rank = own_only k h.top h.number h.way h.b h.means.0 h.means.1 (ap (λ (z : Way). z.below) e ∙ h.means.5) h.asked in
-                let after : turn_of head.place wanted.rank < seek.below = subst (λ (n : ℕ). n < seek.below) same h.after in
-                subst (λ (n : ℕ). n < past new) (sym same) (s.own after)
+          sought : IsSought t g seek (ByNumber top number) (batch_at seek.look place wanted.rank)
+          sought = record {
+            top = top;
+            number = number;
+            way = latest.ends.taken;
+            b = latest.ends.below;
+            means = (refl, refl);
+            asked = record {
+              head = has.head;
+              at = has.at;
+              acts = has.acts;
+              left = left;
+              production = p;
+              is = is;
+              ranked = sym wants.rank;
+              takes = subst (λ (n : ℕ). TakesFilled g.links top.head n latest.ends.taken latest.ends.below) wants.steps latest.ends.takes;
+              begins = latest.ends.at;
+            };
+            look_is = refl;
+            after = after;
+          }

@@ -7,7 +7,7 @@ ghost use Rattle.ts_reductions.specs.Asking.{HasAction, HasReduction, ByNumber, 
 ghost use Rattle.ts_sweeps.specs.Seeking.{CanSeekAt, CanSeek, Seeks, IsNext};
 
 use crate::laws::reduction_laws_hold;
-use crate::turns::sooner;
+use crate::turns::{latest, may_come_first, sooner};
 use std::alloc::{AllocError, Global};
 use ts_core::Action;
 use ts_graph::Graph;
@@ -21,7 +21,8 @@ pub(crate) struct Seek {
     pub below: u64,
 }
 
-/// The first of the keys of a reduction at a head, on all ways, and of the one found so far.
+/// The first of the keys of a reduction at a head, and of the one found so far. Of its keys that
+/// are left, the first is that of the latest end of its ways.
 fn seek_ways(
     alloc: Global,
     table: &Table,
@@ -42,18 +43,23 @@ fn seek_ways(
     reduction_laws_hold();
     table.stands();
     let wanted = setting.wanted(number);
-    let ways = graph.ways(alloc, top.head, wanted.steps)?;
-    let mut found = before;
-    for way in ways.as_slice() {
-        let low = graph.head(way.below);
-        let key = Batch {
-            look: seek.look,
-            begins: low.place,
-            rank: wanted.rank,
-        };
-        found = sooner(seek.below, found, key);
+    let Some(most) = latest(seek.below, wanted.rank) else {
+        return Ok(before);
+    };
+    if !may_come_first(before, most, wanted.rank) {
+        return Ok(before);
     }
-    Ok(found)
+    match graph.latest_end(alloc, top.head, wanted.steps, most)? {
+        Some(begins) => {
+            let key = Batch {
+                look: seek.look,
+                begins,
+                rank: wanted.rank,
+            };
+            Ok(sooner(seek.below, before, key))
+        }
+        None => Ok(before),
+    }
 }
 
 /// The same of an action on the token that a head sees, where it is a reduction.
@@ -108,7 +114,8 @@ fn seek_top(
 }
 
 /// The first key of the place, after all keys from the turn on, at which a reduction is asked for,
-/// and none where there is no such key.
+/// and none where there is no such key. The heads that came last are asked first, since the next key
+/// is often theirs, and others are then not asked for keys after it.
 pub(crate) fn next_key(
     alloc: Global,
     table: &Table,
@@ -124,8 +131,10 @@ pub(crate) fn next_key(
         → IsNext table.now graph.now seek tops.now next) }
 {
     let mut found = None;
-    for top in tops {
-        found = seek_top(alloc, table, setting, graph, seek, *top, found)?;
+    let mut left = tops.len();
+    while left > 0 {
+        left -= 1;
+        found = seek_top(alloc, table, setting, graph, seek, tops[left], found)?;
     }
     Ok(found)
 }
