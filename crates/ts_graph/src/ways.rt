@@ -244,7 +244,9 @@ impl Graph {
         requires some { 0 < part.now.wanting }
         ensures { IfOk result (λ new. new ≡ next_of self.now.links part.now link) }
     {
-        let mut links = Vec::from_slice(alloc, part.way.links.as_slice())?;
+        let before = part.way.links.as_slice();
+        let mut links = Vec::with_capacity(alloc, before.len() + 1)?;
+        links.extend_from_slice(before)?;
         links.push(link)?;
         let way = Way {
             links: List::from_vec(links),
