@@ -22,8 +22,8 @@ use Rattle.ts_gss.specs.declared.layer.Layer.{Layer}
 use Rattle.ts_gss.specs.Stacks.{stack_at, trees_on, state_on}
 use Rattle.ts_graph.specs.declared.view.GraphView.{GraphView}
 use Rattle.ts_graph.specs.Cells.{graph_of}
-use Rattle.ts_laying.specs.Sound.{bare_links, IsSoundFor}
-use Rattle.ts_laying.specs.Laying.{head_at}
+use Rattle.ts_reductions.specs.SoundLinks.{bare_links, IsSoundFor}
+use Rattle.ts_reductions.specs.Laying.{head_at}
 use Rattle.ts_steps.specs.declared.head.StackHead.{StackHead}
 use Rattle.ts_steps.specs.Good.{EachTree}
 use Rattle.ts_steps.specs.Heads.{AreStatesOf, IsOwnWithin, StandOnHead}

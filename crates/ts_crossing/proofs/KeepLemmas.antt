@@ -15,9 +15,9 @@ use Rattle.ts_gss.specs.declared.layer.Layer.{Layer}
 use Rattle.ts_gss.specs.Stacks.{trees_on, state_on}
 use Rattle.ts_graph.specs.declared.view.GraphView.{GraphView}
 use Rattle.ts_graph.specs.Down.{place_at}
-use Rattle.ts_laying.specs.Sound.{bare_link}
-use Rattle.ts_laying.specs.Laying.{head_at, IsLaid}
-use Rattle.ts_laying.proofs.ClimbLemmas.{places_stay}
+use Rattle.ts_reductions.specs.SoundLinks.{bare_link}
+use Rattle.ts_reductions.specs.Laying.{head_at, IsLaid}
+use Rattle.ts_reductions.proofs.ClimbLemmas.{places_stay}
 use Rattle.ts_steps.specs.Good.{EachTree}
 use Rattle.ts_steps.specs.LiveHeads.{HaveStates}
 use Rattle.ts_steps.specs.Heads.{AreStatesOf, IsOwnWithin}

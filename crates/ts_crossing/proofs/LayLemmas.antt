@@ -19,8 +19,8 @@ use Rattle.ts_gss.specs.declared.layer.Layer.{Layer}
 use Rattle.ts_gss.specs.Stacks.{stack_at, trees_on, state_on, tree_on, under_top}
 use Rattle.ts_graph.specs.declared.view.GraphView.{GraphView}
 use Rattle.ts_graph.specs.Down.{HoldsEachOnce, place_at}
-use Rattle.ts_laying.specs.Sound.{bare_links}
-use Rattle.ts_laying.specs.Laying.{head_at, CanLayOn, IsLaid}
+use Rattle.ts_reductions.specs.SoundLinks.{bare_links}
+use Rattle.ts_reductions.specs.Laying.{head_at, CanLayOn, IsLaid}
 use Rattle.ts_reductions.specs.Good.{IsGoodTree}
 use Rattle.ts_steps.specs.Good.{IsGoodTree as IsGoodOnStack}
 use Rattle.ts_steps.specs.LiveHeads.{HaveStates}

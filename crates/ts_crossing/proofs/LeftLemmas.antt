@@ -23,7 +23,7 @@ use Rattle.ts_gss.specs.Stacks.{layer_with, stack_at, trees_on}
 use Rattle.ts_graph.specs.declared.view.GraphView.{GraphView}
 use Rattle.ts_graph.specs.Down.{HoldsEachOnce, place_at}
 use Rattle.ts_graph.specs.Ways.{AreAt}
-use Rattle.ts_laying.specs.Sound.{bare_link, bare_links}
+use Rattle.ts_reductions.specs.SoundLinks.{bare_link, bare_links}
 use Rattle.ts_steps.specs.declared.head.StackHead.{StackHead}
 use Rattle.ts_steps.specs.Good.{EachTree, AreGoodTrees}
 use Rattle.ts_steps.specs.LiveHeads.{config_of, HaveStates, IsGoodStack}

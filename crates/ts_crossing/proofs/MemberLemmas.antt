@@ -7,7 +7,7 @@ use Rattle.std.proofs.lemmas.List.{length-map}
 use Rattle.spec_graph.specs.declared.graph.Head.{Head}
 use Rattle.spec_graph.specs.declared.graph.Link.{Link}
 use Rattle.ts_graph.specs.Down.{place_at}
-use Rattle.ts_laying.specs.Sound.{bare_link, bare_links}
+use Rattle.ts_reductions.specs.SoundLinks.{bare_link, bare_links}
 
 module _ {X : Type 0} where
   pub none_contained : (x : X) → Contains [] x → ⊥

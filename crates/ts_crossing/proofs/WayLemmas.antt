@@ -14,7 +14,7 @@ use Rattle.spec_crossing.specs.Leaving.{AreExact, IsOnlyWay, EndsWithToken}
 use Rattle.ts_graph.specs.declared.view.GraphView.{GraphView}
 use Rattle.ts_graph.specs.Down.{HoldsEachOnce, place_at}
 use Rattle.ts_graph.specs.Ways.{AreAt}
-use Rattle.ts_laying.specs.Sound.{bare_link, bare_links, IsSoundFor}
+use Rattle.ts_reductions.specs.SoundLinks.{bare_link, bare_links, IsSoundFor}
 use Rattle.ts_crossing.proofs.MemberLemmas.{contained_at, at_contained, bare_member, member_bare, place_is_at}
 use Rattle.ts_crossing.specs.Leaving.{IsStack, HasNoStack, IsOnlyDown, IsLastToken, LeadsDown, StartsWith}
 

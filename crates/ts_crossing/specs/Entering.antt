@@ -20,8 +20,8 @@ use Rattle.ts_gss.specs.declared.layer.Layer.{Layer}
 use Rattle.ts_gss.specs.Stacks.{stack_at, trees_on, state_on, under_top}
 use Rattle.ts_gss.specs.Paths.{IsLifted}
 use Rattle.ts_graph.specs.declared.view.GraphView.{GraphView}
-use Rattle.ts_laying.specs.Sound.{bare_links, IsSoundFor}
-use Rattle.ts_laying.specs.Laying.{head_at}
+use Rattle.ts_reductions.specs.SoundLinks.{bare_links, IsSoundFor}
+use Rattle.ts_reductions.specs.Laying.{head_at}
 use Rattle.ts_reductions.specs.Good.{IsGoodTree}
 use Rattle.ts_steps.specs.declared.head.StackHead.{StackHead}
 use Rattle.ts_steps.specs.Good.{EachTree, AreGoodTrees}

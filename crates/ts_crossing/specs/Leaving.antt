@@ -13,7 +13,7 @@ use Rattle.ts_gss.specs.Stacks.{layer_with, stack_at}
 use Rattle.ts_graph.specs.declared.view.GraphView.{GraphView}
 use Rattle.ts_graph.specs.Down.{links_down, place_at}
 use Rattle.ts_graph.specs.Ways.{AreAt}
-use Rattle.ts_laying.specs.Sound.{bare_link, bare_links}
+use Rattle.ts_reductions.specs.SoundLinks.{bare_link, bare_links}
 use Rattle.ts_steps.specs.declared.head.StackHead.{StackHead}
 
 -- The links of these numbers are the only way down from a head, their trees are as deep as any for

@@ -14,7 +14,7 @@ use spec_graph::Head;
 use std::alloc::{AllocError, Global};
 use ts_graph::Graph;
 use ts_gss::Graph as Stacks;
-use ts_laying::{Piece, lay};
+use ts_reductions::{Piece, lay};
 use ts_steps::StackHead;
 
 /// A graph that was made of a stack, and the place from which it is followed: all heads stand there

@@ -18,7 +18,7 @@ ghost use Rattle.ts_table.specs.Tables.{IsTable};
 ghost use Rattle.ts_table.specs.Ranks.{unit_rank};
 ghost use Rattle.ts_gss.specs.declared.layer.Layer.{Layer};
 ghost use Rattle.ts_graph.specs.declared.view.GraphView.{GraphView};
-ghost use Rattle.ts_laying.specs.Sound.{bare_links};
+ghost use Rattle.ts_reductions.specs.SoundLinks.{bare_links};
 ghost use Rattle.ts_steps.specs.declared.head.StackHead.{StackHead as AnyHead};
 ghost use Rattle.ts_steps.specs.LiveHeads.{config_of};
 ghost use Rattle.ts_steps.specs.Heads.{AreStatesOf, IsOwnHead, StandOnHead};

@@ -5,7 +5,7 @@ ghost use Rattle.spec_graph.specs.declared.graph.Link.{Link};
 ghost use Rattle.spec_graph.specs.Laying.{Parsing};
 ghost use Rattle.ts_gss.specs.Stacks.{layer_with, stack_at};
 ghost use Rattle.ts_graph.specs.Ways.{AreAt};
-ghost use Rattle.ts_laying.specs.Sound.{IsSoundFor};
+ghost use Rattle.ts_reductions.specs.SoundLinks.{IsSoundFor};
 ghost use Rattle.ts_crossing.specs.Leaving.{IsStack, HasNoStack, state_at, IsLeft, IsAlone, IsOnlyDown, IsTokenTree, IsLastToken};
 
 use crate::laws::leave_laws_hold;

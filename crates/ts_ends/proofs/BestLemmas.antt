@@ -18,7 +18,7 @@ use Rattle.ts_graph.specs.declared.ways.Way.{Way}
 use Rattle.ts_graph.specs.Ways.{AreAt, TakesFilled, ListsWays}
 use Rattle.ts_graph.proofs.ListLemmas.{same_last}
 use Rattle.ts_table.specs.declared.view.ParseTable.{ParseTable}
-use Rattle.ts_laying.specs.Sound.{bare_link, bare_links}
+use Rattle.ts_reductions.specs.SoundLinks.{bare_link, bare_links}
 use Rattle.ts_reductions.specs.Sound.{parsing_from, parsing_of, IsSoundOver}
 use Rattle.ts_reductions.proofs.SmallLemmas.{bare_member, filling_tree, filling_extras, extras_turned}
 use Rattle.ts_reductions.proofs.WayLemmas.{trees_append, trees_bare, way_bare, way_cut, map_turned, extras_bare, bare_extras}

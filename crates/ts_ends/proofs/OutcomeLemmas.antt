@@ -16,8 +16,8 @@ use Rattle.spec_graph.proofs.LayLemmas.{order_cases}
 use Rattle.ts_graph.specs.declared.view.GraphView.{GraphView}
 use Rattle.ts_graph.specs.Down.{KeepNumbers}
 use Rattle.ts_table.specs.declared.view.ParseTable.{ParseTable}
-use Rattle.ts_laying.specs.Sound.{bare_links}
-use Rattle.ts_laying.specs.Laying.{HasPassed}
+use Rattle.ts_reductions.specs.SoundLinks.{bare_links}
+use Rattle.ts_reductions.specs.Laying.{HasPassed}
 use Rattle.spec_crossing.specs.Resting.{AccountsForGraph}
 use Rattle.ts_reductions.specs.Sound.{Base, parsing_from, parsing_of}
 use Rattle.ts_shifts.specs.Looking.{IsHeadAt, StopsThere}

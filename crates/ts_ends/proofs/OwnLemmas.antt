@@ -21,7 +21,7 @@ use Rattle.ts_graph.specs.declared.view.GraphView.{GraphView}
 use Rattle.ts_graph.specs.Down.{place_at}
 use Rattle.ts_table.specs.declared.view.ParseTable.{ParseTable}
 use Rattle.ts_table.specs.Tables.{goto_of, IsTable}
-use Rattle.ts_laying.specs.Sound.{bare_link, bare_links}
+use Rattle.ts_reductions.specs.SoundLinks.{bare_link, bare_links}
 use Rattle.ts_steps.specs.Good.{EachTree}
 use Rattle.ts_steps.specs.Heads.{AreStatesOf, IsOwnTree, IsOwnWithin}
 use Rattle.ts_steps.proofs.NodeLemmas.{over_layer, each_append, each_left, each_right, each_turned}

@@ -26,7 +26,7 @@ use Rattle.ts_graph.proofs.BetweenLemmas.{go_first, go_at}
 use Rattle.ts_node.specs.Standing.{IsAcceptable}
 use Rattle.ts_steps.proofs.NodeLemmas.{own_forms}
 use Rattle.ts_table.specs.declared.view.ParseTable.{ParseTable}
-use Rattle.ts_laying.specs.Sound.{bare_link, bare_links, IsSoundFor}
+use Rattle.ts_reductions.specs.SoundLinks.{bare_link, bare_links, IsSoundFor}
 use Rattle.ts_reductions.specs.Good.{AreGoodTrees}
 use Rattle.ts_reductions.specs.Sound.{parsing_from, IsSoundOver}
 use Rattle.ts_reductions.proofs.SmallLemmas.{contained_at, bare_member, member_bare, all_spans-append, spans_turned, good_turned, extras_turned, filling_append, place_is_at}

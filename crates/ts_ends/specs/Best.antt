@@ -15,7 +15,7 @@ use Rattle.ts_graph.specs.declared.view.GraphView.{GraphView}
 use Rattle.ts_graph.specs.declared.ways.Way.{Way}
 use Rattle.ts_graph.specs.Ways.{AreAt, TakesFilled}
 use Rattle.ts_table.specs.declared.view.ParseTable.{ParseTable}
-use Rattle.ts_laying.specs.Sound.{bare_links}
+use Rattle.ts_reductions.specs.SoundLinks.{bare_links}
 use Rattle.ts_reductions.specs.Sound.{parsing_of, IsSoundOver}
 use Rattle.ts_steps.specs.Accepting.{IsWholeRoot}
 use Rattle.ts_ends.specs.Choosing.{Withstands, HasForm}

@@ -10,7 +10,7 @@ use Rattle.spec_graph.specs.Laying.{Parsing, SeesAt}
 use Rattle.spec_graph.specs.Links.{IsAt}
 use Rattle.ts_graph.specs.declared.view.GraphView.{GraphView}
 use Rattle.ts_table.specs.declared.view.ParseTable.{ParseTable}
-use Rattle.ts_laying.specs.Laying.{HasPassed}
+use Rattle.ts_reductions.specs.Laying.{HasPassed}
 use Rattle.ts_reductions.specs.Sound.{Base, parsing_from, parsing_of}
 use Rattle.ts_shifts.specs.Looking.{StopsThere}
 use Rattle.ts_ends.specs.declared.ends.Ends.{Ends}

@@ -12,7 +12,7 @@ ghost use Rattle.ts_graph.specs.declared.view.GraphView.{GraphView};
 ghost use Rattle.ts_graph.specs.Down.{KeepNumbers};
 ghost use Rattle.ts_table.specs.declared.view.ParseTable.{ParseTable};
 ghost use Rattle.ts_table.specs.Tables.{IsTable};
-ghost use Rattle.ts_laying.specs.Sound.{bare_links};
+ghost use Rattle.ts_reductions.specs.SoundLinks.{bare_links};
 ghost use Rattle.ts_steps.specs.Good.{EachTree};
 ghost use Rattle.ts_steps.specs.Heads.{AreStatesOf, IsOwnWithin};
 ghost use Rattle.ts_reductions.specs.Sound.{Base as AnyBase, parsing_from, parsing_of, IsSoundBy};

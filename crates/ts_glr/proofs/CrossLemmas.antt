@@ -21,7 +21,7 @@ use Rattle.ts_gss.specs.Stacks.{stack_at, trees_on}
 use Rattle.ts_graph.specs.declared.view.GraphView.{GraphView}
 use Rattle.ts_graph.specs.Ways.{AreAt}
 use Rattle.ts_reductions.specs.declared.setting.Setting.{Setting}
-use Rattle.ts_laying.specs.Sound.{bare_links}
+use Rattle.ts_reductions.specs.SoundLinks.{bare_links}
 use Rattle.ts_reductions.specs.Sound.{parsing_from, IsSoundBy}
 use Rattle.ts_steps.specs.declared.head.StackHead.{StackHead}
 use Rattle.ts_steps.specs.LiveHeads.{config_of}

@@ -7,7 +7,7 @@ use Rattle.ts_graph.specs.Down.{KeepNumbers}
 use Rattle.ts_table.specs.declared.view.ParseTable.{ParseTable}
 use Rattle.ts_table.specs.Ranks.{unit_rank}
 use Rattle.ts_gss.specs.declared.layer.Layer.{Layer}
-use Rattle.ts_laying.specs.Laying.{head_at}
+use Rattle.ts_reductions.specs.Laying.{head_at}
 use Rattle.ts_reductions.specs.declared.setting.Setting.{Setting}
 use Rattle.ts_reductions.specs.Lines.{IsSetting}
 use Rattle.ts_reductions.specs.Sound.{Base, base_at, IsSoundBy}

@@ -19,7 +19,7 @@ use Rattle.ts_table.specs.Tables.{IsTable}
 use Rattle.ts_table.specs.Ranks.{unit_rank}
 use Rattle.ts_gss.specs.declared.layer.Layer.{Layer}
 use Rattle.ts_graph.specs.declared.view.GraphView.{GraphView}
-use Rattle.ts_laying.specs.Sound.{bare_links}
+use Rattle.ts_reductions.specs.SoundLinks.{bare_links}
 use Rattle.ts_reductions.specs.Sound.{Base, parsing_from, parsing_of, IsSoundBy}
 use Rattle.ts_reductions.specs.Keeping.{AreOwn, StandOnGraph}
 use Rattle.ts_steps.specs.declared.head.StackHead.{StackHead}

@@ -8,7 +8,7 @@ ghost use Rattle.spec_graph.specs.Laying.{Parsing};
 ghost use Rattle.spec_crossing.specs.Resting.{IsPastStuck};
 ghost use Rattle.ts_table.specs.declared.view.ParseTable.{ParseTable};
 ghost use Rattle.ts_gss.specs.declared.layer.Layer.{Layer};
-ghost use Rattle.ts_laying.specs.Sound.{IsSoundFor};
+ghost use Rattle.ts_reductions.specs.SoundLinks.{IsSoundFor};
 ghost use Rattle.ts_steps.specs.declared.head.StackHead.{StackHead as AnyHead};
 ghost use Rattle.ts_steps.specs.LiveHeads.{config_of};
 ghost use Rattle.ts_steps.specs.Heads.{IsOwnHead};

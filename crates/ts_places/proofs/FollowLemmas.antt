@@ -9,8 +9,8 @@ use Rattle.spec_graph.specs.Links.{HasGrown}
 use Rattle.ts_graph.specs.declared.view.GraphView.{GraphView}
 use Rattle.ts_table.specs.declared.view.ParseTable.{ParseTable}
 use Rattle.ts_table.specs.Tables.{IsTable}
-use Rattle.ts_laying.specs.Sound.{bare_links}
-use Rattle.ts_laying.specs.Laying.{Grows, HasPassed, IsNewHead}
+use Rattle.ts_reductions.specs.SoundLinks.{bare_links}
+use Rattle.ts_reductions.specs.Laying.{Grows, HasPassed, IsNewHead}
 use Rattle.ts_reductions.specs.declared.reducing.Reduced.{Reduced}
 use Rattle.ts_reductions.specs.declared.reducing.Reduced.TheVariants.{Done, TooDeep}
 use Rattle.ts_reductions.specs.declared.setting.Setting.{Setting}

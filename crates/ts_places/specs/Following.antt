@@ -6,7 +6,7 @@ use Rattle.spec_graph.specs.States.{AreRanks}
 use Rattle.ts_graph.specs.declared.view.GraphView.{GraphView}
 use Rattle.ts_table.specs.declared.view.ParseTable.{ParseTable}
 use Rattle.ts_table.specs.Ranks.{unit_rank}
-use Rattle.ts_laying.specs.Laying.{Grows, HasPassed}
+use Rattle.ts_reductions.specs.Laying.{Grows, HasPassed}
 use Rattle.ts_reductions.specs.declared.setting.Setting.{Setting}
 use Rattle.ts_reductions.specs.declared.top.Top.{Top}
 use Rattle.ts_reductions.specs.Asking.{IsTop}

@@ -21,7 +21,7 @@ use Rattle.ts_reductions.specs.declared.batch.Batch.{Batch}
 use Rattle.ts_reductions.specs.declared.lines.Line.{Line}
 use Rattle.ts_reductions.specs.declared.setting.Setting.{Setting}
 use Rattle.ts_reductions.specs.Lines.{IsLine}
-use Rattle.ts_laying.specs.declared.made.Made.{Made}
+use Rattle.ts_reductions.specs.declared.made.Made.{Made}
 use Rattle.ts_reductions.specs.declared.top.Top.{Top}
 use Rattle.ts_reductions.specs.Sound.{Base}
 use Rattle.ts_reductions.specs.Asking.{HasReduction, IsAsked, IsMadeFor, IsAskedDeep, IsReadyAt, IsReady, AreMade, SomeAreDeep, Adds, OnWay, ByNumber, ByAction, ByTop, ByTops}

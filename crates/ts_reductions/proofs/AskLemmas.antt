@@ -23,7 +23,7 @@ use Rattle.ts_table.specs.declared.view.ParseTable.{ParseTable}
 use Rattle.ts_table.specs.Tables.{goto_of, actions_of, IsStateOf, ActsBy, reduces, IsTable}
 use Rattle.ts_table.specs.Tables as tables
 use Rattle.ts_table.specs.Ranks.{unit_rank}
-use Rattle.ts_laying.specs.Sound.{CanBeParsed, bare_links}
+use Rattle.ts_reductions.specs.SoundLinks.{CanBeParsed, bare_links}
 use Rattle.ts_reductions.specs.declared.batch.Batch.{Batch}
 use Rattle.ts_reductions.specs.declared.setting.Setting.{Setting}
 use Rattle.ts_reductions.specs.declared.top.Top.{Top}

@@ -24,7 +24,7 @@ use Rattle.ts_node.specs.Standing.{CanBeReduced}
 use Rattle.ts_reductions.specs.Laws.{ReductionLaws, NodeLaws}
 use Rattle.ts_reductions.specs.Good.{IsGoodTree}
 use Rattle.ts_reductions.specs.declared.batch.Batch.{Batch}
-use Rattle.ts_laying.specs.declared.made.Made.{Made}
+use Rattle.ts_reductions.specs.declared.made.Made.{Made}
 use Rattle.ts_reductions.specs.declared.lines.Line.{Line}
 use Rattle.ts_reductions.specs.declared.setting.Setting.{Setting}
 use Rattle.ts_reductions.specs.declared.top.Top.{Top}
@@ -32,7 +32,7 @@ use Rattle.ts_reductions.specs.Sound.{parsing_from}
 use Rattle.ts_reductions.specs.Lines.{IsLine}
 use Rattle.ts_reductions.specs.Depths.{depth_when, AreShallow}
 use Rattle.ts_reductions.specs.Asking.{inner_of, outer_of, children_on, extras_on, depth_on, HasReduction, IsAsked, IsAskedDeep, IsReadyAt, IsMadeFor}
-use Rattle.ts_laying.specs.Sound.{bare_link, IsSoundFor}
+use Rattle.ts_reductions.specs.SoundLinks.{bare_link, IsSoundFor}
 use Rattle.ts_reductions.proofs.SmallLemmas.{bare_member}
 use Rattle.ts_reductions.proofs.WayLemmas.{way_shallow}
 use Rattle.ts_reductions.proofs.LineLemmas.{left_low}

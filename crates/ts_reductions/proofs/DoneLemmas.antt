@@ -27,12 +27,12 @@ use Rattle.ts_steps.specs.MoveLaws.{Laws}
 use Rattle.ts_reductions.specs.Laws.{ReductionLaws, NodeLaws}
 use Rattle.ts_reductions.specs.Good.{IsGoodTree, AreGoodTrees}
 use Rattle.ts_reductions.specs.declared.batch.Batch.{Batch}
-use Rattle.ts_laying.specs.declared.made.Made.{Made}
+use Rattle.ts_reductions.specs.declared.made.Made.{Made}
 use Rattle.ts_reductions.specs.declared.setting.Setting.{Setting}
 use Rattle.ts_reductions.specs.declared.top.Top.{Top}
-use Rattle.ts_laying.specs.Sound.{CanBeParsed, bare_links}
+use Rattle.ts_reductions.specs.SoundLinks.{CanBeParsed, bare_links}
 use Rattle.ts_reductions.specs.Sound.{Base, parsing_from}
-use Rattle.ts_laying.specs.Laying.{head_at, HasPassed, IsNewHead, CanLayMade, CanLayAll, placed, trees_of, end_of, HasNode, AreAllLaid}
+use Rattle.ts_reductions.specs.Laying.{head_at, HasPassed, IsNewHead, CanLayMade, CanLayAll, placed, trees_of, end_of, HasNode, AreAllLaid}
 use Rattle.ts_reductions.specs.Asking.{inner_of, outer_of, children_on, key_of, IsAsked, IsReady, IsMadeFor, AreMade, SomeAreDeep, ByTops}
 use Rattle.ts_reductions.specs.Keeping.{KeepsTrees}
 use Rattle.ts_reductions.specs.Reducing.{IsDeepAt, AreReduced}

@@ -3,8 +3,8 @@ use Rattle.std.proofs.Common.{arith}
 use Rattle.spec_graph.specs.Laying.{Parsing}
 use Rattle.spec_graph.specs.Links.{HasGrown}
 use Rattle.ts_graph.specs.declared.view.GraphView.{GraphView}
-use Rattle.ts_laying.specs.Sound.{bare_links}
-use Rattle.ts_laying.specs.Laying.{Grows}
+use Rattle.ts_reductions.specs.SoundLinks.{bare_links}
+use Rattle.ts_reductions.specs.Laying.{Grows}
 use Rattle.ts_reductions.specs.Laws.{ReductionLaws}
 
 -- the same as the theory of graphs has it

@@ -20,12 +20,12 @@ use Rattle.ts_table.specs.Ranks.{unit_rank}
 use Rattle.ts_reductions.specs.Laws.{ReductionLaws, NodeLaws}
 use Rattle.ts_reductions.specs.Good.{AreGoodTrees}
 use Rattle.ts_reductions.specs.declared.batch.Batch.{Batch}
-use Rattle.ts_laying.specs.declared.made.Made.{Made}
+use Rattle.ts_reductions.specs.declared.made.Made.{Made}
 use Rattle.ts_reductions.specs.declared.setting.Setting.{Setting}
 use Rattle.ts_reductions.specs.declared.top.Top.{Top}
-use Rattle.ts_laying.specs.Sound.{CanBeParsed, bare_links}
+use Rattle.ts_reductions.specs.SoundLinks.{CanBeParsed, bare_links}
 use Rattle.ts_reductions.specs.Sound.{parsing_from}
-use Rattle.ts_laying.specs.Laying.{FitsAfter, FitExtras, CanLayMade, end_of}
+use Rattle.ts_reductions.specs.Laying.{FitsAfter, FitExtras, CanLayMade, end_of}
 use Rattle.ts_reductions.specs.Asking.{inner_of, outer_of, children_on, extras_on, key_of, IsAsked, IsReadyAt, IsMadeFor}
 use Rattle.ts_reductions.proofs.SmallLemmas.{all_spans-append, spans_turned, extras_turned}
 use Rattle.ts_reductions.proofs.WayLemmas.{trees_bare, depths_bare, map_turned}

@@ -19,9 +19,9 @@ use Rattle.ts_graph.specs.declared.view.GraphView.{GraphView}
 use Rattle.ts_graph.specs.Down.{KeepNumbers, place_at}
 use Rattle.ts_table.specs.declared.view.ParseTable.{ParseTable}
 use Rattle.ts_table.specs.Tables.{IsTable}
-use Rattle.ts_laying.specs.declared.made.Made.{Made}
-use Rattle.ts_laying.specs.Sound.{bare_link, IsHeld, IsSoundFor}
-use Rattle.ts_laying.specs.Laying.{placed, TreesFrom}
+use Rattle.ts_reductions.specs.declared.made.Made.{Made}
+use Rattle.ts_reductions.specs.SoundLinks.{bare_link, IsHeld, IsSoundFor}
+use Rattle.ts_reductions.specs.Laying.{placed, TreesFrom}
 use Rattle.ts_steps.specs.Good as steps
 use Rattle.ts_steps.specs.Good.{EachTree}
 use Rattle.ts_steps.specs.Heads.{IsOwnWithin}

@@ -1,3 +1,7 @@
+pub mod MemberLemmas
+pub mod GrowLemmas
+pub mod LayLemmas
+pub mod ClimbLemmas
 pub mod SmallLemmas
 pub mod FactLemmas
 pub mod LineLemmas

@@ -18,7 +18,7 @@ use Rattle.ts_table.specs.Ranks.{unit_rank}
 use Rattle.ts_reductions.specs.declared.batch.Batch.{Batch}
 use Rattle.ts_reductions.specs.declared.setting.Setting.{Setting}
 use Rattle.ts_reductions.specs.declared.top.Top.{Top}
-use Rattle.ts_laying.specs.Sound.{CanBeParsed, bare_links}
+use Rattle.ts_reductions.specs.SoundLinks.{CanBeParsed, bare_links}
 use Rattle.ts_node.specs.Standing.{CanBeReduced}
 use Rattle.ts_reductions.specs.Laws.{ReductionLaws, NodeLaws}
 use Rattle.ts_reductions.specs.Good.{IsGoodTree, AreGoodTrees}

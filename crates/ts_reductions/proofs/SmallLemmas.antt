@@ -16,7 +16,7 @@ use Rattle.spec_graph.specs.States.{Goto, LeadsTo, at_first, by_goto, ShareState
 use Rattle.spec_graph.specs.Laying.{Parsing}
 use Rattle.spec_graph.specs.Links.{IsAt}
 use Rattle.ts_graph.specs.Down.{place_at}
-use Rattle.ts_laying.specs.Sound.{bare_link, bare_links}
+use Rattle.ts_reductions.specs.SoundLinks.{bare_link, bare_links}
 use Rattle.ts_reductions.specs.Good.{IsGoodTree, AreGoodTrees}
 
 -- ---- members

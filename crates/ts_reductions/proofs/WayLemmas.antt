@@ -14,7 +14,7 @@ use Rattle.spec_graph.specs.Laying.{Parsing}
 use Rattle.spec_graph.specs.Links.{IsWay, way_trees, depths_of}
 use Rattle.ts_graph.specs.Down.{place_at}
 use Rattle.ts_table.specs.declared.view.ParseTable.{ParseTable}
-use Rattle.ts_laying.specs.Sound.{bare_links, IsHeld}
+use Rattle.ts_reductions.specs.SoundLinks.{bare_links, IsHeld}
 use Rattle.ts_reductions.specs.Asking.{inner_of, outer_of}
 use Rattle.ts_reductions.specs.Depths.{AreShallow}
 use Rattle.ts_reductions.specs.Good.{IsGoodTree, AreGoodTrees}

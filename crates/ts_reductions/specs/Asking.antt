@@ -28,7 +28,7 @@ use Rattle.ts_reductions.specs.Good.{IsGoodTree}
 use Rattle.ts_reductions.specs.declared.batch.Batch.{Batch}
 use Rattle.ts_reductions.specs.declared.setting.Setting.{Setting}
 use Rattle.ts_reductions.specs.declared.top.Top.{Top}
-use Rattle.ts_laying.specs.declared.made.Made.{Made}
+use Rattle.ts_reductions.specs.declared.made.Made.{Made}
 use Rattle.ts_reductions.specs.Sound.{Base, parsing_of, IsSoundBy}
 use Rattle.ts_reductions.specs.Lines.{IsSetting}
 

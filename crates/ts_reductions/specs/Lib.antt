@@ -1,3 +1,6 @@
+pub mod LayingLaws
+pub mod SoundLinks
+pub mod Laying
 pub mod Laws
 pub mod Good
 pub mod Sound

@@ -12,10 +12,10 @@ use Rattle.ts_table.specs.declared.view.ParseTable.{ParseTable}
 use Rattle.ts_table.specs.Ranks.{unit_rank}
 use Rattle.ts_reductions.specs.declared.reducing.Reduced.{Reduced}
 use Rattle.ts_reductions.specs.declared.reducing.Reduced.TheVariants.{Done, TooDeep}
-use Rattle.ts_laying.specs.Sound.{bare_links}
+use Rattle.ts_reductions.specs.SoundLinks.{bare_links}
 use Rattle.ts_reductions.specs.Sound.{Base, parsing_from, IsSoundBy}
 use Rattle.ts_reductions.specs.Keeping.{KeepsTrees}
-use Rattle.ts_laying.specs.Laying.{Grows, IsNewHead}
+use Rattle.ts_reductions.specs.Laying.{Grows, IsNewHead}
 
 -- Some reduction of the key in the graph would make a node that is too deep.
 pub record IsDeepAt (t : ParseTable) (text : Bytes) (base : Base) (g : GraphView) (k : Key)

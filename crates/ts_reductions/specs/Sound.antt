@@ -10,7 +10,7 @@ use Rattle.ts_graph.specs.declared.view.GraphView.{GraphView}
 use Rattle.ts_table.specs.declared.view.ParseTable.{ParseTable}
 use Rattle.ts_table.specs.Tables.{goto_of}
 use Rattle.ts_reductions.specs.Good.{IsGoodTree}
-use Rattle.ts_laying.specs.Sound.{IsSoundFor}
+use Rattle.ts_reductions.specs.SoundLinks.{IsSoundFor}
 
 -- a stack from which runs go on, and the place where it ends
 pub record Base : Type 0 where

@@ -12,13 +12,13 @@ ghost use Rattle.ts_reductions.specs.Asking.{HasAction, HasReduction, IsAsked, I
 use crate::batch::Batch;
 use crate::gathering::{depth_over, lifted, trees_up};
 use crate::laws::{laws_hold, node_laws_hold};
+use crate::made::{Made, Piece};
 use crate::making::{extent_over, node_of};
 use crate::setting::Setting;
 use crate::top::Top;
 use std::alloc::{AllocError, Global};
 use ts_core::{Action, List, Symbol};
 use ts_graph::{Graph, Way};
-use ts_laying::{Made, Piece};
 use ts_table::Table;
 
 /// The greatest depth of a node.

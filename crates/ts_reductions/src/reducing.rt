@@ -9,11 +9,11 @@ ghost use Rattle.ts_reductions.specs.Reducing.{Reduces};
 use crate::asking::make_all;
 use crate::batch::Batch;
 use crate::laws::{laws_hold, node_laws_hold, own_laws_hold};
+use crate::laying::lay_all;
 use crate::setting::Setting;
 use crate::top::Top;
 use std::alloc::{AllocError, Global};
 use ts_graph::Graph;
-use ts_laying::lay_all;
 use ts_table::Table;
 
 /// What the reductions of a key came to.

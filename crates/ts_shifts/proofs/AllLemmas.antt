@@ -16,7 +16,7 @@ use Rattle.ts_graph.specs.declared.view.GraphView.{GraphView}
 use Rattle.ts_table.specs.declared.view.ParseTable.{ParseTable}
 use Rattle.ts_table.specs.Tables.{IsTable}
 use Rattle.ts_table.specs.Ranks.{unit_rank}
-use Rattle.ts_laying.specs.Sound.{bare_links}
+use Rattle.ts_reductions.specs.SoundLinks.{bare_links}
 use Rattle.ts_reductions.specs.declared.top.Top.{Top}
 use Rattle.ts_reductions.specs.Sound.{Base, parsing_from}
 use Rattle.ts_reductions.proofs.KeepLemmas.{keeps_none, keeps_on}

@@ -9,7 +9,7 @@ use Rattle.spec_graph.specs.Laying.{Parsing, SeesAt}
 use Rattle.spec_graph.specs.Links.{IsAt}
 use Rattle.ts_graph.specs.declared.view.GraphView.{GraphView}
 use Rattle.ts_table.specs.declared.view.ParseTable.{ParseTable}
-use Rattle.ts_laying.specs.Laying.{HasPassed}
+use Rattle.ts_reductions.specs.Laying.{HasPassed}
 use Rattle.ts_reductions.specs.Sound.{Base, parsing_from, IsSoundBy}
 use Rattle.ts_shifts.specs.Laws.{LookLaws}
 use Rattle.ts_shifts.specs.Looking.{StopsThere}

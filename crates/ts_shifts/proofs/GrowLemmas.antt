@@ -10,9 +10,9 @@ use Rattle.spec_graph.specs.Links.{IsAt, HasLink, HasGrown}
 use Rattle.ts_graph.specs.declared.view.GraphView.{GraphView}
 use Rattle.ts_graph.specs.Down.{KeepNumbers, place_at}
 use Rattle.ts_table.specs.declared.view.ParseTable.{ParseTable}
-use Rattle.ts_laying.specs.Sound.{bare_links}
+use Rattle.ts_reductions.specs.SoundLinks.{bare_links}
 use Rattle.ts_reductions.specs.Sound.{parsing_of}
-use Rattle.ts_laying.specs.Laying.{Grows}
+use Rattle.ts_reductions.specs.Laying.{Grows}
 use Rattle.ts_reductions.specs.declared.top.Top.{Top}
 use Rattle.ts_shifts.specs.declared.sights.Span.{Span}
 use Rattle.ts_shifts.specs.Laws.{LeafLaws}

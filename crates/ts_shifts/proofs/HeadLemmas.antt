@@ -18,7 +18,7 @@ use Rattle.ts_table.specs.Tables as tables
 use Rattle.ts_lexer.specs.Answers.{SaysFound, extent_of, IsLexedAt}
 use Rattle.ts_lexer.specs.declared.lexed.Lexed.{Lexed}
 use Rattle.ts_lexer.specs.declared.lexed.Lexed.TheVariants.{Token, Absent}
-use Rattle.ts_laying.specs.Sound.{bare_links}
+use Rattle.ts_reductions.specs.SoundLinks.{bare_links}
 use Rattle.ts_reductions.specs.Sound.{parsing_from, parsing_of, IsSoundOver}
 use Rattle.ts_shifts.specs.Laws.{LookLaws}
 use Rattle.ts_shifts.specs.Looking.{IsHeadAt, SeesThere}

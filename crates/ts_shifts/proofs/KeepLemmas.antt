@@ -11,8 +11,8 @@ use Rattle.spec_forced.proofs.SoundLemmas.{sound_none, sound_one}
 use Rattle.ts_graph.specs.declared.view.GraphView.{GraphView}
 use Rattle.ts_graph.specs.Down.{KeepNumbers}
 use Rattle.ts_table.specs.declared.view.ParseTable.{ParseTable}
-use Rattle.ts_laying.specs.Sound.{IsSoundFor}
-use Rattle.ts_laying.specs.Laying.{TreesFrom}
+use Rattle.ts_reductions.specs.SoundLinks.{IsSoundFor}
+use Rattle.ts_reductions.specs.Laying.{TreesFrom}
 use Rattle.ts_steps.specs.Good.{IsGoodTree}
 use Rattle.ts_steps.specs.Heads.{IsOwnWithin}
 use Rattle.ts_steps.proofs.OwnLemmas.{own_leaf}

@@ -25,10 +25,10 @@ use Rattle.ts_graph.specs.Down.{place_at}
 use Rattle.ts_table.specs.declared.view.ParseTable.{ParseTable}
 use Rattle.ts_table.specs.Tables.{IsTable}
 use Rattle.ts_table.specs.Ranks.{unit_rank}
-use Rattle.ts_laying.specs.Sound.{bare_link, bare_links}
+use Rattle.ts_reductions.specs.SoundLinks.{bare_link, bare_links}
 use Rattle.ts_reductions.specs.Sound.{Base, parsing_from, parsing_of, IsSoundBy}
 use Rattle.ts_reductions.specs.Reducing.{AreReduced}
-use Rattle.ts_laying.specs.Laying.{HasPassed}
+use Rattle.ts_reductions.specs.Laying.{HasPassed}
 use Rattle.ts_shifts.specs.Laws.{LeafLaws, NextLaws}
 use Rattle.ts_shifts.specs.Shifting.{AreShifted}
 use Rattle.ts_shifts.proofs.HeadLemmas.{one_head}

@@ -23,9 +23,9 @@ use Rattle.ts_graph.specs.declared.view.GraphView.{GraphView}
 use Rattle.ts_graph.specs.Down.{place_at}
 use Rattle.ts_table.specs.declared.view.ParseTable.{ParseTable}
 use Rattle.ts_table.specs.Tables.{goto_of, actions_of, IsStateOf}
-use Rattle.ts_laying.specs.Sound.{bare_links}
-use Rattle.ts_laying.specs.Laying.{CanLayOn, HasTree, head_at, WasThere, IsLaid}
-use Rattle.ts_laying.proofs.ClimbLemmas.{one_tree}
+use Rattle.ts_reductions.specs.SoundLinks.{bare_links}
+use Rattle.ts_reductions.specs.Laying.{CanLayOn, HasTree, head_at, WasThere, IsLaid}
+use Rattle.ts_reductions.proofs.ClimbLemmas.{one_tree}
 use Rattle.ts_reductions.specs.declared.top.Top.{Top}
 use Rattle.ts_reductions.specs.Good.{IsGoodTree}
 use Rattle.ts_reductions.specs.Sound.{Base, parsing_from, IsSoundBy}

@@ -8,7 +8,7 @@ use Rattle.spec_graph.specs.Links.{IsWholeTo, HasNoneDue}
 use Rattle.ts_graph.specs.declared.view.GraphView.{GraphView}
 use Rattle.ts_table.specs.declared.view.ParseTable.{ParseTable}
 use Rattle.ts_table.specs.Ranks.{unit_rank}
-use Rattle.ts_laying.specs.Sound.{bare_links}
+use Rattle.ts_reductions.specs.SoundLinks.{bare_links}
 use Rattle.ts_reductions.specs.Sound.{Base, parsing_from, IsSoundBy}
 use Rattle.ts_shifts.specs.Laws.{LeafLaws, NextLaws}
 use Rattle.ts_shifts.specs.Looking.{IsHeadAt}

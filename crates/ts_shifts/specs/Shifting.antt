@@ -17,8 +17,8 @@ use Rattle.ts_graph.specs.declared.view.GraphView.{GraphView}
 use Rattle.ts_table.specs.declared.view.ParseTable.{ParseTable}
 use Rattle.ts_table.specs.Tables.{IsTable, actions_of}
 use Rattle.ts_table.specs.Ranks.{unit_rank}
-use Rattle.ts_laying.specs.Sound.{bare_links}
-use Rattle.ts_laying.specs.Laying.{Grows}
+use Rattle.ts_reductions.specs.SoundLinks.{bare_links}
+use Rattle.ts_reductions.specs.Laying.{Grows}
 use Rattle.ts_reductions.specs.declared.top.Top.{Top}
 use Rattle.ts_reductions.specs.Sound.{Base, parsing_from, IsSoundBy}
 use Rattle.ts_reductions.specs.Keeping.{KeepsTrees}

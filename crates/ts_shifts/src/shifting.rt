@@ -11,9 +11,8 @@ use crate::sights::{Sights, Span};
 use std::alloc::AllocError;
 use ts_core::Action;
 use ts_graph::Graph;
-use ts_laying::{Piece, lay};
 use ts_node::Node;
-use ts_reductions::Top;
+use ts_reductions::{Piece, Top, lay};
 use ts_table::Table;
 
 /// What actions on a token ask for beside reductions.

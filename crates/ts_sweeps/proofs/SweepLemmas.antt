@@ -13,11 +13,11 @@ use Rattle.ts_graph.specs.Down.{KeepNumbers}
 use Rattle.ts_table.specs.declared.view.ParseTable.{ParseTable}
 use Rattle.ts_table.specs.Tables.{IsTable, goto_of, actions_of}
 use Rattle.ts_table.specs.Ranks.{unit_rank}
-use Rattle.ts_laying.specs.Laws.{LayingLaws}
-use Rattle.ts_laying.specs.Laying.{IsNewHead}
-use Rattle.ts_laying.proofs.GrowLemmas.{grows_on}
-use Rattle.ts_laying.proofs.GrowLemmas as growing
-use Rattle.ts_laying.proofs.ClimbLemmas.{new_stays}
+use Rattle.ts_reductions.specs.LayingLaws.{LayingLaws}
+use Rattle.ts_reductions.specs.Laying.{IsNewHead}
+use Rattle.ts_reductions.proofs.GrowLemmas.{grows_on}
+use Rattle.ts_reductions.proofs.GrowLemmas as growing
+use Rattle.ts_reductions.proofs.ClimbLemmas.{new_stays}
 use Rattle.ts_reductions.specs.declared.batch.Batch.{Batch}
 use Rattle.ts_reductions.specs.declared.setting.Setting.{Setting}
 use Rattle.ts_reductions.specs.declared.top.Top.{Top}

@@ -9,7 +9,7 @@ ghost use Rattle.ts_table.specs.Tables.{IsTable};
 ghost use Rattle.ts_reductions.specs.declared.top.Top.{Top as AnyTop};
 ghost use Rattle.ts_reductions.specs.Asking.{IsTop, TakesSome};
 ghost use Rattle.ts_reductions.specs.Sound.{IsSoundOver};
-ghost use Rattle.ts_laying.specs.Laws.{LayingLaws};
+ghost use Rattle.ts_reductions.specs.LayingLaws.{LayingLaws};
 ghost use Rattle.ts_reductions.specs.Laws.{ReductionLaws, NodeLaws};
 ghost use Rattle.ts_shifts.specs.Laws.{LookLaws, LeafLaws};
 ghost use Rattle.ts_sweeps.specs.Laws.{KeyLaws};

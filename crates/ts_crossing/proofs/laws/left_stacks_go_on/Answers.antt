@@ -4,7 +4,7 @@ use Rattle.spec_runs.specs.Runs.{IsReached}
 use Rattle.spec_packing.specs.Serving.{ComesToServe}
 use Rattle.spec_crossing.specs.Leaving.{EndsBefore}
 use Rattle.spec_crossing.specs.Resting.{Rests}
-use Rattle.ts_laying.specs.Sound.{bare_link, bare_links}
+use Rattle.ts_reductions.specs.SoundLinks.{bare_link, bare_links}
 use Rattle.ts_table.specs.Ranks.{unit_rank}
 use Rattle.ts_reductions.specs.Sound.{parsing_from}
 use Rattle.ts_crossing.proofs.LeftLemmas.{reads, head_at_place, config_is, left_own, left_stand}

@@ -1,6 +1,6 @@
 use Rattle.std.proofs.Common.{suc, length, arith}
 use Rattle.ts_table.specs.Ranks.{unit_rank}
-use Rattle.ts_laying.specs.Sound.{bare_links}
+use Rattle.ts_reductions.specs.SoundLinks.{bare_links}
 use Rattle.ts_reductions.specs.Sound.{parsing_from}
 use Rattle.ts_glr.proofs.laws.over_laws_hold.Goals as goal
 

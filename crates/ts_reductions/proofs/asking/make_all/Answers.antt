@@ -1,5 +1,5 @@
 use Rattle.std.proofs.Common.{sym, subst, Bool, true, false, List, [], length, get_or, refl, arith}
-use Rattle.ts_laying.specs.declared.made.Made.{Made}
+use Rattle.ts_reductions.specs.declared.made.Made.{Made}
 use Rattle.ts_reductions.specs.Asking.{Adds, ByTop, ByTops}
 use Rattle.ts_reductions.proofs.AddLemmas.{read_any, no_top, item_in, no_tops, tops_on, tops_end, deep_top, all_made, ready_at}
 use Rattle.ts_reductions.proofs.asking.make_all.Goals as goal

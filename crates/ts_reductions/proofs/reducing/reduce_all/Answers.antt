@@ -1,5 +1,5 @@
 use Rattle.std.proofs.Common.{sym, subst, refl, List, length}
-use Rattle.ts_laying.specs.declared.made.Made.{Made}
+use Rattle.ts_reductions.specs.declared.made.Made.{Made}
 use Rattle.ts_reductions.specs.Asking.{AreMade, ByTops}
 use Rattle.ts_reductions.specs.Sound.{parsing_from}
 use Rattle.ts_reductions.proofs.AddLemmas.{in_some, in_none}

@@ -14,7 +14,7 @@ pub struct Piece {
 /// The node of a reduction, for the head below it, and the extras above it, the first of them the
 /// lowest.
 #[derive(Drop)]
-pub struct Made {
+pub(crate) struct Made {
     pub below: usize,
     pub piece: Piece,
     pub extras: List<Node>,

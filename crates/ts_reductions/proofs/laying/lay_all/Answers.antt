@@ -1,6 +1,6 @@
 use Rattle.std.proofs.Common.{arith}
-use Rattle.ts_laying.proofs.ClimbLemmas.{all_begin, all_end, call_made, all_on}
-use Rattle.ts_laying.proofs.laying.lay_all.Goals as goal
+use Rattle.ts_reductions.proofs.ClimbLemmas.{all_begin, all_end, call_made, all_on}
+use Rattle.ts_reductions.proofs.laying.lay_all.Goals as goal
 
 pub loop-made-init : goal.loop-made-init
 loop-made-init c = λ P look can. all_begin c.laws_hold.ensures P c.args.graph.now look c.args.mades.now can

@@ -2,9 +2,9 @@ use Rattle.std.proofs.Common.{◌+◌, drop}
 use Rattle.spec_trees.specs.Trees.{all_spans}
 use Rattle.spec_graph.specs.Laying.{Parsing}
 use Rattle.ts_graph.specs.Down.{place_at}
-use Rattle.ts_laying.specs.Laying.{CanLayExtras}
-use Rattle.ts_laying.proofs.ClimbLemmas.{Climbs}
-use Rattle.ts_laying.proofs.laying.lay_extras.Given as goal
+use Rattle.ts_reductions.specs.Laying.{CanLayExtras}
+use Rattle.ts_reductions.proofs.ClimbLemmas.{Climbs}
+use Rattle.ts_reductions.proofs.laying.lay_extras.Given as goal
 
 abbrev pub invariant-loop-extra : goal.invariant-loop-extra
 invariant-loop-extra l =

@@ -1,5 +1,5 @@
-use Rattle.ts_laying.proofs.ClimbLemmas.{call_lay, call_extras, call_done}
-use Rattle.ts_laying.proofs.laying.lay_made.Goals as goal
+use Rattle.ts_reductions.proofs.ClimbLemmas.{call_lay, call_extras, call_done}
+use Rattle.ts_reductions.proofs.laying.lay_made.Goals as goal
 
 pub lay-requires : goal.lay-requires
 lay-requires c = (c.requires.0, call_lay c.laws_hold.ensures c.requires.0 c.args.graph.now c.args.made.now c.requires.1 _ c.in_ok-try_clone.ensures)

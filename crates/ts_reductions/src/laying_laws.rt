@@ -1,5 +1,5 @@
 //! The laws of other crates that the proofs here rest on. No value goes in or out.
-ghost use Rattle.ts_laying.specs.Laws.{LayingLaws};
+ghost use Rattle.ts_reductions.specs.LayingLaws.{LayingLaws};
 
 use spec_graph::{extras_are_passed, links_pack, trees_replace};
 use spec_runs::bare_trees;

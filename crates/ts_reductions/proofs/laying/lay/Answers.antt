@@ -1,8 +1,8 @@
 use Rattle.std.proofs.Common.{◌+◌}
 use Rattle.std.proofs.lemmas.Option.{slice_get_within}
-use Rattle.ts_laying.specs.Laying.{head_at}
-use Rattle.ts_laying.proofs.LayLemmas.{opened, pushed, packed, form, falls, below_there}
-use Rattle.ts_laying.proofs.laying.lay.Goals as goal
+use Rattle.ts_reductions.specs.Laying.{head_at}
+use Rattle.ts_reductions.proofs.LayLemmas.{opened, pushed, packed, form, falls, below_there}
+use Rattle.ts_reductions.proofs.laying.lay.Goals as goal
 
 pub pack-requires-clause-form : goal.pack-requires-clause-form
 pack-requires-clause-form c =

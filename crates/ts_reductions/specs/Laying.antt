@@ -14,8 +14,8 @@ use Rattle.spec_graph.specs.Replacing.{Replaces}
 use Rattle.spec_graph.specs.Links.{IsAt, HasLink}
 use Rattle.ts_graph.specs.declared.view.GraphView.{GraphView}
 use Rattle.ts_graph.specs.Down.{KeepNumbers, place_at}
-use Rattle.ts_laying.specs.declared.made.Made.{Made}
-use Rattle.ts_laying.specs.Sound.{bare_links, IsSoundFor}
+use Rattle.ts_reductions.specs.declared.made.Made.{Made}
+use Rattle.ts_reductions.specs.SoundLinks.{bare_links, IsSoundFor}
 
 -- After these symbols, at this place, the tree can be laid, up to a state. It has bytes, and is no
 -- deeper than the depth; and some tree of the depth can be laid there.

@@ -14,12 +14,12 @@ use Rattle.spec_graph.specs.Links.{IsAt, HasLink}
 use Rattle.spec_graph.specs.Replacing.{Replaces}
 use Rattle.ts_graph.specs.declared.view.GraphView.{GraphView}
 use Rattle.ts_graph.specs.Down.{place_at}
-use Rattle.ts_laying.specs.declared.made.Made.{Made}
-use Rattle.ts_laying.specs.Laws.{LayingLaws}
-use Rattle.ts_laying.specs.Sound.{CanBeParsed, bare_link, bare_links, IsSoundFor}
-use Rattle.ts_laying.specs.Laying.{CanLayAll, FitsAfter, CanLayOn, Grows, head_at, IsLaid, FitExtras, HasPassed, IsNewHead, CanLayExtras, AreExtrasLaid, CanLayMade, placed, WasThere, TreesFrom, trees_of, end_of, HasNode, IsMadeLaid, AreAllLaid}
-use Rattle.ts_laying.proofs.MemberLemmas.{none_contained, only_one, first_contained, take_contained}
-use Rattle.ts_laying.proofs.GrowLemmas.{bare_member, at_stays, place_is_at, tree_stays, grows_none, grows_on}
+use Rattle.ts_reductions.specs.declared.made.Made.{Made}
+use Rattle.ts_reductions.specs.LayingLaws.{LayingLaws}
+use Rattle.ts_reductions.specs.SoundLinks.{CanBeParsed, bare_link, bare_links, IsSoundFor}
+use Rattle.ts_reductions.specs.Laying.{CanLayAll, FitsAfter, CanLayOn, Grows, head_at, IsLaid, FitExtras, HasPassed, IsNewHead, CanLayExtras, AreExtrasLaid, CanLayMade, placed, WasThere, TreesFrom, trees_of, end_of, HasNode, IsMadeLaid, AreAllLaid}
+use Rattle.ts_reductions.proofs.MemberLemmas.{none_contained, only_one, first_contained, take_contained}
+use Rattle.ts_reductions.proofs.GrowLemmas.{bare_member, at_stays, place_is_at, tree_stays, grows_none, grows_on}
 
 pub drop_item : {X : Type 0} (xs : List X) (i : ℕ) (x : X) → i < length xs → x ≡ get_or xs i x → drop i xs ≡ x ∷ drop (i + 1) xs
 drop_item {X = X} xs i x low is = drop_more xs i x low ∙ ap (λ (y : X). y ∷ drop (i + 1) xs) (sym is)

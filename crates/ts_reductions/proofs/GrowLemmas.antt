@@ -10,10 +10,10 @@ use Rattle.spec_graph.specs.Replacing.{Replaces}
 use Rattle.spec_graph.specs.Links.{IsAt, IsWay, IsLinked}
 use Rattle.ts_graph.specs.declared.view.GraphView.{GraphView}
 use Rattle.ts_graph.specs.Down.{KeepNumbers, place_at}
-use Rattle.ts_laying.specs.Laws.{LayingLaws}
-use Rattle.ts_laying.specs.Sound.{bare_link, bare_links}
-use Rattle.ts_laying.specs.Laying.{HasTree, Grows}
-use Rattle.ts_laying.proofs.MemberLemmas.{map_contained, contained_map}
+use Rattle.ts_reductions.specs.LayingLaws.{LayingLaws}
+use Rattle.ts_reductions.specs.SoundLinks.{bare_link, bare_links}
+use Rattle.ts_reductions.specs.Laying.{HasTree, Grows}
+use Rattle.ts_reductions.proofs.MemberLemmas.{map_contained, contained_map}
 
 -- ---- members
 

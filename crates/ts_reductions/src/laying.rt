@@ -4,9 +4,9 @@ ghost use Rattle.std.specs.Prelude.{ℕ, ◌+◌, IfOk, OnOk};
 ghost use Rattle.spec_trees.specs.Trees.{all_spans};
 ghost use Rattle.spec_graph.specs.Laying.{Parsing};
 ghost use Rattle.ts_graph.specs.Down.{place_at};
-ghost use Rattle.ts_laying.specs.Laying.{CanLayOn, IsLaid, CanLayExtras, AreExtrasLaid, CanLayMade, end_of, IsMadeLaid, CanLayAll, AreAllLaid};
+ghost use Rattle.ts_reductions.specs.Laying.{CanLayOn, IsLaid, CanLayExtras, AreExtrasLaid, CanLayMade, end_of, IsMadeLaid, CanLayAll, AreAllLaid};
 
-use crate::laws::laws_hold;
+use crate::laying_laws::laws_hold;
 use crate::made::{Made, Piece};
 use spec_graph::Head;
 use std::alloc::AllocError;
@@ -46,7 +46,7 @@ pub fn lay(graph: &mut Graph, below: usize, piece: Piece) -> Result<usize, Alloc
 /// # Errors
 ///
 /// `AllocError` where memory runs out. Some of the extras may be laid then.
-pub fn lay_extras(
+pub(crate) fn lay_extras(
     graph: &mut Graph,
     base: usize,
     extras: &[Node],
@@ -75,7 +75,7 @@ pub fn lay_extras(
 /// # Errors
 ///
 /// `AllocError` where memory runs out. Some of the trees may be laid then.
-pub fn lay_made(graph: &mut Graph, made: &Made) -> Result<(), AllocError>
+pub(crate) fn lay_made(graph: &mut Graph, made: &Made) -> Result<(), AllocError>
     requires { (P : Parsing) × CanLayMade P graph.old made.now }
     ensures { OnOk result ((P : Parsing) → CanLayMade P graph.old made.now
         → IsMadeLaid P graph.old graph.new (end_of graph.old made.now) made.now) }
@@ -96,7 +96,7 @@ pub fn lay_made(graph: &mut Graph, made: &Made) -> Result<(), AllocError>
 /// # Errors
 ///
 /// `AllocError` where memory runs out. Some of the trees may be laid then.
-pub fn lay_all(graph: &mut Graph, mades: &[Made]) -> Result<(), AllocError>
+pub(crate) fn lay_all(graph: &mut Graph, mades: &[Made]) -> Result<(), AllocError>
     requires { (P : Parsing) × (look : ℕ) × CanLayAll P graph.old look mades.now }
     ensures { OnOk result ((P : Parsing) (look : ℕ) → CanLayAll P graph.old look mades.now
         → AreAllLaid P graph.old graph.new look mades.now) }

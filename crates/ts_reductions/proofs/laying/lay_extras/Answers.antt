@@ -2,8 +2,8 @@ use Rattle.std.proofs.Common.{◌+◌, drop, refl, arith}
 use Rattle.std.proofs.lemmas.List.{drop_all}
 use Rattle.spec_trees.specs.Trees.{all_spans}
 use Rattle.ts_graph.specs.Down.{place_at}
-use Rattle.ts_laying.proofs.ClimbLemmas.{drop_item, climb_first, climb_call, climb_on, climb_last}
-use Rattle.ts_laying.proofs.laying.lay_extras.Goals as goal
+use Rattle.ts_reductions.proofs.ClimbLemmas.{drop_item, climb_first, climb_call, climb_on, climb_last}
+use Rattle.ts_reductions.proofs.laying.lay_extras.Goals as goal
 
 pub loop-extra-init : goal.loop-extra-init
 loop-extra-init c = λ P can. climb_first c.laws_hold.ensures P c.args.graph.now c.args.base c.args.extras.now c.args.state (place_at c.args.graph.now.heads c.args.base + all_spans c.args.extras.now) can refl

@@ -1,4 +1,4 @@
-use Rattle.ts_laying.proofs.laws.laws_hold.Goals as goal
+use Rattle.ts_reductions.proofs.laying_laws.laws_hold.Goals as goal
 
 pub returns : goal.returns
 returns c = record {

@@ -16,11 +16,11 @@ use Rattle.spec_graph.specs.Replacing.{AreAlike, Replaces, ReplacesBoth}
 use Rattle.spec_graph.specs.Links.{IsAt, IsWay, IsLinked}
 use Rattle.ts_graph.specs.declared.view.GraphView.{GraphView}
 use Rattle.ts_graph.specs.Down.{KeepNumbers, HoldsEachOnce, IsBetween, IsPacked, link_with, place_at}
-use Rattle.ts_laying.specs.Laws.{LayingLaws}
-use Rattle.ts_laying.specs.Sound.{bare_link, bare_links, IsHeld}
-use Rattle.ts_laying.specs.Laying.{CanLayOn, HasTree, head_at, WasThere, IsLaid}
-use Rattle.ts_laying.proofs.MemberLemmas.{none_contained, only_one, first_contained, contained_at, at_contained, read_at}
-use Rattle.ts_laying.proofs.GrowLemmas.{LinksStay, bare_member, member_bare, place_is_at, same_place, at_stays, linked_stays, way_stays}
+use Rattle.ts_reductions.specs.LayingLaws.{LayingLaws}
+use Rattle.ts_reductions.specs.SoundLinks.{bare_link, bare_links, IsHeld}
+use Rattle.ts_reductions.specs.Laying.{CanLayOn, HasTree, head_at, WasThere, IsLaid}
+use Rattle.ts_reductions.proofs.MemberLemmas.{none_contained, only_one, first_contained, contained_at, at_contained, read_at}
+use Rattle.ts_reductions.proofs.GrowLemmas.{LinksStay, bare_member, member_bare, place_is_at, same_place, at_stays, linked_stays, way_stays}
 
 -- two heads are one, or they are not
 same_head : (a b : Head) → (a ≡ b) ⊎ (a ≡ b → ⊥)

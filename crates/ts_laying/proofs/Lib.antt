@@ -1,4 +1,0 @@
-pub mod MemberLemmas
-pub mod GrowLemmas
-pub mod LayLemmas
-pub mod ClimbLemmas
