@@ -27,7 +27,7 @@ use Rattle.ts_steps.specs.declared.head.StackHead.{StackHead}
 use Rattle.ts_steps.specs.LiveHeads.{config_of}
 use Rattle.ts_steps.specs.Heads.{IsOwnHead}
 use Rattle.ts_places.specs.Frontiers.{StandsFrom}
-use Rattle.ts_ends.specs.Best.{CanChoose, IsBestOn}
+use Rattle.ts_places.specs.Best.{CanChoose, IsBestOn}
 use Rattle.ts_crossing.specs.declared.leaving.Left.{Left}
 use Rattle.ts_crossing.specs.Leaving.{IsStack, HasNoStack, layers_of, IsLeft}
 use Rattle.ts_crossing.proofs.BareLemmas.{filling_bare, filling_tree}

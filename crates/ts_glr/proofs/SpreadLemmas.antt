@@ -13,17 +13,17 @@ use Rattle.ts_reductions.specs.Lines.{IsSetting}
 use Rattle.ts_reductions.specs.Sound.{Base, base_at, IsSoundBy}
 use Rattle.ts_steps.specs.declared.head.StackHead.{StackHead}
 use Rattle.ts_steps.specs.Heads.{IsOwnHead}
-use Rattle.ts_shifts.specs.declared.sights.Sights.{Sights}
-use Rattle.ts_shifts.specs.Looking.{IsHeadAt}
-use Rattle.ts_shifts.specs.Shifting.{AreAllSights}
-use Rattle.ts_sweeps.specs.Sweeping.{IsTooDeep}
+use Rattle.ts_places.specs.declared.sights.Sights.{Sights}
+use Rattle.ts_places.specs.Looking.{IsHeadAt}
+use Rattle.ts_places.specs.Shifting.{AreAllSights}
+use Rattle.ts_places.specs.Sweeping.{IsTooDeep}
 use Rattle.ts_places.specs.declared.following.Next.{Next}
 use Rattle.ts_places.specs.declared.following.Next.TheVariants.{Place, Nowhere, TooDeep}
 use Rattle.ts_places.specs.declared.frontier.Frontier.{Frontier}
 use Rattle.ts_places.specs.Frontiers.{AreOpen}
 use Rattle.ts_places.specs.Following.{GoesOnAt, IsOver, Follows}
-use Rattle.ts_ends.specs.declared.ends.Ends.{Ends}
-use Rattle.ts_ends.specs.Ends.{AreEnds, AreLater}
+use Rattle.ts_places.specs.declared.ends.Ends.{Ends}
+use Rattle.ts_places.specs.Ends.{AreEnds, AreLater}
 use Rattle.ts_crossing.specs.Entering.{IsEntered}
 use Rattle.ts_glr.specs.declared.spread.Spread.{Spread}
 use Rattle.ts_glr.specs.declared.spread.Passed.{Passed}

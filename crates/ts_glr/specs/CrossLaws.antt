@@ -26,11 +26,11 @@ use Rattle.ts_steps.specs.declared.head.StackHead.{StackHead}
 use Rattle.ts_steps.specs.Good.{EachTree}
 use Rattle.ts_steps.specs.LiveHeads.{config_of}
 use Rattle.ts_steps.specs.Heads.{AreStatesOf, IsOwnWithin, IsOwnHead, StandOnHead}
-use Rattle.ts_sweeps.specs.Sweeping.{IsTooDeep}
+use Rattle.ts_places.specs.Sweeping.{IsTooDeep}
 use Rattle.ts_places.specs.Following.{IsWholeAt}
-use Rattle.ts_ends.specs.declared.ends.Ends.{Ends}
-use Rattle.ts_ends.specs.Ends.{Accepts, AreEnds}
-use Rattle.ts_ends.specs.Best.{IsRootOn, IsBestOn}
+use Rattle.ts_places.specs.declared.ends.Ends.{Ends}
+use Rattle.ts_places.specs.Ends.{Accepts, AreEnds}
+use Rattle.ts_places.specs.Best.{IsRootOn, IsBestOn}
 use Rattle.ts_crossing.specs.Leaving.{IsStack, IsLeft}
 
 -- For proofs alone: laws of a stack that is left in a graph.

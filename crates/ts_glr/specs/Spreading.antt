@@ -12,9 +12,9 @@ use Rattle.ts_steps.specs.Heads.{AreStatesOf, StandOnHead}
 use Rattle.ts_reductions.specs.declared.setting.Setting.{Setting}
 use Rattle.ts_reductions.specs.Sound.{Base, parsing_from}
 use Rattle.ts_reductions.specs.Keeping.{AreOwn, StandOnGraph}
-use Rattle.ts_sweeps.specs.Sweeping.{IsTooDeep}
+use Rattle.ts_places.specs.Sweeping.{IsTooDeep}
 use Rattle.ts_places.specs.Following.{IsWholeAt, CanFollow}
-use Rattle.ts_ends.specs.Ends.{AreEnds}
+use Rattle.ts_places.specs.Ends.{AreEnds}
 use Rattle.ts_crossing.specs.declared.leaving.Left.{Left}
 use Rattle.ts_crossing.specs.Leaving.{IsStack, IsLeft}
 use Rattle.ts_glr.specs.declared.spread.Spread.{Spread}

@@ -14,7 +14,7 @@ use spec_runs::{
     repetitions_repeat, start_is_no_repetition,
 };
 use ts_crossing::left_stacks_go_on;
-use ts_ends::{ends_account, roots_are_own};
+use ts_places::{ends_account, roots_are_own};
 
 /// All laws hold.
 pub(crate) fn laws_hold()

@@ -16,11 +16,12 @@ ghost use Rattle.ts_glr.specs.Spreading.{IsSpread, PassesTo};
 
 use std::alloc::{AllocError, Global};
 use ts_crossing::{Entered, enter, own_stacks_enter};
-use ts_ends::{Ends, ends_begin, ends_stay, see_ends};
 use ts_graph::Graph;
 use ts_gss::Graph as Stacks;
 use ts_lexer::Tokens;
-use ts_places::{Followed, Frontier, Next, follow_place, frontier_at};
+use ts_places::{
+    Ends, Followed, Frontier, Next, ends_begin, ends_stay, follow_place, frontier_at, see_ends,
+};
 use ts_reductions::Setting;
 use ts_steps::StackHead;
 use ts_table::{Table, unit_ranks};

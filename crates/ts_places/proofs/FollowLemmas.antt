@@ -18,15 +18,15 @@ use Rattle.ts_reductions.specs.declared.top.Top.{Top}
 use Rattle.ts_reductions.specs.Asking.{IsTop}
 use Rattle.ts_reductions.specs.Sound.{Base, parsing_from, IsSoundBy}
 use Rattle.ts_reductions.proofs.KeepLemmas.{keeps_on}
-use Rattle.ts_shifts.specs.declared.sights.Sights.{Sights}
-use Rattle.ts_shifts.specs.Looking.{AllStandAt, HasAllAt}
-use Rattle.ts_shifts.specs.Passing.{first_key}
-use Rattle.ts_shifts.specs.Shifting.{AreAllSights, AreShifted}
-use Rattle.ts_sweeps.specs.Sweeping.{CanSweep, IsWholeBy, last_key, AreSwept, IsTooDeep, Sweeps}
+use Rattle.ts_places.specs.declared.sights.Sights.{Sights}
+use Rattle.ts_places.specs.Looking.{AllStandAt, HasAllAt}
+use Rattle.ts_places.specs.Passing.{first_key}
+use Rattle.ts_places.specs.Shifting.{AreAllSights, AreShifted}
+use Rattle.ts_places.specs.Sweeping.{CanSweep, IsWholeBy, last_key, AreSwept, IsTooDeep, Sweeps}
 use Rattle.ts_places.specs.declared.following.Passed.{Passed}
 use Rattle.ts_places.specs.declared.following.Passed.TheVariants.{Over, Deep, Idle}
-use Rattle.ts_shifts.proofs.SmallLemmas.{at_contained, read_at}
-use Rattle.ts_shifts.proofs.GrowLemmas.{link_stays}
+use Rattle.ts_places.proofs.SmallLemmas.{at_contained, read_at}
+use Rattle.ts_places.proofs.GrowLemmas.{link_stays}
 use Rattle.ts_places.specs.declared.frontier.Frontier.{Frontier}
 use Rattle.ts_places.specs.Laws.{PlaceLaws}
 use Rattle.ts_places.specs.Frontiers.{AreThoseAt, HasNoneBetween, IsNextPlace, IsLastPlace, IsNextOpen}

@@ -8,9 +8,9 @@ use Rattle.std.proofs.lemmas.Option.{slice_get_within}
 use Rattle.spec_graph.specs.declared.graph.Head.{Head}
 use Rattle.ts_graph.specs.declared.view.GraphView.{GraphView}
 use Rattle.ts_graph.specs.Down.{KeepNumbers}
-use Rattle.ts_shifts.specs.Looking.{IsHeadAt, AllStandAt, HasAllAt, AreHeadsAt}
-use Rattle.ts_shifts.proofs.SmallLemmas.{none_contained, one_taken, read_at, item_in}
-use Rattle.ts_shifts.proofs.HeadLemmas.{one_head}
+use Rattle.ts_places.specs.Looking.{IsHeadAt, AllStandAt, HasAllAt, AreHeadsAt}
+use Rattle.ts_places.proofs.SmallLemmas.{none_contained, one_taken, read_at, item_in}
+use Rattle.ts_places.proofs.HeadLemmas.{one_head}
 use Rattle.ts_places.specs.Frontiers.{StandsFrom, AllStandFrom, AreOpen, AreThoseAt, AreThosePast, AddsPast, sooner, IsLeastPlace, IsNextOpen}
 
 -- a head of this number is another's

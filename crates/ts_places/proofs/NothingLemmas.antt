@@ -19,8 +19,8 @@ use Rattle.ts_reductions.specs.declared.top.Top.{Top}
 use Rattle.ts_reductions.specs.Asking.{TakesSome}
 use Rattle.ts_reductions.specs.Lines.{HasProduction, IsWanted}
 use Rattle.ts_reductions.proofs.AskLemmas.{reduces_stay}
-use Rattle.ts_shifts.proofs.SmallLemmas.{none_contained, one_taken}
-use Rattle.ts_shifts.proofs.HeadLemmas.{one_head}
+use Rattle.ts_places.proofs.SmallLemmas.{none_contained, one_taken}
+use Rattle.ts_places.proofs.HeadLemmas.{one_head}
 use Rattle.ts_places.specs.Laws.{MoveLaws}
 use Rattle.ts_places.specs.Nothing.{HasProductions, IsOverNothing, SomeIsOverNothing, CanAsk, AsksForNothing, CanAskAll}
 

@@ -13,10 +13,10 @@ use Rattle.ts_reductions.specs.Asking.{IsTop}
 use Rattle.ts_reductions.specs.Keeping.{KeepsTrees}
 use Rattle.ts_reductions.specs.Lines.{IsSetting}
 use Rattle.ts_reductions.specs.Sound.{Base, parsing_from, IsSoundBy}
-use Rattle.ts_shifts.specs.declared.sights.Sights.{Sights}
-use Rattle.ts_shifts.specs.Passing.{first_key}
-use Rattle.ts_shifts.specs.Shifting.{AreAllSights}
-use Rattle.ts_sweeps.specs.Sweeping.{IsWholeBy, IsTooDeep}
+use Rattle.ts_places.specs.declared.sights.Sights.{Sights}
+use Rattle.ts_places.specs.Passing.{first_key}
+use Rattle.ts_places.specs.Shifting.{AreAllSights}
+use Rattle.ts_places.specs.Sweeping.{IsWholeBy, IsTooDeep}
 use Rattle.ts_places.specs.declared.following.Next.{Next}
 use Rattle.ts_places.specs.declared.following.Next.TheVariants.{Place, Nowhere, TooDeep, Nothing}
 use Rattle.ts_places.specs.declared.following.Passed.{Passed}

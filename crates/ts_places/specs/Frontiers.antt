@@ -3,7 +3,7 @@ use Rattle.std.specs.Prelude.{◌≡◌, ℕ, suc, min, ◌<◌, ◌≤◌, ◌�
 use Rattle.std.specs.List.{Contains}
 use Rattle.spec_graph.specs.declared.graph.Head.{Head}
 use Rattle.ts_graph.specs.declared.view.GraphView.{GraphView}
-use Rattle.ts_shifts.specs.Looking.{IsHeadAt}
+use Rattle.ts_places.specs.Looking.{IsHeadAt}
 
 -- the head of this number stands at the place or past it
 abbrev pub StandsFrom : GraphView → ℕ → ℕ → Type 0

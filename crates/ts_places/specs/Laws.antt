@@ -17,10 +17,10 @@ use Rattle.ts_table.specs.Ranks.{unit_rank}
 use Rattle.ts_reductions.specs.SoundLinks.{bare_links}
 use Rattle.ts_reductions.specs.Reducing.{AreReduced}
 use Rattle.ts_reductions.specs.Sound.{Base, parsing_from, IsSoundBy}
-use Rattle.ts_shifts.specs.declared.sights.Sights.{Sights}
-use Rattle.ts_shifts.specs.Looking.{IsHeadAt, AreSights}
-use Rattle.ts_shifts.specs.Passing.{first_key}
-use Rattle.ts_shifts.specs.Shifting.{AreShifted}
+use Rattle.ts_places.specs.declared.sights.Sights.{Sights}
+use Rattle.ts_places.specs.Looking.{IsHeadAt, AreSights}
+use Rattle.ts_places.specs.Passing.{first_key}
+use Rattle.ts_places.specs.Shifting.{AreShifted}
 
 -- For proofs alone: what a reduction that stays takes.
 pub record MoveLaws : Type 0 where

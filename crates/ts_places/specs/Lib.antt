@@ -1,4 +1,16 @@
+pub mod ShiftLaws
+pub mod Looking
+pub mod Shifting
+pub mod Passing
+pub mod SweepLaws
+pub mod Turns
+pub mod Seeking
+pub mod Sweeping
 pub mod Laws
 pub mod Frontiers
 pub mod Nothing
 pub mod Following
+pub mod EndLaws
+pub mod Choosing
+pub mod Ends
+pub mod Best

@@ -3,19 +3,21 @@
 //! with what was seen there and the next place at which a head stands.
 ghost use Rattle.std.specs.Prelude.{◌≡◌, ℕ, ◌≤◌, IfOk};
 ghost use Rattle.ts_reductions.specs.Sound.{Base as AnyBase, IsSoundBy, IsSoundOver};
-ghost use Rattle.ts_shifts.specs.Looking.{AllStandAt, HasAllAt};
-ghost use Rattle.ts_shifts.specs.Shifting.{AreAllSights};
+ghost use Rattle.ts_places.specs.Looking.{AllStandAt, HasAllAt};
+ghost use Rattle.ts_places.specs.Shifting.{AreAllSights};
 ghost use Rattle.ts_places.specs.Following.{CanPass, Passes, CanFollow, next_at, Follows};
 
 use crate::frontier::{Frontier, advance, those_at, those_past};
 use crate::laws::place_laws_hold;
+use crate::looking::look_all;
 use crate::nothing::some_asks_for_nothing;
+use crate::shifting::shift_all;
+use crate::sights::Sights;
+use crate::sweeping::sweep;
 use std::alloc::{AllocError, Global};
 use ts_graph::Graph;
 use ts_lexer::Tokens;
 use ts_reductions::{Reduced, Setting};
-use ts_shifts::{Sights, look_all, shift_all};
-use ts_sweeps::sweep;
 use ts_table::Table;
 
 /// Where a graph goes on behind a place.

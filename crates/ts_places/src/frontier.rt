@@ -5,9 +5,9 @@ ghost use Rattle.ts_graph.specs.declared.view.GraphView.{GraphView};
 ghost use Rattle.ts_graph.specs.Down.{KeepNumbers};
 ghost use Rattle.ts_places.specs.Frontiers.{AllStandFrom, AreOpen, AreThoseAt, AreThosePast, AddsPast, sooner, IsLeastPlace, IsNextOpen};
 
+use crate::looking::heads_at;
 use std::alloc::{AllocError, Global};
 use ts_graph::Graph;
-use ts_shifts::heads_at;
 
 /// The heads that stand at a place or past it, by their numbers.
 #[derive(Drop)]

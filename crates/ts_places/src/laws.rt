@@ -1,9 +1,9 @@
 //! The laws of other crates that the proofs here rest on. No value goes in or out.
 ghost use Rattle.ts_places.specs.Laws.{MoveLaws, PlaceLaws};
 
+use crate::shift_laws::{empty_places_pass, places_follow, sights_stay};
 use spec_graph::{keys_follow, trees_replace};
 use spec_runs::moves_have_their_place;
-use ts_shifts::{empty_places_pass, places_follow, sights_stay};
 
 /// The laws of reductions that stay hold.
 pub(crate) fn move_laws_hold()

@@ -7,10 +7,10 @@ ghost use Rattle.ts_reductions.specs.Lines.{IsSetting};
 ghost use Rattle.ts_places.specs.Nothing.{HasProductions, IsOverNothing, CanAsk, AsksForNothing, CanAskAll, SomeAsksForNothing};
 
 use crate::laws::move_laws_hold;
+use crate::sweep_laws::full_stacks_take_some;
 use ts_core::Action;
 use ts_graph::Graph;
 use ts_reductions::{Setting, Top};
-use ts_sweeps::full_stacks_take_some;
 use ts_table::Table;
 
 /// Whether an action is a reduction over nothing.

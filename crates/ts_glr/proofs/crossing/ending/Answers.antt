@@ -1,5 +1,5 @@
 use Rattle.std.proofs.Common.{sym, subst, ℕ, List}
-use Rattle.ts_ends.specs.Best.{CanChoose, IsBestOn}
+use Rattle.ts_places.specs.Best.{CanChoose, IsBestOn}
 use Rattle.ts_glr.proofs.CrossLemmas.{can_choose, tree_ends, stop_ends}
 use Rattle.ts_glr.proofs.crossing.ending.Goals as goal
 

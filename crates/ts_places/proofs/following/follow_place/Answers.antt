@@ -1,5 +1,5 @@
 use Rattle.std.proofs.Common.{sym, refl, subst, List, ℕ}
-use Rattle.ts_shifts.specs.Looking.{AllStandAt}
+use Rattle.ts_places.specs.Looking.{AllStandAt}
 use Rattle.ts_places.specs.declared.following.Next.{Next}
 use Rattle.ts_places.specs.Following.{Follows}
 use Rattle.ts_places.proofs.FrontierLemmas.{all_heads, here_stand, past_open}

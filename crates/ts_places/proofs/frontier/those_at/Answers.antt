@@ -1,5 +1,5 @@
 use Rattle.std.proofs.Common.{get_or, arith}
-use Rattle.ts_shifts.proofs.SmallLemmas.{read_any}
+use Rattle.ts_places.proofs.SmallLemmas.{read_any}
 use Rattle.ts_places.proofs.FrontierLemmas.{head_low, at_left_out, at_put, at_all}
 use Rattle.ts_places.proofs.frontier.those_at.Goals as goal
 

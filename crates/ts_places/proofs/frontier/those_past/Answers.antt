@@ -1,5 +1,5 @@
 use Rattle.std.proofs.Common.{get_or, arith}
-use Rattle.ts_shifts.proofs.SmallLemmas.{read_any}
+use Rattle.ts_places.proofs.SmallLemmas.{read_any}
 use Rattle.ts_places.proofs.FrontierLemmas.{head_low, past_left_out, past_put, past_all}
 use Rattle.ts_places.proofs.frontier.those_past.Goals as goal
 

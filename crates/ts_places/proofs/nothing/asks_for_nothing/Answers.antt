@@ -6,7 +6,7 @@ use Rattle.ts_core.specs.declared.action.Action.TheVariants.{Shift}
 use Rattle.spec_graph.specs.declared.graph.Head.{Head}
 use Rattle.ts_table.specs.Tables.{actions_of}
 use Rattle.ts_reductions.proofs.AddLemmas.{read_any, item_in}
-use Rattle.ts_shifts.proofs.HeadLemmas.{one_head}
+use Rattle.ts_places.proofs.HeadLemmas.{one_head}
 use Rattle.ts_places.specs.Nothing.{IsOverNothing}
 use Rattle.ts_places.proofs.NothingLemmas.{productions_of, asks_by, asks_none, takes_asks, none_first, none_more, none_all}
 use Rattle.ts_places.proofs.nothing.asks_for_nothing.Goals as goal

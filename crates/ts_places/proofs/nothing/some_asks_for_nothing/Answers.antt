@@ -1,6 +1,6 @@
 use Rattle.std.proofs.Common.{◌≡◌, ◌∙◌, sym, refl, get_or, true, false, arith}
 use Rattle.ts_reductions.proofs.AddLemmas.{no_top}
-use Rattle.ts_shifts.proofs.SmallLemmas.{read_any, item_in}
+use Rattle.ts_places.proofs.SmallLemmas.{read_any, item_in}
 use Rattle.ts_places.specs.Nothing.{AsksForNothing}
 use Rattle.ts_places.proofs.NothingLemmas.{can_ask_one, none_first, none_more, none_all}
 use Rattle.ts_places.proofs.nothing.some_asks_for_nothing.Goals as goal

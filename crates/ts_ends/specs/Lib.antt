@@ -1,4 +1,0 @@
-pub mod Laws
-pub mod Choosing
-pub mod Ends
-pub mod Best

@@ -1,0 +1,85 @@
+//! The laws of other crates that the proofs here rest on, and a law of reductions over nothing. No
+//! value goes in or out.
+ghost use Rattle.std.specs.Prelude.{◌≡◌, ℕ, slice_get, Some};
+ghost use Rattle.ts_base.specs.Bytes.{Bytes};
+ghost use Rattle.spec_graph.specs.declared.graph.Head.{Head as AnyHead};
+ghost use Rattle.ts_graph.specs.declared.view.GraphView.{GraphView};
+ghost use Rattle.ts_table.specs.declared.view.ParseTable.{ParseTable};
+ghost use Rattle.ts_table.specs.Tables.{IsTable};
+ghost use Rattle.ts_reductions.specs.declared.top.Top.{Top as AnyTop};
+ghost use Rattle.ts_reductions.specs.Asking.{IsTop, TakesSome};
+ghost use Rattle.ts_reductions.specs.Sound.{IsSoundOver};
+ghost use Rattle.ts_reductions.specs.LayingLaws.{LayingLaws};
+ghost use Rattle.ts_reductions.specs.Laws.{ReductionLaws, NodeLaws};
+ghost use Rattle.ts_places.specs.ShiftLaws.{LookLaws, LeafLaws};
+ghost use Rattle.ts_places.specs.SweepLaws.{KeyLaws};
+
+use spec_graph::{
+    extras_are_passed, keys_follow, keys_pass, links_pack, new_heads_have_little,
+    reductions_are_due, reductions_are_laid, runs_lay, stacks_are_grounded, trees_replace,
+    whole_to_the_next,
+};
+use spec_lexing::{beginnings, one_answer, token_within};
+use spec_runs::{bare_trees, moves_have_their_place, repetitions_repeat};
+use ts_lexer::same_tokens;
+use ts_node::{made_nodes_are_in_form, made_nodes_are_settled, reduced_is_node_of_its_depth};
+use ts_steps::tokens_are_known;
+
+/// The laws of reductions that are due hold.
+pub(crate) fn reduction_laws_hold()
+    ensures due { ReductionLaws }
+    ensures nodes { NodeLaws }
+{
+    bare_trees();
+    moves_have_their_place();
+    repetitions_repeat();
+    trees_replace();
+    runs_lay();
+    extras_are_passed();
+    reductions_are_due();
+    reductions_are_laid();
+    new_heads_have_little();
+    reduced_is_node_of_its_depth();
+    made_nodes_are_settled();
+    made_nodes_are_in_form();
+}
+
+/// The laws of graphs that grow, and of what heads see, hold.
+pub(crate) fn graph_laws_hold()
+    ensures laying { LayingLaws }
+    ensures leaves { LeafLaws }
+    ensures look { LookLaws }
+{
+    bare_trees();
+    trees_replace();
+    links_pack();
+    extras_are_passed();
+    stacks_are_grounded();
+    moves_have_their_place();
+    tokens_are_known();
+    one_answer();
+    same_tokens();
+    token_within();
+    beginnings();
+}
+
+/// The laws of keys hold.
+pub(crate) fn key_laws_hold()
+    ensures { KeyLaws }
+{
+    whole_to_the_next();
+    keys_pass();
+    keys_follow();
+    moves_have_their_place();
+}
+
+/// A reduction over nothing stays on no token that is seen at a head which is not in state 0, the
+/// state of the empty stack.
+pub(crate) fn full_stacks_take_some()
+    ensures { (t : ParseTable) (text : Bytes) (g : GraphView) (look : ℕ) (top : AnyTop)
+        → IsTable t → IsSoundOver t text g → IsTop t text g look top
+        → ((head : AnyHead) → slice_get g.heads top.head ≡ Some head → head.state ≡ 0 → ⊥)
+        → TakesSome t g top }
+{
+    key_laws_hold();
+}

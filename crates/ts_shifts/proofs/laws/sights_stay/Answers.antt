@@ -1,5 +1,0 @@
-use Rattle.ts_shifts.proofs.StayLemmas.{sights_still}
-use Rattle.ts_shifts.proofs.laws.sights_stay.Goals as goal
-
-pub returns : goal.returns
-returns c t text old new look heads s keep a = sights_still t text old new keep look heads a.stand s a

@@ -1,6 +1,0 @@
-use Rattle.std.proofs.Common.{refl}
-use Rattle.ts_shifts.proofs.SightLemmas.{none_seen}
-use Rattle.ts_shifts.proofs.sights.Sights.new.Goals as goal
-
-pub returns : goal.returns
-returns c = λ t text g look. none_seen t text g look _ c.new-tops.ensures.items c.new-spans.ensures.items refl

@@ -1,4 +1,0 @@
-pub mod Laws
-pub mod Looking
-pub mod Shifting
-pub mod Passing

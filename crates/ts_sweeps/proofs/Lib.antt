@@ -1,4 +1,0 @@
-pub mod SeekLemmas
-pub mod KeyLemmas
-pub mod SweepLemmas
-pub mod TurnLemmas

@@ -1,4 +1,0 @@
-pub mod Laws
-pub mod Turns
-pub mod Seeking
-pub mod Sweeping
