@@ -9,6 +9,7 @@ ghost use Rattle.ts_script.specs.declared.plan.ScriptStep.TheVariants as script_
 ghost use Rattle.ts_replies.specs.declared.reply.Reply.TheVariants as reply;
 ghost use Rattle.spec_history.specs.Legal.{CanEdit};
 ghost use Rattle.ts_replay.specs.Replays.{AsksAmong};
+ghost use Rattle.ts_replay.specs.Sights.{StandsFor};
 ghost use Rattle.ts_client.specs.Steps.{standing_at, ServesStep, Serves, StopsEarly};
 ghost use Rattle.ts_client.specs.Serving.{MayServe, offers_of};
 ghost use Rattle.ts_client.specs.Turns.{SamePass};
@@ -23,7 +24,7 @@ use std::thread::Threads;
 use ts_base::Shared;
 use ts_docs::{Book, Draft, Version};
 use ts_lexer::Lexer;
-use ts_replay::{Asker, Begun, begin};
+use ts_replay::{Asker, Begun, Sighted, begin};
 use ts_replies::Reply;
 use ts_script::ScriptStep;
 use ts_shelf::{Denied, Offered, Shelf};
@@ -59,6 +60,41 @@ pub fn serve<R: Threads + Wait + Sync, F: Finder + Sync>(
         (standing_at desk.old) step.now reply (standing_at desk.new)) }
     ensures stops { IfNone result (StopsEarly (standing_at desk.old) (standing_at desk.new)) }
 {
+    let mut kept = None;
+    serve_keeping(
+        rt, alloc, table, finder, &mut kept, lexer, shelf, desk, asker, step,
+    )
+}
+
+/// The same, with the visible tree that is kept: queries are asked in it, if it is of the text of
+/// the held version, or in one that is kept then, where the tree is not small.
+pub(crate) fn serve_keeping<'g, R: Threads + Wait + Sync, F: Finder + Sync>(
+    rt: &R,
+    alloc: Global,
+    table: &Table,
+    finder: &'g F,
+    kept: &mut Option<Sighted<'g>>,
+    lexer: &mut Lexer,
+    shelf: &Shelf<Book>,
+    desk: &mut Desk,
+    asker: Asker,
+    step: &ScriptStep,
+) -> Option<Reply>
+    requires lexer { IsLexerOf lexer.old table.now }
+    requires may { MayServe table.now shelf.now desk.old }
+    requires offers { offers_of step.now ≤ desk.old.pass.knows.offers }
+    requires form { F.form finder.now ≡ table.now.grammar }
+    requires asks { AsksAmong (F.count finder.now) step.now }
+    requires kept { StandsFor (F.form finder.now) kept.old }
+    ensures lexer { IsLexerOf lexer.new table.now }
+    ensures may { MayServe table.now shelf.now desk.new }
+    ensures same { SamePass desk.old.pass.knows desk.new.pass.knows }
+    ensures offers { desk.old.pass.knows.offers ≤ desk.new.pass.knows.offers + offers_of step.now }
+    ensures kept { StandsFor (F.form finder.now) kept.new }
+    ensures serves { IfSome result (λ reply. Serves (F.finds finder.now) asker.client asker.number
+        (standing_at desk.old) step.now reply (standing_at desk.new)) }
+    ensures stops { IfNone result (StopsEarly (standing_at desk.old) (standing_at desk.new)) }
+{
     match begin(
         alloc,
         table,
@@ -72,7 +108,9 @@ pub fn serve<R: Threads + Wait + Sync, F: Finder + Sync>(
         Begun::Offer { draft, made } => offer(rt, shelf, desk, draft, made),
         Begun::Look => look(rt, shelf, desk),
         Begun::Await(wanted) => wait(rt, shelf, desk, wanted),
-        Begun::Ask { root, queries } => Some(found(rt, alloc, finder, desk, root, queries)),
+        Begun::Ask { root, queries } => {
+            Some(found(rt, alloc, finder, kept, desk, root, queries))
+        }
     }
 }
 

@@ -1,61 +1,71 @@
-//! Queries of one step and the tree of a text in; what each of them finds out. They are asked on
-//! several threads where that is worth while.
+//! Queries of one step, the version that is held, its tree and what is kept in; what each of the
+//! queries finds out. They are asked on several threads where that is worth while.
 ghost use Rattle.std.specs.Prelude.{◌≡◌, ℕ, ◌<◌, All, IfOk, IfSome, Some, None, map, length, slice_get, slice_index_or};
 ghost use Rattle.spec_runs.specs.Outcomes.{tree_outcome, Fresh};
+ghost use Rattle.ts_replay.specs.Sights.{IsSightOf, StandsFor};
 
 use spec_history::{Finder, found_one_by_one};
 use std::alloc::{AllocError, Global};
 use std::thread::{self, Threads};
-use ts_base::List;
+use ts_base::{List, Shared};
+use ts_docs::Version;
 use ts_match::VisibleTree;
 use ts_node::Node;
+use ts_replay::{Sighted, sight_of};
 use ts_replies::ShownResult;
 use ts_text::Text;
 
-/// How many nodes a tree has at least where queries are asked on several threads. In a smaller one
-/// most are answered within a millisecond.
+/// How many nodes a tree has at least where its visible tree is kept, and where queries are asked
+/// on several threads. In a smaller one most are answered within a millisecond.
 const FEWEST_NODES: u32 = 1000;
 
-/// What queries of these numbers find in a text, in the tree that it comes to.
+/// What queries of these numbers find in the text of a version. Where its tree is not small, they
+/// are asked in the visible tree that is kept, if it is of that text, and else in a new one, which
+/// is kept then.
 ///
 /// # Errors
 ///
-/// `AllocError` where memory runs out.
-pub(crate) fn found_in<R: Threads + Sync, F: Finder + Sync>(
+/// `AllocError` where memory runs out. Then none is kept of a tree that is not small.
+pub(crate) fn found_in<'g, R: Threads + Sync, F: Finder + Sync>(
     rt: &R,
     alloc: Global,
-    finder: &F,
-    text: &Text,
+    finder: &'g F,
+    kept: &mut Option<Sighted<'g>>,
+    held: &Shared<Version>,
     root: &Node,
     numbers: &[u32],
 ) -> Result<List<ShownResult>, AllocError>
-    requires fresh { Fresh (F.form finder.now) text.now (tree_outcome root.now) }
+    requires fresh { Fresh (F.form finder.now) held.now.text (tree_outcome root.now) }
     requires there { All (λ (number : ℕ). number < F.count finder.now) numbers.now }
-    ensures { IfOk result (F.finds finder.now text.now numbers.now) }
+    requires kept { StandsFor (F.form finder.now) kept.old }
+    ensures kept { StandsFor (F.form finder.now) kept.new }
+    ensures finds { IfOk result (F.finds finder.now held.now.text numbers.now) }
 {
-    if numbers.len() < 2 || root.nodes() < FEWEST_NODES {
-        finder.find(alloc, text, root, numbers)
-    } else {
-        found_at_once(rt, alloc, finder, text, root, numbers)
+    let text = held.get().text();
+    if root.nodes() < FEWEST_NODES {
+        return finder.find(alloc, text, root, numbers);
     }
+    let sighted = sight_of(alloc, finder.grammar(), kept.take(), held, root)?;
+    let results = found_at_once(rt, alloc, finder, text, &sighted.tree, numbers)?;
+    *kept = Some(sighted);
+    Ok(results)
 }
 
-/// The same, with each query asked on a thread of its own, all of one visible tree.
+/// What the queries find in the visible tree of a text, each asked on a thread of its own.
 fn found_at_once<R: Threads + Sync, F: Finder + Sync>(
     rt: &R,
     alloc: Global,
     finder: &F,
     text: &Text,
-    root: &Node,
+    tree: &VisibleTree,
     numbers: &[u32],
 ) -> Result<List<ShownResult>, AllocError>
-    requires fresh { Fresh (F.form finder.now) text.now (tree_outcome root.now) }
+    requires tree { IsSightOf (F.form finder.now) text.now tree.now }
     requires there { All (λ (number : ℕ). number < F.count finder.now) numbers.now }
     ensures { IfOk result (F.finds finder.now text.now numbers.now) }
 {
     found_one_by_one(finder);
-    let tree = VisibleTree::new(alloc, finder.grammar(), root)?;
-    let places = found_each(rt, alloc, finder, text, &tree, numbers)?;
+    let places = found_each(rt, alloc, finder, text, tree, numbers)?;
     all_found(alloc, places)
 }
 

@@ -4,12 +4,13 @@ ghost use Rattle.std.specs.Prelude.{◌≡◌, ◌+◌, ◌<◌, List as AnyList
 ghost use Rattle.ts_lexer.specs.Lexers.{IsLexerOf};
 ghost use Rattle.ts_script.specs.declared.plan.ScriptStep.{ScriptStep as AnyStep};
 ghost use Rattle.ts_replay.specs.Replays.{MayReplay};
+ghost use Rattle.ts_replay.specs.Sights.{StandsFor};
 ghost use Rattle.ts_client.specs.declared.desk.Desk.{Desk as AnyDesk};
 ghost use Rattle.ts_client.specs.Between.{AreAtDesks, MayServeNext, ServesNext, StopsNext};
 ghost use Rattle.ts_client.specs.Working.{IsNewClient, HasWorked};
 
 use crate::desk::Desk;
-use crate::serving::serve;
+use crate::serving::serve_keeping;
 use spec_clients::next_reply_is_served;
 use spec_history::Finder;
 use std::alloc::Global;
@@ -18,7 +19,7 @@ use std::thread::Threads;
 use ts_docs::Book;
 use ts_io::Gate;
 use ts_lexer::Lexer;
-use ts_replay::{Asker, document_of};
+use ts_replay::{Asker, Sighted, document_of, keep_for};
 use ts_replies::Reply;
 use ts_script::{Plan, ScriptStep};
 use ts_shelf::Shelf;
@@ -34,7 +35,9 @@ pub struct Client {
 }
 
 /// Does all steps of the client of this number, one after the other, while others may work at the
-/// same shelves. Before each step it passes the gate, and holds nothing meanwhile.
+/// same shelves. Before each step it passes the gate, and holds nothing meanwhile but the visible
+/// tree of the version that it asked last, where this step asks queries too or tells a tree. So a
+/// version that is asked step after step is made visible once.
 ///
 /// An edit is made in the version that the client holds of the document, and is published where
 /// that is still the newest one; else the client then holds the newest. A look takes the newest
@@ -70,6 +73,7 @@ pub fn work<R: Threads + Wait + Sync, G: Gate, F: Finder + Sync>(
         client.desks.items result }
 {
     let steps = plan.clients.as_slice()[number as usize].as_slice();
+    let mut kept = None;
     while client.replies.len() < steps.len() {
         if !go_on(
             rt,
@@ -77,6 +81,7 @@ pub fn work<R: Threads + Wait + Sync, G: Gate, F: Finder + Sync>(
             gate,
             table,
             finder,
+            &mut kept,
             lexer,
             shelves,
             plan,
@@ -91,12 +96,13 @@ pub fn work<R: Threads + Wait + Sync, G: Gate, F: Finder + Sync>(
 }
 
 /// Does the next step, and tells whether there was a turn for it.
-fn go_on<R: Threads + Wait + Sync, G: Gate, F: Finder + Sync>(
+fn go_on<'g, R: Threads + Wait + Sync, G: Gate, F: Finder + Sync>(
     rt: &R,
     alloc: Global,
     gate: &G,
     table: &Table,
-    finder: &F,
+    finder: &'g F,
+    kept: &mut Option<Sighted<'g>>,
     lexer: &mut Lexer,
     shelves: &[Shelf<Book>],
     plan: &Plan,
@@ -112,6 +118,7 @@ fn go_on<R: Threads + Wait + Sync, G: Gate, F: Finder + Sync>(
     requires shelves { length shelves.now ≡ length plan.now.documents }
     requires at { (first : AnyList AnyDesk) × AreAtDesks (F.finds finder.now) plan.now table.now
         number steps.now shelves.now first client.old }
+    requires kept { StandsFor (F.form finder.now) kept.old }
     requires more { length client.old.replies.items < length steps.now }
     ensures lexer { IsLexerOf lexer.new table.now }
     ensures next { (first : AnyList AnyDesk) → AreAtDesks (F.finds finder.now) plan.now table.now
@@ -121,22 +128,24 @@ fn go_on<R: Threads + Wait + Sync, G: Gate, F: Finder + Sync>(
         client.new)
         (HasWorked (F.finds finder.now) plan.now table.now.grammar number steps.now first
         client.new) }
+    ensures kept { StandsFor (F.form finder.now) kept.new }
     ensures fewer { IsTrue result
         → length client.new.replies.items ≡ length client.old.replies.items + 1 }
 {
     next_reply_is_served(finder);
     serve_next(
-        rt, alloc, gate, table, finder, lexer, shelves, steps, number, client,
+        rt, alloc, gate, table, finder, kept, lexer, shelves, steps, number, client,
     )
 }
 
 /// The same, without what holds of all replies.
-fn serve_next<R: Threads + Wait + Sync, G: Gate, F: Finder + Sync>(
+fn serve_next<'g, R: Threads + Wait + Sync, G: Gate, F: Finder + Sync>(
     rt: &R,
     alloc: Global,
     gate: &G,
     table: &Table,
-    finder: &F,
+    finder: &'g F,
+    kept: &mut Option<Sighted<'g>>,
     lexer: &mut Lexer,
     shelves: &[Shelf<Book>],
     steps: &[ScriptStep],
@@ -146,7 +155,9 @@ fn serve_next<R: Threads + Wait + Sync, G: Gate, F: Finder + Sync>(
     requires lexer { IsLexerOf lexer.old table.now }
     requires form { F.form finder.now ≡ table.now.grammar }
     requires may { MayServeNext (F.count finder.now) table.now shelves.now steps.now client.old }
+    requires kept { StandsFor (F.form finder.now) kept.old }
     ensures lexer { IsLexerOf lexer.new table.now }
+    ensures kept { StandsFor (F.form finder.now) kept.new }
     ensures next { MatchBool result
         (ServesNext (F.finds finder.now) table.now shelves.now number steps.now client.old
         client.new)
@@ -158,12 +169,14 @@ fn serve_next<R: Threads + Wait + Sync, G: Gate, F: Finder + Sync>(
         client: number,
         number: client.replies.len() as u32,
     };
+    keep_for(kept, step);
     gate.pass(asker.client, asker.number);
-    let Some(reply) = serve(
+    let Some(reply) = serve_keeping(
         rt,
         alloc,
         table,
         finder,
+        kept,
         lexer,
         &shelves[place],
         &mut client.desks[place],

@@ -8,6 +8,7 @@ loop-steps-init g c = record {
   at = begins_client (g.F.Finder.finds c.args.finder.now) c.args.plan.now c.args.table.now c.args.number c.as_slice-steps.result.now c.args.shelves.now c.args.client
       (c.requires.begins c.as_slice-steps.result.now (own_steps c.args.plan.now c.args.number c.as_slice.result.now c.index-as_slice-number.result c.as_slice-steps.result.now
       c.as_slice.ensures c.requires.number c.index-as_slice-number.is c.as_slice-steps.ensures));
+  kept = tt;
 }
 
 pub go_on-requires-clause-steps : goal.go_on-requires-clause-steps
@@ -26,6 +27,7 @@ pub loop-steps-preserved : goal.loop-steps-preserved
 loop-steps-preserved g c = record {
   lexer = c.go_on.ensures.lexer;
   at = c.if-not-go_on.ensures.next c.args.client.desks.items c.loop-steps.invariant.at;
+  kept = c.go_on.ensures.kept;
 }
 
 pub loop-steps-smaller : goal.loop-steps-smaller

@@ -12,7 +12,7 @@ use Rattle.ts_client.specs.Serving.{offers_of}
 use Rattle.ts_client.specs.Steps.{standing_at, Serves}
 use Rattle.ts_client.proofs.AskLemmas.{told_there, serves_step}
 use Rattle.ts_client.proofs.DeskLemmas.{same_self}
-use Rattle.ts_client.proofs.serving.serve.Goals as goal
+use Rattle.ts_client.proofs.serving.serve_keeping.Goals as goal
 
 -- ---- what took no turn
 
