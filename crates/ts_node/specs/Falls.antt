@@ -1,20 +1,22 @@
 -- Each part of a node is smaller than the node: what a recursion down a tree ends by. For proofs
 -- alone.
-use Rattle.std.specs.Prelude.{ℕ, ◌+◌, ◌*◌, ◌≤◌, ◌≡◌, max, false, List, [], ◌∷◌, ◌++◌, Option, Some, None, length}
+use Rattle.std.specs.Prelude.{ℕ, ◌+◌, ◌-◌, ◌*◌, ◌≤◌, ◌≡◌, max, false, List, [], ◌∷◌, ◌++◌, Option, Some, None, length}
 use Rattle.std.proofs.Common.{arith, length-append}
 use denote.Param.Weighed.{most}
 use Rattle.spec_trees.specs.declared.tree.Tree.{Tree}
 use Rattle.spec_trees.specs.declared.tree.Stretch.{Stretch}
 use Rattle.spec_trees.specs.declared.tree.Element.{Element}
-use Rattle.spec_trees.specs.declared.tree.Tree.TheFolds.{fold-roll-Tree}
+use Rattle.spec_trees.specs.declared.tree.Tree.TheFolds.{fold-roll-Tree, fold_out-Tree}
 use Rattle.ts_node.specs.declared.node.Summary.{Summary}
 use Rattle.ts_node.specs.declared.node.Kind.{Kind}
 use Rattle.ts_node.specs.declared.node.Kind.TheVariants as kind
+use Rattle.ts_node.specs.declared.rule.RuleBody.{RuleBody}
+use Rattle.ts_node.specs.declared.rule.RuleBody.TheVariants as form
 use Rattle.ts_node.specs.declared.node.Shape.{Shape}
 use Rattle.ts_node.specs.declared.node.Shape.TheVariants as shape
-use Rattle.ts_node.specs.declared.node.Node.TheDeep.{deep-Kind, deep-Shape}
+use Rattle.ts_node.specs.declared.node.Node.TheDeep.{deep-Kind, deep-RuleBody, deep-Shape}
 use Rattle.spec_trees.specs.Trees.{node_count, nodes_step, all_nodes}
-use Rattle.ts_node.specs.Held.{node_tree, body_tree, stretch_of, HasNoEmptyPart}
+use Rattle.ts_node.specs.Held.{node_tree, body_of, body_tree, rule_tree, stretch_of, HasNoEmptyPart}
 
 -- For proofs alone: a node counts one, one for each of its elements, and the nodes of its children.
 pub nodes_of_body : (s : Summary) (production : Option ℕ) (es : List Element) (ks : List Tree)
@@ -44,11 +46,17 @@ kind_falls (kind.Leaf leaf) = omega arith
 kind_falls (kind.Rule body) = omega arith
 kind_falls (kind.Repetition body) = omega arith
 
--- For proofs alone: the children of a rule's node are smaller than the node.
-pub children_fall : (s : Summary) (production : ℕ) (ks : List Tree)
-    → max (most (λ k. 4 * node_count k + 1 + 1) ks) 0
-    ≤ 4 * node_count (body_tree s (Some production) [] ks)
-children_fall s production ks = omega (arith, most_le ks, nodes_of_body s (Some production) [] ks)
+-- For proofs alone: the body of a rule's node is smaller than the node.
+pub body_falls : (b : RuleBody) → max (deep-RuleBody b) 0 ≤ 4 * node_count (body_of b)
+body_falls (form.One body) = omega (arith, fold_out-Tree ℕ nodes_step body)
+body_falls (form.Two body) = omega (arith, fold_out-Tree ℕ nodes_step body)
+body_falls (form.Three body) = omega (arith, fold_out-Tree ℕ nodes_step body)
+body_falls (form.Many body) = omega (arith, fold_out-Tree ℕ nodes_step body)
+
+-- For proofs alone: the children of a rule's body are smaller than the body.
+pub children_fall : (s : Summary) (ks : List Tree)
+    → max (most (λ k. 4 * node_count k + 1 + 1) ks) 0 ≤ 4 * node_count (rule_tree s ks) - 1
+children_fall s ks = omega (arith, most_le ks, nodes_of_body s (Some s.production) [] ks)
 
 -- For proofs alone: the run of a repetition's node is smaller than the node.
 pub run_falls : (s : Summary) (run : Stretch)

@@ -1,5 +1,5 @@
 -- What the parts of a node hold.
-use Rattle.std.specs.Prelude.{◌≡◌, ◌++◌, ◌*◌, ◌^◌, ◌≤◌, ◌<◌, ℕ, ◌+◌, All, List, [], ◌∷◌, length, set, Option, None, Bool, true, false, ◌&&◌}
+use Rattle.std.specs.Prelude.{◌≡◌, ◌++◌, ◌*◌, ◌^◌, ◌≤◌, ◌<◌, ℕ, ◌+◌, All, List, [], ◌∷◌, length, set, Option, None, Some, Bool, true, false, ◌&&◌}
 use Rattle.std.specs.Int.RustNames.{unsigned_abs}
 use lib.IntN.{pos}
 use Rattle.spec_trees.specs.declared.tree.Tree.{Tree}
@@ -15,6 +15,8 @@ use Rattle.ts_node.specs.declared.node.Counts.{Counts}
 use Rattle.ts_node.specs.declared.node.Sums.{Sums}
 use Rattle.ts_node.specs.declared.node.Kind.{Kind}
 use Rattle.ts_node.specs.declared.node.Kind.TheVariants as kind
+use Rattle.ts_node.specs.declared.rule.RuleBody.{RuleBody}
+use Rattle.ts_node.specs.declared.rule.RuleBody.TheVariants as form
 use Rattle.ts_node.specs.declared.node.Shape.{Shape}
 use Rattle.ts_node.specs.declared.node.Shape.TheVariants as shape
 
@@ -73,6 +75,17 @@ body_tree s production elements children = roll-Tree (record {
   elements = elements;
   children = children;
 })
+
+-- the tree of a rule's node with these children
+abbrev pub rule_tree : Summary → List Tree → Tree
+rule_tree s children = body_tree s (Some s.production) [] children
+
+-- the tree that a rule's node of this body stands for
+abbrev pub body_of : RuleBody → Tree
+body_of (form.One body) = body
+body_of (form.Two body) = body
+body_of (form.Three body) = body
+body_of (form.Many body) = body
 
 -- the tree that a node stands for
 abbrev pub node_tree : Kind → Tree

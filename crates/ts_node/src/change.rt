@@ -5,7 +5,8 @@ ghost use Rattle.spec_trees.specs.Trees.{children_of, elements_of};
 ghost use Rattle.spec_trees.specs.Made.{loosened, loosened_at, remade, replaced, IsNode};
 ghost use Rattle.ts_node.specs.Held.{stretch};
 
-use crate::node::{Kind, Node, Repetition, RuleNode, Run, Summary, Sums};
+use crate::node::{Kind, Node, Repetition, Run, Summary, Sums};
+use crate::rule::RuleNode;
 use crate::sums::{copy, sums};
 use std::alloc::{AllocError, Global};
 use ts_base::{List, Shared};
@@ -35,7 +36,7 @@ pub fn remake(
         Kind::Leaf(leaf) => Ok(Node {
             kind: Kind::Leaf(leaf.remade(pad, size)),
         }),
-        Kind::Rule(rule) => rule.get().remake(alloc, pad, size, changed, loose),
+        Kind::Rule(rule) => rule.remake(alloc, pad, size, changed, loose),
         Kind::Repetition(repetition) => repetition.get().remake(alloc, pad, size, changed, loose),
     }
 }
@@ -83,11 +84,12 @@ impl RuleNode {
         requires node { IsNode (remade self.now pad size changed.now loose.now) }
         ensures { IfOk result (λ new. new ≡ remade self.now pad size changed.now loose.now) }
     {
-        let children = with_changes(alloc, self.children.as_slice(), changed)?;
-        let summary = self.summary.remade(pad, size, 0, sums(children.as_slice()));
-        let body = Shared::new(alloc, RuleNode { summary, children })?;
+        let (old, children) = self.parts();
+        let children = with_changes(alloc, children, changed)?;
+        let summary = old.remade(pad, size, 0, sums(children.as_slice()));
+        let rule = RuleNode::new(alloc, summary, children)?;
         Ok(Node {
-            kind: Kind::Rule(body),
+            kind: Kind::Rule(rule),
         })
     }
 }

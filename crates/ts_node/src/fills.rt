@@ -18,8 +18,8 @@ impl Node {
         match &self.kind {
             Kind::Leaf(_) => unreachable!(),
             Kind::Rule(rule) => {
-                let children = rule.get().children();
-                fill(children.as_slice(), k)
+                let children = rule.children();
+                fill(children, k)
             }
             Kind::Repetition(repetition) => repetition.get().run().get().fill(k),
         }

@@ -26,9 +26,9 @@ impl Node {
         match &self.kind {
             Kind::Leaf(_) => NodeKind::Leaf,
             Kind::Rule(rule) => {
-                let _ = rule.get().children();
-                let _ = rule.get().summary();
-                NodeKind::Rule(rule.get().production())
+                let _ = rule.children();
+                let _ = rule.summary();
+                NodeKind::Rule(rule.production())
             }
             Kind::Repetition(repetition) => {
                 let _ = repetition.get().summary();

@@ -12,6 +12,7 @@ mod make;
 mod node;
 mod places;
 mod productions;
+mod rule;
 mod run;
 mod section;
 mod settled;

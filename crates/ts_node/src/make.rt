@@ -7,8 +7,9 @@ ghost use Rattle.spec_trees.specs.Made.{leaf_of, node_over, rule_node, first_ele
 ghost use Rattle.spec_trees.specs.Made as made;
 ghost use Rattle.ts_node.specs.Entries.{form_is};
 
-use crate::node::{Kind, Leaf, Node, Repetition, RuleNode, Run, Summary, Sums};
+use crate::node::{Kind, Leaf, Node, Repetition, Run, Summary, Sums};
 use crate::productions::{Entry, Form, Productions};
+use crate::rule::RuleNode;
 use crate::sums::{copy, pad_of_first, plus, sums, totals, with_value};
 use spec_trees::Element;
 use std::alloc::{AllocError, Global};
@@ -57,7 +58,7 @@ impl Node {
                 kind: Kind::Leaf(leaf.as_extra()),
             },
             Kind::Rule(rule) => {
-                let _ = rule.get().production();
+                let _ = rule.production();
                 unreachable!()
             }
             Kind::Repetition(repetition) => {
@@ -109,9 +110,9 @@ fn over(alloc: Global, head: Head, number: u32, children: List<Node>) -> Result<
     let pad = pad_of_first(children.as_slice());
     let sums = sums(children.as_slice());
     let summary = summary(head, number, pad, 0, sums);
-    let body = Shared::new(alloc, RuleNode { summary, children })?;
+    let rule = RuleNode::new(alloc, summary, children)?;
     Ok(Node {
-        kind: Kind::Rule(body),
+        kind: Kind::Rule(rule),
     })
 }
 
@@ -284,7 +285,7 @@ fn longer_run(
     match kind {
         Kind::Leaf(_) => unreachable!(),
         Kind::Rule(rule) => {
-            let _ = rule.get().children();
+            let _ = rule.children();
             unreachable!()
         }
         Kind::Repetition(repetition) => {
@@ -389,9 +390,9 @@ pub fn accept(
             };
             let mut children = List::new(alloc);
             copy(before, &mut children)?;
-            copy(rule.get().children().as_slice(), &mut children)?;
+            copy(rule.children(), &mut children)?;
             copy(after, &mut children)?;
-            over(alloc, head, rule.get().production(), children)
+            over(alloc, head, rule.production(), children)
         }
     }
 }

@@ -4,6 +4,7 @@ ghost use Rattle.spec_trees.specs.Trees.{symbol_of, production_of, pad_of, size_
 ghost use Rattle.spec_trees.specs.Made.{AreCounted, IsNode, node_limit};
 ghost use Rattle.ts_node.specs.Held.{leaf_tree, extra_leaf, remade_leaf, stretch, stretch_of, joined_stretch, HoldsNodes, Tells};
 
+use crate::rule::RuleNode;
 use spec_trees::Element;
 use std::alloc::AllocError;
 use std::marker::Model;
@@ -22,7 +23,7 @@ pub struct Node {
 #[derive(Drop)]
 pub(crate) enum Kind {
     Leaf(Leaf),
-    Rule(Shared<RuleNode>),
+    Rule(RuleNode),
     Repetition(Shared<Repetition>),
 }
 
@@ -52,14 +53,6 @@ pub(crate) struct Summary {
     /// The number of a rule's production, and 0 for every other node. It lies where a gap would be.
     pub production: u32,
     pub dynamic: i64,
-}
-
-/// A node of a rule's production.
-#[cycle(node)]
-#[derive(Drop)]
-pub(crate) struct RuleNode {
-    pub summary: Summary,
-    pub children: List<Node>,
 }
 
 /// A node of a repetition, with its elements one after another.
@@ -175,31 +168,6 @@ impl Model for Node {
     ghost size_decreases = { λ a h. kind_falls a.kind };
 }
 
-impl Model for RuleNode {
-    ghost use Rattle.std.specs.Prelude.{◌+◌, ◌*◌, Some, []};
-    ghost use Rattle.spec_trees.specs.declared.tree.Tree.{Tree};
-    ghost use Rattle.spec_trees.specs.contracts.tree.Tree as tree;
-    ghost use Rattle.std.specs.Coded.{codes};
-
-    ghost Value = { Tree };
-
-    ghost coded = { Prim.hlevel (codes, tree.the_row.coded) };
-
-    ghost use Rattle.spec_trees.specs.Trees.{node_count};
-    ghost use Rattle.ts_node.specs.Held.{body_tree, IsSummary};
-
-    ghost view = { λ a. body_tree a.summary (Some a.summary.production) [] a.children };
-
-    ghost invariant = { λ a. IsSummary a.summary
-        (body_tree a.summary (Some a.summary.production) [] a.children) };
-
-    ghost size = { λ t. 4 * node_count t };
-
-    ghost use Rattle.ts_node.specs.Falls.{children_fall};
-
-    ghost size_decreases = { λ a h. children_fall a.summary a.summary.production a.children };
-}
-
 impl Model for Repetition {
     ghost use Rattle.std.specs.Prelude.{◌+◌, ◌*◌, ◌<◌, None, length};
     ghost use Rattle.spec_trees.specs.declared.tree.Tree.{Tree};
@@ -248,32 +216,6 @@ impl Model for Run {
     ghost use Rattle.ts_node.specs.Falls.{shape_falls};
 
     ghost size_decreases = { λ a h. shape_falls a.shape h.held };
-}
-
-impl RuleNode {
-    #[tactic(auto, using(crate::proofs::BodyLemmas::tells, crate::proofs::BodyLemmas::extra_is))]
-    pub(crate) fn summary(&self) -> Summary
-        ensures tells { Tells result self.now }
-        ensures extra { is_extra_node self.now ≡ false }
-    {
-        self.summary
-    }
-
-    #[tactic(auto, using(crate::proofs::BodyLemmas::production_is))]
-    pub(crate) fn production(&self) -> u32
-        ensures { production_of self.now ≡ Some result }
-    {
-        self.summary.production
-    }
-
-    #[tactic(auto, using(crate::proofs::BodyLemmas::children_are, crate::proofs::BodyLemmas::elements_are, crate::proofs::BodyLemmas::few_children))]
-    pub(crate) fn children(&self) -> &List<Node>
-        ensures children { result.now ≡ children_of self.now }
-        ensures few { length (children_of self.now) < node_limit }
-        ensures elements { length (elements_of self.now) ≡ 0 }
-    {
-        &self.children
-    }
 }
 
 impl Repetition {
@@ -403,7 +345,7 @@ impl Node {
     {
         match &self.kind {
             Kind::Leaf(leaf) => leaf.summary(),
-            Kind::Rule(rule) => rule.get().summary(),
+            Kind::Rule(rule) => rule.summary(),
             Kind::Repetition(repetition) => repetition.get().summary(),
         }
     }
@@ -438,7 +380,7 @@ impl Node {
     {
         match &self.kind {
             Kind::Leaf(_) => None,
-            Kind::Rule(rule) => Some(rule.get().production()),
+            Kind::Rule(rule) => Some(rule.production()),
             Kind::Repetition(repetition) => {
                 let _ = repetition.get().run();
                 None
@@ -516,7 +458,7 @@ impl Node {
         match &self.kind {
             Kind::Leaf(leaf) => leaf.extra,
             Kind::Rule(rule) => {
-                let _ = rule.get().summary();
+                let _ = rule.summary();
                 false
             }
             Kind::Repetition(repetition) => {
@@ -533,7 +475,7 @@ impl Node {
     {
         match &self.kind {
             Kind::Leaf(_) => 0,
-            Kind::Rule(rule) => rule.get().children().len() as u32,
+            Kind::Rule(rule) => rule.children().len() as u32,
             Kind::Repetition(repetition) => repetition.get().run().get().counts().children,
         }
     }
@@ -546,7 +488,7 @@ impl Node {
     {
         match &self.kind {
             Kind::Leaf(_) => unreachable!(),
-            Kind::Rule(rule) => rule.get().children().get(k as usize),
+            Kind::Rule(rule) => &rule.children()[k as usize],
             Kind::Repetition(repetition) => repetition.get().run().get().child(k),
         }
     }
@@ -562,7 +504,7 @@ impl Node {
         match &self.kind {
             Kind::Leaf(_) => 0,
             Kind::Rule(rule) => {
-                let _ = rule.get().children();
+                let _ = rule.children();
                 0
             }
             Kind::Repetition(repetition) => repetition.get().run().get().counts().elements,
@@ -578,7 +520,7 @@ impl Node {
         match &self.kind {
             Kind::Leaf(_) => unreachable!(),
             Kind::Rule(rule) => {
-                let _ = rule.get().children();
+                let _ = rule.children();
                 unreachable!()
             }
             Kind::Repetition(repetition) => repetition.get().run().get().element(k),

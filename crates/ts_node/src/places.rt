@@ -21,7 +21,7 @@ impl Node {
         match &self.kind {
             Kind::Leaf(_) => 0,
             Kind::Rule(rule) => {
-                let _ = rule.get().children();
+                let _ = rule.children();
                 0
             }
             Kind::Repetition(repetition) => repetition.get().run().get().settled_from(e),
@@ -38,7 +38,7 @@ impl Node {
         match &self.kind {
             Kind::Leaf(_) => 0,
             Kind::Rule(rule) => {
-                let _ = rule.get().children();
+                let _ = rule.children();
                 0
             }
             Kind::Repetition(repetition) => {
@@ -58,7 +58,7 @@ impl Node {
         match &self.kind {
             Kind::Leaf(_) => 0,
             Kind::Rule(rule) => {
-                let _ = rule.get().children();
+                let _ = rule.children();
                 0
             }
             Kind::Repetition(repetition) => repetition.get().run().get().children_before(e),
@@ -75,7 +75,7 @@ impl Node {
         match &self.kind {
             Kind::Leaf(_) => unreachable!(),
             Kind::Rule(rule) => {
-                let _ = rule.get().children();
+                let _ = rule.children();
                 unreachable!()
             }
             Kind::Repetition(repetition) => repetition.get().run().get().last_by(offset as u64),
@@ -92,7 +92,7 @@ impl Node {
         match &self.kind {
             Kind::Leaf(_) => None,
             Kind::Rule(rule) => {
-                let _ = rule.get().children();
+                let _ = rule.children();
                 None
             }
             Kind::Repetition(repetition) => {

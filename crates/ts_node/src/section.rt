@@ -95,7 +95,7 @@ impl Node {
         match &self.kind {
             Kind::Leaf(_) => unreachable!(),
             Kind::Rule(rule) => {
-                let _ = rule.get().children();
+                let _ = rule.children();
                 unreachable!()
             }
             Kind::Repetition(repetition) => {
@@ -151,7 +151,7 @@ fn joined_run(alloc: Global, before: &Node, more: &Section) -> Result<Shared<Run
     match &before.kind {
         Kind::Leaf(_) => unreachable!(),
         Kind::Rule(rule) => {
-            let _ = rule.get().children();
+            let _ = rule.children();
             unreachable!()
         }
         Kind::Repetition(repetition) => Run::join(alloc, repetition.get().run(), &more.run),

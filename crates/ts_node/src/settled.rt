@@ -24,7 +24,7 @@ impl Node {
         match &self.kind {
             Kind::Leaf(_) => 0,
             Kind::Rule(rule) => {
-                let _ = rule.get().children();
+                let _ = rule.children();
                 0
             }
             Kind::Repetition(repetition) => {

@@ -28,8 +28,8 @@ summary-summary-requires c =
     let shallow : 1 + c.sums-sums.result.depth < 65536 = omega (arith, r.shallow, q.depth) in
     record { pad = pad; short = short; few = few; shallow = shallow }
 
-pub invariant_of-new : goal.invariant_of-new
-invariant_of-new c =
+pub new-requires : goal.new-requires
+new-requires c =
     let a : c.as_slice-2.result.now ≡ c.args.children = c.as_slice-2.ensures in
     let q0 : IsSum c.sums-sums.result c.as_slice-2.result.now = c.sums-sums.ensures in
     let q : IsSum c.sums-sums.result c.args.children = subst (λ (ts : List Tree). IsSum c.sums-sums.result ts) a q0 in

@@ -1,0 +1,336 @@
+//! Nodes of rules' productions: what a node says of itself and its children go in, and a node
+//! comes out that has up to three children in its own body, and more in a list.
+ghost use Rattle.std.specs.Prelude.{◌≡◌, ◌<◌, IfOk, Some, false, length};
+ghost use Rattle.spec_trees.specs.Trees.{children_of, elements_of, is_extra_node, production_of};
+ghost use Rattle.spec_trees.specs.Made.{node_limit};
+ghost use Rattle.ts_node.specs.Held.{body_of, rule_tree, IsSummary, Tells};
+
+use crate::node::{Node, Summary};
+use std::alloc::{AllocError, Global};
+use std::marker::Model;
+use ts_base::{List, Shared};
+
+/// A node of a rule's production.
+#[cycle(node)]
+#[derive(Drop)]
+pub(crate) struct RuleNode {
+    body: RuleBody,
+}
+
+/// The body of a rule's node, by the number of its children.
+#[cycle(node)]
+#[derive(Drop)]
+pub(crate) enum RuleBody {
+    One(Shared<RuleOfOne>),
+    Two(Shared<RuleOfTwo>),
+    Three(Shared<RuleOfThree>),
+    Many(Shared<RuleOfMany>),
+}
+
+#[cycle(node)]
+#[derive(Drop)]
+pub(crate) struct RuleOfOne {
+    summary: Summary,
+    children: [Node; 1],
+}
+
+#[cycle(node)]
+#[derive(Drop)]
+pub(crate) struct RuleOfTwo {
+    summary: Summary,
+    children: [Node; 2],
+}
+
+#[cycle(node)]
+#[derive(Drop)]
+pub(crate) struct RuleOfThree {
+    summary: Summary,
+    children: [Node; 3],
+}
+
+/// A body of no child, or of more than three.
+#[cycle(node)]
+#[derive(Drop)]
+pub(crate) struct RuleOfMany {
+    summary: Summary,
+    children: List<Node>,
+}
+
+impl Model for RuleNode {
+    ghost use Rattle.std.specs.Prelude.{◌*◌};
+    ghost use Rattle.spec_trees.specs.declared.tree.Tree.{Tree};
+    ghost use Rattle.spec_trees.specs.contracts.tree.Tree as tree;
+    ghost use Rattle.std.specs.Coded.{codes};
+
+    ghost Value = { Tree };
+
+    ghost coded = { Prim.hlevel (codes, tree.the_row.coded) };
+
+    ghost use Rattle.spec_trees.specs.Trees.{node_count};
+    ghost use Rattle.ts_node.specs.Held.{body_of};
+
+    ghost view = { λ a. body_of a.body };
+
+    ghost size = { λ t. 4 * node_count t };
+
+    ghost use Rattle.ts_node.specs.Falls.{body_falls};
+
+    ghost size_decreases = { λ a h. body_falls a.body };
+}
+
+impl Model for RuleOfOne {
+    ghost use Rattle.std.specs.Prelude.{◌-◌, ◌*◌};
+    ghost use Rattle.spec_trees.specs.declared.tree.Tree.{Tree};
+    ghost use Rattle.spec_trees.specs.contracts.tree.Tree as tree;
+    ghost use Rattle.std.specs.Coded.{codes};
+
+    ghost Value = { Tree };
+
+    ghost coded = { Prim.hlevel (codes, tree.the_row.coded) };
+
+    ghost use Rattle.spec_trees.specs.Trees.{node_count};
+    ghost use Rattle.ts_node.specs.Held.{rule_tree, IsSummary};
+
+    ghost view = { λ a. rule_tree a.summary a.children };
+
+    ghost invariant = { λ a. IsSummary a.summary (rule_tree a.summary a.children) };
+
+    ghost size = { λ t. 4 * node_count t - 1 };
+
+    ghost use Rattle.ts_node.specs.Falls.{children_fall};
+
+    ghost size_decreases = { λ a h. children_fall a.summary a.children };
+}
+
+impl Model for RuleOfTwo {
+    ghost use Rattle.std.specs.Prelude.{◌-◌, ◌*◌};
+    ghost use Rattle.spec_trees.specs.declared.tree.Tree.{Tree};
+    ghost use Rattle.spec_trees.specs.contracts.tree.Tree as tree;
+    ghost use Rattle.std.specs.Coded.{codes};
+
+    ghost Value = { Tree };
+
+    ghost coded = { Prim.hlevel (codes, tree.the_row.coded) };
+
+    ghost use Rattle.spec_trees.specs.Trees.{node_count};
+    ghost use Rattle.ts_node.specs.Held.{rule_tree, IsSummary};
+
+    ghost view = { λ a. rule_tree a.summary a.children };
+
+    ghost invariant = { λ a. IsSummary a.summary (rule_tree a.summary a.children) };
+
+    ghost size = { λ t. 4 * node_count t - 1 };
+
+    ghost use Rattle.ts_node.specs.Falls.{children_fall};
+
+    ghost size_decreases = { λ a h. children_fall a.summary a.children };
+}
+
+impl Model for RuleOfThree {
+    ghost use Rattle.std.specs.Prelude.{◌-◌, ◌*◌};
+    ghost use Rattle.spec_trees.specs.declared.tree.Tree.{Tree};
+    ghost use Rattle.spec_trees.specs.contracts.tree.Tree as tree;
+    ghost use Rattle.std.specs.Coded.{codes};
+
+    ghost Value = { Tree };
+
+    ghost coded = { Prim.hlevel (codes, tree.the_row.coded) };
+
+    ghost use Rattle.spec_trees.specs.Trees.{node_count};
+    ghost use Rattle.ts_node.specs.Held.{rule_tree, IsSummary};
+
+    ghost view = { λ a. rule_tree a.summary a.children };
+
+    ghost invariant = { λ a. IsSummary a.summary (rule_tree a.summary a.children) };
+
+    ghost size = { λ t. 4 * node_count t - 1 };
+
+    ghost use Rattle.ts_node.specs.Falls.{children_fall};
+
+    ghost size_decreases = { λ a h. children_fall a.summary a.children };
+}
+
+impl Model for RuleOfMany {
+    ghost use Rattle.std.specs.Prelude.{◌-◌, ◌*◌};
+    ghost use Rattle.spec_trees.specs.declared.tree.Tree.{Tree};
+    ghost use Rattle.spec_trees.specs.contracts.tree.Tree as tree;
+    ghost use Rattle.std.specs.Coded.{codes};
+
+    ghost Value = { Tree };
+
+    ghost coded = { Prim.hlevel (codes, tree.the_row.coded) };
+
+    ghost use Rattle.spec_trees.specs.Trees.{node_count};
+    ghost use Rattle.ts_node.specs.Held.{rule_tree, IsSummary};
+
+    ghost view = { λ a. rule_tree a.summary a.children };
+
+    ghost invariant = { λ a. IsSummary a.summary (rule_tree a.summary a.children) };
+
+    ghost size = { λ t. 4 * node_count t - 1 };
+
+    ghost use Rattle.ts_node.specs.Falls.{children_fall};
+
+    ghost size_decreases = { λ a h. children_fall a.summary a.children };
+}
+
+impl RuleOfOne {
+    fn parts(&self) -> (&Summary, &[Node])
+        ensures parts { rule_tree result.0.now result.1.now ≡ self.now }
+        ensures kept { IsSummary result.0.now (rule_tree result.0.now result.1.now) }
+    {
+        (&self.summary, &self.children)
+    }
+}
+
+impl RuleOfTwo {
+    fn parts(&self) -> (&Summary, &[Node])
+        ensures parts { rule_tree result.0.now result.1.now ≡ self.now }
+        ensures kept { IsSummary result.0.now (rule_tree result.0.now result.1.now) }
+    {
+        (&self.summary, &self.children)
+    }
+}
+
+impl RuleOfThree {
+    fn parts(&self) -> (&Summary, &[Node])
+        ensures parts { rule_tree result.0.now result.1.now ≡ self.now }
+        ensures kept { IsSummary result.0.now (rule_tree result.0.now result.1.now) }
+    {
+        (&self.summary, &self.children)
+    }
+}
+
+impl RuleOfMany {
+    fn parts(&self) -> (&Summary, &[Node])
+        ensures parts { rule_tree result.0.now result.1.now ≡ self.now }
+        ensures kept { IsSummary result.0.now (rule_tree result.0.now result.1.now) }
+    {
+        (&self.summary, self.children.as_slice())
+    }
+}
+
+impl RuleNode {
+    /// A node of these children, of which the summary tells.
+    ///
+    /// # Errors
+    ///
+    /// `AllocError` where memory runs out.
+    pub(crate) fn new(
+        alloc: Global,
+        summary: Summary,
+        children: List<Node>,
+    ) -> Result<RuleNode, AllocError>
+        requires { IsSummary summary (rule_tree summary children) }
+        ensures { IfOk result (λ rule. rule ≡ rule_tree summary children) }
+    {
+        let body = RuleBody::new(alloc, summary, children)?;
+        Ok(RuleNode { body })
+    }
+
+    /// What it says of itself, and its children.
+    pub(crate) fn parts(&self) -> (&Summary, &[Node])
+        ensures parts { rule_tree result.0.now result.1.now ≡ self.now }
+        ensures kept { IsSummary result.0.now (rule_tree result.0.now result.1.now) }
+    {
+        match &self.body {
+            RuleBody::One(body) => body.get().parts(),
+            RuleBody::Two(body) => body.get().parts(),
+            RuleBody::Three(body) => body.get().parts(),
+            RuleBody::Many(body) => body.get().parts(),
+        }
+    }
+
+    #[tactic(auto, using(crate::proofs::BodyLemmas::tells, crate::proofs::BodyLemmas::extra_is))]
+    pub(crate) fn summary(&self) -> Summary
+        ensures tells { Tells result self.now }
+        ensures extra { is_extra_node self.now ≡ false }
+    {
+        let (summary, _) = self.parts();
+        *summary
+    }
+
+    #[tactic(auto, using(crate::proofs::BodyLemmas::production_is))]
+    pub(crate) fn production(&self) -> u32
+        ensures { production_of self.now ≡ Some result }
+    {
+        let (summary, _) = self.parts();
+        summary.production
+    }
+
+    #[tactic(auto, using(crate::proofs::BodyLemmas::children_are, crate::proofs::BodyLemmas::elements_are, crate::proofs::BodyLemmas::few_children))]
+    pub(crate) fn children(&self) -> &[Node]
+        ensures children { result.now ≡ children_of self.now }
+        ensures few { length (children_of self.now) < node_limit }
+        ensures elements { length (elements_of self.now) ≡ 0 }
+    {
+        let (_, children) = self.parts();
+        children
+    }
+
+    /// One more owner of the same node. It takes no memory.
+    ///
+    /// # Errors
+    ///
+    /// `AllocError` where the count of owners is full.
+    pub(crate) fn try_clone(&self) -> Result<RuleNode, AllocError>
+        ensures { IfOk result (λ rule. rule ≡ self.now) }
+    {
+        let body = match &self.body {
+            RuleBody::One(body) => RuleBody::One(body.try_clone()?),
+            RuleBody::Two(body) => RuleBody::Two(body.try_clone()?),
+            RuleBody::Three(body) => RuleBody::Three(body.try_clone()?),
+            RuleBody::Many(body) => RuleBody::Many(body.try_clone()?),
+        };
+        Ok(RuleNode { body })
+    }
+}
+
+impl RuleBody {
+    /// A body of these children.
+    fn new(alloc: Global, summary: Summary, children: List<Node>) -> Result<RuleBody, AllocError>
+        requires { IsSummary summary (rule_tree summary children) }
+        ensures { IfOk result (λ body. body_of body ≡ rule_tree summary children) }
+    {
+        match <[Node; 1]>::try_from(children.into_vec()) {
+            Ok(children) => Ok(RuleBody::One(Shared::new(alloc, RuleOfOne { summary, children })?)),
+            Err(children) => RuleBody::of_others(alloc, summary, List::from_vec(children)),
+        }
+    }
+
+    /// A body of these children, which are not one.
+    fn of_others(
+        alloc: Global,
+        summary: Summary,
+        children: List<Node>,
+    ) -> Result<RuleBody, AllocError>
+        requires { IsSummary summary (rule_tree summary children) }
+        ensures { IfOk result (λ body. body_of body ≡ rule_tree summary children) }
+    {
+        match <[Node; 2]>::try_from(children.into_vec()) {
+            Ok(children) => Ok(RuleBody::Two(Shared::new(alloc, RuleOfTwo { summary, children })?)),
+            Err(children) => RuleBody::of_many(alloc, summary, List::from_vec(children)),
+        }
+    }
+
+    /// A body of these children, which are neither one nor two.
+    fn of_many(
+        alloc: Global,
+        summary: Summary,
+        children: List<Node>,
+    ) -> Result<RuleBody, AllocError>
+        requires { IsSummary summary (rule_tree summary children) }
+        ensures { IfOk result (λ body. body_of body ≡ rule_tree summary children) }
+    {
+        match <[Node; 3]>::try_from(children.into_vec()) {
+            Ok(children) => {
+                let body = Shared::new(alloc, RuleOfThree { summary, children })?;
+                Ok(RuleBody::Three(body))
+            }
+            Err(children) => {
+                let children = List::from_vec(children);
+                Ok(RuleBody::Many(Shared::new(alloc, RuleOfMany { summary, children })?))
+            }
+        }
+    }
+}
