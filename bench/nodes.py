@@ -32,7 +32,8 @@ BELOW = "ts_base ts_core ts_text spec_grammar spec_trees ts_node ts_order ts_cur
 
 # Bytes of each struct; its fields lie in their order, an enum has a tag of its own.
 NODE = 24
-RULE_NODE = 64
+SUMMARY = 40
+LIST = 24
 REPETITION = 48
 RUN = 144
 ELEMENT = 20
@@ -586,8 +587,10 @@ def chunk(size):
 
 
 def rule(children):
-    """The bytes of a rule's node with so many children, their places in its list among them."""
-    return chunk(OWNERS + RULE_NODE) + chunk(NODE * children)
+    """The bytes of a rule's node with so many children: one to three lie in its body, others in a list."""
+    if 1 <= children <= 3:
+        return chunk(OWNERS + SUMMARY + NODE * children)
+    return chunk(OWNERS + SUMMARY + LIST) + chunk(NODE * children)
 
 
 def leaf_of(elements, children):
