@@ -1,4 +1,4 @@
-use Rattle.std.proofs.Common.{◌≡◌, ◌+◌, ◌-◌, ◌<◌, ◌≤◌, ◌++◌, ◌∙◌, ap, arith, rules, Fits, w32, subst, length, length-append, IfOk}
+use Rattle.std.proofs.Common.{◌≡◌, ◌-◌, ◌<◌, ◌≤◌, ◌++◌, ◌∙◌, ap, arith, rules, Fits, w32, subst, length, length-append, IfOk}
 use Rattle.spec_trees.specs.declared.tree.Stretch.{Stretch}
 use Rattle.ts_node.specs.Held.{IsCount, joined_stretch, changed, loosened_stretch}
 use Rattle.ts_node.proofs.RunLemmas.{length-loosened_at, both_left, both_right}

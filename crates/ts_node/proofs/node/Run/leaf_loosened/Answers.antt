@@ -1,4 +1,4 @@
-use Rattle.std.proofs.Common.{◌≡◌, ◌<◌, ◌∙◌, IfOk, ap, subst, arith, List, length}
+use Rattle.std.proofs.Common.{◌≡◌, ◌∙◌, IfOk, ap, subst, arith, List, length}
 use Rattle.spec_trees.specs.declared.tree.Element.{Element}
 use Rattle.spec_trees.specs.Made.{children_count, loosened_at}
 use Rattle.ts_node.specs.Held.{stretch}
