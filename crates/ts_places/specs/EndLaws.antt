@@ -1,4 +1,4 @@
--- The laws of other crates that the proofs here rest on.
+-- The laws that the proofs of what ends rest on.
 use Rattle.std.specs.Prelude.{◌≡◌, ℕ, ◌≤◌, All, List, [], ◌∷◌, ◌++◌, drop, length, map, reverse}
 use Rattle.ts_base.specs.Bytes.{Bytes}
 use Rattle.ts_core.specs.declared.flat.FlatGrammar.{FlatGrammar}

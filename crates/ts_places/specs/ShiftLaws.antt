@@ -1,4 +1,4 @@
--- The laws of other crates that the proofs here rest on.
+-- The laws of other crates that the proofs of a look and of shifts rest on.
 use Rattle.std.specs.Prelude.{◌≡◌, ℕ, suc, ◌+◌, ◌<◌, ◌≤◌, List, ◌∷◌, ◌++◌, length}
 use Rattle.ts_base.specs.Bytes.{Bytes}
 use Rattle.ts_core.specs.declared.flat.FlatGrammar.{FlatGrammar}

@@ -1,4 +1,4 @@
--- The laws of other crates that the proofs here rest on.
+-- The laws of other crates that the proofs of all reductions of a place rest on.
 use Rattle.std.specs.Prelude.{◌≡◌, ℕ, ◌+◌, ◌<◌, ◌≤◌, suc, List, [], Some}
 use Rattle.ts_core.specs.declared.flat.FlatGrammar.{FlatGrammar}
 use Rattle.ts_core.specs.declared.flat.Production.{Production}

@@ -1,5 +1,5 @@
-//! The laws of other crates that the proofs here rest on, and laws of what ended, each a function
-//! without a body. No value goes in or out.
+//! The laws that the proofs of what ends rest on, and laws of what ended, each a function without a
+//! body. No value goes in or out.
 ghost use Rattle.std.specs.Prelude.{◌≡◌, ℕ, ◌<◌, ◌≤◌, ◌⊎◌, List, length, Option, Some, None, []};
 ghost use Rattle.ts_base.specs.Bytes.{Bytes};
 ghost use Rattle.spec_runs.specs.BareTrees.{KeepsAll};

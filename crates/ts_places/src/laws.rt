@@ -1,4 +1,4 @@
-//! The laws of other crates that the proofs here rest on. No value goes in or out.
+//! The laws that the proofs of one place and the next rest on. No value goes in or out.
 ghost use Rattle.ts_places.specs.Laws.{MoveLaws, PlaceLaws};
 
 use crate::shift_laws::{empty_places_pass, places_follow, sights_stay};

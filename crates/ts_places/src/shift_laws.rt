@@ -1,5 +1,5 @@
-//! The laws of other crates that the proofs here rest on, and laws of what is seen and shifted at a
-//! place, each a function without a body. No value goes in or out.
+//! The laws of other crates that the proofs of a look and of shifts rest on, and laws of what is
+//! seen and shifted at a place, each a function without a body. No value goes in or out.
 ghost use Rattle.std.specs.Prelude.{◌≡◌, ℕ, ◌+◌, ◌<◌, ◌≤◌, suc, List};
 ghost use Rattle.ts_base.specs.Bytes.{Bytes};
 ghost use Rattle.ts_core.specs.declared.symbol.Symbol.{Symbol as AnySymbol};

@@ -1,5 +1,5 @@
-//! The laws of other crates that the proofs here rest on, and a law of reductions over nothing. No
-//! value goes in or out.
+//! The laws of other crates that the proofs of all reductions of a place rest on, and a law of
+//! reductions over nothing. No value goes in or out.
 ghost use Rattle.std.specs.Prelude.{◌≡◌, ℕ, slice_get, Some};
 ghost use Rattle.ts_base.specs.Bytes.{Bytes};
 ghost use Rattle.spec_graph.specs.declared.graph.Head.{Head as AnyHead};

@@ -1,4 +1,4 @@
--- The laws of other crates that the proofs here rest on.
+-- The laws of other crates that the proofs of reductions rest on.
 use Rattle.std.specs.Prelude.{◌≡◌, ℕ, ◌+◌, ◌<◌, ◌≤◌, List, [], ◌∷◌, ◌++◌, All, length, map, reverse, slice_get, Option, Some, None}
 use Rattle.ts_core.specs.declared.flat.FlatGrammar.{FlatGrammar}
 use Rattle.ts_core.specs.declared.flat.Production.{Production}

@@ -1,4 +1,4 @@
--- The laws of other crates that the proofs here rest on.
+-- The laws of other crates that the proofs of laid trees rest on.
 use Rattle.std.specs.Prelude.{◌≡◌, ℕ, ◌≤◌, true, List, [], ◌∷◌}
 use Rattle.spec_tables.specs.Fit.{Fit}
 use Rattle.spec_trees.specs.declared.tree.Tree.{Tree}

@@ -1,4 +1,4 @@
-//! The laws of other crates that the proofs here rest on. No value goes in or out.
+//! The laws of other crates that the proofs of reductions rest on. No value goes in or out.
 ghost use Rattle.ts_steps.specs.MoveLaws.{Laws};
 ghost use Rattle.ts_reductions.specs.Laws.{ReductionLaws, NodeLaws};
 

@@ -1,4 +1,4 @@
-//! The laws of other crates that the proofs here rest on. No value goes in or out.
+//! The laws of other crates that the proofs of laid trees rest on. No value goes in or out.
 ghost use Rattle.ts_reductions.specs.LayingLaws.{LayingLaws};
 
 use spec_graph::{extras_are_passed, links_pack, trees_replace};
