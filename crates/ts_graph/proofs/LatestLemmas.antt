@@ -423,8 +423,8 @@ module _ (heads : List Head) (links : List Link) (each : HoldsEachOnce heads lin
   pub over_last : (new : List Spot) (best : Option ℕ) → GoesOver heads links most before s first None new best → Leaves heads links most before s first new best
   over_last new best o h count f = subst (λ (xs : List Spot). Finds heads links h count most xs best) (append-nil new) (o.finds h count f)
 
-  pub over_less : (new : List Spot) (best : Option ℕ) → GoesOver heads links most before s first None new best → GoesDown heads links before s new
-  over_less new best o = record {
+  pub over_less : (next : Option ℕ) (new : List Spot) (best : Option ℕ) → GoesOver heads links most before s first next new best → GoesDown heads links before s new
+  over_less next new best o = record {
     can = o.can;
     less =
         let a = o.light in

@@ -7,3 +7,4 @@ pub mod PackLemmas
 pub mod PartLemmas
 pub mod WayLemmas
 pub mod LatestLemmas
+pub mod KeptLemmas

@@ -1,10 +1,11 @@
 -- The graph that is kept as cells.
-use Rattle.std.specs.Prelude.{◌≡◌, ℕ, ◌≤◌, List, length, map, take, slice_get, Option, Some}
+use Rattle.std.specs.Prelude.{◌≡◌, ℕ, ◌≤◌, Bool, false, List, length, map, take, slice_get, Option, Some}
+use Rattle.spec_trees.specs.Trees.{is_extra_node}
 use Rattle.spec_graph.specs.declared.graph.Head.{Head}
 use Rattle.spec_graph.specs.declared.graph.Link.{Link}
 use Rattle.ts_graph.specs.declared.graph.Cell.{Cell}
 use Rattle.ts_graph.specs.declared.view.GraphView.{GraphView}
-use Rattle.ts_graph.specs.Down.{links_down, links_from, HoldsEachOnce}
+use Rattle.ts_graph.specs.Down.{links_down, links_from, place_at, HoldsEachOnce}
 
 -- the link of a cell
 abbrev pub link_of : Cell → Link
@@ -31,3 +32,19 @@ pub record IsSound (heads : List Head) (newest : List (Option ℕ)) (cells : Lis
   pub room : length heads ≤ length newest
   pub begins : (h : ℕ) (o : Option ℕ) → slice_get newest h ≡ Some o
       → links_from (links_of cells) h o ≡ links_down (links_of cells) h
+
+-- each cell tells a place below which neither its link leads nor an earlier one from its head
+abbrev pub AreBounded : List Head → List Cell → Type 0
+AreBounded heads cells = (k : ℕ) (c : Cell) → slice_get cells k ≡ Some c
+    → (j : ℕ) (d : Cell) → slice_get cells j ≡ Some d → d.above ≡ c.above → j ≤ k
+    → c.lowest ≤ place_at heads d.below
+
+-- no tree is an extra, unless it is said that there was one
+abbrev pub AreFilled : Bool → List Cell → Type 0
+AreFilled extras cells = extras ≡ false
+    → (k : ℕ) (c : Cell) → slice_get cells k ≡ Some c → is_extra_node c.node ≡ false
+
+-- what is kept beside, by which walks over links end early
+pub record IsKept (heads : List Head) (cells : List Cell) (extras : Bool) : Type 0 where
+  pub bounded : AreBounded heads cells
+  pub filled : AreFilled extras cells

@@ -3,3 +3,4 @@ pub mod Cells
 pub mod Ways
 pub mod Parts
 pub mod Latest
+pub mod Bounds

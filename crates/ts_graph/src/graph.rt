@@ -10,7 +10,8 @@ use std::alloc::{AllocError, Global};
 use std::marker::Model;
 use ts_node::Node;
 
-/// A link, and the newest of the earlier links that lead down from the same head.
+/// A link, the newest of the earlier links that lead down from the same head, and the lowest place
+/// to which it or one of these leads.
 #[derive(Drop)]
 pub(crate) struct Cell {
     pub above: usize,
@@ -18,6 +19,7 @@ pub(crate) struct Cell {
     pub node: Node,
     pub depth: u32,
     pub earlier: Option<usize>,
+    pub lowest: u32,
 }
 
 /// A graph of stacks, which contracts see as its heads and its links by their numbers. Heads and
@@ -28,6 +30,8 @@ pub struct Graph {
     /// For each head the newest link that leads down from it.
     pub(crate) newest: Vec<Option<usize>>,
     pub(crate) cells: Vec<Cell>,
+    /// Whether there was a tree that is an extra.
+    pub(crate) extras: bool,
 }
 
 impl Model for Graph {
@@ -39,11 +43,12 @@ impl Model for Graph {
 
     ghost coded = { Prim.hlevel (codes, contract.the_row.coded) };
 
-    ghost use Rattle.ts_graph.specs.Cells.{graph_of, links_of, IsSound};
+    ghost use Rattle.ts_graph.specs.Cells.{graph_of, links_of, IsSound, IsKept};
 
     ghost view = { λ a. graph_of a.heads.keys (links_of a.cells.items) };
 
-    ghost invariant = { λ a. IsSound a.heads.keys a.newest.items a.cells.items };
+    ghost invariant = { λ a. IsSound a.heads.keys a.newest.items a.cells.items
+        × IsKept a.heads.keys a.cells.items a.extras };
 }
 
 impl Graph {
@@ -55,6 +60,7 @@ impl Graph {
             heads: IndexSet::new(alloc),
             newest: Vec::new(alloc),
             cells: Vec::new(alloc),
+            extras: false,
         }
     }
 

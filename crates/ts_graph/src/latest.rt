@@ -78,6 +78,9 @@ impl Graph {
         let mut best = before;
         let mut next = self.first_down(spot.head);
         while let Some(link) = next {
+            if self.all_past(most, spot.wanting, link) {
+                return Ok(best);
+            }
             best = self.pass(most, best, spot.wanting, link, spots)?;
             next = self.next_down(link);
         }

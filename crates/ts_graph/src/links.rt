@@ -1,9 +1,10 @@
 //! Links between heads: a tree between two heads goes in, as a new link or packed into the one that
 //! is there, and the links that lead down from a head come out, the newest first.
-ghost use Rattle.std.specs.Prelude.{◌≡◌, ℕ, ◌<◌, ◌++◌, ◌∷◌, [], length, take, slice_get, Some, OnOk, OnErr, MatchOption};
+ghost use Rattle.std.specs.Prelude.{◌≡◌, ℕ, ◌<◌, ◌≤◌, ◌||◌, ◌++◌, ◌∷◌, [], length, take, slice_get, Some, OnOk, OnErr, IsTrue, MatchOption};
 ghost use Rattle.spec_trees.specs.Choice.{AreOfOneGrammar};
 ghost use Rattle.spec_graph.specs.declared.graph.Link.{Link};
 ghost use Rattle.ts_graph.specs.Cells.{link_of};
+ghost use Rattle.ts_graph.specs.Bounds.{IsBound, LeadNoLower, AllPast};
 ghost use Rattle.ts_graph.specs.Down.{link_with, links_down, links_from, place_at, HasNone, IsBetween, IsPacked};
 
 use crate::graph::{Cell, Graph};
@@ -19,6 +20,13 @@ pub struct Edge {
     pub depth: u32,
 }
 
+/// Whether one of two is so.
+fn either(first: bool, second: bool) -> bool
+    ensures { result ≡ (first || second) }
+{
+    first || second
+}
+
 impl Graph {
     /// A link as it is kept.
     fn cell(&self, link: usize) -> &Cell
@@ -26,6 +34,8 @@ impl Graph {
         ensures link { slice_get self.now.links link ≡ Some (link_of result.now) }
         ensures earlier { links_from self.now.links result.now.above result.now.earlier
             ≡ links_down (take link self.now.links) result.now.above }
+        ensures lowest { IsBound self.now.heads self.now.links link result.now.above
+            result.now.lowest }
     {
         &self.cells[link]
     }
@@ -74,6 +84,37 @@ impl Graph {
         self.cell(link).earlier
     }
 
+    /// The lowest of a place and of those to which the links from one on lead down.
+    fn lowest_down(&self, next: Option<usize>, place: u32) -> u32
+        requires { (above : ℕ)
+            × (links_from self.now.links above next ≡ links_down self.now.links above) }
+        ensures own { result ≤ place }
+        ensures others { (above : ℕ)
+            → links_from self.now.links above next ≡ links_down self.now.links above
+            → LeadNoLower self.now.heads self.now.links above result }
+    {
+        match next {
+            Some(link) => self.cell(link).lowest.min(place),
+            None => place,
+        }
+    }
+
+    /// Whether the links from one on, down from the same head, all lead past a place, with no tree
+    /// wanting, where so many were before them.
+    pub(crate) fn all_past(&self, place: u32, wanting: usize, link: usize) -> bool
+        requires { link < length self.now.links }
+        ensures { IsTrue result → AllPast self.now.heads self.now.links place wanting link }
+    {
+        let _ = &self.heads;
+        if self.extras {
+            return false;
+        }
+        if wanting != 1 {
+            return false;
+        }
+        self.cell(link).lowest > place
+    }
+
     /// The link between two heads, and none where there is none. It passes the links that lead down
     /// from the head above.
     pub fn between(&self, above: usize, below: usize) -> Option<usize>
@@ -115,15 +156,19 @@ impl Graph {
         ensures kept { OnErr result (self.new ≡ self.old) }
     {
         let earlier = self.first_down(above);
+        let lowest = self.lowest_down(earlier, self.head(below).place);
         let number = self.cells.len();
+        let extras = either(self.extras, node.extra());
         self.cells.push(Cell {
             above,
             below,
             node,
             depth,
             earlier,
+            lowest,
         })?;
         self.newest[above] = Some(number);
+        self.extras = extras;
         Ok(())
     }
 
@@ -140,6 +185,8 @@ impl Graph {
         ensures others { (k : ℕ) → (k ≡ link → ⊥)
             → slice_get self.new.links k ≡ slice_get self.old.links k }
     {
+        let extras = either(self.extras, node.extra());
+        self.extras = extras;
         self.cells[link].pack(node, depth);
     }
 }
@@ -150,6 +197,7 @@ impl Cell {
         requires { AreOfOneGrammar node self.old.node }
         ensures packed { IsPacked (link_of self.old) node depth (link_of self.new) }
         ensures earlier { self.new.earlier ≡ self.old.earlier }
+        ensures lowest { self.new.lowest ≡ self.old.lowest }
     {
         if better(&node, &self.node) {
             self.node = node;

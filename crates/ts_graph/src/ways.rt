@@ -2,6 +2,7 @@
 //! trees that are no extras, the lowest tree being one of them, or those that end at a place alone.
 ghost use Rattle.std.specs.Prelude.{◌≡◌, ℕ, ◌<◌, ◌++◌, [], All, length, false, IfOk, OnOk, IsTrue};
 ghost use Rattle.ts_graph.specs.Ways.{ListsWays, ListsWaysTo};
+ghost use Rattle.ts_graph.specs.Bounds.{NoneLeads};
 ghost use Rattle.ts_graph.specs.Parts.{way_of, part_of, below_at, wanting_past, next_of, nexts_of, all_nexts, done_of, undone_of, done_to, undone_to, all_done, all_undone, leads, CanGoOn, ListsWaysIn};
 
 use crate::graph::Graph;
@@ -146,10 +147,24 @@ impl Graph {
     {
         let mut next = self.first_down(part.way.below);
         while let Some(link) = next {
+            if self.none_leads(place, part.wanting, link) {
+                return Ok(());
+            }
             self.take_on(alloc, place, part, link, undone, done)?;
             next = self.next_down(link);
         }
         Ok(())
+    }
+
+    /// Whether no link from this one on, down from the same head, leads to the place.
+    fn none_leads(&self, place: Option<u32>, wanting: usize, link: usize) -> bool
+        requires { link < length self.now.links }
+        ensures { IsTrue result → NoneLeads self.now.heads self.now.links place wanting link }
+    {
+        match place {
+            Some(end) => self.all_past(end, wanting, link),
+            None => false,
+        }
     }
 
     /// The same with one link at its end. The way is made longer only where it may lead to the

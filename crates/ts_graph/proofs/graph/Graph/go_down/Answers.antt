@@ -1,9 +1,10 @@
-use Rattle.std.proofs.Common.{sym, subst, ℕ, ◌<◌, length, Option, Some}
+use Rattle.std.proofs.Common.{sym, subst, refl, ℕ, ◌<◌, length, Option, Some}
 use Rattle.ts_graph.specs.declared.view.GraphView.{GraphView}
 use Rattle.ts_graph.specs.Down.{links_from, HoldsEachOnce}
 use Rattle.ts_graph.specs.Latest.{past}
 use Rattle.ts_graph.proofs.BetweenLemmas.{GoDown, go_first, go_at, go_within, go_shorter}
 use Rattle.ts_graph.proofs.LatestLemmas.{GoesOver, over_first, over_more, over_last, over_less, not_later, left_out, out_less}
+use Rattle.ts_graph.proofs.KeptLemmas.{each_past, finds_past}
 use Rattle.ts_graph.proofs.graph.Graph.go_down.Goals as goal
 
 pub head-requires : goal.head-requires
@@ -11,13 +12,13 @@ head-requires c = c.requires.0
 
 pub returns-then-not-is_later-clause-best : goal.returns-then-not-is_later-clause-best
 returns-then-not-is_later-clause-best c =
-    let each = subst (λ (g : GraphView). HoldsEachOnce g.heads g.links) c.self.view_is c.self.invariant.each_once in
+    let each = subst (λ (g : GraphView). HoldsEachOnce g.heads g.links) c.self.view_is c.self.invariant.0.each_once in
     left_out c.args.self.now.heads c.args.self.now.links each c.args.most c.args.spots.now.items c.args.spot c.args.before c.head.result c.head.ensures
     (not_later (past c.args.before) c.head.result.place c.if-not-is_later.ensures.1)
 
 pub returns-then-not-is_later-clause-spots : goal.returns-then-not-is_later-clause-spots
 returns-then-not-is_later-clause-spots c =
-    let each = subst (λ (g : GraphView). HoldsEachOnce g.heads g.links) c.self.view_is c.self.invariant.each_once in
+    let each = subst (λ (g : GraphView). HoldsEachOnce g.heads g.links) c.self.view_is c.self.invariant.0.each_once in
     out_less c.args.self.now.heads c.args.self.now.links each c.args.most c.args.spots.now.items c.args.spot c.args.before
 
 pub first_down-next-requires : goal.first_down-next-requires
@@ -25,9 +26,30 @@ first_down-next-requires c = c.requires.0
 
 pub loop-next-init : goal.loop-next-init
 loop-next-init c =
-    let each = subst (λ (g : GraphView). HoldsEachOnce g.heads g.links) c.self.view_is c.self.invariant.each_once in
+    let each = subst (λ (g : GraphView). HoldsEachOnce g.heads g.links) c.self.view_is c.self.invariant.0.each_once in
     over_first c.args.self.now.heads c.args.self.now.links each c.args.most c.args.spots.now.items c.args.spot c.args.before c.first_down-next.result c.requires.1
     (go_first c.args.self.now.links c.args.spot.head c.first_down-next.result c.first_down-next.ensures) c.first_down-next.ensures
+
+pub all_past-requires : goal.all_past-requires
+all_past-requires c =
+    go_within c.args.self.now.links c.args.spot.head c.in-Some.link
+    (subst (λ (o : Option ℕ). GoDown c.args.self.now.links c.args.spot.head o) c.in-Some.is c.loop-next.invariant.go)
+
+pub returns-then-all_past-clause-best : goal.returns-then-all_past-clause-best
+returns-then-all_past-clause-best c = λ h count f.
+    let heads = c.args.self.now.heads in
+    let links = c.args.self.now.links in
+    let over : GoesOver heads links c.args.most c.args.spots.now.items c.args.spot c.args.before (Some c.in-Some.link) c.loop-next.spots.items c.loop-next.best =
+    subst (λ (o : Option ℕ). GoesOver heads links c.args.most c.args.spots.now.items c.args.spot c.args.before o c.loop-next.spots.items c.loop-next.best) c.in-Some.is c.loop-next.invariant in
+    finds_past heads links c.args.most h count c.loop-next.spots.items c.args.spot.wanting c.loop-next.best (links_from links c.args.spot.head (Some c.in-Some.link))
+    (each_past heads links c.args.most c.args.spot.wanting c.args.spot.head c.in-Some.link over.go (c.if-all_past.ensures refl)) (over.finds h count f)
+
+pub returns-then-all_past-clause-spots : goal.returns-then-all_past-clause-spots
+returns-then-all_past-clause-spots c =
+    let heads = c.args.self.now.heads in
+    let links = c.args.self.now.links in
+    let each = subst (λ (g : GraphView). HoldsEachOnce g.heads g.links) c.self.view_is c.self.invariant.0.each_once in
+    over_less heads links each c.args.most c.args.spots.now.items c.args.spot c.args.before c.loop-next.next c.loop-next.spots.items c.loop-next.best c.loop-next.invariant
 
 pub pass-requires-clause-there : goal.pass-requires-clause-there
 pass-requires-clause-there c =
@@ -55,7 +77,7 @@ pub loop-next-preserved : goal.loop-next-preserved
 loop-next-preserved c =
     let heads = c.args.self.now.heads in
     let links = c.args.self.now.links in
-    let each = subst (λ (g : GraphView). HoldsEachOnce g.heads g.links) c.self.view_is c.self.invariant.each_once in
+    let each = subst (λ (g : GraphView). HoldsEachOnce g.heads g.links) c.self.view_is c.self.invariant.0.each_once in
     let over : GoesOver heads links c.args.most c.args.spots.now.items c.args.spot c.args.before (Some c.in-Some.link) c.loop-next.spots.items c.loop-next.best =
     subst (λ (o : Option ℕ). GoesOver heads links c.args.most c.args.spots.now.items c.args.spot c.args.before o c.loop-next.spots.items c.loop-next.best) c.in-Some.is c.loop-next.invariant in
     let l = go_at links c.args.spot.head c.in-Some.link over.go in
@@ -66,7 +88,7 @@ pub returns-clause-best : goal.returns-clause-best
 returns-clause-best c =
     let heads = c.args.self.now.heads in
     let links = c.args.self.now.links in
-    let each = subst (λ (g : GraphView). HoldsEachOnce g.heads g.links) c.self.view_is c.self.invariant.each_once in
+    let each = subst (λ (g : GraphView). HoldsEachOnce g.heads g.links) c.self.view_is c.self.invariant.0.each_once in
     over_last heads links each c.args.most c.args.spots.now.items c.args.spot c.args.before c.loop-next.spots.items c.loop-next.best
     (subst (λ (o : Option ℕ). GoesOver heads links c.args.most c.args.spots.now.items c.args.spot c.args.before o c.loop-next.spots.items c.loop-next.best) c.in_default.is c.loop-next.invariant)
 
@@ -74,6 +96,5 @@ pub returns-clause-spots : goal.returns-clause-spots
 returns-clause-spots c =
     let heads = c.args.self.now.heads in
     let links = c.args.self.now.links in
-    let each = subst (λ (g : GraphView). HoldsEachOnce g.heads g.links) c.self.view_is c.self.invariant.each_once in
-    over_less heads links each c.args.most c.args.spots.now.items c.args.spot c.args.before c.loop-next.spots.items c.loop-next.best
-    (subst (λ (o : Option ℕ). GoesOver heads links c.args.most c.args.spots.now.items c.args.spot c.args.before o c.loop-next.spots.items c.loop-next.best) c.in_default.is c.loop-next.invariant)
+    let each = subst (λ (g : GraphView). HoldsEachOnce g.heads g.links) c.self.view_is c.self.invariant.0.each_once in
+    over_less heads links each c.args.most c.args.spots.now.items c.args.spot c.args.before c.loop-next.next c.loop-next.spots.items c.loop-next.best c.loop-next.invariant

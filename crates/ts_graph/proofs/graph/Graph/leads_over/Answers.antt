@@ -7,7 +7,7 @@ use Rattle.ts_graph.proofs.graph.Graph.leads_over.Goals as goal
 
 pub stands_below-requires : goal.stands_below-requires
 stands_below-requires c =
-    let each = subst (λ (g : GraphView). HoldsEachOnce g.heads g.links) c.self.view_is c.self.invariant.each_once in
+    let each = subst (λ (g : GraphView). HoldsEachOnce g.heads g.links) c.self.view_is c.self.invariant.0.each_once in
     behind_low c.args.self.now.heads c.args.self.now.links each c.args.link c.requires.there c.link-below.result.below c.link-below.ensures.below
 
 pub returns-then-stands_below : goal.returns-then-stands_below
@@ -18,7 +18,7 @@ returns-then-stands_below c =
 
 pub may_lead-requires : goal.may_lead-requires
 may_lead-requires c =
-    let each = subst (λ (g : GraphView). HoldsEachOnce g.heads g.links) c.self.view_is c.self.invariant.each_once in
+    let each = subst (λ (g : GraphView). HoldsEachOnce g.heads g.links) c.self.view_is c.self.invariant.0.each_once in
     behind_low c.args.self.now.heads c.args.self.now.links each c.args.link c.requires.there c.link-below.result.below c.link-below.ensures.below
 
 pub returns : goal.returns

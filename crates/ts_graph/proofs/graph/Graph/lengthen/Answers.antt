@@ -1,10 +1,11 @@
-use Rattle.std.proofs.Common.{sym, subst, ℕ, ◌<◌, length, Option, Some}
+use Rattle.std.proofs.Common.{sym, subst, refl, ℕ, ◌<◌, length, Option, Some}
 use Rattle.ts_graph.specs.declared.ways.Part.{Part}
 use Rattle.ts_graph.specs.declared.ways.Way.{Way}
 use Rattle.ts_graph.specs.Down.{links_from}
 use Rattle.ts_graph.specs.Parts.{done_to, undone_to}
 use Rattle.ts_graph.proofs.BetweenLemmas.{GoDown, go_first, go_at, go_within, go_next, go_rest, go_shorter}
 use Rattle.ts_graph.proofs.PartLemmas.{Lengthens, lengthens_first, lengthens_more}
+use Rattle.ts_graph.proofs.KeptLemmas.{lengthens_past, undone_none, done_none}
 use Rattle.ts_graph.proofs.graph.Graph.lengthen.Goals as goal
 
 pub loop-next-init : goal.loop-next-init
@@ -13,6 +14,31 @@ loop-next-init c = record {
   undone_is = lengthens_first (undone_to c.args.self.now.heads c.args.place) c.args.self.now.links c.args.part.now c.first_down-next.result c.args.undone.now.items c.first_down-next.ensures;
   done_is = lengthens_first (done_to c.args.self.now.heads c.args.place) c.args.self.now.links c.args.part.now c.first_down-next.result c.args.done.now.items c.first_down-next.ensures;
 }
+
+pub none_leads-requires : goal.none_leads-requires
+none_leads-requires c =
+    go_within c.args.self.now.links c.args.part.now.way.below c.in-Some.link
+    (subst (λ (o : Option ℕ). GoDown c.args.self.now.links c.args.part.now.way.below o) c.in-Some.is c.loop-next.invariant.go)
+
+pub returns-then-none_leads-clause-undone : goal.returns-then-none_leads-clause-undone
+returns-then-none_leads-clause-undone c =
+    let links = c.args.self.now.links in
+    let h = c.args.part.now.way.below in
+    let f = undone_to c.args.self.now.heads c.args.place in
+    let g : GoDown links h (Some c.in-Some.link) = subst (λ (o : Option ℕ). GoDown links h o) c.in-Some.is c.loop-next.invariant.go in
+    lengthens_past f links c.args.part.now (Some c.in-Some.link) c.args.undone.now.items c.loop-next.undone.items
+    (subst (λ (o : Option ℕ). Lengthens Part f links c.args.part.now o c.args.undone.now.items c.loop-next.undone.items) c.in-Some.is c.loop-next.invariant.undone_is)
+    (undone_none c.args.self.now.heads links c.args.part.now c.in-Some.link g c.args.place (c.if-none_leads.ensures refl))
+
+pub returns-then-none_leads-clause-done : goal.returns-then-none_leads-clause-done
+returns-then-none_leads-clause-done c =
+    let links = c.args.self.now.links in
+    let h = c.args.part.now.way.below in
+    let f = done_to c.args.self.now.heads c.args.place in
+    let g : GoDown links h (Some c.in-Some.link) = subst (λ (o : Option ℕ). GoDown links h o) c.in-Some.is c.loop-next.invariant.go in
+    lengthens_past f links c.args.part.now (Some c.in-Some.link) c.args.done.now.items c.loop-next.done.items
+    (subst (λ (o : Option ℕ). Lengthens Way f links c.args.part.now o c.args.done.now.items c.loop-next.done.items) c.in-Some.is c.loop-next.invariant.done_is)
+    (done_none c.args.self.now.heads links c.args.part.now c.in-Some.link g c.args.place (c.if-none_leads.ensures refl))
 
 pub take_on-requires-clause-there : goal.take_on-requires-clause-there
 take_on-requires-clause-there c =

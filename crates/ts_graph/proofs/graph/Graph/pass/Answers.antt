@@ -9,12 +9,12 @@ use Rattle.ts_graph.proofs.graph.Graph.pass.Goals as goal
 
 pub head-requires : goal.head-requires
 head-requires c =
-    let each = subst (λ (g : GraphView). HoldsEachOnce g.heads g.links) c.self.view_is c.self.invariant.each_once in
+    let each = subst (λ (g : GraphView). HoldsEachOnce g.heads g.links) c.self.view_is c.self.invariant.0.each_once in
     behind_low c.args.self.now.heads c.args.self.now.links each c.args.link c.requires.there c.link-head.result.below c.link-head.ensures.below
 
 pub returns-then-not-is_later-clause-best : goal.returns-then-not-is_later-clause-best
 returns-then-not-is_later-clause-best c =
-    let each = subst (λ (g : GraphView). HoldsEachOnce g.heads g.links) c.self.view_is c.self.invariant.each_once in
+    let each = subst (λ (g : GraphView). HoldsEachOnce g.heads g.links) c.self.view_is c.self.invariant.0.each_once in
     let is = behind_is c.args.self.now.links c.args.link c.requires.there c.link-head.result.below c.link-head.ensures.below in
     let at : slice_get c.args.self.now.heads (spot_past c.args.self.now.links c.args.wanting c.args.link).head ≡ Some c.head.result =
     ap (λ (h : ℕ). slice_get c.args.self.now.heads h) is ∙ c.head.ensures in
@@ -26,7 +26,7 @@ returns-then-not-is_later-clause-spots c = inl refl
 
 pub meet-requires : goal.meet-requires
 meet-requires c =
-    let each = subst (λ (g : GraphView). HoldsEachOnce g.heads g.links) c.self.view_is c.self.invariant.each_once in
+    let each = subst (λ (g : GraphView). HoldsEachOnce g.heads g.links) c.self.view_is c.self.invariant.0.each_once in
     behind_low c.args.self.now.heads c.args.self.now.links each c.args.link c.requires.there c.link-head.result.below c.link-head.ensures.below
 
 pub returns-clause-best : goal.returns-clause-best

@@ -14,7 +14,7 @@ pub loop-alloc-init : goal.loop-alloc-init
 loop-alloc-init c =
     let undone = c.in_ok-take_in.ensures.undone ∙ ap (λ (ps : List Part). ps ++ undone_to c.args.self.now.heads c.args.place c.no_way.result) c.new-undone.ensures.items in
     let done = c.in_ok-take_in.ensures.done ∙ ap (λ (ws : List Way). ws ++ done_to c.args.self.now.heads c.args.place c.no_way.result) c.new-done.ensures.items in
-    let each = subst (λ (g : GraphView). HoldsEachOnce g.heads g.links) c.self.view_is c.self.invariant.each_once in
+    let each = subst (λ (g : GraphView). HoldsEachOnce g.heads g.links) c.self.view_is c.self.invariant.0.each_once in
     record {
       can = first_goes_on c.args.self.now.heads c.args.place c.args.head c.args.count c.no_way.result c.take_in.new.undone.items c.no_way.ensures undone c.requires;
       searches = searches_first c.args.self.now.heads c.args.self.now.links each c.args.place c.args.head c.args.count c.no_way.result c.take_in.new.undone.items c.take_in.new.done.items c.no_way.ensures undone done;
@@ -30,7 +30,7 @@ loop-alloc-smaller c =
     let heads = c.args.self.now.heads in
     let links = c.args.self.now.links in
     let parts = c.loop-alloc.undone.items in
-    let each = subst (λ (g : GraphView). HoldsEachOnce g.heads g.links) c.self.view_is c.self.invariant.each_once in
+    let each = subst (λ (g : GraphView). HoldsEachOnce g.heads g.links) c.self.view_is c.self.invariant.0.each_once in
     let is = subst (λ (ps : List Part). c.in_ok-undone.undone.items ≡ all_undone heads c.args.place (all_nexts links ps)) c.as_slice.ensures.value c.in_ok-undone.ensures.undone in
     let some : 0 < length c.loop-alloc.undone.items = grind (arith, c.loop-alloc-test.true, c.is_empty.ensures, c.loop-alloc.undone.ok) in
     let p = some_member parts some in
@@ -41,7 +41,7 @@ loop-alloc-preserved c =
     let heads = c.args.self.now.heads in
     let links = c.args.self.now.links in
     let parts = c.loop-alloc.undone.items in
-    let each = subst (λ (g : GraphView). HoldsEachOnce g.heads g.links) c.self.view_is c.self.invariant.each_once in
+    let each = subst (λ (g : GraphView). HoldsEachOnce g.heads g.links) c.self.view_is c.self.invariant.0.each_once in
     let undone = subst (λ (ps : List Part). c.in_ok-undone.undone.items ≡ all_undone heads c.args.place (all_nexts links ps)) c.as_slice.ensures.value c.in_ok-undone.ensures.undone in
     let done = subst (λ (ps : List Part). c.lengthened.new.done.items ≡ c.loop-alloc.done.items ++ all_done heads c.args.place (all_nexts links ps)) c.as_slice.ensures.value c.in_ok-undone.ensures.done in
     record {
@@ -53,7 +53,7 @@ pub returns : goal.returns
 returns c =
     let heads = c.args.self.now.heads in
     let links = c.args.self.now.links in
-    let each = subst (λ (g : GraphView). HoldsEachOnce g.heads g.links) c.self.view_is c.self.invariant.each_once in
+    let each = subst (λ (g : GraphView). HoldsEachOnce g.heads g.links) c.self.view_is c.self.invariant.0.each_once in
     let none : length c.loop-alloc.undone.items ≡ 0 = grind (arith, c.loop-alloc-test.false, c.is_empty.ensures, c.loop-alloc.undone.ok) in
     searches_last heads links each c.args.place c.args.head c.args.count c.loop-alloc.done.items
     (subst (λ (ps : List Part). Searches (EndsAt heads c.args.place) links c.args.head c.args.count ps c.loop-alloc.done.items) (no_member c.loop-alloc.undone.items none) c.loop-alloc.invariant.searches)
