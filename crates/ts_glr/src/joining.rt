@@ -128,13 +128,24 @@ fn head_serves(graph: &Graph, kept: StackHead, other: StackHead) -> bool
     true
 }
 
+/// Whether two heads stand at one place and in one state, as they do where one may stand for the
+/// other.
+fn meet(graph: &Graph, a: StackHead, b: StackHead) -> bool
+    requires first { a.top < length graph.now }
+    requires second { b.top < length graph.now }
+{
+    a.place == b.place && graph.state(a.top) == graph.state(b.top)
+}
+
 /// The one of two heads that may stand for the other.
 fn kept_of(graph: &Graph, a: StackHead, b: StackHead) -> Option<StackHead>
     requires { (t : ParseTable) × (size : ℕ) × IsLiveHead t size graph.now a
         × IsLiveHead t size graph.now b }
     ensures { (kept : StackHead) → result ≡ Some kept → IsKeptOf graph.now a b kept }
 {
-    if head_serves(graph, a, b) {
+    if !meet(graph, a, b) {
+        None
+    } else if head_serves(graph, a, b) {
         Some(a)
     } else if head_serves(graph, b, a) {
         Some(b)
