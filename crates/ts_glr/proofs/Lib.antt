@@ -6,6 +6,7 @@ pub mod TableLemmas
 pub mod LexLemmas
 pub mod RootLemmas
 pub mod LightLemmas
+pub mod SeenLemmas
 pub mod ActLemmas
 pub mod SpentLemmas
 pub mod JoinLemmas

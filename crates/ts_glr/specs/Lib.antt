@@ -2,6 +2,7 @@ pub mod Lists
 pub mod Weights
 pub mod Steps
 pub mod Laws
+pub mod Seeing
 pub mod Joining
 pub mod Search
 pub mod Outcomes

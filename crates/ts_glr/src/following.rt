@@ -11,14 +11,16 @@ ghost use Rattle.ts_steps.specs.Heads.{IsOwnHead};
 ghost use Rattle.ts_steps.specs.Looking.{IsTokenAhead};
 ghost use Rattle.ts_glr.specs.Steps.{HasForm};
 ghost use Rattle.ts_glr.specs.Search.{Spent};
+ghost use Rattle.ts_glr.specs.Seeing.{AreSeen};
 
 use crate::acting::act_all;
 use crate::choosing::stick;
 use crate::laws::laws_hold;
 use crate::readings::Readings;
+use crate::seeing::look_once;
 use std::alloc::{AllocError, Global};
 use ts_lexer::{Lexed, Tokens};
-use ts_steps::{FoundToken, ParseSetting, StackHead, look, pass};
+use ts_steps::{FoundToken, ParseSetting, StackHead, pass};
 use ts_table::Table;
 
 /// Does all that the token that a head sees asks for, and tells whether a node would be too deep.
@@ -39,6 +41,10 @@ fn follow(
     ensures grows { OnOk result (GainsStacks readings.old.graph readings.new.graph) }
     ensures form { OnOk result (HasForm table.now.grammar readings.new.best) }
     ensures stuck { OnOk result (readings.new.stuck ≡ readings.old.stuck) }
+    ensures seen { OnOk result ((text : Bytes) → length text ≡ setting.now.size
+        → IsTokenAhead table.now text readings.old.graph head found
+        → AreSeen table.now text readings.old.graph readings.old.seen.items
+        → AreSeen table.now text readings.new.graph readings.new.seen.items) }
     ensures deep { IfOk result (λ b. b ≡ true → (text : Bytes)
         → IsTokenAhead table.now text readings.old.graph head found
         → ComesTooDeep table.now.grammar text (config_of readings.old.graph head)) }
@@ -77,9 +83,13 @@ pub(crate) fn advance<L: Tokens>(
     requires setting { IsParseSetting table.now (length (L.Text.bytes text.now)) setting.now }
     requires live { IsOwnHead table.now (length (L.Text.bytes text.now)) readings.old.graph head }
     requires form { HasForm table.now.grammar readings.old.best }
+    requires seen { AreSeen table.now (L.Text.bytes text.now) readings.old.graph
+        readings.old.seen.items }
     ensures made { L.made_for lexer.new table.now }
     ensures grows { OnOk result (GainsStacks readings.old.graph readings.new.graph) }
     ensures form { OnOk result (HasForm table.now.grammar readings.new.best) }
+    ensures seen { OnOk result (AreSeen table.now (L.Text.bytes text.now) readings.new.graph
+        readings.new.seen.items) }
     ensures deep { IfOk result (λ b. b ≡ true → ComesTooDeep table.now.grammar
         (L.Text.bytes text.now) (config_of readings.old.graph head)) }
     ensures done { IfOk result (λ b. b ≡ false → Spent table.now (L.Text.bytes text.now)
@@ -89,7 +99,8 @@ pub(crate) fn advance<L: Tokens>(
         readings.old.stuck readings.new.stuck) }
 {
     laws_hold();
-    match look(table, lexer, text, &readings.graph, head) {
+    let graph = &readings.graph;
+    match look_once(table, lexer, text, graph, &mut readings.seen, head) {
         Lexed::Absent { place, extent: _ } => {
             stick(&mut readings.stuck, place);
             Ok(false)

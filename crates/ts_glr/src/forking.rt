@@ -94,6 +94,7 @@ pub(crate) fn follow_all<L: Tokens>(
     packing_laws_hold();
     table.stands();
     steps_fall();
+    readings.seen.clear();
     let ends_deep = advance(alloc, table, setting, lexer, text, readings, start)?;
     if ends_deep {
         return Ok(Some(Forked::Over(Outcome::Deep)));

@@ -1,19 +1,22 @@
 //! The laws of other crates that the proofs here rest on. No value goes in or out.
 ghost use Rattle.ts_steps.specs.MoveLaws.{Laws};
-ghost use Rattle.ts_glr.specs.Laws.{PackingLaws};
+ghost use Rattle.ts_glr.specs.Laws.{AgainLaws, PackingLaws};
 ghost use Rattle.ts_glr.specs.CrossLaws.{LeftLaws, OverLaws};
 
 use spec_crossing::followed_graphs_rest;
+use spec_forced::lexings_are_decided;
 use spec_graph::graphs_are_sound;
 use spec_lexing::{beginnings, token_within};
 use spec_packing::{
     configurations_serve, ends_are_served, no_better_through, runs_are_served, trees_serve,
 };
+use spec_reuse::same_token_again;
 use spec_runs::{
     bare_trees, empty_rules_are_unused, moves_have_their_place, one_reduction, one_sight,
     repetitions_repeat, start_is_no_repetition,
 };
 use ts_crossing::left_stacks_go_on;
+use ts_lexer::tokens_of_states;
 use ts_places::{ends_account, roots_are_own};
 
 /// All laws hold.
@@ -29,6 +32,15 @@ pub(crate) fn laws_hold()
     start_is_no_repetition();
     beginnings();
     token_within();
+}
+
+/// The laws of a token that is seen again behind a reduction hold.
+pub(crate) fn again_laws_hold()
+    ensures { AgainLaws }
+{
+    same_token_again();
+    lexings_are_decided();
+    tokens_of_states();
 }
 
 /// All laws of readings that stand for others hold.

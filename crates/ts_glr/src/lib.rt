@@ -12,6 +12,7 @@ mod laws;
 mod outcome;
 mod parsing;
 mod readings;
+mod seeing;
 mod spread;
 mod turning;
 

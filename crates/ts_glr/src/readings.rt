@@ -2,6 +2,7 @@
 //! the first of them is followed comes out.
 ghost use Rattle.std.specs.Prelude.{◌≡◌, [], ◌∷◌, None};
 
+use crate::seeing::Seen;
 use std::alloc::Global;
 use ts_gss::Graph;
 use ts_node::Node;
@@ -13,6 +14,8 @@ pub(crate) struct Readings {
     pub graph: Graph,
     /// The heads that are still to be followed, where there are several.
     pub live: Vec<StackHead>,
+    /// What some of them are known to see.
+    pub seen: Vec<Seen>,
     /// The best of the trees that were accepted.
     pub best: Option<Node>,
     /// The greatest place at which no token was found.
@@ -29,6 +32,7 @@ pub(crate) fn readings_of(alloc: Global) -> Readings
     Readings {
         graph: Graph::new(alloc),
         live: Vec::new(alloc),
+        seen: Vec::new(alloc),
         best: None,
         stuck: None,
     }

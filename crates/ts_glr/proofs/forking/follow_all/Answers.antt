@@ -4,10 +4,14 @@ use Rattle.ts_steps.proofs.StackLemmas.{grows_more}
 use Rattle.ts_glr.specs.Joining.{IsTakenOut}
 use Rattle.ts_glr.proofs.ForkLemmas.{no_form, begins, first_deep, all_own, some_end, all_over, head_own, rest_live, one_left, taken_deep, joins, follows_falls, follows}
 use Rattle.ts_glr.proofs.LightLemmas.{joined_falls}
+use Rattle.ts_glr.proofs.SeenLemmas.{none_seen}
 use Rattle.ts_glr.proofs.forking.follow_all.Goals as goal
 
 pub advance-requires-clause-form : goal.advance-requires-clause-form
 advance-requires-clause-form g c = no_form c.args.table.now.grammar c.args.readings.now.best c.requires.best
+
+pub advance-requires-clause-seen : goal.advance-requires-clause-seen
+advance-requires-clause-seen g c = none_seen c.args.table.now (g.L.Text.Content.bytes c.args.text.now) c.args.readings.now.graph c.clear.new.self.items c.clear.ensures.items
 
 pub returns-then-ends_deep-clause-follows : goal.returns-then-ends_deep-clause-follows
 returns-then-ends_deep-clause-follows g c =
@@ -20,6 +24,7 @@ loop-head-init g c =
     record {
       made = c.in_ok-ends_deep.ensures.made;
       grows = c.in_ok-ends_deep.ensures.grows;
+      seen = c.in_ok-ends_deep.ensures.seen;
       whole = λ none. none;
       follows = begins c.packing_laws_hold.ensures c.steps_fall.ensures c.args.table.now c.stands.ensures.fit text c.args.readings.now.graph c.args.readings.now.stuck c.args.start c.requires.own c.advance.new.readings.graph c.args.readings.now.live.items c.advance.new.readings.live.items c.args.readings.now.best c.advance.new.readings.best c.advance.new.readings.stuck c.requires.alone c.requires.best c.in_ok-ends_deep.ensures.grows c.in_ok-ends_deep.ensures.form
           (c.in_ok-ends_deep.ensures.done c.if-ends_deep.false);
@@ -57,6 +62,7 @@ loop-head-preserved-then-join g c =
     record {
       made = c.loop-head.invariant.made;
       grows = c.loop-head.invariant.grows;
+      seen = c.loop-head.invariant.seen;
       whole = λ none. (c.spend.ensures (c.loop-head.invariant.whole none)).1;
       follows = joins c.packing_laws_hold.ensures c.steps_fall.ensures c.args.table.now c.stands.ensures.fit text c.args.readings.now.graph c.args.readings.now.stuck c.args.start c.requires.own c.loop-head.readings.graph c.loop-head.readings.stuck c.loop-head.readings.live.items c.loop-head.readings.best c.loop-head.invariant.follows c.next_head.new.live.items c.in-Some.head c.in-Some.ensures c.join.new.live.items (c.join.ensures.joined c.if-join.true);
     }
@@ -71,6 +77,9 @@ advance-requires-in-Some-clause-made g c = c.loop-head.invariant.made
 
 pub advance-requires-in-Some-clause-form : goal.advance-requires-in-Some-clause-form
 advance-requires-in-Some-clause-form g c = c.loop-head.invariant.follows.form
+
+pub advance-requires-in-Some-clause-seen : goal.advance-requires-in-Some-clause-seen
+advance-requires-in-Some-clause-seen g c = c.loop-head.invariant.seen
 
 pub returns-then-deep-clause-follows : goal.returns-then-deep-clause-follows
 returns-then-deep-clause-follows g c =
@@ -89,6 +98,7 @@ loop-head-preserved g c =
     let k : IsTakenOut c.loop-head.readings.graph c.loop-head.readings.live.items c.join.new.live.items c.in-Some.head = subst (λ (l : List StackHead). IsTakenOut c.loop-head.readings.graph c.loop-head.readings.live.items l c.in-Some.head) (sym (c.join.ensures.alone c.if-join.false)) c.in-Some.ensures in
     record {
       made = c.in_ok-deep.ensures.made;
+      seen = c.in_ok-deep.ensures.seen;
       grows = grows_more c.args.readings.now.graph c.loop-head.readings.graph c.advance-in-Some.new.readings.graph c.loop-head.invariant.grows c.in_ok-deep.ensures.grows;
       whole = λ none. (c.spend.ensures (c.loop-head.invariant.whole none)).1;
       follows = follows c.packing_laws_hold.ensures c.steps_fall.ensures c.args.table.now c.stands.ensures.fit text c.args.readings.now.graph c.args.readings.now.stuck c.args.start c.requires.own c.loop-head.readings.graph c.loop-head.readings.stuck c.loop-head.readings.live.items c.loop-head.readings.best c.loop-head.invariant.follows c.join.new.live.items c.in-Some.head k c.advance-in-Some.new.readings.graph c.advance-in-Some.new.readings.live.items c.advance-in-Some.new.readings.best c.advance-in-Some.new.readings.stuck c.in_ok-deep.ensures.grows (c.in_ok-deep.ensures.done c.if-deep.false) c.in_ok-deep.ensures.form;
