@@ -150,11 +150,11 @@ has_layer stacks top place is lt = go (stack_at stacks top) is
     go (l ∷ s) e = omega arith
 
 -- a stack that is not empty is its topmost tree on the stack below
-trees_step : (s below : List Layer) (x : Tree) → Some x ≡ tree_on s → below ≡ under_top s → trees_on s ≡ x ∷ trees_on below
+pub trees_step : (s below : List Layer) (x : Tree) → Some x ≡ tree_on s → below ≡ under_top s → trees_on s ≡ x ∷ trees_on below
 trees_step [] below x e u = absurd (let f : Some x ≡ None = e in cc)
 trees_step (l ∷ s) below x e u = let f : Some x ≡ Some l.tree = e in let same : l.tree ≡ x = cc in rw (u, same) refl
 
-spans_step : (x : Tree) (xs : List Tree) → all_spans (x ∷ xs) ≡ span_of x + all_spans xs
+pub spans_step : (x : Tree) (xs : List Tree) → all_spans (x ∷ xs) ≡ span_of x + all_spans xs
 spans_step x xs = refl
 
 pub top_good : (t : ParseTable) (s : List Layer) (x : Tree) → Some x ≡ tree_on s → AreGoodTrees t.grammar (trees_on s) → IsGoodTree t.grammar x

@@ -16,5 +16,6 @@ pub mod RestLemmas
 pub mod ParseLemmas
 pub mod TurnLemmas
 pub mod ForkLemmas
+pub mod SettleLemmas
 pub mod SpreadLemmas
 pub mod CrossLemmas

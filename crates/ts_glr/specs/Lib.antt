@@ -3,6 +3,7 @@ pub mod Weights
 pub mod Steps
 pub mod Laws
 pub mod Seeing
+pub mod Settling
 pub mod Joining
 pub mod Search
 pub mod Outcomes

@@ -13,6 +13,7 @@ use crate::joining::{join, next_head};
 use crate::laws::{laws_hold, packing_laws_hold};
 use crate::outcome::Outcome;
 use crate::readings::Readings;
+use crate::settling::settle;
 use std::alloc::{AllocError, Global};
 use ts_lexer::Tokens;
 use ts_steps::{ParseSetting, StackHead, steps_fall};
@@ -102,7 +103,8 @@ pub(crate) fn follow_all<L: Tokens>(
     let mut left = limit;
     while let Some(head) = next_head(&readings.graph, &mut readings.live) {
         if is_left_alone(readings) {
-            return Ok(Some(Forked::One(head)));
+            let left = settle(alloc, &mut readings.graph, start.top, head)?;
+            return Ok(Some(Forked::One(left)));
         }
         if !spend(&mut left) {
             return Ok(None);

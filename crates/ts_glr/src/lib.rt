@@ -13,6 +13,7 @@ mod outcome;
 mod parsing;
 mod readings;
 mod seeing;
+mod settling;
 mod spread;
 mod turning;
 

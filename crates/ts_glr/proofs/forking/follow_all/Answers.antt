@@ -5,6 +5,7 @@ use Rattle.ts_glr.specs.Joining.{IsTakenOut}
 use Rattle.ts_glr.proofs.ForkLemmas.{no_form, begins, first_deep, all_own, some_end, all_over, head_own, rest_live, one_left, taken_deep, joins, follows_falls, follows}
 use Rattle.ts_glr.proofs.LightLemmas.{joined_falls}
 use Rattle.ts_glr.proofs.SeenLemmas.{none_seen}
+use Rattle.ts_glr.proofs.SettleLemmas.{settled_one}
 use Rattle.ts_glr.proofs.forking.follow_all.Goals as goal
 
 pub advance-requires-clause-form : goal.advance-requires-clause-form
@@ -35,10 +36,21 @@ next_head-requires g c =
     let text = g.L.Text.Content.bytes c.args.text.now in
     (c.args.table.now, length text, all_own c.packing_laws_hold.ensures c.steps_fall.ensures c.args.table.now c.stands.ensures.fit text c.args.readings.now.graph c.args.readings.now.stuck c.args.start c.requires.own c.loop-head.readings.graph c.loop-head.readings.stuck c.loop-head.readings.live.items c.loop-head.readings.best c.loop-head.invariant.follows)
 
+pub settle-requires-clause-there : goal.settle-requires-clause-there
+settle-requires-clause-there g c =
+    let text = g.L.Text.Content.bytes c.args.text.now in
+    (head_own c.packing_laws_hold.ensures c.steps_fall.ensures c.args.table.now c.stands.ensures.fit text c.args.readings.now.graph c.args.readings.now.stuck c.args.start c.requires.own c.loop-head.readings.graph c.loop-head.readings.stuck c.loop-head.readings.live.items c.loop-head.readings.best c.loop-head.invariant.follows c.next_head.new.live.items c.in-Some.head c.in-Some.ensures).0.live.there
+
+pub settle-requires-clause-spans : goal.settle-requires-clause-spans
+settle-requires-clause-spans g c =
+    let text = g.L.Text.Content.bytes c.args.text.now in
+    (head_own c.packing_laws_hold.ensures c.steps_fall.ensures c.args.table.now c.stands.ensures.fit text c.args.readings.now.graph c.args.readings.now.stuck c.args.start c.requires.own c.loop-head.readings.graph c.loop-head.readings.stuck c.loop-head.readings.live.items c.loop-head.readings.best c.loop-head.invariant.follows c.next_head.new.live.items c.in-Some.head c.in-Some.ensures).0.live.stack.spans
+
 pub returns-then-is_left_alone-clause-follows : goal.returns-then-is_left_alone-clause-follows
 returns-then-is_left_alone-clause-follows g c =
     let text = g.L.Text.Content.bytes c.args.text.now in
-    one_left c.packing_laws_hold.ensures c.steps_fall.ensures c.args.table.now c.stands.ensures.fit text c.args.readings.now.graph c.args.readings.now.stuck c.args.start c.requires.own c.loop-head.readings.graph c.loop-head.readings.stuck c.loop-head.readings.live.items c.loop-head.readings.best c.loop-head.invariant.follows c.next_head.new.live.items c.in-Some.head c.in-Some.ensures (c.is_left_alone.ensures.live c.if-is_left_alone.true) (c.is_left_alone.ensures.best c.if-is_left_alone.true)
+    settled_one c.args.table.now text c.args.readings.now.graph c.loop-head.readings.graph c.settle.new.graph c.args.readings.now.stuck c.loop-head.readings.stuck c.next_head.new.live.items c.loop-head.readings.best c.args.start c.in-Some.head c.in_ok-left.left c.in_ok-left.ensures
+    (one_left c.packing_laws_hold.ensures c.steps_fall.ensures c.args.table.now c.stands.ensures.fit text c.args.readings.now.graph c.args.readings.now.stuck c.args.start c.requires.own c.loop-head.readings.graph c.loop-head.readings.stuck c.loop-head.readings.live.items c.loop-head.readings.best c.loop-head.invariant.follows c.next_head.new.live.items c.in-Some.head c.in-Some.ensures (c.is_left_alone.ensures.live c.if-is_left_alone.true) (c.is_left_alone.ensures.best c.if-is_left_alone.true))
 
 pub returns-then-not-spend-clause-grows : goal.returns-then-not-spend-clause-grows
 returns-then-not-spend-clause-grows g c = λ none. c.loop-head.invariant.grows

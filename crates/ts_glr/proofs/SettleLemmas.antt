@@ -1,0 +1,111 @@
+-- A stack that is left, laid anew.
+use Rattle.std.proofs.Common.{◌≡◌, ◌∙◌, sym, ap, refl, subst, ℕ, ◌+◌, ◌-◌, ◌<◌, ◌≤◌, List, [], ◌∷◌, ◌++◌, append_assoc, append-nil, length, length-append, map, take, Option, Some, None, arith}
+use Rattle.std.proofs.lemmas.List.{map-append}
+use Rattle.ts_base.specs.Bytes.{Bytes}
+use Rattle.spec_trees.specs.declared.tree.Tree.{Tree}
+use Rattle.spec_trees.specs.Trees.{pad_of, size_of, span_of, all_spans, bare}
+use Rattle.spec_runs.specs.Configurations.{Configuration}
+use Rattle.spec_crossing.specs.Resting.{Rests}
+use Rattle.spec_forced.specs.Sound.{States, StandOnStack}
+use Rattle.ts_table.specs.declared.view.ParseTable.{ParseTable}
+use Rattle.ts_gss.specs.declared.layer.Layer.{Layer}
+use Rattle.ts_gss.specs.Stacks.{layer_with, stack_at, state_on, tree_on, trees_on, under_top}
+use Rattle.ts_steps.specs.declared.head.StackHead.{StackHead}
+use Rattle.ts_steps.specs.Good.{EachTree}
+use Rattle.ts_steps.specs.LiveHeads.{config_of, IsGoodStack}
+use Rattle.ts_steps.specs.Heads.{IsMadeNode, IsOwnWithin, IsOwnHead}
+use Rattle.ts_steps.proofs.StackLemmas.{stack_new}
+use Rattle.ts_glr.specs.declared.settling.Top.{Top}
+use Rattle.ts_glr.specs.Forks.{LeavesOne}
+use Rattle.ts_glr.specs.Settling.{layers_of, IsSettled}
+use Rattle.ts_glr.specs.Turns.{turn_weight}
+use Rattle.ts_glr.proofs.JoinLemmas.{trees_step, spans_step}
+
+-- ---- lifting
+
+-- the stack of the head is these layers on another, which ends at the place
+pub record Lifting (stacks : List (List Layer)) (h : StackHead) (tops : List Top) (under place : ℕ) : Type 0 where
+  pub there : under < length stacks
+  pub spans : all_spans (trees_on (stack_at stacks under)) ≡ place
+  pub laid : stack_at stacks h.top ≡ layers_of tops ++ stack_at stacks under
+
+layer_step : (s below : List Layer) (x : Tree) (state : ℕ) → Some x ≡ tree_on s → state ≡ state_on s → below ≡ under_top s → s ≡ layer_with x state ∷ below
+layer_step [] below x state e n u = absurd (let f : Some x ≡ None = e in cc)
+layer_step (l ∷ s) below x state e n u = let f : Some x ≡ Some l.tree = e in let same : x ≡ l.tree = cc in rw (same, n, u) refl
+
+layers_more : (tops : List Top) (x : Top) (s : List Layer) → layers_of (tops ++ x ∷ []) ++ s ≡ layers_of tops ++ layer_with x.node x.state ∷ s
+layers_more tops x s = ap (λ (l : List Layer). l ++ s) (map-append (λ (t : Top). layer_with t.node t.state) tops (x ∷ [])) ∙ append_assoc (layers_of tops) (layer_with x.node x.state ∷ []) s
+
+pub lifting_more : (stacks : List (List Layer)) (h : StackHead) (tops new : List Top) (under place below q state : ℕ) (x y : Tree) → Lifting stacks h tops under place → Some x ≡ tree_on (stack_at stacks under) → state ≡ state_on (stack_at stacks under)
+    → stack_at stacks below ≡ under_top (stack_at stacks under) → below < under → q ≡ place - (pad_of x + size_of x) → y ≡ x → new ≡ tops ++ record { node = y; state = state } ∷ [] → Lifting stacks h new below q
+lifting_more stacks h tops new under place below q state x y l e n u lower eq same is =
+    let a = trees_step (stack_at stacks under) (stack_at stacks below) x e u in
+    let sum : all_spans (trees_on (stack_at stacks under)) ≡ span_of x + all_spans (trees_on (stack_at stacks below)) = ap all_spans a ∙ spans_step x (trees_on (stack_at stacks below)) in
+    record {
+      there = omega (arith, lower, l.there);
+      spans = omega (arith, sum, l.spans, eq);
+      laid = l.laid ∙ ap (λ (s : List Layer). layers_of tops ++ s) (layer_step (stack_at stacks under) (stack_at stacks below) x state e n u)
+          ∙ sym (layers_more tops (record { node = x; state = state }) (stack_at stacks below)) ∙ ap (λ (z : Tree). layers_of (tops ++ record { node = z; state = state } ∷ []) ++ stack_at stacks below) (sym same)
+          ∙ ap (λ (ts : List Top). layers_of ts ++ stack_at stacks below) (sym is);
+    }
+
+pub lifting_begins : (stacks : List (List Layer)) (h : StackHead) (tops : List Top) → tops ≡ [] → h.top < length stacks → all_spans (trees_on (stack_at stacks h.top)) ≡ h.place → Lifting stacks h tops h.top h.place
+lifting_begins stacks h tops none there spans = record { there = there; spans = spans; laid = ap (λ (ts : List Top). layers_of ts ++ stack_at stacks h.top) (sym none) }
+
+-- ---- laying
+
+-- what is left to lay, on the stack so far, makes the stack that is meant
+pub record Laying (stacks : List (List Layer)) (tops : List Top) (top : ℕ) (whole : List Layer) : Type 0 where
+  pub there : top < length stacks
+  pub laid : layers_of tops ++ stack_at stacks top ≡ whole
+
+pub laying_more : (old new : List (List Layer)) (tops rest : List Top) (top above : ℕ) (x : Top) (whole : List Layer) → Laying old tops top whole → tops ≡ rest ++ x ∷ [] → above ≡ length old → new ≡ old ++ (layer_with x.node x.state ∷ stack_at old top) ∷ [] → Laying new rest above whole
+laying_more old new tops rest top above x whole l is above_is new_is =
+    let layer = layer_with x.node x.state ∷ stack_at old top in
+    let len = ap (λ (ss : List (List Layer)). length ss) new_is in
+    let more = length-append old (layer ∷ []) in
+    let on : stack_at new above ≡ layer = ap (λ (ss : List (List Layer)). stack_at ss above) new_is ∙ ap (λ (n : ℕ). stack_at (old ++ layer ∷ []) n) above_is ∙ stack_new old layer in
+    record {
+      there = omega (arith, above_is, len, more);
+      laid = ap (λ (s : List Layer). layers_of rest ++ s) on ∙ sym (layers_more rest x (stack_at old top)) ∙ ap (λ (ts : List Top). layers_of ts ++ stack_at old top) (sym is) ∙ l.laid;
+    }
+
+pub none_left : (old new : List Top) (count : ℕ) → old ≡ new ++ [] → count ≡ 0 → new ≡ take (count - 1) old → old ≡ []
+none_left old new count is none rest =
+    let empty : new ≡ [] = rest ∙ ap (λ (n : ℕ). take (n - 1) old) none in
+    is ∙ ap (λ (xs : List Top). xs ++ []) empty
+
+pub one_less : (old new : List Top) (x : Top) → old ≡ new ++ x ∷ [] → length new < length old
+one_less old new x is = let e = ap (λ (ts : List Top). length ts) is in let n = length-append new (x ∷ []) in omega (arith, e, n)
+
+pub all_laid : (stacks : List (List Layer)) (tops : List Top) (top : ℕ) (whole : List Layer) → Laying stacks tops top whole → tops ≡ [] → stack_at stacks top ≡ whole
+all_laid stacks tops top whole l none = ap (λ (ts : List Top). layers_of ts ++ stack_at stacks top) (sym none) ∙ l.laid
+
+-- ---- the stack that is left
+
+module _ (t : ParseTable) (text : Bytes) (first old new : List (List Layer)) (before stuck : Option ℕ) (live : List StackHead) (best : Option Tree) (h k settled : StackHead) (is : IsSettled old new k settled) where
+  trees_is : trees_on (stack_at old k.top) ≡ trees_on (stack_at new settled.top)
+  trees_is = ap (λ (s : List Layer). trees_on s) (sym is.stack)
+
+  config_is : config_of old k ≡ config_of new settled
+  config_is =
+      ap {B = Configuration} (λ (s : List Layer). record { stack = map bare (trees_on s); place = k.place }) (sym is.stack)
+      ∙ ap {B = Configuration} (λ (n : ℕ). record { stack = map bare (trees_on (stack_at new settled.top)); place = n }) (sym is.place)
+
+  pub settled_one : LeavesOne t text first old before stuck live best h k → LeavesOne t text first new before stuck live best h settled
+  settled_one l = record {
+    own = record {
+      live = record {
+        there = is.there;
+        stack = subst (λ (s : List Layer). IsGoodStack t (length text) s settled.place) (sym is.stack) (subst (λ (n : ℕ). IsGoodStack t (length text) (stack_at old k.top) n) (sym is.place) l.own.live.stack);
+      };
+      own = subst (λ (ts : List Tree). EachTree (IsOwnWithin t.grammar) ts) trees_is l.own.own;
+      made = subst (λ (ts : List Tree). EachTree (IsMadeNode t.grammar) ts) trees_is l.own.made;
+    };
+    far = let p = is.place in let f = l.far in omega (arith, p, f);
+    lighter = subst (λ (c : Configuration). turn_weight t.grammar (length text) c < turn_weight t.grammar (length text) (config_of first h)) config_is l.lighter;
+    empty = l.empty;
+    none = l.none;
+    rests = λ r. subst (λ (c : Configuration). Rests t.grammar text stuck c) config_is (l.rests r);
+    stand = λ states are s. subst (λ (ts : List Tree). StandOnStack t.grammar states text ts) trees_is (l.stand states are s);
+  }
