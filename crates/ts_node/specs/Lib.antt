@@ -6,3 +6,4 @@ pub mod Leaves
 pub mod Kinds
 pub mod Places
 pub mod Sides
+pub mod Short

@@ -16,6 +16,7 @@ mod rule;
 mod run;
 mod section;
 mod settled;
+mod short;
 mod sums;
 
 pub use change::remake;

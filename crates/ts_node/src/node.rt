@@ -44,12 +44,12 @@ pub(crate) struct Leaf {
 pub(crate) struct Summary {
     pub symbol: Symbol,
     pub depth: u16,
-    pub nodes: u32,
-    pub pad: u32,
     pub size: u32,
+    pub pad: u32,
     pub extent: u32,
-    pub state: Option<u16>,
     pub settled: bool,
+    pub state: Option<u16>,
+    pub nodes: u32,
     /// The number of a rule's production, and 0 for every other node. It lies where a gap would be.
     pub production: u32,
     pub dynamic: i64,
@@ -339,7 +339,8 @@ impl Leaf {
 }
 
 impl Node {
-    /// What a node says of itself.
+    /// What a node says of itself. It is made part of its callers, who each want a field or two.
+    #[inline(always)]
     pub(crate) fn summary(&self) -> Summary
         ensures { Tells result self.now }
     {

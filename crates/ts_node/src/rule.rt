@@ -1,11 +1,14 @@
 //! Nodes of rules' productions: what a node says of itself and its children go in, and a node
-//! comes out that has up to three children in its own body, and more in a list.
+//! comes out. Up to three children lie in its own body, beside the short form of what it says of
+//! itself where there is one; others lie in a list, beside the whole of it.
 ghost use Rattle.std.specs.Prelude.{◌≡◌, ◌<◌, IfOk, Some, false, length};
 ghost use Rattle.spec_trees.specs.Trees.{children_of, elements_of, is_extra_node, production_of};
 ghost use Rattle.spec_trees.specs.Made.{node_limit};
 ghost use Rattle.ts_node.specs.Held.{body_of, rule_tree, IsSummary, Tells};
+ghost use Rattle.ts_node.specs.Short.{summary_of};
 
 use crate::node::{Node, Summary};
+use crate::short::ShortSummary;
 use std::alloc::{AllocError, Global};
 use std::marker::Model;
 use ts_base::{List, Shared};
@@ -30,25 +33,25 @@ pub(crate) enum RuleBody {
 #[cycle(node)]
 #[derive(Drop)]
 pub(crate) struct RuleOfOne {
-    summary: Summary,
+    summary: ShortSummary,
     children: [Node; 1],
 }
 
 #[cycle(node)]
 #[derive(Drop)]
 pub(crate) struct RuleOfTwo {
-    summary: Summary,
+    summary: ShortSummary,
     children: [Node; 2],
 }
 
 #[cycle(node)]
 #[derive(Drop)]
 pub(crate) struct RuleOfThree {
-    summary: Summary,
+    summary: ShortSummary,
     children: [Node; 3],
 }
 
-/// A body of no child, or of more than three.
+/// A body of any number of children, with the whole of the summary.
 #[cycle(node)]
 #[derive(Drop)]
 pub(crate) struct RuleOfMany {
@@ -90,16 +93,18 @@ impl Model for RuleOfOne {
 
     ghost use Rattle.spec_trees.specs.Trees.{node_count};
     ghost use Rattle.ts_node.specs.Held.{rule_tree, IsSummary};
+    ghost use Rattle.ts_node.specs.Short.{summary_of};
 
-    ghost view = { λ a. rule_tree a.summary a.children };
+    ghost view = { λ a. rule_tree (summary_of a.summary) a.children };
 
-    ghost invariant = { λ a. IsSummary a.summary (rule_tree a.summary a.children) };
+    ghost invariant = { λ a.
+        IsSummary (summary_of a.summary) (rule_tree (summary_of a.summary) a.children) };
 
     ghost size = { λ t. 4 * node_count t - 1 };
 
     ghost use Rattle.ts_node.specs.Falls.{children_fall};
 
-    ghost size_decreases = { λ a h. children_fall a.summary a.children };
+    ghost size_decreases = { λ a h. children_fall (summary_of a.summary) a.children };
 }
 
 impl Model for RuleOfTwo {
@@ -114,16 +119,18 @@ impl Model for RuleOfTwo {
 
     ghost use Rattle.spec_trees.specs.Trees.{node_count};
     ghost use Rattle.ts_node.specs.Held.{rule_tree, IsSummary};
+    ghost use Rattle.ts_node.specs.Short.{summary_of};
 
-    ghost view = { λ a. rule_tree a.summary a.children };
+    ghost view = { λ a. rule_tree (summary_of a.summary) a.children };
 
-    ghost invariant = { λ a. IsSummary a.summary (rule_tree a.summary a.children) };
+    ghost invariant = { λ a.
+        IsSummary (summary_of a.summary) (rule_tree (summary_of a.summary) a.children) };
 
     ghost size = { λ t. 4 * node_count t - 1 };
 
     ghost use Rattle.ts_node.specs.Falls.{children_fall};
 
-    ghost size_decreases = { λ a h. children_fall a.summary a.children };
+    ghost size_decreases = { λ a h. children_fall (summary_of a.summary) a.children };
 }
 
 impl Model for RuleOfThree {
@@ -138,16 +145,18 @@ impl Model for RuleOfThree {
 
     ghost use Rattle.spec_trees.specs.Trees.{node_count};
     ghost use Rattle.ts_node.specs.Held.{rule_tree, IsSummary};
+    ghost use Rattle.ts_node.specs.Short.{summary_of};
 
-    ghost view = { λ a. rule_tree a.summary a.children };
+    ghost view = { λ a. rule_tree (summary_of a.summary) a.children };
 
-    ghost invariant = { λ a. IsSummary a.summary (rule_tree a.summary a.children) };
+    ghost invariant = { λ a.
+        IsSummary (summary_of a.summary) (rule_tree (summary_of a.summary) a.children) };
 
     ghost size = { λ t. 4 * node_count t - 1 };
 
     ghost use Rattle.ts_node.specs.Falls.{children_fall};
 
-    ghost size_decreases = { λ a h. children_fall a.summary a.children };
+    ghost size_decreases = { λ a h. children_fall (summary_of a.summary) a.children };
 }
 
 impl Model for RuleOfMany {
@@ -175,38 +184,38 @@ impl Model for RuleOfMany {
 }
 
 impl RuleOfOne {
-    fn parts(&self) -> (&Summary, &[Node])
-        ensures parts { rule_tree result.0.now result.1.now ≡ self.now }
-        ensures kept { IsSummary result.0.now (rule_tree result.0.now result.1.now) }
+    fn parts(&self) -> (Summary, &[Node])
+        ensures parts { rule_tree result.0 result.1.now ≡ self.now }
+        ensures kept { IsSummary result.0 (rule_tree result.0 result.1.now) }
     {
-        (&self.summary, &self.children)
+        (self.summary.summary(), &self.children)
     }
 }
 
 impl RuleOfTwo {
-    fn parts(&self) -> (&Summary, &[Node])
-        ensures parts { rule_tree result.0.now result.1.now ≡ self.now }
-        ensures kept { IsSummary result.0.now (rule_tree result.0.now result.1.now) }
+    fn parts(&self) -> (Summary, &[Node])
+        ensures parts { rule_tree result.0 result.1.now ≡ self.now }
+        ensures kept { IsSummary result.0 (rule_tree result.0 result.1.now) }
     {
-        (&self.summary, &self.children)
+        (self.summary.summary(), &self.children)
     }
 }
 
 impl RuleOfThree {
-    fn parts(&self) -> (&Summary, &[Node])
-        ensures parts { rule_tree result.0.now result.1.now ≡ self.now }
-        ensures kept { IsSummary result.0.now (rule_tree result.0.now result.1.now) }
+    fn parts(&self) -> (Summary, &[Node])
+        ensures parts { rule_tree result.0 result.1.now ≡ self.now }
+        ensures kept { IsSummary result.0 (rule_tree result.0 result.1.now) }
     {
-        (&self.summary, &self.children)
+        (self.summary.summary(), &self.children)
     }
 }
 
 impl RuleOfMany {
-    fn parts(&self) -> (&Summary, &[Node])
-        ensures parts { rule_tree result.0.now result.1.now ≡ self.now }
-        ensures kept { IsSummary result.0.now (rule_tree result.0.now result.1.now) }
+    fn parts(&self) -> (Summary, &[Node])
+        ensures parts { rule_tree result.0 result.1.now ≡ self.now }
+        ensures kept { IsSummary result.0 (rule_tree result.0 result.1.now) }
     {
-        (&self.summary, self.children.as_slice())
+        (self.summary, self.children.as_slice())
     }
 }
 
@@ -229,9 +238,10 @@ impl RuleNode {
     }
 
     /// What it says of itself, and its children.
-    pub(crate) fn parts(&self) -> (&Summary, &[Node])
-        ensures parts { rule_tree result.0.now result.1.now ≡ self.now }
-        ensures kept { IsSummary result.0.now (rule_tree result.0.now result.1.now) }
+    #[inline(always)]
+    pub(crate) fn parts(&self) -> (Summary, &[Node])
+        ensures parts { rule_tree result.0 result.1.now ≡ self.now }
+        ensures kept { IsSummary result.0 (rule_tree result.0 result.1.now) }
     {
         match &self.body {
             RuleBody::One(body) => body.get().parts(),
@@ -241,13 +251,14 @@ impl RuleNode {
         }
     }
 
+    #[inline(always)]
     #[tactic(auto, using(crate::proofs::BodyLemmas::tells, crate::proofs::BodyLemmas::extra_is))]
     pub(crate) fn summary(&self) -> Summary
         ensures tells { Tells result self.now }
         ensures extra { is_extra_node self.now ≡ false }
     {
         let (summary, _) = self.parts();
-        *summary
+        summary
     }
 
     #[tactic(auto, using(crate::proofs::BodyLemmas::production_is))]
@@ -292,6 +303,21 @@ impl RuleBody {
         requires { IsSummary summary (rule_tree summary children) }
         ensures { IfOk result (λ body. body_of body ≡ rule_tree summary children) }
     {
+        match ShortSummary::of(summary) {
+            Some(short) => RuleBody::of_short(alloc, short, children),
+            None => RuleBody::of_many(alloc, summary, children),
+        }
+    }
+
+    /// A body of these children, with the short form of its summary where they are few.
+    fn of_short(
+        alloc: Global,
+        summary: ShortSummary,
+        children: List<Node>,
+    ) -> Result<RuleBody, AllocError>
+        requires { IsSummary (summary_of summary) (rule_tree (summary_of summary) children) }
+        ensures { IfOk result (λ body. body_of body ≡ rule_tree (summary_of summary) children) }
+    {
         match <[Node; 1]>::try_from(children.into_vec()) {
             Ok(children) => Ok(RuleBody::One(Shared::new(alloc, RuleOfOne { summary, children })?)),
             Err(children) => RuleBody::of_others(alloc, summary, List::from_vec(children)),
@@ -301,19 +327,39 @@ impl RuleBody {
     /// A body of these children, which are not one.
     fn of_others(
         alloc: Global,
-        summary: Summary,
+        summary: ShortSummary,
         children: List<Node>,
     ) -> Result<RuleBody, AllocError>
-        requires { IsSummary summary (rule_tree summary children) }
-        ensures { IfOk result (λ body. body_of body ≡ rule_tree summary children) }
+        requires { IsSummary (summary_of summary) (rule_tree (summary_of summary) children) }
+        ensures { IfOk result (λ body. body_of body ≡ rule_tree (summary_of summary) children) }
     {
         match <[Node; 2]>::try_from(children.into_vec()) {
             Ok(children) => Ok(RuleBody::Two(Shared::new(alloc, RuleOfTwo { summary, children })?)),
-            Err(children) => RuleBody::of_many(alloc, summary, List::from_vec(children)),
+            Err(children) => RuleBody::of_more(alloc, summary, List::from_vec(children)),
         }
     }
 
     /// A body of these children, which are neither one nor two.
+    fn of_more(
+        alloc: Global,
+        summary: ShortSummary,
+        children: List<Node>,
+    ) -> Result<RuleBody, AllocError>
+        requires { IsSummary (summary_of summary) (rule_tree (summary_of summary) children) }
+        ensures { IfOk result (λ body. body_of body ≡ rule_tree (summary_of summary) children) }
+    {
+        match <[Node; 3]>::try_from(children.into_vec()) {
+            Ok(children) => {
+                let body = Shared::new(alloc, RuleOfThree { summary, children })?;
+                Ok(RuleBody::Three(body))
+            }
+            Err(children) => {
+                RuleBody::of_many(alloc, summary.summary(), List::from_vec(children))
+            }
+        }
+    }
+
+    /// A body of these children in a list.
     fn of_many(
         alloc: Global,
         summary: Summary,
@@ -322,15 +368,6 @@ impl RuleBody {
         requires { IsSummary summary (rule_tree summary children) }
         ensures { IfOk result (λ body. body_of body ≡ rule_tree summary children) }
     {
-        match <[Node; 3]>::try_from(children.into_vec()) {
-            Ok(children) => {
-                let body = Shared::new(alloc, RuleOfThree { summary, children })?;
-                Ok(RuleBody::Three(body))
-            }
-            Err(children) => {
-                let children = List::from_vec(children);
-                Ok(RuleBody::Many(Shared::new(alloc, RuleOfMany { summary, children })?))
-            }
-        }
+        Ok(RuleBody::Many(Shared::new(alloc, RuleOfMany { summary, children })?))
     }
 }
