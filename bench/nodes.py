@@ -33,6 +33,7 @@ BELOW = "ts_base ts_core ts_text spec_grammar spec_trees ts_node ts_order ts_cur
 # Bytes of each struct; its fields lie in their order, an enum has a tag of its own.
 NODE = 24
 SUMMARY = 40
+SHORT_SUMMARY = 24
 LIST = 24
 REPETITION = 48
 RUN = 144
@@ -587,9 +588,12 @@ def chunk(size):
 
 
 def rule(children):
-    """The bytes of a rule's node with so many children: one to three lie in its body, others in a list."""
+    """The bytes of a rule's node with so many children: one to three lie in its body, others in a list.
+
+    Its numbers are small, so that it has the short form of its summary beside one to three children.
+    """
     if 1 <= children <= 3:
-        return chunk(OWNERS + SUMMARY + NODE * children)
+        return chunk(OWNERS + SHORT_SUMMARY + NODE * children)
     return chunk(OWNERS + SUMMARY + LIST) + chunk(NODE * children)
 
 
