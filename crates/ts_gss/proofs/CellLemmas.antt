@@ -3,10 +3,11 @@ use Rattle.std.proofs.Common.{◌≡◌, ◌∙◌, sym, ap, refl, subst, ℕ, z
 use Rattle.std.proofs.lemmas.List.{take-append-drop, take-append-le, take_all, length-take-le}
 use Rattle.std.proofs.lemmas.Option.{slice_get_within}
 use Rattle.ts_base.proofs.PlaceLemmas.{in_prefix, at_end, push_cases}
+use Rattle.spec_trees.specs.Trees.{tree_depth, greatest_depth}
 use Rattle.ts_gss.specs.declared.layer.Layer.{Layer}
 use Rattle.ts_gss.specs.declared.graph.Cell.{Cell}
-use Rattle.ts_gss.specs.Stacks.{layer_of, stack_at}
-use Rattle.ts_gss.specs.Cells.{with_cell, with_cells, stacks_of, LieAbove}
+use Rattle.ts_gss.specs.Stacks.{layer_of, stack_at, trees_on}
+use Rattle.ts_gss.specs.Cells.{with_cell, with_cells, stacks_of, LieAbove, NoneIsDeeper}
 
 many_with : (ss : List (List Layer)) (cs : List Cell) → length (with_cells ss cs) ≡ length ss + length cs
 many_with ss [] = omega arith
@@ -99,6 +100,56 @@ first_part cs head k c at =
     ∙ in_prefix (take head cs) (drop head cs) k (slice_get_within (take head cs) k c at)
     ∙ at
 
+-- ---- how deep the trees are
+
+pub shallow_more : (cs : List Cell) (c : Cell) (deepest deeper : ℕ) → NoneIsDeeper deepest cs → deepest ≤ deeper → tree_depth c.node ≤ deeper → NoneIsDeeper deeper (cs ++ c ∷ [])
+shallow_more cs c deepest deeper low more one k d at =
+    ⊎_elim (λ w. omega (arith, low k d w.1, more)) (λ w. subst (λ (x : Cell). tree_depth x.node ≤ deeper) w.1 one) (push_cases cs c k d at)
+
+pub shallow_first : (cs new : List Cell) (head deepest : ℕ) → new ≡ take head cs → NoneIsDeeper deepest cs → NoneIsDeeper deepest new
+shallow_first cs new head deepest is low k c at = low k c (first_part cs head k c (subst (λ (xs : List Cell). slice_get xs k ≡ Some c) is at))
+
+is_there : (cs : List Cell) (k : ℕ) → slice_get cs k ≡ None → k < length cs → ⊥
+is_there [] k e low = omega (arith, low)
+is_there (c ∷ cs) zero e low = let f : Some c ≡ None = e in cc
+is_there (c ∷ cs) (suc k) e low = is_there cs k e (omega (arith, low))
+
+-- no tree on a stack is deeper than the deepest in a cell
+stack_shallow : (cs : List Cell) (deepest : ℕ) → LieAbove cs → NoneIsDeeper deepest cs → (n head : ℕ) → head < n → head ≤ length cs → greatest_depth (trees_on (stack_at (stacks_of cs) head)) ≤ deepest
+stack_shallow cs deepest lie low zero head less there = absurd (omega (arith, less))
+stack_shallow cs deepest lie low (suc n) zero less there = rw (stack_of_none cs) (omega arith)
+stack_shallow cs deepest lie low (suc n) (suc k) less there = by (slice_get cs (suc k - 1)) refl (stack_shallow cs deepest lie low n)
+  where
+    by : (o : Option Cell) → slice_get cs (suc k - 1) ≡ o → ((head : ℕ) → head < n → head ≤ length cs → greatest_depth (trees_on (stack_at (stacks_of cs) head)) ≤ deepest) → greatest_depth (trees_on (stack_at (stacks_of cs) (suc k))) ≤ deepest
+    by (Some c) e rest =
+        let below = lie (suc k - 1) c e in
+        let s : stack_at (stacks_of cs) (suc k) ≡ layer_of c ∷ stack_at (stacks_of cs) c.below = stack_of_cell cs (suc k) c lie (omega arith) e in
+        let r = rest c.below (omega (arith, below, less)) (omega (arith, below, there)) in
+        let one = low (suc k - 1) c e in
+        rw s (omega (arith, r, one))
+    by None e rest = absurd (is_there cs (suc k - 1) e (omega (arith, there)))
+
+-- ---- the top cell
+
+-- the last of the first cells, and those before it
+top_cell : (cs mid new : List Cell) (head : ℕ) (c : Cell) → mid ≡ take head cs → mid ≡ new ++ c ∷ [] → head ≤ length cs → (length new + 1 ≡ head) × (slice_get cs (head - 1) ≡ Some c) × (new ≡ take (head - 1) cs)
+top_cell cs mid new head c first last low =
+    let n : length mid ≡ head = ap (λ (xs : List Cell). length xs) first ∙ length-take-le head cs low in
+    let m : length mid ≡ length new + 1 = ap (λ (xs : List Cell). length xs) last ∙ length-append new (c ∷ []) in
+    let at : head - 1 ≡ length new = omega (arith, n, m) in (
+      omega (arith, n, m),
+      ap (λ (xs : List Cell). slice_get xs (head - 1)) (sym (take-append-drop head cs))
+          ∙ in_prefix (take head cs) (drop head cs) (head - 1) (omega (arith, n, m, length-take-le head cs low))
+          ∙ ap (λ (xs : List Cell). slice_get xs (head - 1)) (sym first ∙ last)
+          ∙ ap (λ (k : ℕ). slice_get (new ++ c ∷ []) k) at
+          ∙ at_end new c,
+      sym (ap (λ (xs : List Cell). take (head - 1) xs) (sym (take-append-drop head cs))
+          ∙ take-append-le (head - 1) (take head cs) (drop head cs) (omega (arith, n, m, length-take-le head cs low))
+          ∙ ap (λ (xs : List Cell). take (head - 1) xs) (sym first ∙ last)
+          ∙ take-append-le (head - 1) new (c ∷ []) (omega (arith, at))
+          ∙ take_all (head - 1) new (omega (arith, at))),
+    )
+
 -- ---- the same of the list of stacks
 
 module _ (cs : List Cell) (ss : List (List Layer)) (view : stacks_of cs ≡ ss) where
@@ -164,6 +215,45 @@ module _ (cs : List Cell) (ss : List (List Layer)) (view : stacks_of cs ≡ ss) 
   there_cut new head is low =
       let e : length new ≡ length (take (head + 1) ss) = ap (λ (xs : List (List Layer)). length xs) is in
       omega (arith, low, e, length-take-le (head + 1) ss (omega (arith, low)))
+
+  pub no_deeper : (deepest head : ℕ) → LieAbove cs → NoneIsDeeper deepest cs → head < length ss → greatest_depth (trees_on (stack_at ss head)) ≤ deepest
+  no_deeper deepest head lie low there =
+      subst (λ (xs : List (List Layer)). greatest_depth (trees_on (stack_at xs head)) ≤ deepest) view
+      (stack_shallow cs deepest lie low (suc head) head (omega arith) (omega (arith, there, many)))
+
+  -- ---- the top cell
+
+  pub some_first : (mid : List Cell) (head : ℕ) → mid ≡ take head cs → head < length ss → 0 < length (stack_at ss head) → 0 < length mid
+  some_first mid head first there some =
+      let n : length mid ≡ head = ap (λ (xs : List Cell). length xs) first ∙ length-take-le head cs (omega (arith, there, many)) in
+      omega (arith, n, head_some head some)
+
+  module _ (mid new : List Cell) (head : ℕ) (c : Cell) (first : mid ≡ take head cs) (last : mid ≡ new ++ c ∷ []) (lie : LieAbove cs) (there : head < length ss) (some : 0 < length (stack_at ss head)) where
+    parts : (length new + 1 ≡ head) × (slice_get cs (head - 1) ≡ Some c) × (new ≡ take (head - 1) cs)
+    parts = top_cell cs mid new head c first last (omega (arith, there, many))
+
+    pub top_stack : stack_at ss head ≡ layer_of c ∷ stack_at ss c.below
+    top_stack = cell_stack head c lie (head_some head some) parts.1
+
+    pub top_lower : c.below < head
+    top_lower = cell_lower head c lie (head_some head some) parts.1
+
+    pub top_left : stacks_of new ≡ take head ss
+    top_left =
+        let n : head - 1 + 1 ≡ head = omega (arith, parts.0) in
+        stacks_cut new (head - 1) parts.2 (omega (arith, there)) ∙ ap (λ (k : ℕ). take k ss) n
+
+    pub top_lie : LieAbove new
+    top_lie = lie_cut new (head - 1) parts.2 lie
+
+    pub top_shallow : (deepest : ℕ) → NoneIsDeeper deepest cs → NoneIsDeeper deepest new
+    top_shallow deepest low = shallow_first cs new (head - 1) deepest parts.2 low
+
+-- a stack among the first ones
+pub stack_within : (old : List (List Layer)) (n k : ℕ) → k < n → n ≤ length old → stack_at (take n old) k ≡ stack_at old k
+stack_within old n k low there =
+    ap (λ (o : Option (List Layer)). unwrap_or o []) (sym (in_prefix (take n old) (drop n old) k (omega (arith, low, length-take-le n old there))))
+    ∙ ap (λ (xs : List (List Layer)). stack_at xs k) (take-append-drop n old)
 
 -- the stack on which all others were put stays
 pub stack_cut : (old new : List (List Layer)) (head : ℕ) → new ≡ take (head + 1) old → head < length old → stack_at new head ≡ stack_at old head

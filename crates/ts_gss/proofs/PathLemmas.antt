@@ -7,7 +7,7 @@ use Rattle.spec_trees.specs.Made.{filling, BeginsFilled}
 use Rattle.spec_runs.specs.Configurations.{AreExtras}
 use Rattle.ts_gss.specs.declared.layer.Layer.{Layer}
 use Rattle.ts_gss.specs.Stacks.{trees_on, tree_on, under_top, begins_with_extra}
-use Rattle.ts_gss.specs.Paths.{IsTakenOff, still_wanting, Lifting, Taking}
+use Rattle.ts_gss.specs.Paths.{IsLifted, IsTakenOff, still_wanting, Lifting, Taking}
 
 extras_more : (es : List Tree) (t : Tree) → AreExtras es → is_extra_node t ≡ true → AreExtras (es ++ t ∷ [])
 extras_more [] t all h = (h, tt)
@@ -36,6 +36,14 @@ lift_more stack (l ∷ under) rest extras more t b extra top rest_is more_is =
       rest = r ∙ drop_next extras t stack under l b.rest ∙ ap (λ (es : List Tree). drop (length es) stack) (sym more_is);
     }
 
+-- no extra is on top
+pub lifts_none : (stack : List Layer) (extras : List Tree) → extras ≡ [] → begins_with_extra stack ≡ false → IsLifted stack extras stack
+lifts_none stack extras none plain = subst (λ (es : List Tree). IsLifted stack es stack) (sym none) (record { trees = refl; all_extras = tt; no_more = fills stack plain; rest = refl })
+  where
+    fills : (ls : List Layer) → begins_with_extra ls ≡ false → BeginsFilled (trees_on ls)
+    fills [] e = tt
+    fills (l ∷ ls) e = e
+
 -- ---- taking
 
 filling_snoc : (ts : List Tree) (t : Tree) (b : Bool) → is_extra_node t ≡ b → length (filling (ts ++ t ∷ [])) ≡ length (filling ts) + (if b then 0 else 1)
@@ -49,6 +57,13 @@ filling_snoc (s ∷ ts) t b e = by (is_extra_node s) refl (filling_snoc ts t b e
 
 turned : (ts : List Tree) (t : Tree) → reverse (ts ++ t ∷ []) ≡ t ∷ reverse ts
 turned ts t = reverse-append ts (t ∷ [])
+
+pub some_wanted : (stack : List Layer) (wanting : ℕ) → 0 < wanting → wanting ≤ length (filling (trees_on stack)) → 0 < length stack
+some_wanted [] wanting some enough = absurd (omega (arith, some, enough))
+some_wanted (l ∷ stack) wanting some enough = omega arith
+
+pub take_begins : (stack : List Layer) (count : ℕ) (trees : List Tree) → trees ≡ [] → count ≤ length (filling (trees_on stack)) → Taking stack count trees stack count
+take_begins stack count trees none enough = subst (λ (ts : List Tree). Taking stack count ts stack count) (sym none) (record { trees_are = refl; filled = omega arith; enough = enough; begins = λ zero_is. tt; rest = refl })
 
 pub take_more : (stack below rest : List Layer) (count wanting left : ℕ) (trees more : List Tree) (t : Tree) → Taking stack count trees below wanting → 0 < wanting → Some t ≡ tree_on below → rest ≡ under_top below
     → more ≡ trees ++ t ∷ [] → left ≡ still_wanting t wanting → Taking stack count more rest left

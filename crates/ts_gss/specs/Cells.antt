@@ -1,5 +1,6 @@
 -- The stacks that cells stand for.
 use Rattle.std.specs.Prelude.{◌≡◌, ℕ, ◌≤◌, List, [], ◌∷◌, ◌++◌, slice_get, Some}
+use Rattle.spec_trees.specs.Trees.{tree_depth}
 use Rattle.ts_gss.specs.declared.layer.Layer.{Layer}
 use Rattle.ts_gss.specs.declared.graph.Cell.{Cell}
 use Rattle.ts_gss.specs.Stacks.{layer_of, stack_at}
@@ -20,3 +21,8 @@ stacks_of cells = with_cells ([] ∷ []) cells
 -- each cell lies on the empty stack or on that of an earlier cell
 abbrev pub LieAbove : List Cell → Type 0
 LieAbove cells = (k : ℕ) (c : Cell) → slice_get cells k ≡ Some c → c.below ≤ k
+
+-- no cell has a deeper node
+abbrev pub NoneIsDeeper : ℕ → List Cell → Type 0
+NoneIsDeeper deepest cells =
+    (k : ℕ) (c : Cell) → slice_get cells k ≡ Some c → tree_depth c.node ≤ deepest

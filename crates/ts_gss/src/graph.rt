@@ -1,10 +1,12 @@
 //! Plain stacks in one arena: a node and the number of a stack go in, and the number of the stack
 //! with the node on top comes out.
-ghost use Rattle.std.specs.Prelude.{◌≡◌, ◌<◌, ◌+◌, ◌++◌, ◌∷◌, [], ◌-◌, true, false, length, slice_get, take, Some, IfOk, IfErr};
-ghost use Rattle.ts_gss.specs.Stacks.{stack_at, layer_with, state_on, tree_on, under_top, begins_with_extra, layer_of};
+ghost use Rattle.std.specs.Prelude.{◌≡◌, ℕ, ◌<◌, ◌≤◌, ◌+◌, ◌++◌, ◌∷◌, [], ◌-◌, true, false, length, slice_get, take, Some, IfOk, IfErr};
+ghost use Rattle.spec_trees.specs.Trees.{greatest_depth};
+ghost use Rattle.ts_gss.specs.Stacks.{stack_at, layer_with, state_on, tree_on, trees_on, under_top, begins_with_extra, layer_of};
 
 use std::alloc::{AllocError, Global};
 use std::marker::Model;
+use std::mem::replace;
 use ts_node::Node;
 
 /// The topmost layer of a stack, and the number of the stack below it.
@@ -20,6 +22,10 @@ pub(crate) struct Cell {
 #[derive(Drop)]
 pub struct Graph {
     cells: Vec<Cell>,
+    /// Memory for the nodes that are taken off next.
+    spare: Vec<Node>,
+    /// No node in a cell is deeper.
+    deepest: u32,
 }
 
 impl Model for Graph {
@@ -32,11 +38,11 @@ impl Model for Graph {
 
     ghost coded = { Prim.hlevel (codes, contract.the_row.coded) };
 
-    ghost use Rattle.ts_gss.specs.Cells.{stacks_of, LieAbove};
+    ghost use Rattle.ts_gss.specs.Cells.{stacks_of, LieAbove, NoneIsDeeper};
 
     ghost view = { λ a. stacks_of a.cells.items };
 
-    ghost invariant = { λ a. LieAbove a.cells.items };
+    ghost invariant = { λ a. LieAbove a.cells.items × NoneIsDeeper a.deepest a.cells.items };
 }
 
 /// The cell of a stack that is not empty.
@@ -48,6 +54,17 @@ fn cell_at(cells: &[Cell], head: usize) -> &Cell
     &cells[head - 1]
 }
 
+/// Takes the last cell out.
+fn last_of(cells: &mut Vec<Cell>) -> Cell
+    requires { 0 < length cells.old.items }
+    ensures { cells.old.items ≡ cells.new.items ++ result ∷ [] }
+{
+    match cells.pop() {
+        Some(cell) => cell,
+        None => unreachable!(),
+    }
+}
+
 impl Graph {
     /// The empty stack alone.
     pub fn new(alloc: Global) -> Graph
@@ -55,7 +72,17 @@ impl Graph {
     {
         Graph {
             cells: Vec::new(alloc),
+            spare: Vec::new(alloc),
+            deepest: 0,
         }
+    }
+
+    /// No node on a stack is deeper.
+    pub fn deepest(&self) -> u32
+        ensures { (head : ℕ) → head < length self.now
+            → greatest_depth (trees_on (stack_at self.now head)) ≤ result }
+    {
+        self.deepest
     }
 
     /// Whether a stack is empty.
@@ -128,6 +155,7 @@ impl Graph {
     /// # Errors
     ///
     /// `AllocError` where memory runs out. No stack is added then.
+    #[inline(always)]
     pub fn push(&mut self, below: usize, node: Node, state: u16) -> Result<usize, AllocError>
         requires { below < length self.old }
         ensures head { IfOk result (λ head. head ≡ length self.old) }
@@ -135,8 +163,40 @@ impl Graph {
             ≡ self.old ++ (layer_with node state ∷ stack_at self.old below) ∷ []) }
         ensures kept { IfErr result (λ e. self.new ≡ self.old) }
     {
+        let depth = node.depth();
         self.cells.push(Cell { node, below, state })?;
+        self.deepest = self.deepest.max(depth);
         Ok(self.cells.len())
+    }
+
+    /// Takes the top off a stack, and takes out all stacks that were put there after it.
+    pub(crate) fn take_top(&mut self, head: usize) -> Cell
+        requires there { head < length self.old }
+        requires some { 0 < length (stack_at self.old head) }
+        ensures top { stack_at self.old head ≡ layer_of result ∷ stack_at self.old result.below }
+        ensures lower { result.below < head }
+        ensures left { self.new ≡ take head self.old }
+    {
+        let cells = &mut self.cells;
+        cells.truncate(head);
+        last_of(cells)
+    }
+
+    /// An empty vector, with the memory that was kept.
+    pub(crate) fn spare(&mut self, alloc: Global) -> Vec<Node>
+        ensures empty { result.items ≡ [] }
+        ensures kept { self.new ≡ self.old }
+    {
+        let mut nodes = replace(&mut self.spare, Vec::new(alloc));
+        nodes.clear();
+        nodes
+    }
+
+    /// Keeps the memory of a vector for the nodes that are taken off next.
+    pub fn keep(&mut self, nodes: Vec<Node>)
+        ensures { self.new ≡ self.old }
+    {
+        self.spare = nodes;
     }
 
     /// Takes out all stacks that were put there after this one, and gives their memory back. All

@@ -5,7 +5,7 @@ ghost use Rattle.spec_trees.specs.Made.{filling};
 ghost use Rattle.ts_gss.specs.Stacks.{stack_at, trees_on};
 ghost use Rattle.ts_gss.specs.Paths.{IsLifted, IsTakenOff, still_wanting};
 
-use crate::graph::Graph;
+use crate::graph::{Cell, Graph};
 use std::alloc::{AllocError, Global};
 use ts_node::Node;
 
@@ -29,7 +29,26 @@ impl Graph {
     /// # Errors
     ///
     /// `AllocError` where memory runs out.
+    #[inline(always)]
     pub fn lift(&self, alloc: Global, head: usize) -> Result<Lifted, AllocError>
+        requires { head < length self.now }
+        ensures extras { IfOk result (λ lifted. IsLifted (stack_at self.now head)
+            lifted.extras.items (stack_at self.now lifted.under)) }
+        ensures there { IfOk result (λ lifted. lifted.under < length self.now) }
+    {
+        if self.extra(head) {
+            self.lift_all(alloc, head)
+        } else {
+            let extras = Vec::new(alloc);
+            Ok(Lifted {
+                extras,
+                under: head,
+            })
+        }
+    }
+
+    /// The same, one extra after another.
+    fn lift_all(&self, alloc: Global, head: usize) -> Result<Lifted, AllocError>
         requires { head < length self.now }
         ensures extras { IfOk result (λ lifted. IsLifted (stack_at self.now head)
             lifted.extras.items (stack_at self.now lifted.under)) }
@@ -68,6 +87,47 @@ impl Graph {
         }
         nodes.reverse();
         Ok(Taken { nodes, below: at })
+    }
+
+    /// Takes so many nodes that are no extras off the top of a stack, with the extras between them.
+    /// None is copied: all stacks that were put there after the lowest of them are taken out.
+    ///
+    /// # Errors
+    ///
+    /// `AllocError` where memory runs out.
+    pub fn take_off(
+        &mut self,
+        alloc: Global,
+        head: usize,
+        count: usize,
+    ) -> Result<Taken, AllocError>
+        requires there { head < length self.old }
+        requires enough { count ≤ length (filling (trees_on (stack_at self.old head))) }
+        ensures nodes { IfOk result (λ taken. IsTakenOff (stack_at self.old head) count
+            taken.nodes.items (stack_at self.old taken.below)) }
+        ensures stack { IfOk result
+            (λ taken. stack_at self.new taken.below ≡ stack_at self.old taken.below) }
+        ensures there { IfOk result (λ taken. taken.below < length self.new) }
+    {
+        let mut taken = self.spare(alloc);
+        let mut at = head;
+        let mut wanting = count;
+        while wanting > 0 {
+            let left = left_to_take(self.node(at), wanting);
+            let Cell {
+                node,
+                below,
+                state: _,
+            } = self.take_top(at);
+            taken.push(node)?;
+            wanting = left;
+            at = below;
+        }
+        taken.reverse();
+        Ok(Taken {
+            nodes: taken,
+            below: at,
+        })
     }
 }
 

@@ -1,5 +1,5 @@
 //! Each call once: nodes are pushed, and what lies on the stacks is compared.
-use crate::Graph;
+use crate::{Graph, Taken};
 use std::test::Fail;
 use ts_core::Symbol;
 use ts_node::Node;
@@ -16,5 +16,10 @@ fn a_node_lies_on_its_stack(rt: HostRuntime) -> Result<(), Fail> {
     assert_eq!(rt; lifted.extras.len(), 0);
     let taken = graph.take(alloc, top, 0)?;
     assert_eq!(rt; taken.nodes.len(), 0);
+    assert_eq!(rt; graph.deepest(), 1);
+    let Taken { nodes, below } = graph.take_off(alloc, top, 1)?;
+    assert_eq!(rt; nodes.len(), 1);
+    assert_eq!(rt; below, 0);
+    graph.keep(nodes);
     Ok(())
 }

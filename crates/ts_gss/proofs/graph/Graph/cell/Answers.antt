@@ -13,10 +13,10 @@ cell_at-requires-clause-within c =
 
 pub returns-clause-stack : goal.returns-clause-stack
 returns-clause-stack c =
-    cell_stack c.self.inside.cells.items c.args.self.now c.self.view_is c.args.head c.cell_at.result.now c.self.invariant (head_some c.self.inside.cells.items c.args.self.now c.self.view_is c.args.head c.requires.some)
+    cell_stack c.self.inside.cells.items c.args.self.now c.self.view_is c.args.head c.cell_at.result.now c.self.invariant.0 (head_some c.self.inside.cells.items c.args.self.now c.self.view_is c.args.head c.requires.some)
     (subst (λ (cs : List Cell). slice_get cs (c.args.head - 1) ≡ Some c.cell_at.result.now) c.as_slice.ensures.value c.cell_at.ensures)
 
 pub returns-clause-below : goal.returns-clause-below
 returns-clause-below c =
-    cell_lower c.self.inside.cells.items c.args.self.now c.self.view_is c.args.head c.cell_at.result.now c.self.invariant (head_some c.self.inside.cells.items c.args.self.now c.self.view_is c.args.head c.requires.some)
+    cell_lower c.self.inside.cells.items c.args.self.now c.self.view_is c.args.head c.cell_at.result.now c.self.invariant.0 (head_some c.self.inside.cells.items c.args.self.now c.self.view_is c.args.head c.requires.some)
     (subst (λ (cs : List Cell). slice_get cs (c.args.head - 1) ≡ Some c.cell_at.result.now) c.as_slice.ensures.value c.cell_at.ensures)

@@ -6,4 +6,4 @@ pub returns-clause-empty : goal.returns-clause-empty
 returns-clause-empty c e = empty_there c.self.inside.cells.items c.args.self.now c.self.view_is c.args.head (grind arith)
 
 pub returns-clause-some : goal.returns-clause-some
-returns-clause-some c e = some_there c.self.inside.cells.items c.args.self.now c.self.view_is c.args.head (λ zero_is. grind arith) c.requires c.self.invariant
+returns-clause-some c e = some_there c.self.inside.cells.items c.args.self.now c.self.view_is c.args.head (λ zero_is. grind arith) c.requires c.self.invariant.0

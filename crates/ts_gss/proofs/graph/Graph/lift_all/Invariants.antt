@@ -1,7 +1,7 @@
 use Rattle.std.proofs.Common.{◌<◌, length}
 use Rattle.ts_gss.specs.Stacks.{stack_at}
 use Rattle.ts_gss.specs.Paths.{Lifting}
-use Rattle.ts_gss.proofs.graph.Graph.lift.Given as goal
+use Rattle.ts_gss.proofs.graph.Graph.lift_all.Given as goal
 
 abbrev pub invariant-loop-extras : goal.invariant-loop-extras
 invariant-loop-extras l = record {
