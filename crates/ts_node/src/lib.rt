@@ -10,6 +10,7 @@ mod kind;
 mod laws;
 mod make;
 mod node;
+mod outline;
 mod places;
 mod productions;
 mod rule;
@@ -28,5 +29,6 @@ pub use laws::{
 };
 pub use make::{accept, reduce};
 pub use node::Node;
+pub use outline::Outline;
 pub use productions::Productions;
 pub use section::{Section, lengthen};

@@ -6,11 +6,12 @@ ghost use Rattle.spec_trees.specs.Trees.{children_of, elements_of, is_extra_node
 ghost use Rattle.spec_trees.specs.Made.{leaf_of, node_over, rule_node, first_element, next_element, accepted, reduced, made_by, most_span, IsNode, IsLeaf, Lengthens, FitsProduction};
 ghost use Rattle.spec_trees.specs.Made as made;
 ghost use Rattle.ts_node.specs.Entries.{form_is};
+ghost use Rattle.ts_node.specs.Held.{IsSum};
 
 use crate::node::{Kind, Leaf, Node, Repetition, Run, Summary, Sums};
 use crate::productions::{Entry, Form, Productions};
 use crate::rule::RuleNode;
-use crate::sums::{copy, pad_of_first, plus, sums, totals, with_value};
+use crate::sums::{copy, moved, narrowed, pad_of_first, plus, sums, totals, with_value};
 use spec_trees::Element;
 use std::alloc::{AllocError, Global};
 use ts_base::{List, Shared};
@@ -107,16 +108,36 @@ fn over(alloc: Global, head: Head, number: u32, children: List<Node>) -> Result<
     ensures { IfOk result (λ node. node
         ≡ node_over head.symbol.0 (Some number) head.dynamic head.extent head.state [] children) }
 {
-    let pad = pad_of_first(children.as_slice());
+    let mut children = children.into_vec();
     let sums = sums(children.as_slice());
+    over_summed(alloc, head, number, sums, &mut children)
+}
+
+/// A node of a rule's production over these children, of which this is added up. They are taken out
+/// of their vector.
+fn over_summed(
+    alloc: Global,
+    head: Head,
+    number: u32,
+    sums: Sums,
+    children: &mut Vec<Node>,
+) -> Result<Node, AllocError>
+    requires sums { IsSum sums children.old.items }
+    requires node { IsNode (node_over head.symbol.0 (Some number) head.dynamic head.extent
+        head.state [] children.old.items) }
+    ensures { IfOk result (λ node. node ≡ node_over head.symbol.0 (Some number) head.dynamic
+        head.extent head.state [] children.old.items) }
+{
+    let pad = pad_of_first(children.as_slice());
     let summary = summary(head, number, pad, 0, sums);
-    let rule = RuleNode::new(alloc, summary, children)?;
+    let rule = RuleNode::from_vec(alloc, summary, children)?;
     Ok(Node {
         kind: Kind::Rule(rule),
     })
 }
 
 /// A repetition of these elements.
+#[inline(always)]
 pub(crate) fn over_run(alloc: Global, head: Head, run: Shared<Run>) -> Result<Node, AllocError>
     requires { IsNode (node_over head.symbol.0 None head.dynamic head.extent head.state
         run.elements run.children) }
@@ -137,15 +158,17 @@ fn rule(
     alloc: Global,
     entry: Entry,
     number: u32,
-    children: List<Node>,
+    children: &mut Vec<Node>,
     extent: u32,
     state: Option<u16>,
 ) -> Result<Node, AllocError>
-    requires { IsNode (rule_node entry.symbol.0 number entry.dynamic extent state children) }
+    requires { IsNode
+        (rule_node entry.symbol.0 number entry.dynamic extent state children.old.items) }
     ensures { IfOk result (λ node. node
-        ≡ rule_node entry.symbol.0 number entry.dynamic extent state children) }
+        ≡ rule_node entry.symbol.0 number entry.dynamic extent state children.old.items) }
 {
-    let total = totals(children.as_slice());
+    let sums = sums(children.as_slice());
+    let total = narrowed(sums.totals);
     let dynamic = with_value(entry.dynamic, total);
     let head = Head {
         symbol: entry.symbol,
@@ -153,7 +176,7 @@ fn rule(
         extent,
         state,
     };
-    over(alloc, head, number, children)
+    over_summed(alloc, head, number, sums, children)
 }
 
 /// What a repetition says of an element that it gets.
@@ -209,18 +232,19 @@ fn next(
     alloc: Global,
     entry: Entry,
     alternative: u32,
-    children: List<Node>,
+    children: &mut Vec<Node>,
     extent: u32,
     state: Option<u16>,
 ) -> Result<Node, AllocError>
-    requires longer { Lengthens (made.of_next alternative) children }
+    requires longer { Lengthens (made.of_next alternative) children.old.items }
     requires node { IsNode
-        (next_element entry.symbol.0 alternative entry.dynamic extent state children) }
+        (next_element entry.symbol.0 alternative entry.dynamic extent state children.old.items) }
     ensures { IfOk result (λ node. node
-        ≡ next_element entry.symbol.0 alternative entry.dynamic extent state children) }
+        ≡ next_element entry.symbol.0 alternative entry.dynamic extent state
+        children.old.items) }
 {
-    let (before, more) = parted(children);
-    longer(alloc, entry, alternative, before, more, extent, state)
+    let before = first_of(children);
+    longer(alloc, entry, alternative, before, children, extent, state)
 }
 
 /// The repetition `before` with one more element of these children. What nobody else owns of it is
@@ -230,15 +254,15 @@ fn longer(
     entry: Entry,
     alternative: u32,
     before: Node,
-    more: List<Node>,
+    more: &mut Vec<Node>,
     extent: u32,
     state: Option<u16>,
 ) -> Result<Node, AllocError>
     requires repetition { 0 < length (elements_of before) }
     requires node { IsNode (next_element entry.symbol.0 alternative entry.dynamic extent state
-        (before ∷ more)) }
+        (before ∷ more.old.items)) }
     ensures { IfOk result (λ node. node ≡ next_element entry.symbol.0 alternative entry.dynamic
-        extent state (before ∷ more)) }
+        extent state (before ∷ more.old.items)) }
 {
     let summary = before.summary();
     let others = totals(more.as_slice());
@@ -256,14 +280,12 @@ fn longer(
     over_run(alloc, head, run)
 }
 
-/// The first child, and the others.
-fn parted(children: List<Node>) -> (Node, List<Node>)
-    requires { 0 < length children }
-    ensures { children ≡ result.0 ∷ result.1 }
+/// Takes the first child out, and leaves the others.
+fn first_of(children: &mut Vec<Node>) -> Node
+    requires { 0 < length children.old.items }
+    ensures { children.old.items ≡ result ∷ children.new.items }
 {
-    let mut more = children.into_vec();
-    let before = more.remove(0);
-    (before, List::from_vec(more))
+    children.remove(0)
 }
 
 /// The run of a repetition with one more element of these children.
@@ -272,14 +294,14 @@ fn longer_run(
     alloc: Global,
     before: Node,
     element: Element,
-    more: List<Node>,
+    more: &mut Vec<Node>,
 ) -> Result<Shared<Run>, AllocError>
     requires repetition { 0 < length (elements_of before) }
-    requires wide { length (children_of before) + length more < 2 ^ 32 }
+    requires wide { length (children_of before) + length more.old.items < 2 ^ 32 }
     requires fits { length (elements_of before) + 1 < 2 ^ 32 }
-    requires own { element.children ≡ length more }
+    requires own { element.children ≡ length more.old.items }
     ensures elements { IfOk result (λ run. run.elements ≡ elements_of before ++ element ∷ []) }
-    ensures children { IfOk result (λ run. run.children ≡ children_of before ++ more) }
+    ensures children { IfOk result (λ run. run.children ≡ children_of before ++ more.old.items) }
 {
     let Node { kind } = before;
     match kind {
@@ -306,9 +328,10 @@ fn run_of(repetition: Shared<Repetition>) -> Result<Shared<Run>, AllocError>
     }
 }
 
-/// The node that a reduction by the production of this number makes of its children. A production
-/// that lengthens a repetition lengthens in place what nobody else owns of the repetition so far,
-/// and shares all else. It takes time by the logarithm of its length.
+/// The node that a reduction by the production of this number makes of its children, which are
+/// taken out of their vector. A production that lengthens a repetition lengthens in place what
+/// nobody else owns of the repetition so far, and shares all else. It takes time by the logarithm
+/// of its length.
 ///
 /// # Errors
 ///
@@ -317,13 +340,14 @@ pub fn reduce(
     alloc: Global,
     productions: &Productions,
     number: u32,
-    children: List<Node>,
+    children: &mut Vec<Node>,
     extent: u32,
     state: Option<u16>,
 ) -> Result<Node, AllocError>
-    requires fits { FitsProduction productions.now number children }
-    requires node { IsNode (reduced productions.now number extent state children) }
-    ensures { IfOk result (λ node. node ≡ reduced productions.now number extent state children) }
+    requires fits { FitsProduction productions.now number children.old.items }
+    requires node { IsNode (reduced productions.now number extent state children.old.items) }
+    ensures { IfOk result
+        (λ node. node ≡ reduced productions.now number extent state children.old.items) }
 {
     made(
         alloc,
@@ -339,19 +363,22 @@ fn made(
     alloc: Global,
     entry: Entry,
     number: u32,
-    children: List<Node>,
+    children: &mut Vec<Node>,
     extent: u32,
     state: Option<u16>,
 ) -> Result<Node, AllocError>
-    requires longer { Lengthens (form_is entry.form) children }
+    requires longer { Lengthens (form_is entry.form) children.old.items }
     requires node { IsNode (made_by (form_is entry.form) entry.symbol.0 number entry.dynamic extent
-        state children) }
+        state children.old.items) }
     ensures { IfOk result (λ node. node ≡ made_by (form_is entry.form) entry.symbol.0 number
-        entry.dynamic extent state children) }
+        entry.dynamic extent state children.old.items) }
 {
     match entry.form {
         Form::Rule => rule(alloc, entry, number, children, extent, state),
-        Form::First(alternative) => first(alloc, entry, alternative, children, extent, state),
+        Form::First(alternative) => {
+            let children = moved(alloc, children)?;
+            first(alloc, entry, alternative, children, extent, state)
+        }
         Form::Next(alternative) => next(alloc, entry, alternative, children, extent, state),
     }
 }

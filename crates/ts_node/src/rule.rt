@@ -1,7 +1,7 @@
 //! Nodes of rules' productions: what a node says of itself and its children go in, and a node
 //! comes out. Up to three children lie in its own body, beside the short form of what it says of
 //! itself where there is one; others lie in a list, beside the whole of it.
-ghost use Rattle.std.specs.Prelude.{◌≡◌, ◌<◌, IfOk, Some, false, length};
+ghost use Rattle.std.specs.Prelude.{◌≡◌, ◌<◌, ◌++◌, ◌∷◌, [], IfOk, Some, false, length};
 ghost use Rattle.spec_trees.specs.Trees.{children_of, elements_of, is_extra_node, production_of};
 ghost use Rattle.spec_trees.specs.Made.{node_limit};
 ghost use Rattle.ts_node.specs.Held.{body_of, rule_tree, IsSummary, Tells};
@@ -9,6 +9,7 @@ ghost use Rattle.ts_node.specs.Short.{summary_of};
 
 use crate::node::{Node, Summary};
 use crate::short::ShortSummary;
+use crate::sums::moved;
 use std::alloc::{AllocError, Global};
 use std::marker::Model;
 use ts_base::{List, Shared};
@@ -233,6 +234,24 @@ impl RuleNode {
         requires { IsSummary summary (rule_tree summary children) }
         ensures { IfOk result (λ rule. rule ≡ rule_tree summary children) }
     {
+        let mut children = children.into_vec();
+        RuleNode::from_vec(alloc, summary, &mut children)
+    }
+
+    /// The same, where the children are taken out of a vector.
+    ///
+    /// # Errors
+    ///
+    /// `AllocError` where memory runs out.
+    #[inline(always)]
+    pub(crate) fn from_vec(
+        alloc: Global,
+        summary: Summary,
+        children: &mut Vec<Node>,
+    ) -> Result<RuleNode, AllocError>
+        requires { IsSummary summary (rule_tree summary children.old.items) }
+        ensures { IfOk result (λ rule. rule ≡ rule_tree summary children.old.items) }
+    {
         let body = RuleBody::new(alloc, summary, children)?;
         Ok(RuleNode { body })
     }
@@ -299,9 +318,14 @@ impl RuleNode {
 
 impl RuleBody {
     /// A body of these children.
-    fn new(alloc: Global, summary: Summary, children: List<Node>) -> Result<RuleBody, AllocError>
-        requires { IsSummary summary (rule_tree summary children) }
-        ensures { IfOk result (λ body. body_of body ≡ rule_tree summary children) }
+    #[inline(always)]
+    fn new(
+        alloc: Global,
+        summary: Summary,
+        children: &mut Vec<Node>,
+    ) -> Result<RuleBody, AllocError>
+        requires { IsSummary summary (rule_tree summary children.old.items) }
+        ensures { IfOk result (λ body. body_of body ≡ rule_tree summary children.old.items) }
     {
         match ShortSummary::of(summary) {
             Some(short) => RuleBody::of_short(alloc, short, children),
@@ -310,52 +334,31 @@ impl RuleBody {
     }
 
     /// A body of these children, with the short form of its summary where they are few.
+    #[inline(always)]
     fn of_short(
         alloc: Global,
         summary: ShortSummary,
-        children: List<Node>,
+        children: &mut Vec<Node>,
     ) -> Result<RuleBody, AllocError>
-        requires { IsSummary (summary_of summary) (rule_tree (summary_of summary) children) }
-        ensures { IfOk result (λ body. body_of body ≡ rule_tree (summary_of summary) children) }
+        requires { IsSummary (summary_of summary)
+            (rule_tree (summary_of summary) children.old.items) }
+        ensures { IfOk result (λ body.
+            body_of body ≡ rule_tree (summary_of summary) children.old.items) }
     {
-        match <[Node; 1]>::try_from(children.into_vec()) {
-            Ok(children) => Ok(RuleBody::One(Shared::new(alloc, RuleOfOne { summary, children })?)),
-            Err(children) => RuleBody::of_others(alloc, summary, List::from_vec(children)),
-        }
-    }
-
-    /// A body of these children, which are not one.
-    fn of_others(
-        alloc: Global,
-        summary: ShortSummary,
-        children: List<Node>,
-    ) -> Result<RuleBody, AllocError>
-        requires { IsSummary (summary_of summary) (rule_tree (summary_of summary) children) }
-        ensures { IfOk result (λ body. body_of body ≡ rule_tree (summary_of summary) children) }
-    {
-        match <[Node; 2]>::try_from(children.into_vec()) {
-            Ok(children) => Ok(RuleBody::Two(Shared::new(alloc, RuleOfTwo { summary, children })?)),
-            Err(children) => RuleBody::of_more(alloc, summary, List::from_vec(children)),
-        }
-    }
-
-    /// A body of these children, which are neither one nor two.
-    fn of_more(
-        alloc: Global,
-        summary: ShortSummary,
-        children: List<Node>,
-    ) -> Result<RuleBody, AllocError>
-        requires { IsSummary (summary_of summary) (rule_tree (summary_of summary) children) }
-        ensures { IfOk result (λ body. body_of body ≡ rule_tree (summary_of summary) children) }
-    {
-        match <[Node; 3]>::try_from(children.into_vec()) {
-            Ok(children) => {
-                let body = Shared::new(alloc, RuleOfThree { summary, children })?;
-                Ok(RuleBody::Three(body))
+        match children.len() {
+            1 => {
+                let children = one_of(children);
+                Ok(RuleBody::One(Shared::new(alloc, RuleOfOne { summary, children })?))
             }
-            Err(children) => {
-                RuleBody::of_many(alloc, summary.summary(), List::from_vec(children))
+            2 => {
+                let children = two_of(children);
+                Ok(RuleBody::Two(Shared::new(alloc, RuleOfTwo { summary, children })?))
             }
+            3 => {
+                let children = three_of(children);
+                Ok(RuleBody::Three(Shared::new(alloc, RuleOfThree { summary, children })?))
+            }
+            _ => RuleBody::of_many(alloc, summary.summary(), children),
         }
     }
 
@@ -363,11 +366,52 @@ impl RuleBody {
     fn of_many(
         alloc: Global,
         summary: Summary,
-        children: List<Node>,
+        children: &mut Vec<Node>,
     ) -> Result<RuleBody, AllocError>
-        requires { IsSummary summary (rule_tree summary children) }
-        ensures { IfOk result (λ body. body_of body ≡ rule_tree summary children) }
+        requires { IsSummary summary (rule_tree summary children.old.items) }
+        ensures { IfOk result (λ body. body_of body ≡ rule_tree summary children.old.items) }
     {
+        let children = moved(alloc, children)?;
         Ok(RuleBody::Many(Shared::new(alloc, RuleOfMany { summary, children })?))
     }
+}
+
+/// Takes the last node out.
+fn last_of(nodes: &mut Vec<Node>) -> Node
+    requires { 0 < length nodes.old.items }
+    ensures { nodes.old.items ≡ nodes.new.items ++ result ∷ [] }
+{
+    match nodes.pop() {
+        Some(node) => node,
+        None => unreachable!(),
+    }
+}
+
+/// Takes the only node out.
+fn one_of(nodes: &mut Vec<Node>) -> [Node; 1]
+    requires { length nodes.old.items ≡ 1 }
+    ensures { result ≡ nodes.old.items }
+{
+    [last_of(nodes)]
+}
+
+/// Takes both nodes out.
+fn two_of(nodes: &mut Vec<Node>) -> [Node; 2]
+    requires { length nodes.old.items ≡ 2 }
+    ensures { result ≡ nodes.old.items }
+{
+    let second = last_of(nodes);
+    let first = last_of(nodes);
+    [first, second]
+}
+
+/// Takes all three nodes out.
+fn three_of(nodes: &mut Vec<Node>) -> [Node; 3]
+    requires { length nodes.old.items ≡ 3 }
+    ensures { result ≡ nodes.old.items }
+{
+    let third = last_of(nodes);
+    let second = last_of(nodes);
+    let first = last_of(nodes);
+    [first, second, third]
 }

@@ -9,7 +9,7 @@ ghost use Rattle.ts_node.specs.Sides.{IsSideOf};
 
 use crate::counts::{both, count, counts_of_one, together};
 use crate::node::{Counts, Node, Run, Shape};
-use crate::sums::{appended, copy};
+use crate::sums::{appended, copy, moved};
 use spec_trees::Element;
 use std::alloc::{AllocError, Global};
 use ts_base::{List, Shared};
@@ -83,6 +83,7 @@ impl Run {
     }
 
     /// A run of one leaf.
+    #[inline(always)]
     pub(crate) fn leaf(
         alloc: Global,
         elements: List<Element>,
@@ -282,18 +283,18 @@ impl Run {
         alloc: Global,
         run: Shared<Run>,
         element: Element,
-        more: List<Node>,
+        more: &mut Vec<Node>,
     ) -> Result<Shared<Run>, AllocError>
         requires fits { length run.elements + 1 < 2 ^ 32 }
-        requires wide { length run.children + length more < 2 ^ 32 }
-        requires own { element.children ≡ length more }
+        requires wide { length run.children + length more.old.items < 2 ^ 32 }
+        requires own { element.children ≡ length more.old.items }
         ensures { IfOk result (λ new. new ≡ joined_stretch run
-            (stretch (element ∷ []) more)) }
+            (stretch (element ∷ []) more.old.items)) }
     {
         match run.try_unwrap() {
             Ok(run) => run.lengthened(alloc, element, more),
             Err(run) => {
-                let last = Run::single(alloc, element, more)?;
+                let last = Run::single(alloc, element, moved(alloc, more)?)?;
                 Run::with_leaf(alloc, &run, &last)
             }
         }
@@ -304,13 +305,13 @@ impl Run {
         self,
         alloc: Global,
         element: Element,
-        more: List<Node>,
+        more: &mut Vec<Node>,
     ) -> Result<Shared<Run>, AllocError>
         requires fits { length self.elements + 1 < 2 ^ 32 }
-        requires wide { length self.children + length more < 2 ^ 32 }
-        requires own { element.children ≡ length more }
+        requires wide { length self.children + length more.old.items < 2 ^ 32 }
+        requires own { element.children ≡ length more.old.items }
         ensures { IfOk result (λ run. run ≡ joined_stretch self
-            (stretch (element ∷ []) more)) }
+            (stretch (element ∷ []) more.old.items)) }
     {
         let counts = self.counts();
         match self.into_leaf() {
@@ -319,7 +320,7 @@ impl Run {
                     Run::leaf_lengthened(alloc, counts, elements, children, element, more)
                 } else {
                     let leaf = Run::counted_leaf(alloc, counts, elements, children)?;
-                    let last = Run::single(alloc, element, more)?;
+                    let last = Run::single(alloc, element, moved(alloc, more)?)?;
                     Run::branch(alloc, leaf, last)
                 }
             }
@@ -333,13 +334,14 @@ impl Run {
         before: Shared<Run>,
         end: Shared<Run>,
         element: Element,
-        more: List<Node>,
+        more: &mut Vec<Node>,
     ) -> Result<Shared<Run>, AllocError>
         requires fits { length before.elements + length end.elements + 1 < 2 ^ 32 }
-        requires wide { length before.children + length end.children + length more < 2 ^ 32 }
-        requires own { element.children ≡ length more }
+        requires wide { length before.children + length end.children + length more.old.items
+            < 2 ^ 32 }
+        requires own { element.children ≡ length more.old.items }
         ensures { IfOk result (λ new. new ≡ joined_stretch (joined_stretch before end)
-            (stretch (element ∷ []) more)) }
+            (stretch (element ∷ []) more.old.items)) }
     {
         match Run::leaf_alone(end, more.len()) {
             Ok(end) => {
@@ -347,7 +349,7 @@ impl Run {
                 Run::branch(alloc, before, longer)
             }
             Err(end) => {
-                let last = Run::single(alloc, element, more)?;
+                let last = Run::single(alloc, element, moved(alloc, more)?)?;
                 Run::with_last(alloc, &before, &end, &last)
             }
         }
@@ -373,13 +375,13 @@ impl Run {
         self,
         alloc: Global,
         element: Element,
-        more: List<Node>,
+        more: &mut Vec<Node>,
     ) -> Result<Shared<Run>, AllocError>
         requires fits { length self.elements + 1 < 2 ^ 32 }
-        requires wide { length self.children + length more < 2 ^ 32 }
-        requires own { element.children ≡ length more }
+        requires wide { length self.children + length more.old.items < 2 ^ 32 }
+        requires own { element.children ≡ length more.old.items }
         ensures { IfOk result (λ run. run ≡ joined_stretch self
-            (stretch (element ∷ []) more)) }
+            (stretch (element ∷ []) more.old.items)) }
     {
         let counts = self.counts();
         match self.into_leaf() {
@@ -388,7 +390,7 @@ impl Run {
             }
             Err((before, end)) => {
                 let run = Run::branch(alloc, before, end)?;
-                let last = Run::single(alloc, element, more)?;
+                let last = Run::single(alloc, element, moved(alloc, more)?)?;
                 Run::branch(alloc, run, last)
             }
         }
@@ -402,14 +404,14 @@ impl Run {
         elements: List<Element>,
         children: List<Node>,
         element: Element,
-        more: List<Node>,
+        more: &mut Vec<Node>,
     ) -> Result<Shared<Run>, AllocError>
         requires counts { IsCount counts (stretch elements children) }
         requires fits { length elements + 1 < 2 ^ 32 }
-        requires wide { length children + length more < 2 ^ 32 }
-        requires own { element.children ≡ length more }
+        requires wide { length children + length more.old.items < 2 ^ 32 }
+        requires own { element.children ≡ length more.old.items }
         ensures { IfOk result (λ run. run ≡ joined_stretch (stretch elements children)
-            (stretch (element ∷ []) more)) }
+            (stretch (element ∷ []) more.old.items)) }
     {
         let added = counts_of_one(element, more.as_slice());
         let mut elements = elements;

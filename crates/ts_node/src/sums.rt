@@ -7,7 +7,7 @@ ghost use Rattle.spec_trees.specs.Made.{node_limit};
 ghost use Rattle.ts_node.specs.Held.{IsSum};
 
 use crate::node::{Node, Sums};
-use std::alloc::AllocError;
+use std::alloc::{AllocError, Global};
 use ts_base::List;
 
 /// The nodes, bytes and totals of all children together, and the greatest depth.
@@ -78,6 +78,14 @@ fn with_total(total: i128, one: i64) -> i128
     wide_plus(total, one as i128)
 }
 
+/// A total that is one of nodes of one tree.
+pub(crate) fn narrowed(total: i128) -> i64
+    requires { unsigned_abs total < 2 ^ 63 }
+    ensures { result ≡ total }
+{
+    total as i64
+}
+
 /// A total and the value of one more production.
 #[tactic(auto, using(crate::proofs::TotalLemmas::value_fits))]
 pub(crate) fn with_value(value: i32, total: i64) -> i64
@@ -107,12 +115,29 @@ pub(crate) fn copy(nodes: &[Node], to: &mut List<Node>) -> Result<(), AllocError
     Ok(())
 }
 
-/// The nodes, and behind them more. None is copied.
-pub(crate) fn appended(nodes: List<Node>, more: List<Node>) -> Result<List<Node>, AllocError>
-    ensures { IfOk result (λ all. all ≡ nodes ++ more) }
+/// Puts all nodes of a vector at the end of another. None is copied.
+#[inline(always)]
+pub(crate) fn append(nodes: &mut Vec<Node>, more: &mut Vec<Node>) -> Result<(), AllocError>
+    ensures { OnOk result (nodes.new.items ≡ nodes.old.items ++ more.old.items) }
+{
+    nodes.append(more)?;
+    Ok(())
+}
+
+/// A list of all nodes of a vector, which are taken out of it.
+pub(crate) fn moved(alloc: Global, nodes: &mut Vec<Node>) -> Result<List<Node>, AllocError>
+    ensures { IfOk result (λ all. all ≡ nodes.old.items) }
+{
+    let mut all = Vec::with_capacity(alloc, nodes.len())?;
+    append(&mut all, nodes)?;
+    Ok(List::from_vec(all))
+}
+
+/// The nodes, and behind them all of a vector, which are taken out of it.
+pub(crate) fn appended(nodes: List<Node>, more: &mut Vec<Node>) -> Result<List<Node>, AllocError>
+    ensures { IfOk result (λ all. all ≡ nodes ++ more.old.items) }
 {
     let mut all = nodes.into_vec();
-    let mut more = more.into_vec();
-    all.append(&mut more)?;
+    append(&mut all, more)?;
     Ok(List::from_vec(all))
 }

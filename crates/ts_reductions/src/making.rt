@@ -80,6 +80,7 @@ pub(crate) fn node_of(
         (λ node. node ≡ reduced setting.now.productions number extent None children) }
 {
     node_laws_hold();
-    let node = reduce(alloc, &setting.productions, number, children, extent, None)?;
+    let mut children = children.into_vec();
+    let node = reduce(alloc, &setting.productions, number, &mut children, extent, None)?;
     Ok(node)
 }

@@ -1,8 +1,8 @@
 -- What a reduction takes off a good stack.
-use Rattle.std.proofs.Common.{◌≡◌, ◌∙◌, sym, ap, refl, subst, ℕ, suc, ◌+◌, ◌^◌, ◌<◌, ◌≤◌, List, ◌++◌, length, reverse, arith}
+use Rattle.std.proofs.Common.{◌≡◌, ◌∙◌, sym, ap, refl, subst, ℕ, suc, ◌+◌, ◌^◌, ◌<◌, ◌≤◌, ◌↔◌, IsTrue, List, [], ◌∷◌, ◌++◌, length, reverse, arith}
 use Rattle.std.proofs.lemmas.List.{reverse-append, reverse-reverse}
 use Rattle.spec_trees.specs.declared.tree.Tree.{Tree}
-use Rattle.spec_trees.specs.Trees.{all_spans}
+use Rattle.spec_trees.specs.Trees.{all_spans, greatest_depth}
 use Rattle.spec_trees.specs.Made.{filling, BeginsFilled, EndBy, most_span}
 use Rattle.spec_runs.specs.Configurations.{AreExtras}
 use Rattle.ts_table.specs.declared.view.ParseTable.{ParseTable}
@@ -10,9 +10,38 @@ use Rattle.ts_gss.specs.declared.layer.Layer.{Layer}
 use Rattle.ts_gss.specs.Stacks.{trees_on}
 use Rattle.ts_gss.specs.Paths.{IsLifted, IsTakenOff}
 use Rattle.ts_steps.specs.Good.{IsGoodTree, AreGoodTrees}
+use Rattle.spec_forced.specs.Sound.{EachHasState}
 use Rattle.ts_steps.specs.LiveHeads.{HaveStates, IsGoodStack, IsGathered}
-use Rattle.ts_steps.proofs.NodeLemmas.{all_spans-append, end_by_wider, each_left, each_right, each_turned}
+use Rattle.ts_steps.specs.Making.{IsSeenOf}
+use Rattle.ts_steps.specs.Reducing.{CoversMaking, IsGatheredBy}
+use Rattle.ts_steps.specs.declared.gathering.Gathered.{Gathered}
+use Rattle.ts_steps.specs.declared.making.Seen.{Seen}
+use Rattle.ts_steps.proofs.NodeLemmas.{all_spans-append, greatest_depth-append, end_by_wider, each_left, each_right, each_turned}
 use Rattle.ts_steps.proofs.StackLemmas.{end_by_split, spans_turned, extras_turned, filling_extras, states_drop}
+
+-- ---- what was examined
+
+abbrev pub HasRoomFor : List Tree → List Tree → ℕ → Type 0
+HasRoomFor children extras ahead =
+    (limit start : ℕ) × (limit < 2 ^ 31) × EndBy limit start children × EndBy limit (start + all_spans children) extras
+    × (start + (all_spans children + (all_spans extras + ahead)) ≤ limit)
+
+pub room_behind : (children extras es : List Tree) (ahead : ℕ) → es ≡ extras → HasRoomFor children extras ahead → (limit start : ℕ) × (limit < 2 ^ 31) × EndBy limit start es × (start + (all_spans es + ahead) ≤ limit)
+room_behind children extras es ahead is r =
+    let limit = r.0 in
+    let start = r.1 in
+    let sum = r.5 in
+    subst (λ (l : List Tree). (limit start : ℕ) × (limit < 2 ^ 31) × EndBy limit start l × (start + (all_spans l + ahead) ≤ limit)) (sym is)
+    (limit, start + all_spans children, r.2, r.4, omega (arith, sum))
+
+pub room_before : (children extras cs : List Tree) (ahead : ℕ) (behind : Seen) → cs ≡ children → IsSeenOf extras ahead behind → HasRoomFor children extras ahead → (limit start : ℕ) × (limit < 2 ^ 31) × EndBy limit start cs × (start + (all_spans cs + behind.extent) ≤ limit)
+room_before children extras cs ahead behind is k r =
+    let limit = r.0 in
+    let start = r.1 in
+    let sum = r.5 in
+    let m = k.most (start + all_spans children) limit (omega (arith, sum)) r.4 in
+    subst (λ (l : List Tree). (limit start : ℕ) × (limit < 2 ^ 31) × EndBy limit start l × (start + (all_spans l + behind.extent) ≤ limit)) (sym is)
+    (limit, start, r.2, r.3, omega (arith, m))
 
 -- all of it but what was examined
 pub record Parts (t : ParseTable) (size : ℕ) (stack : List Layer) (place count : ℕ) (extras children : List Tree) (below : List Layer) : Type 0 where
@@ -105,24 +134,49 @@ module _ (t : ParseTable) (size place count : ℕ) (stack under below : List Lay
     reach = p.reach_extras;
   }
 
-  -- the same of other forms of the lists
-  pub gathered_by : (extent ahead : ℕ) (cs es ls : List Tree) → Parts t size stack place count extras children below → place + ahead ≤ suc size → cs ≡ children → es ≡ extras → ls ≡ children → EndBy extent 0 cs → all_spans cs < extent
-      → ((start limit : ℕ) → start + (all_spans cs + (all_spans es + ahead)) ≤ limit → EndBy limit start cs → EndBy limit (start + all_spans cs) es → start + extent ≤ limit)
-      → IsGathered t size stack place count extras ls extent below
-  gathered_by extent ahead cs es ls p room cs_are es_are ls_are covers past most =
-      subst (λ (l : List Tree). IsGathered t size stack place count extras l extent below) (sym ls_are)
-      (gathered extent ahead p room (subst (λ (l : List Tree). EndBy extent 0 l) cs_are covers) (subst (λ (l : List Tree). all_spans l < extent) cs_are past)
-      (subst (λ (l : List Tree). (start limit : ℕ) → start + (all_spans children + (all_spans l + ahead)) ≤ limit → EndBy limit start children → EndBy limit (start + all_spans children) l → start + extent ≤ limit) es_are
-      (subst (λ (l : List Tree). (start limit : ℕ) → start + (all_spans l + (all_spans es + ahead)) ≤ limit → EndBy limit start l → EndBy limit (start + all_spans l) es → start + extent ≤ limit) cs_are most)))
-
   -- there is room for what was examined
-  pub room_for : (ahead : ℕ) (cs es : List Tree) → Parts t size stack place count extras children below → place + ahead ≤ suc size → size ≤ most_span → cs ≡ children → es ≡ extras
-      → (limit start : ℕ) × (limit < 2 ^ 31) × EndBy limit start cs × EndBy limit (start + all_spans cs) es × (start + (all_spans cs + (all_spans es + ahead)) ≤ limit)
-  room_for ahead cs es p room short cs_are es_are = (
+  pub room_for : (ahead : ℕ) → Parts t size stack place count extras children below → place + ahead ≤ suc size → size ≤ most_span → HasRoomFor children extras ahead
+  room_for ahead p room short = (
     suc size,
     all_spans (trees_on below),
     (omega (arith, short)),
-    subst (λ (l : List Tree). EndBy (suc size) (all_spans (trees_on below)) l) (sym cs_are) p.reach_children,
-    subst (λ (l : List Tree). EndBy (suc size) (all_spans (trees_on below) + all_spans l) es) (sym cs_are) (subst (λ (l : List Tree). EndBy (suc size) (all_spans (trees_on below) + all_spans children) l) (sym es_are) p.reach_extras),
-    (omega (arith, ap all_spans cs_are, ap all_spans es_are, p.place_is, room)),
+    p.reach_children,
+    p.reach_extras,
+    (omega (arith, p.place_is, room)),
   )
+
+  -- what is known of what was taken off
+  pub all_gathered : (ahead : ℕ) (r : Gathered) → Parts t size stack place count extras children below → place + ahead ≤ suc size → 0 < ahead → r.extras.items ≡ extras → r.children.items ≡ children
+      → EndBy r.extent 0 children → EndBy r.extent (all_spans children) extras → all_spans children + (all_spans extras + ahead) ≤ r.extent
+      → ((start limit : ℕ) → start + (all_spans children + (all_spans extras + ahead)) ≤ limit → EndBy limit start children → EndBy limit (start + all_spans children) extras → start + r.extent ≤ limit)
+      → IsTrue r.stated ↔ (EachHasState children × EachHasState extras) → r.deepest ≡ greatest_depth children → IsGatheredBy t size stack place count ahead r below
+  all_gathered ahead r p room some es cs covers lifted past most stated depth =
+      let g : IsGathered t size stack place count extras children r.extent below = gathered r.extent ahead p room covers (omega (arith, past, some)) most in
+      let k : CoversMaking r.extent ahead children extras = record {
+        inner = covers;
+        lifted = lifted;
+        reach = past;
+        least = λ limit own behind all. let m = most 0 limit (omega (arith, all)) own (subst (λ (n : ℕ). EndBy limit n extras) (zero_first (all_spans children)) behind) in omega (arith, m);
+      } in
+      record {
+        gathered = subst (λ (l : List Tree). IsGathered t size stack place count l r.children.items r.extent below) (sym es) (subst (λ (l : List Tree). IsGathered t size stack place count extras l r.extent below) (sym cs) g);
+        covers = subst (λ (l : List Tree). CoversMaking r.extent ahead r.children.items l) (sym es) (subst (λ (l : List Tree). CoversMaking r.extent ahead l extras) (sym cs) k);
+        stated = subst (λ (l : List Tree). IsTrue r.stated ↔ (EachHasState r.children.items × EachHasState l)) (sym es) (subst (λ (l : List Tree). IsTrue r.stated ↔ (EachHasState l × EachHasState extras)) (sym cs) stated);
+        depth = subst (λ (l : List Tree). r.deepest ≡ greatest_depth l) (sym cs) depth;
+      }
+    where
+      zero_first : (n : ℕ) → n ≡ 0 + n
+      zero_first n = omega arith
+
+-- ---- how deep the children are
+
+depth_turned : (ts : List Tree) → greatest_depth (reverse ts) ≡ greatest_depth ts
+depth_turned [] = refl
+depth_turned (t ∷ ts) = omega (arith, ap greatest_depth (reverse-append (t ∷ []) ts), greatest_depth-append (reverse ts) (t ∷ []), depth_turned ts)
+
+-- they are no deeper than all that was on the stack
+pub no_deeper : (t : ParseTable) (size place count ahead bound : ℕ) (stack below : List Layer) (r : Gathered) → IsGatheredBy t size stack place count ahead r below → greatest_depth (trees_on stack) ≤ bound → greatest_depth r.children.items ≤ bound
+no_deeper t size place count ahead bound stack below r k low =
+    let extras : List Tree = r.extras.items in
+    let children : List Tree = r.children.items in
+    omega (arith, low, ap greatest_depth k.gathered.trees, greatest_depth-append (reverse extras) (reverse children ++ trees_on below), greatest_depth-append (reverse children) (trees_on below), depth_turned children)

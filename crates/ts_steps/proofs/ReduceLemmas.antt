@@ -41,28 +41,6 @@ use Rattle.ts_steps.proofs.OwnLemmas.{own_over, own_children, each_at}
 use Rattle.ts_steps.proofs.TableLemmas.{state_after, valid_tokens}
 use Rattle.ts_steps.proofs.HeadLemmas.{only_of}
 
--- ---- what was taken off, by other forms of the lists
-
-pub covers_by : (extent ahead : ℕ) (cs es children extras : List Tree) → cs ≡ children → es ≡ extras → EndBy extent 0 cs → EndBy extent (all_spans cs) es → all_spans cs + (all_spans es + ahead) ≤ extent
-    → ((start limit : ℕ) → start + (all_spans cs + (all_spans es + ahead)) ≤ limit → EndBy limit start cs → EndBy limit (start + all_spans cs) es → start + extent ≤ limit)
-    → CoversMaking extent ahead children extras
-covers_by extent ahead cs es children extras a b inner lifted reach most =
-    subst (λ (l : List Tree). CoversMaking extent ahead l extras) a
-    (subst (λ (l : List Tree). CoversMaking extent ahead cs l) b (record {
-      inner = inner;
-      lifted = lifted;
-      reach = reach;
-      least = λ limit own behind all.
-          let e : all_spans cs ≡ 0 + all_spans cs = omega arith in
-          let m = most 0 limit (omega (arith, all)) own (subst (λ (n : ℕ). EndBy limit n es) e behind) in
-          omega (arith, m);
-    }))
-
-pub stated_by : (b : Bool) (cs es children extras : List Tree) → cs ≡ children → es ≡ extras → IsTrue b ↔ (EachHasState cs × EachHasState es) → IsTrue b ↔ (EachHasState children × EachHasState extras)
-stated_by b cs es children extras p q h =
-    subst (λ (l : List Tree). IsTrue b ↔ (EachHasState l × EachHasState extras)) p
-    (subst (λ (l : List Tree). IsTrue b ↔ (EachHasState cs × EachHasState l)) q h)
-
 -- ---- lists
 
 -- the children and the extras behind them, the last one first

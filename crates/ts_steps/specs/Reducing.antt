@@ -3,7 +3,7 @@ use Rattle.std.specs.Prelude.{◌≡◌, ℕ, ◌+◌, ◌<◌, ◌≤◌, ◌�
 use Rattle.ts_core.specs.declared.flat.Production.{Production}
 use Rattle.spec_grammar.specs.Symbols.{production_at}
 use Rattle.spec_trees.specs.declared.tree.Tree.{Tree}
-use Rattle.spec_trees.specs.Trees.{all_spans}
+use Rattle.spec_trees.specs.Trees.{all_spans, greatest_depth}
 use Rattle.spec_trees.specs.Made.{EndBy, BeginsFilled, filling, reduced}
 use Rattle.spec_runs.specs.Configurations.{AreExtras}
 use Rattle.spec_forced.specs.Sound.{EachHasState}
@@ -63,6 +63,7 @@ pub record IsNodePut (t : ParseTable) (number : ℕ) (a : TokenAhead) (old new :
 -- what a reduction took off a stack. It serves private clauses and proofs alone.
 pub record IsGatheredBy (t : ParseTable) (size : ℕ) (stack : List Layer) (place count ahead : ℕ)
     (r : Gathered) (below : List Layer) : Type 0 where
-  pub gathered : IsGathered t size stack place count r.extras.items r.children r.extent below
-  pub covers : CoversMaking r.extent ahead r.children r.extras.items
-  pub stated : IsTrue r.stated ↔ (EachHasState r.children × EachHasState r.extras.items)
+  pub gathered : IsGathered t size stack place count r.extras.items r.children.items r.extent below
+  pub covers : CoversMaking r.extent ahead r.children.items r.extras.items
+  pub stated : IsTrue r.stated ↔ (EachHasState r.children.items × EachHasState r.extras.items)
+  pub depth : r.deepest ≡ greatest_depth r.children.items

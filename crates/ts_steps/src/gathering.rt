@@ -1,7 +1,8 @@
 //! What a reduction takes off a stack: the head and a number of steps go in; the extras on top, the
 //! children, and how many bytes were examined for them come out.
-ghost use Rattle.std.specs.Prelude.{◌≡◌, ℕ, ◌+◌, ◌<◌, ◌≤◌, ◌↔◌, suc, length, IfOk, IsTrue};
-ghost use Rattle.spec_trees.specs.Made.{most_span};
+ghost use Rattle.std.specs.Prelude.{◌≡◌, ℕ, ◌+◌, ◌<◌, ◌≤◌, ◌↔◌, ◌^◌, false, suc, length, IfOk, IsTrue};
+ghost use Rattle.spec_trees.specs.Trees.{all_spans, greatest_depth};
+ghost use Rattle.spec_trees.specs.Made.{EndBy, most_depth, most_span};
 ghost use Rattle.spec_forced.specs.Sound.{EachHasState};
 ghost use Rattle.ts_table.specs.declared.view.ParseTable.{ParseTable};
 ghost use Rattle.ts_gss.specs.Stacks.{stack_at};
@@ -9,33 +10,62 @@ ghost use Rattle.ts_steps.specs.LiveHeads.{IsLiveHead, read_on};
 ghost use Rattle.ts_steps.specs.Reducing.{IsGatheredBy};
 
 use crate::head::StackHead;
-use crate::making::{extent_over, have_states};
+use crate::making::{MOST_DEPTH, seen_over};
 use std::alloc::{AllocError, Global};
-use ts_core::List;
 use ts_gss::{Graph, Lifted, Taken};
 use ts_node::Node;
 
 /// What a reduction takes off a stack: the extras on top, the lowest first; the children; how many
-/// bytes were examined for both, and for the token ahead; whether they all have states; and the
-/// stack below.
+/// bytes were examined for both, and for the token ahead; whether they all have states; how deep
+/// the deepest child is; and the stack below.
 #[derive(Drop)]
 pub(crate) struct Gathered {
     pub extras: Vec<Node>,
-    pub children: List<Node>,
+    pub children: Vec<Node>,
     pub extent: u32,
     pub stated: bool,
+    pub deepest: u32,
     pub below: usize,
 }
 
-/// Whether each of two lists of nodes has states alone.
-fn both_have_states(children: &[Node], extras: &[Node]) -> bool
-    ensures { IsTrue result ↔ (EachHasState children.now × EachHasState extras.now) }
+/// What was taken off a stack, with what is known of it.
+#[inline(always)]
+fn with_seen(extras: Vec<Node>, taken: Taken, ahead: u32) -> Gathered
+    requires some { 0 < ahead }
+    requires room { (limit start : ℕ) × (limit < 2 ^ 31) × EndBy limit start taken.nodes.items
+        × EndBy limit (start + all_spans taken.nodes.items) extras.items
+        × (start + (all_spans taken.nodes.items + (all_spans extras.items + ahead)) ≤ limit) }
+    ensures extras { result.extras.items ≡ extras.items }
+    ensures children { result.children.items ≡ taken.nodes.items }
+    ensures below { result.below ≡ taken.below }
+    ensures depth { result.deepest ≡ greatest_depth taken.nodes.items }
+    ensures stated { IsTrue result.stated
+        ↔ (EachHasState taken.nodes.items × EachHasState extras.items) }
+    ensures covers { EndBy result.extent 0 taken.nodes.items }
+    ensures lifted { EndBy result.extent (all_spans taken.nodes.items) extras.items }
+    ensures past { all_spans taken.nodes.items + (all_spans extras.items + ahead)
+        ≤ result.extent }
+    ensures most { (start limit : ℕ)
+        → start + (all_spans taken.nodes.items + (all_spans extras.items + ahead)) ≤ limit
+        → EndBy limit start taken.nodes.items
+        → EndBy limit (start + all_spans taken.nodes.items) extras.items
+        → start + result.extent ≤ limit }
 {
-    have_states(children) && have_states(extras)
+    let Taken { nodes, below } = taken;
+    let behind = seen_over(extras.as_slice(), ahead);
+    let own = seen_over(nodes.as_slice(), behind.extent);
+    Gathered {
+        extras,
+        children: nodes,
+        extent: own.extent,
+        stated: own.stated && behind.stated,
+        deepest: own.deepest,
+        below,
+    }
 }
 
 /// Takes the extras and so many trees off a stack, which stays as it is.
-pub(crate) fn gather(
+fn gather(
     alloc: Global,
     graph: &Graph,
     head: StackHead,
@@ -53,15 +83,66 @@ pub(crate) fn gather(
         (stack_at graph.now r.below)) }
 {
     let Lifted { mut extras, under } = graph.lift(alloc, head.top)?;
-    let Taken { nodes, below } = graph.take(alloc, under, count)?;
+    let taken = graph.take(alloc, under, count)?;
     extras.reverse();
-    let extent = extent_over(nodes.as_slice(), extras.as_slice(), ahead);
-    let stated = both_have_states(nodes.as_slice(), extras.as_slice());
-    Ok(Gathered {
-        extras,
-        children: List::from_vec(nodes),
-        extent,
-        stated,
-        below,
-    })
+    Ok(with_seen(extras, taken, ahead))
+}
+
+/// The same, but the trees are moved off the stack: all stacks of the graph that were put there
+/// after the lowest of them are taken out.
+fn gather_off(
+    alloc: Global,
+    graph: &mut Graph,
+    head: StackHead,
+    count: usize,
+    ahead: u32,
+) -> Result<Gathered, AllocError>
+    requires enough { count ≤ length (read_on graph.old head) }
+    requires some { 0 < ahead }
+    requires live { (t : ParseTable) × (size : ℕ) × (size ≤ most_span)
+        × IsLiveHead t size graph.old head × (head.place + ahead ≤ suc size) }
+    ensures below { IfOk result (λ r. r.below < length graph.new) }
+    ensures stack { IfOk result (λ r. stack_at graph.new r.below ≡ stack_at graph.old r.below) }
+    ensures gathered { IfOk result (λ r. (t : ParseTable) (size : ℕ)
+        → IsLiveHead t size graph.old head → head.place + ahead ≤ suc size
+        → IsGatheredBy t size (stack_at graph.old head.top) head.place count ahead r
+        (stack_at graph.old r.below)) }
+{
+    let Lifted { mut extras, under } = graph.lift(alloc, head.top)?;
+    let taken = graph.take_off(alloc, under, count)?;
+    extras.reverse();
+    Ok(with_seen(extras, taken, ahead))
+}
+
+/// Takes the extras and so many trees off a stack. Where it is alone, and no tree on it can be so
+/// deep that their node is too deep, they are moved off it. Else all stacks stay as they are.
+pub(crate) fn gather_for(
+    alloc: Global,
+    graph: &mut Graph,
+    head: StackHead,
+    count: usize,
+    ahead: u32,
+    alone: bool,
+) -> Result<Gathered, AllocError>
+    requires enough { count ≤ length (read_on graph.old head) }
+    requires some { 0 < ahead }
+    requires live { (t : ParseTable) × (size : ℕ) × (size ≤ most_span)
+        × IsLiveHead t size graph.old head × (head.place + ahead ≤ suc size) }
+    ensures below { IfOk result (λ r. r.below < length graph.new) }
+    ensures stack { IfOk result (λ r. stack_at graph.new r.below ≡ stack_at graph.old r.below) }
+    ensures kept { alone ≡ false → graph.new ≡ graph.old }
+    ensures deep { IfOk result
+        (λ r. most_depth ≤ greatest_depth r.children.items → graph.new ≡ graph.old) }
+    ensures gathered { IfOk result (λ r. (t : ParseTable) (size : ℕ)
+        → IsLiveHead t size graph.old head → head.place + ahead ≤ suc size
+        → IsGatheredBy t size (stack_at graph.old head.top) head.place count ahead r
+        (stack_at graph.old r.below)) }
+{
+    if alone && graph.deepest() < MOST_DEPTH {
+        let gathered = gather_off(alloc, graph, head, count, ahead)?;
+        Ok(gathered)
+    } else {
+        let gathered = gather(alloc, graph, head, count, ahead)?;
+        Ok(gathered)
+    }
 }

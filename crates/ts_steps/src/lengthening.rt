@@ -57,6 +57,7 @@ fn list_on(graph: &Graph, under: usize, place: u32) -> Option<ListEnd>
 }
 
 /// The repetition on top of a stack, or below the extras there, where all of these have states.
+#[inline(always)]
 fn list_end(alloc: Global, graph: &Graph, head: StackHead) -> Result<Option<ListEnd>, AllocError>
     requires live { (t : ParseTable) × (size : ℕ) × (size ≤ most_span)
         × IsLiveHead t size graph.now head }

@@ -1,22 +1,21 @@
 //! Nodes of reductions: the children of a reduction go in; how deep its node is, how many bytes
 //! were examined for it, and the node itself come out.
-ghost use Rattle.std.specs.Prelude.{◌≡◌, ℕ, ◌+◌, ◌<◌, ◌≤◌, ◌^◌, ◌↔◌, ◌++◌, true, length, IfOk, IsTrue};
+ghost use Rattle.std.specs.Prelude.{◌≡◌, ℕ, ◌+◌, ◌<◌, ◌≤◌, ◌^◌, ◌↔◌, ◌&&◌, max, true, length, IfOk, IsTrue};
 ghost use Rattle.ts_core.specs.declared.flat.Production.{Production};
 ghost use Rattle.spec_trees.specs.Trees.{all_spans, greatest_depth, tree_depth};
 ghost use Rattle.spec_trees.specs.Made.{EndBy, form_of, most_depth, reduced};
 ghost use Rattle.spec_forced.specs.Sound.{EachHasState};
 ghost use Rattle.ts_steps.specs.Lines.{lengthens_by};
 ghost use Rattle.ts_steps.specs.Good.{CanReduce};
-ghost use Rattle.ts_steps.specs.Making.{depth_when};
+ghost use Rattle.ts_steps.specs.Making.{depth_when, IsSeenOf};
 
 use crate::laws::laws_hold;
 use crate::setting::ParseSetting;
 use std::alloc::{AllocError, Global};
-use ts_core::List;
-use ts_node::{Node, reduce as reduced_node};
+use ts_node::{Node, Outline, reduce as reduced_node};
 
 /// The greatest depth of a node.
-const MOST_DEPTH: u32 = 1000;
+pub(crate) const MOST_DEPTH: u32 = 1000;
 
 /// How deep the deepest of some nodes is, 0 where there is none.
 fn deepest(nodes: &[Node]) -> u32
@@ -57,45 +56,47 @@ pub(crate) fn spans(nodes: &[Node]) -> u32
     sum
 }
 
-/// How far the text was looked at for nodes one after another from a place on, and no less than
-/// `least`.
-fn examined(nodes: &[Node], from: u32, least: u32) -> u32
-    requires room { (limit : ℕ) × (limit < 2 ^ 32) × EndBy limit from nodes.now }
-    requires short { from + all_spans nodes.now < 2 ^ 32 }
-    ensures covers { EndBy result from nodes.now }
-    ensures least { least ≤ result }
-    ensures most { (start limit : ℕ) → start + least ≤ limit
-        → EndBy limit (start + from) nodes.now → start + result ≤ limit }
-{
-    let mut place = from;
-    let mut end = least;
-    for node in nodes {
-        end = (place + node.extent()).max(end);
-        place += node.pad() + node.size();
-    }
-    end
+/// What is known of nodes one after another: how far the text was looked at from the first of them
+/// on, whether they all have states, and how deep the deepest is.
+#[derive(Clone, Copy)]
+pub(crate) struct Seen {
+    pub extent: u32,
+    pub stated: bool,
+    pub deepest: u32,
 }
 
-/// How many bytes a reduction's node examined, from its first byte on: what its children did, what
-/// the extras behind them did, and what was looked at ahead.
-pub(crate) fn extent_over(children: &[Node], extras: &[Node], ahead: u32) -> u32
-    requires room { (limit start : ℕ) × (limit < 2 ^ 31) × EndBy limit start children.now
-        × EndBy limit (start + all_spans children.now) extras.now
-        × (start + (all_spans children.now + (all_spans extras.now + ahead)) ≤ limit) }
-    requires some { 0 < ahead }
-    ensures covers { EndBy result 0 children.now }
-    ensures lifted { EndBy result (all_spans children.now) extras.now }
-    ensures past { all_spans children.now + (all_spans extras.now + ahead) ≤ result }
-    ensures most { (start limit : ℕ)
-        → start + (all_spans children.now + (all_spans extras.now + ahead)) ≤ limit
-        → EndBy limit start children.now
-        → EndBy limit (start + all_spans children.now) extras.now
-        → start + result ≤ limit }
+/// What is known of a node and of those behind it.
+fn with_those_behind(node: Outline, behind: Seen) -> Seen
+    requires { node.span + behind.extent < 2 ^ 32 }
+    ensures extent { result.extent ≡ max (node.span + behind.extent) node.extent }
+    ensures stated { result.stated ≡ (behind.stated && node.stated) }
+    ensures depth { result.deepest ≡ max node.depth behind.deepest }
 {
-    let own = spans(children);
-    let behind = own + (spans(extras) + ahead);
-    let reach = examined(extras, own, behind);
-    examined(children, 0, reach)
+    Seen {
+        extent: (node.span + behind.extent).max(node.extent),
+        stated: behind.stated && node.stated,
+        deepest: node.depth.max(behind.deepest),
+    }
+}
+
+/// What is known of nodes one after another, where the text was looked at for so many bytes behind
+/// them.
+pub(crate) fn seen_over(nodes: &[Node], behind: u32) -> Seen
+    requires { (limit start : ℕ) × (limit < 2 ^ 31) × EndBy limit start nodes.now
+        × (start + (all_spans nodes.now + behind) ≤ limit) }
+    ensures { IsSeenOf nodes.now behind result }
+{
+    let mut seen = Seen {
+        extent: behind,
+        stated: true,
+        deepest: 0,
+    };
+    let mut left = nodes.len();
+    while left > 0 {
+        left -= 1;
+        seen = with_those_behind(nodes[left].outline(), seen);
+    }
+    seen
 }
 
 /// Whether each of some nodes has a state.
@@ -110,30 +111,36 @@ pub(crate) fn have_states(nodes: &[Node]) -> bool
     true
 }
 
-/// Whether the node over these children would be deeper than a node may be.
-pub(crate) fn is_too_deep(children: &[Node], lengthens: bool) -> bool
-    requires { lengthens ≡ true → 0 < length children.now }
+/// Whether the node over these children, of which the deepest is so deep, would be deeper than a
+/// node may be.
+pub(crate) fn is_too_deep(children: &[Node], deepest: u32, lengthens: bool) -> bool
+    requires some { lengthens ≡ true → 0 < length children.now }
+    requires depth { deepest ≡ greatest_depth children.now }
     ensures { IsTrue result ↔ (most_depth < depth_when lengthens children.now) }
 {
-    depth_over(children, lengthens) > MOST_DEPTH
+    if deepest < MOST_DEPTH {
+        false
+    } else {
+        depth_over(children, lengthens) > MOST_DEPTH
+    }
 }
 
-/// The node of a reduction, which is not too deep.
+/// The node of a reduction, which is not too deep. The children are taken out of their vector.
 pub(crate) fn node_of(
     alloc: Global,
     setting: &ParseSetting,
     number: u32,
     lengthens: bool,
-    children: List<Node>,
+    children: &mut Vec<Node>,
     extent: u32,
     state: Option<u16>,
 ) -> Result<Node, AllocError>
     requires can { (left : ℕ) × (p : Production)
-        × CanReduce setting.now.productions number left p extent children
+        × CanReduce setting.now.productions number left p extent children.old.items
         × (lengthens_by (form_of setting.now.productions left number) ≡ lengthens) }
-    requires shallow { depth_when lengthens children ≤ most_depth }
+    requires shallow { depth_when lengthens children.old.items ≤ most_depth }
     ensures node { IfOk result (λ node.
-        node ≡ reduced setting.now.productions number extent state children) }
+        node ≡ reduced setting.now.productions number extent state children.old.items) }
     ensures shallow { IfOk result (λ node. tree_depth node ≤ most_depth) }
 {
     laws_hold();

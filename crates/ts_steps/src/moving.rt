@@ -48,6 +48,7 @@ fn choice_of(actions: &[Action]) -> Choice
 }
 
 /// Does the only action on the token that the stack sees.
+#[inline(always)]
 fn act(
     alloc: Global,
     table: &Table,
@@ -92,6 +93,7 @@ fn act(
 }
 
 /// Does what the token that the stack sees asks for.
+#[inline(always)]
 fn follow(
     alloc: Global,
     table: &Table,
@@ -125,6 +127,7 @@ fn follow(
 }
 
 /// Does what the stack asks for by what it sees.
+#[inline(always)]
 pub(crate) fn go_on(
     alloc: Global,
     table: &Table,

@@ -16,7 +16,7 @@ ghost use Rattle.ts_steps.specs.Heads.{AreStatesOf, IsOwnHead, StandOnHead, IsMo
 ghost use Rattle.ts_steps.specs.Reducing.{IsNodePut};
 
 use crate::ahead::TokenAhead;
-use crate::gathering::{Gathered, gather};
+use crate::gathering::{Gathered, gather_for};
 use crate::head::StackHead;
 use crate::laws::{laws_hold, sound_laws_hold};
 use crate::making::{is_too_deep, node_of};
@@ -152,14 +152,15 @@ pub fn reduce(
     let line = *setting.lines.get(number as usize);
     let Gathered {
         extras,
-        children,
+        mut children,
         extent,
         stated,
+        deepest,
         below,
-    } = gather(alloc, graph, head, line.steps, ahead.found.extent)?;
+    } = gather_for(alloc, graph, head, line.steps, ahead.found.extent, alone)?;
     let only = is_without_choice(ahead.only, stated, line.steps);
     let state = state_below(graph, below, only);
-    if is_too_deep(children.as_slice(), line.lengthens) {
+    if is_too_deep(children.as_slice(), deepest, line.lengthens) {
         return Ok(None);
     }
     cut_alone(graph, below, alone);
@@ -168,10 +169,11 @@ pub fn reduce(
         setting,
         number,
         line.lengthens,
-        children,
+        &mut children,
         extent,
         state,
     )?;
+    graph.keep(children);
     let top = put(table, graph, below, line.left, node, extras.as_slice())?;
     Ok(Some(StackHead {
         top,

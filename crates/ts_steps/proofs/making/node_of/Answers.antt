@@ -7,19 +7,19 @@ use Rattle.ts_steps.proofs.making.node_of.Goals as goal
 pub reduce-requires-clause-fits : goal.reduce-requires-clause-fits
 reduce-requires-clause-fits c =
     let k = c.requires.can in
-    fits c.laws_hold.ensures c.args.setting.now.productions c.args.number k.0 k.1 c.args.extent c.args.children k.2
+    fits c.laws_hold.ensures c.args.setting.now.productions c.args.number k.0 k.1 c.args.extent c.args.children.now.items k.2
 
 pub reduce-requires-clause-node : goal.reduce-requires-clause-node
 reduce-requires-clause-node c =
     let k = c.requires.can in
-    let d = reduced_depth c.laws_hold.ensures c.args.setting.now.productions c.args.number k.0 k.1 c.args.extent c.args.state c.args.lengthens c.args.children k.2 k.3 in
+    let d = reduced_depth c.laws_hold.ensures c.args.setting.now.productions c.args.number k.0 k.1 c.args.extent c.args.state c.args.lengthens c.args.children.now.items k.2 k.3 in
     let low = c.requires.shallow in
-    (reduced_good c.laws_hold.ensures c.args.setting.now.productions c.args.number k.0 k.1 c.args.extent c.args.state c.args.children k.2 (omega (arith, d, low))).0.node
+    (reduced_good c.laws_hold.ensures c.args.setting.now.productions c.args.number k.0 k.1 c.args.extent c.args.state c.args.children.now.items k.2 (omega (arith, d, low))).0.node
 
 pub returns-clause-shallow : goal.returns-clause-shallow
 returns-clause-shallow c =
     let k = c.requires.can in
-    let d = reduced_depth c.laws_hold.ensures c.args.setting.now.productions c.args.number k.0 k.1 c.args.extent c.args.state c.args.lengthens c.args.children k.2 k.3 in
+    let d = reduced_depth c.laws_hold.ensures c.args.setting.now.productions c.args.number k.0 k.1 c.args.extent c.args.state c.args.lengthens c.args.children.now.items k.2 k.3 in
     let low = c.requires.shallow in
     let same = ap tree_depth c.in_ok-node.ensures in
     omega (arith, d, low, same)

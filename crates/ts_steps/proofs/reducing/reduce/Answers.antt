@@ -1,13 +1,14 @@
 use Rattle.std.proofs.Common.{◌≡◌, ◌∙◌, sym, ap, subst, ℕ, ◌+◌, ◌<◌, ◌++◌, ◌∷◌, List, length, reverse, arith}
 use Rattle.spec_trees.specs.declared.tree.Tree.{Tree}
 use Rattle.ts_gss.specs.declared.layer.Layer.{Layer}
-use Rattle.spec_trees.specs.Trees.{span_of, all_spans}
+use Rattle.spec_trees.specs.Trees.{span_of, all_spans, greatest_depth}
 use Rattle.ts_gss.specs.Stacks.{stack_at, trees_on, state_on}
 use Rattle.ts_steps.specs.LiveHeads.{read_on, IsGoodStack, CanPut, GainsStacks}
 use Rattle.ts_steps.proofs.StackLemmas.{grows_none}
 use Rattle.spec_trees.specs.Made.{most_depth}
 use Rattle.ts_steps.specs.Making.{depth_when}
-use Rattle.ts_steps.proofs.MakingLemmas.{some_lengthened}
+use Rattle.ts_steps.specs.Heads.{state_where}
+use Rattle.ts_steps.proofs.MakingLemmas.{some_lengthened, deep_some}
 use Rattle.ts_steps.proofs.PutLemmas.{enough, stands, stands_still, can_reduce}
 use Rattle.ts_steps.proofs.MadeLemmas.{line_there, line_at, small_at, can_at, made_is, made_deep}
 use Rattle.ts_steps.proofs.ReduceLemmas.{without, state_has, done_none, done_some, done_own, done_put, done_stands}
@@ -17,16 +18,21 @@ pub get-line-requires : goal.get-line-requires
 get-line-requires c =
     line_there c.args.table.now c.args.setting.now.size c.args.setting.now c.requires.setting c.args.number (read_on c.args.graph.now c.args.head) (c.laws_hold.ensures.reduces c.args.table.now.grammar (read_on c.args.graph.now c.args.head) c.requires.stays.0 c.args.number c.requires.stays.1)
 
-pub gather-requires-clause-enough : goal.gather-requires-clause-enough
-gather-requires-clause-enough c =
+pub gather_for-requires-clause-enough : goal.gather_for-requires-clause-enough
+gather_for-requires-clause-enough c =
     enough c.laws_hold.ensures c.args.table.now c.args.setting.now.size c.args.number c.requires.stays.0 c.args.graph.now c.args.head c.get-line.result.now c.requires.stays.1
     (line_at c.args.table.now c.args.setting.now.size c.args.setting.now c.requires.setting c.args.number c.get-line.result.now c.get-line.ensures) (small_at c.args.table.now c.args.setting.now.size c.args.setting.now c.requires.setting c.args.number c.values_are_small.ensures)
 
-pub gather-requires-clause-live : goal.gather-requires-clause-live
-gather-requires-clause-live c = (c.args.table.now, c.args.setting.now.size, c.requires.setting.short, c.requires.live.live, c.requires.ahead)
+pub gather_for-requires-clause-live : goal.gather_for-requires-clause-live
+gather_for-requires-clause-live c = (c.args.table.now, c.args.setting.now.size, c.requires.setting.short, c.requires.live.live, c.requires.ahead)
 
-pub is_too_deep-requires : goal.is_too_deep-requires
-is_too_deep-requires c lengthens =
+pub is_too_deep-requires-clause-depth : goal.is_too_deep-requires-clause-depth
+is_too_deep-requires-clause-depth c =
+    let all = c.in_ok-extras.ensures.gathered c.args.table.now c.args.setting.now.size c.requires.live.live c.requires.ahead in
+    all.depth ∙ sym (ap greatest_depth c.as_slice.ensures.value)
+
+pub is_too_deep-requires-clause-some : goal.is_too_deep-requires-clause-some
+is_too_deep-requires-clause-some c lengthens =
     let t = c.args.table.now in
     let s = c.args.setting.now in
     let old = c.args.graph.now in
@@ -35,11 +41,11 @@ is_too_deep-requires c lengthens =
     let line = line_at t s.size s c.requires.setting c.args.number l c.get-line.ensures in
     let small = small_at t s.size s c.requires.setting c.args.number c.values_are_small.ensures in
     let gat = (c.in_ok-extras.ensures.gathered t s.size c.requires.live.live c.requires.ahead).gathered in
-    let children = c.in_ok-extras.field-0.children in
+    let children = c.in_ok-extras.field-0.children.items in
     let extent = c.in_ok-extras.field-0.extent in
     let can = can_reduce c.laws_hold.ensures t s.size c.args.number c.requires.stays.0 old h l c.requires.stays.1 line small c.in_ok-extras.field-0.extras.items children extent (stack_at old c.in_ok-extras.field-0.below) gat
     c.stands.ensures c.requires.setting.short in
-    subst (λ (ts : List Tree). 0 < length ts) (sym c.as_slice.ensures) (some_lengthened c.laws_hold.ensures t.grammar c.args.number l.left.0 line.production extent l.lengthens children can line.lengthens lengthens)
+    subst (λ (ts : List Tree). 0 < length ts) (sym c.as_slice.ensures.value) (some_lengthened c.laws_hold.ensures t.grammar c.args.number l.left.0 line.production extent l.lengthens children can line.lengthens lengthens)
 
 pub node_of-requires-clause-can : goal.node_of-requires-clause-can
 node_of-requires-clause-can c =
@@ -51,7 +57,7 @@ node_of-requires-clause-can c =
     let line = line_at t s.size s c.requires.setting c.args.number l c.get-line.ensures in
     let small = small_at t s.size s c.requires.setting c.args.number c.values_are_small.ensures in
     let gat = (c.in_ok-extras.ensures.gathered t s.size c.requires.live.live c.requires.ahead).gathered in
-    let children = c.in_ok-extras.field-0.children in
+    let children = c.in_ok-extras.field-0.children.items in
     let extent = c.in_ok-extras.field-0.extent in
     let can = can_reduce c.laws_hold.ensures t s.size c.args.number c.requires.stays.0 old h l c.requires.stays.1 line small c.in_ok-extras.field-0.extras.items children extent (stack_at old c.in_ok-extras.field-0.below) gat
     c.stands.ensures c.requires.setting.short in
@@ -60,7 +66,7 @@ node_of-requires-clause-can c =
 pub node_of-requires-clause-shallow : goal.node_of-requires-clause-shallow
 node_of-requires-clause-shallow c =
     let l = c.get-line.result.now in
-    let same = ap (depth_when l.lengthens) c.as_slice.ensures in
+    let same = ap (depth_when l.lengthens) c.as_slice.ensures.value in
     let not_deep = c.is_too_deep.ensures in
     let is = c.if-is_too_deep.false in
     grind arith
@@ -75,8 +81,8 @@ put-requires-clause-stands c =
     let line = line_at t s.size s c.requires.setting c.args.number l c.get-line.ensures in
     let small = small_at t s.size s c.requires.setting c.args.number c.values_are_small.ensures in
     let gat = (c.in_ok-extras.ensures.gathered t s.size c.requires.live.live c.requires.ahead).gathered in
-    let before = stands c.laws_hold.ensures t s.size c.args.number c.requires.stays.0 old h l c.requires.stays.1 line small c.in_ok-extras.field-0.extras.items c.in_ok-extras.field-0.children c.in_ok-extras.field-0.extent (stack_at old c.in_ok-extras.field-0.below) gat in
-    stands_still t l.left.0 (stack_at old c.in_ok-extras.field-0.below) (stack_at c.cut_alone.new.graph c.in_ok-extras.field-0.below) c.cut_alone.ensures.stack (s.size, _, gat.base, before)
+    let before = stands c.laws_hold.ensures t s.size c.args.number c.requires.stays.0 old h l c.requires.stays.1 line small c.in_ok-extras.field-0.extras.items c.in_ok-extras.field-0.children.items c.in_ok-extras.field-0.extent (stack_at old c.in_ok-extras.field-0.below) gat in
+    stands_still t l.left.0 (stack_at old c.in_ok-extras.field-0.below) (stack_at c.keep.new.self c.in_ok-extras.field-0.below) (ap (λ (s : List (List Layer)). stack_at s c.in_ok-extras.field-0.below) c.keep.ensures ∙ c.cut_alone.ensures.stack ∙ c.in_ok-extras.ensures.stack) (s.size, _, gat.base, before)
 
 pub returns-then-is_too_deep-clause-done : goal.returns-then-is_too_deep-clause-done
 returns-then-is_too_deep-clause-done c =
@@ -89,13 +95,13 @@ returns-then-is_too_deep-clause-done c =
     let small = small_at t s.size s c.requires.setting c.args.number c.values_are_small.ensures in
     let all = c.in_ok-extras.ensures.gathered t s.size c.requires.live.live c.requires.ahead in
     let extras = c.in_ok-extras.field-0.extras.items in
-    let children = c.in_ok-extras.field-0.children in
+    let children = c.in_ok-extras.field-0.children.items in
     let extent = c.in_ok-extras.field-0.extent in
     let below = stack_at old c.in_ok-extras.field-0.below in
     let state = c.state_below-state.result in
     let can = can_reduce c.laws_hold.ensures t s.size c.args.number c.requires.stays.0 old h l c.requires.stays.1 line small extras children extent below all.gathered c.stands.ensures c.requires.setting.short in
-    let deep : most_depth < depth_when l.lengthens children = subst (λ (ts : List Tree). most_depth < depth_when l.lengthens ts) c.as_slice.ensures (c.is_too_deep.ensures.0 c.if-is_too_deep.true) in
-    done_none c.laws_hold.ensures t s.size c.args.number c.requires.stays.0 old h l c.requires.stays.1 line small extras children extent below all.gathered c.stands.ensures c.requires.setting.short state old
+    let deep : most_depth < depth_when l.lengthens children = subst (λ (ts : List Tree). most_depth < depth_when l.lengthens ts) c.as_slice.ensures.value (c.is_too_deep.ensures.0 c.if-is_too_deep.true) in
+    done_none c.laws_hold.ensures t s.size c.args.number c.requires.stays.0 old h l c.requires.stays.1 line small extras children extent below all.gathered c.stands.ensures c.requires.setting.short state c.gather_for.new.graph
     (made_deep t s.size s c.requires.setting c.args.number extent state children c.laws_hold.ensures l line.production can line deep)
 
 pub returns-clause-done : goal.returns-clause-done
@@ -109,7 +115,7 @@ returns-clause-done c =
     let small = small_at t s.size s c.requires.setting c.args.number c.values_are_small.ensures in
     let all = c.in_ok-extras.ensures.gathered t s.size c.requires.live.live c.requires.ahead in
     let extras = c.in_ok-extras.field-0.extras.items in
-    let children = c.in_ok-extras.field-0.children in
+    let children = c.in_ok-extras.field-0.children.items in
     let extent = c.in_ok-extras.field-0.extent in
     let below = stack_at old c.in_ok-extras.field-0.below in
     let state = c.state_below-state.result in
@@ -119,10 +125,10 @@ returns-clause-done c =
     let top = c.in_ok-top.top in
     let new = c.put.new.graph in
     let trees : trees_on (stack_at new top) ≡ reverse extras ++ u ∷ trees_on below =
-    c.in_ok-top.ensures.trees ∙ ap (λ (x : List Layer). reverse c.as_slice-2.result.now ++ u ∷ trees_on x) c.cut_alone.ensures.stack ∙ ap (λ (es : List Tree). reverse es ++ u ∷ trees_on below) slice in
+    c.in_ok-top.ensures.trees ∙ ap (λ (x : List Layer). reverse c.as_slice-2.result.now ++ u ∷ trees_on x) (ap (λ (s : List (List Layer)). stack_at s c.in_ok-extras.field-0.below) c.keep.ensures ∙ c.cut_alone.ensures.stack ∙ c.in_ok-extras.ensures.stack) ∙ ap (λ (es : List Tree). reverse es ++ u ∷ trees_on below) slice in
     let good : (place : ℕ) → IsGoodStack t s.size below place → CanPut t s.size place l.left.0 u extras → IsGoodStack t s.size (stack_at new top) (place + (span_of u + all_spans extras)) = λ place base can.
     subst (λ (es : List Tree). IsGoodStack t s.size (stack_at new top) (place + (span_of u + all_spans es))) slice
-    (c.in_ok-top.ensures.good s.size place (subst (λ (x : List Layer). IsGoodStack t s.size x place) (sym c.cut_alone.ensures.stack) base) (subst (λ (es : List Tree). CanPut t s.size place l.left.0 u es) (sym slice) can)) in
+    (c.in_ok-top.ensures.good s.size place (subst (λ (x : List Layer). IsGoodStack t s.size x place) (sym (ap (λ (s : List (List Layer)). stack_at s c.in_ok-extras.field-0.below) c.keep.ensures ∙ c.cut_alone.ensures.stack ∙ c.in_ok-extras.ensures.stack)) base) (subst (λ (es : List Tree). CanPut t s.size place l.left.0 u es) (sym slice) can)) in
     done_some c.laws_hold.ensures t s.size c.args.number c.requires.stays.0 old h l c.requires.stays.1 line small extras children extent below all.gathered c.stands.ensures c.requires.setting.short state u w.0 w.1 new top c.in_ok-top.ensures.there trees good
 
 pub returns-clause-live : goal.returns-clause-live
@@ -136,7 +142,7 @@ returns-clause-live c =
     let small = small_at t s.size s c.requires.setting c.args.number c.values_are_small.ensures in
     let all = c.in_ok-extras.ensures.gathered t s.size c.requires.live.live c.requires.ahead in
     let extras = c.in_ok-extras.field-0.extras.items in
-    let children = c.in_ok-extras.field-0.children in
+    let children = c.in_ok-extras.field-0.children.items in
     let extent = c.in_ok-extras.field-0.extent in
     let below = stack_at old c.in_ok-extras.field-0.below in
     let state = c.state_below-state.result in
@@ -146,10 +152,10 @@ returns-clause-live c =
     let top = c.in_ok-top.top in
     let new = c.put.new.graph in
     let trees : trees_on (stack_at new top) ≡ reverse extras ++ u ∷ trees_on below =
-    c.in_ok-top.ensures.trees ∙ ap (λ (x : List Layer). reverse c.as_slice-2.result.now ++ u ∷ trees_on x) c.cut_alone.ensures.stack ∙ ap (λ (es : List Tree). reverse es ++ u ∷ trees_on below) slice in
+    c.in_ok-top.ensures.trees ∙ ap (λ (x : List Layer). reverse c.as_slice-2.result.now ++ u ∷ trees_on x) (ap (λ (s : List (List Layer)). stack_at s c.in_ok-extras.field-0.below) c.keep.ensures ∙ c.cut_alone.ensures.stack ∙ c.in_ok-extras.ensures.stack) ∙ ap (λ (es : List Tree). reverse es ++ u ∷ trees_on below) slice in
     let good : (place : ℕ) → IsGoodStack t s.size below place → CanPut t s.size place l.left.0 u extras → IsGoodStack t s.size (stack_at new top) (place + (span_of u + all_spans extras)) = λ place base can.
     subst (λ (es : List Tree). IsGoodStack t s.size (stack_at new top) (place + (span_of u + all_spans es))) slice
-    (c.in_ok-top.ensures.good s.size place (subst (λ (x : List Layer). IsGoodStack t s.size x place) (sym c.cut_alone.ensures.stack) base) (subst (λ (es : List Tree). CanPut t s.size place l.left.0 u es) (sym slice) can)) in
+    (c.in_ok-top.ensures.good s.size place (subst (λ (x : List Layer). IsGoodStack t s.size x place) (sym (ap (λ (s : List (List Layer)). stack_at s c.in_ok-extras.field-0.below) c.keep.ensures ∙ c.cut_alone.ensures.stack ∙ c.in_ok-extras.ensures.stack)) base) (subst (λ (es : List Tree). CanPut t s.size place l.left.0 u es) (sym slice) can)) in
     done_own c.laws_hold.ensures t s.size c.args.number c.requires.stays.0 old h l c.requires.stays.1 line small extras children extent below all.gathered c.stands.ensures c.requires.setting.short state u w.0 w.1 new top c.in_ok-top.ensures.there trees good c.requires.live.own c.requires.live.made
 
 pub returns-clause-put : goal.returns-clause-put
@@ -163,7 +169,7 @@ returns-clause-put c =
     let small = small_at t s.size s c.requires.setting c.args.number c.values_are_small.ensures in
     let all = c.in_ok-extras.ensures.gathered t s.size c.requires.live.live c.requires.ahead in
     let extras = c.in_ok-extras.field-0.extras.items in
-    let children = c.in_ok-extras.field-0.children in
+    let children = c.in_ok-extras.field-0.children.items in
     let extent = c.in_ok-extras.field-0.extent in
     let below = stack_at old c.in_ok-extras.field-0.below in
     let state = c.state_below-state.result in
@@ -173,12 +179,12 @@ returns-clause-put c =
     let top = c.in_ok-top.top in
     let new = c.put.new.graph in
     let trees : trees_on (stack_at new top) ≡ reverse extras ++ u ∷ trees_on below =
-    c.in_ok-top.ensures.trees ∙ ap (λ (x : List Layer). reverse c.as_slice-2.result.now ++ u ∷ trees_on x) c.cut_alone.ensures.stack ∙ ap (λ (es : List Tree). reverse es ++ u ∷ trees_on below) slice in
+    c.in_ok-top.ensures.trees ∙ ap (λ (x : List Layer). reverse c.as_slice-2.result.now ++ u ∷ trees_on x) (ap (λ (s : List (List Layer)). stack_at s c.in_ok-extras.field-0.below) c.keep.ensures ∙ c.cut_alone.ensures.stack ∙ c.in_ok-extras.ensures.stack) ∙ ap (λ (es : List Tree). reverse es ++ u ∷ trees_on below) slice in
     let good : (place : ℕ) → IsGoodStack t s.size below place → CanPut t s.size place l.left.0 u extras → IsGoodStack t s.size (stack_at new top) (place + (span_of u + all_spans extras)) = λ place base can.
     subst (λ (es : List Tree). IsGoodStack t s.size (stack_at new top) (place + (span_of u + all_spans es))) slice
-    (c.in_ok-top.ensures.good s.size place (subst (λ (x : List Layer). IsGoodStack t s.size x place) (sym c.cut_alone.ensures.stack) base) (subst (λ (es : List Tree). CanPut t s.size place l.left.0 u es) (sym slice) can)) in
+    (c.in_ok-top.ensures.good s.size place (subst (λ (x : List Layer). IsGoodStack t s.size x place) (sym (ap (λ (s : List (List Layer)). stack_at s c.in_ok-extras.field-0.below) c.keep.ensures ∙ c.cut_alone.ensures.stack ∙ c.in_ok-extras.ensures.stack)) base) (subst (λ (es : List Tree). CanPut t s.size place l.left.0 u es) (sym slice) can)) in
     let with = without c.args.ahead.only c.in_ok-extras.field-0.stated c.is_without_choice-only.result l.steps children extras c.is_without_choice-only.ensures all.stated in
-    done_put c.laws_hold.ensures t s.size c.args.number c.requires.stays.0 old h l c.requires.stays.1 line small extras children extent below all.gathered c.stands.ensures c.requires.setting.short state u w.0 w.1 new top c.in_ok-top.ensures.there trees good c.args.ahead c.is_without_choice-only.result all.covers c.state_below-state.ensures with
+    done_put c.laws_hold.ensures t s.size c.args.number c.requires.stays.0 old h l c.requires.stays.1 line small extras children extent below all.gathered c.stands.ensures c.requires.setting.short state u w.0 w.1 new top c.in_ok-top.ensures.there trees good c.args.ahead c.is_without_choice-only.result all.covers (c.state_below-state.ensures ∙ ap (λ (x : List Layer). state_where c.is_without_choice-only.result (state_on x)) c.in_ok-extras.ensures.stack) with
 
 pub returns-clause-stand : goal.returns-clause-stand
 returns-clause-stand c states text long are ahead stand =
@@ -191,7 +197,7 @@ returns-clause-stand c states text long are ahead stand =
     let small = small_at t s.size s c.requires.setting c.args.number c.values_are_small.ensures in
     let all = c.in_ok-extras.ensures.gathered t s.size c.requires.live.live c.requires.ahead in
     let extras = c.in_ok-extras.field-0.extras.items in
-    let children = c.in_ok-extras.field-0.children in
+    let children = c.in_ok-extras.field-0.children.items in
     let extent = c.in_ok-extras.field-0.extent in
     let below = stack_at old c.in_ok-extras.field-0.below in
     let state = c.state_below-state.result in
@@ -201,16 +207,21 @@ returns-clause-stand c states text long are ahead stand =
     let top = c.in_ok-top.top in
     let new = c.put.new.graph in
     let trees : trees_on (stack_at new top) ≡ reverse extras ++ u ∷ trees_on below =
-    c.in_ok-top.ensures.trees ∙ ap (λ (x : List Layer). reverse c.as_slice-2.result.now ++ u ∷ trees_on x) c.cut_alone.ensures.stack ∙ ap (λ (es : List Tree). reverse es ++ u ∷ trees_on below) slice in
+    c.in_ok-top.ensures.trees ∙ ap (λ (x : List Layer). reverse c.as_slice-2.result.now ++ u ∷ trees_on x) (ap (λ (s : List (List Layer)). stack_at s c.in_ok-extras.field-0.below) c.keep.ensures ∙ c.cut_alone.ensures.stack ∙ c.in_ok-extras.ensures.stack) ∙ ap (λ (es : List Tree). reverse es ++ u ∷ trees_on below) slice in
     let good : (place : ℕ) → IsGoodStack t s.size below place → CanPut t s.size place l.left.0 u extras → IsGoodStack t s.size (stack_at new top) (place + (span_of u + all_spans extras)) = λ place base can.
     subst (λ (es : List Tree). IsGoodStack t s.size (stack_at new top) (place + (span_of u + all_spans es))) slice
-    (c.in_ok-top.ensures.good s.size place (subst (λ (x : List Layer). IsGoodStack t s.size x place) (sym c.cut_alone.ensures.stack) base) (subst (λ (es : List Tree). CanPut t s.size place l.left.0 u es) (sym slice) can)) in
+    (c.in_ok-top.ensures.good s.size place (subst (λ (x : List Layer). IsGoodStack t s.size x place) (sym (ap (λ (s : List (List Layer)). stack_at s c.in_ok-extras.field-0.below) c.keep.ensures ∙ c.cut_alone.ensures.stack ∙ c.in_ok-extras.ensures.stack)) base) (subst (λ (es : List Tree). CanPut t s.size place l.left.0 u es) (sym slice) can)) in
     let with = without c.args.ahead.only c.in_ok-extras.field-0.stated c.is_without_choice-only.result l.steps children extras c.is_without_choice-only.ensures all.stated in
     done_stands c.laws_hold.ensures t s.size c.args.number c.requires.stays.0 old h l c.requires.stays.1 line small extras children extent below all.gathered c.stands.ensures c.requires.setting.short state u w.0 w.1 new top c.in_ok-top.ensures.there trees good c.sound_laws_hold.ensures states text are c.args.ahead all.covers ahead
-    (λ n e. state_has c.args.ahead.only c.is_without_choice-only.result l.steps (state_on below) n state children extras c.state_below-state.ensures with e) stand
+    (λ n e. state_has c.args.ahead.only c.is_without_choice-only.result l.steps (state_on below) n state children extras (c.state_below-state.ensures ∙ ap (λ (x : List Layer). state_where c.is_without_choice-only.result (state_on x)) c.in_ok-extras.ensures.stack) with e) stand
 
 pub returns-then-is_too_deep-clause-grows : goal.returns-then-is_too_deep-clause-grows
-returns-then-is_too_deep-clause-grows c beside = grows_none c.args.graph.now
+returns-then-is_too_deep-clause-grows c beside = subst (λ (s : List (List Layer)). GainsStacks c.args.graph.now s) (sym (c.gather_for.ensures.kept beside)) (grows_none c.args.graph.now)
+
+pub returns-then-is_too_deep-clause-kept : goal.returns-then-is_too_deep-clause-kept
+returns-then-is_too_deep-clause-kept c none =
+    let deep = c.is_too_deep.ensures.0 c.if-is_too_deep.true in
+    c.in_ok-extras.ensures.deep (deep_some c.get-line.result.now.lengthens c.in_ok-extras.field-0.children.items (subst (λ (ts : List Tree). most_depth < depth_when c.get-line.result.now.lengthens ts) c.as_slice.ensures.value deep))
 
 pub returns-clause-grows : goal.returns-clause-grows
-returns-clause-grows c beside = subst (λ (s : List (List Layer)). GainsStacks s c.put.new.graph) (c.cut_alone.ensures.kept beside) c.in_ok-top.ensures.grows
+returns-clause-grows c beside = subst (λ (s : List (List Layer)). GainsStacks s c.put.new.graph) (c.keep.ensures ∙ c.cut_alone.ensures.kept beside ∙ c.gather_for.ensures.kept beside) c.in_ok-top.ensures.grows
