@@ -25,12 +25,7 @@ pub(crate) struct Lifted {
 }
 
 /// Lifts the layers of a stack down to one whose number is at most `from`.
-fn lift(
-    alloc: Global,
-    graph: &Graph,
-    from: usize,
-    head: StackHead,
-) -> Result<Lifted, AllocError>
+fn lift(alloc: Global, graph: &Graph, from: usize, head: StackHead) -> Result<Lifted, AllocError>
     requires there { head.top < length graph.now }
     requires spans { all_spans (trees_on (stack_at graph.now head.top)) ≡ head.place }
     ensures under { IfOk result (λ lifted. lifted.under < length graph.now) }

@@ -81,6 +81,13 @@ pub(crate) fn node_of(
 {
     node_laws_hold();
     let mut children = children.into_vec();
-    let node = reduce(alloc, &setting.productions, number, &mut children, extent, None)?;
+    let node = reduce(
+        alloc,
+        &setting.productions,
+        number,
+        &mut children,
+        extent,
+        None,
+    )?;
     Ok(node)
 }
