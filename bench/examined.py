@@ -5,15 +5,16 @@
 
 Builds a small program over `ts_glr`, `ts_marks` and `ts_offer` in a copy of the crates, which proves nothing of its
 own. PROGRAM is `crates/ts_cli/out/ts_cli` if none is given, which `./hemshale build` makes: it compiles the grammars.
-The texts are those of `bench/parse.py`. Each of EDITS edits, 1,000 if none is given, puts a digit in the place of
-another: in the middle of the text, or at places all over it. The tree is marked and the new text parsed with what the
-tree offers; the old text and tree are then let go.
+The texts are those of `bench/parse.py`. Each of EDITS edits, 4,000 if none is given, puts a digit in the place of
+another: in the middle of the text, or at places all over it; a fortieth of them where the text has choices. The tree is
+marked and the new text parsed with what the tree offers; the old text and tree are then let go.
 
 Printed for each text are the processor time of a whole parse, that of an edit, and what of it the copy of the text
-takes with the edit in it: the least of three runs, less that of a run without edits. And in bytes an edit: what the
-lexer examined; and what was needed, which is what was examined for each leaf that lies in nothing that was offered, and
-for the first leaf of each node that was. All that was offered counts as kept. Several stacks may lex one place, and the
-end of the text is lexed too. Printed too is how many elements were offered an edit.
+takes with the edit in it: the least of three runs, less that of a run without edits, which tells little beside so many
+edits. And in bytes an edit: what the lexer examined; and what was needed, which is what was examined for each leaf that
+lies in nothing that was offered, and for the first leaf of each node that was. All that was offered counts as kept.
+Several stacks may lex one place, and the end of the text is lexed too. Printed too is how many elements were offered an
+edit.
 """
 import subprocess
 import sys
@@ -405,16 +406,17 @@ fn main(rt: HostRuntime) -> io::Result<()> {
 """
 
 
+# Name, grammar, text, bytes, digits between two edits, and how many times fewer edits are made.
 CASES = [
-    ("nested JSON, 10 KB", "json", parse.nested, 10_000, 0),
-    ("nested JSON, 1 MB", "json", parse.nested, 1_000_000, 0),
-    ("flat list, 10 KB", "json", parse.flat, 10_000, 0),
-    ("flat list, 1 MB", "json", parse.flat, 1_000_000, 0),
-    ("nested JSON, 200 KB", "json", parse.nested, 200_000, 7919),
-    ("flat list, 200 KB", "json", parse.flat, 200_000, 7919),
-    ("C-like text, 200 KB", "clike", parse.settled, 200_000, 7919),
-    ("C-like text with choices, 200 KB", "clike", parse.clike, 200_000, 7919),
-    ("Lisp, 200 KB", "lisp", parse.lisp, 200_000, 7919),
+    ("nested JSON, 10 KB", "json", parse.nested, 10_000, 0, 1),
+    ("nested JSON, 1 MB", "json", parse.nested, 1_000_000, 0, 1),
+    ("flat list, 10 KB", "json", parse.flat, 10_000, 0, 1),
+    ("flat list, 1 MB", "json", parse.flat, 1_000_000, 0, 1),
+    ("nested JSON, 200 KB", "json", parse.nested, 200_000, 7919, 1),
+    ("flat list, 200 KB", "json", parse.flat, 200_000, 7919, 1),
+    ("C-like text, 200 KB", "clike", parse.settled, 200_000, 7919, 1),
+    ("C-like text with choices, 200 KB", "clike", parse.clike, 200_000, 7919, 40),
+    ("Lisp, 200 KB", "lisp", parse.lisp, 200_000, 7919, 1),
 ]
 
 
@@ -429,11 +431,12 @@ def least(program, *words):
 
 
 def main():
-    edits = int(sys.argv[1]) if len(sys.argv) > 1 else 1_000
+    most = int(sys.argv[1]) if len(sys.argv) > 1 else 4_000
     compiler = sys.argv[2] if len(sys.argv) > 2 else f"{TOP}/crates/ts_cli/out/ts_cli"
     with tempfile.TemporaryDirectory() as folder:
         program = built(trusting(copied(folder, NAME, BELOW, PROGRAM)))
-        for name, of, make, size, step in CASES:
+        for name, of, make, size, step, fewer in CASES:
+            edits = max(1, most // fewer)
             with open(f"{folder}/text", "w", encoding="utf-8") as out:
                 out.write(make(size).rstrip())
             open(f"{folder}/nothing", "w").close()
