@@ -71,6 +71,7 @@ fn first_of(graph: &Graph, live: &[StackHead]) -> usize
 }
 
 /// Takes out the head that goes on next.
+#[inline(always)]
 pub(crate) fn next_head(graph: &Graph, live: &mut Vec<StackHead>) -> Option<StackHead>
     requires { (t : ParseTable) × (size : ℕ) × OfEach (IsLiveHead t size graph.now) live.old.items }
     ensures { MatchOption result (live.old.items ≡ [])
@@ -156,6 +157,7 @@ fn kept_of(graph: &Graph, a: StackHead, b: StackHead) -> Option<StackHead>
 
 /// Joins a head with a live one, where one of the two may stand for the other, and tells whether
 /// there is such a one. The one that is kept then is in the live one's place.
+#[inline(always)]
 pub(crate) fn join(graph: &Graph, live: &mut Vec<StackHead>, head: StackHead) -> bool
     requires { (t : ParseTable) × (size : ℕ) × IsLiveHead t size graph.now head
         × OfEach (IsLiveHead t size graph.now) live.old.items }

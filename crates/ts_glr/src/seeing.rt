@@ -49,6 +49,7 @@ fn stays_valid(table: &Table, graph: &Graph, head: StackHead, token: Symbol) -> 
 }
 
 /// Keeps that a head behind a reduction sees the token before it, if some move stays on it there.
+#[inline(always)]
 pub(crate) fn note(
     table: &Table,
     graph: &Graph,
@@ -88,6 +89,7 @@ fn entry_at(seen: &[Seen], k: usize) -> Seen
 }
 
 /// The number of what a head is known to see.
+#[inline(always)]
 fn number_of(seen: &[Seen], head: StackHead) -> Option<usize>
     ensures { IfSome result (λ k. (k < length seen.now)
         × ((s : AnySeen) → slice_get seen.now k ≡ Some s → s.head ≡ head)) }
@@ -101,6 +103,7 @@ fn number_of(seen: &[Seen], head: StackHead) -> Option<usize>
 }
 
 /// Takes out what a head is known to see.
+#[inline(always)]
 fn recall(seen: &mut Vec<Seen>, head: StackHead) -> Option<FoundToken>
     ensures { MatchOption result (seen.new.items ≡ seen.old.items)
         (λ f. IsRecalled seen.old.items seen.new.items (record { head = head; found = f })) }
@@ -112,6 +115,7 @@ fn recall(seen: &mut Vec<Seen>, head: StackHead) -> Option<FoundToken>
 }
 
 /// What a head sees: the token that it is known to see, or what is lexed there.
+#[inline(always)]
 pub(crate) fn look_once<L: Tokens>(
     table: &Table,
     lexer: &mut L,
