@@ -193,7 +193,8 @@ impl Maker {
         for child in children.as_slice() {
             extent += child.pad() + child.size();
         }
-        reduce(alloc, &self.productions, number, children, extent + 1, None)
+        let mut children = children.into_vec();
+        reduce(alloc, &self.productions, number, &mut children, extent + 1, None)
     }
 
     fn one(&self, alloc: Global, number: u32, child: Node) -> Result<Node, AllocError> {
