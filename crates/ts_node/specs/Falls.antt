@@ -45,6 +45,7 @@ pub kind_falls : (k : Kind) → max (deep-Kind k) 0 ≤ 4 * node_count (node_tre
 kind_falls (kind.Leaf leaf) = omega arith
 kind_falls (kind.Rule body) = omega arith
 kind_falls (kind.Repetition body) = omega arith
+kind_falls (kind.Single body) = omega arith
 
 -- For proofs alone: the body of a rule's node is smaller than the node.
 pub body_falls : (b : RuleBody) → max (deep-RuleBody b) 0 ≤ 4 * node_count (body_of b)
@@ -57,6 +58,11 @@ body_falls (form.Many body) = omega (arith, fold_out-Tree ℕ nodes_step body)
 pub children_fall : (s : Summary) (ks : List Tree)
     → max (most (λ k. 4 * node_count k + 1 + 1) ks) 0 ≤ 4 * node_count (rule_tree s ks) - 1
 children_fall s ks = omega (arith, most_le ks, nodes_of_body s (Some s.production) [] ks)
+
+-- For proofs alone: the child of a repetition without a run is smaller than its node.
+pub single_falls : (s : Summary) (es : List Element) (ks : List Tree)
+    → max (most (λ k. 4 * node_count k + 1 + 1) ks) 0 ≤ 4 * node_count (body_tree s None es ks) - 1
+single_falls s es ks = omega (arith, most_le ks, nodes_of_body s None es ks)
 
 -- For proofs alone: the run of a repetition's node is smaller than the node.
 pub run_falls : (s : Summary) (run : Stretch)

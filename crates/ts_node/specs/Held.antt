@@ -92,12 +92,14 @@ abbrev pub node_tree : Kind → Tree
 node_tree (kind.Leaf leaf) = leaf_tree leaf
 node_tree (kind.Rule body) = body
 node_tree (kind.Repetition body) = body
+node_tree (kind.Single body) = body
 
 -- a leaf keeps this itself, the others by their types
 abbrev pub IsKeptLeaf : Kind → Type 0
 IsKeptLeaf (kind.Leaf leaf) = IsNode (leaf_tree leaf)
 IsKeptLeaf (kind.Rule body) = Unit {0}
 IsKeptLeaf (kind.Repetition body) = Unit {0}
+IsKeptLeaf (kind.Single body) = Unit {0}
 
 -- each node in a tree is one
 abbrev pub HoldsNodes : Tree → Type 0

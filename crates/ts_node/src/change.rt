@@ -38,6 +38,10 @@ pub fn remake(
         }),
         Kind::Rule(rule) => rule.remake(alloc, pad, size, changed, loose),
         Kind::Repetition(repetition) => repetition.get().remake(alloc, pad, size, changed, loose),
+        Kind::Single(single) => {
+            let repetition = single.get().repetition(alloc)?;
+            repetition.remake(alloc, pad, size, changed, loose)
+        }
     }
 }
 

@@ -22,6 +22,10 @@ impl Node {
                 fill(children, k)
             }
             Kind::Repetition(repetition) => repetition.get().run().get().fill(k),
+            Kind::Single(single) => {
+                let (elements, children) = single.get().lists();
+                fill_among(elements, children, k)
+            }
         }
     }
 }

@@ -35,6 +35,11 @@ impl Node {
                 let _ = repetition.get().run().get().counts();
                 NodeKind::Repetition
             }
+            Kind::Single(single) => {
+                let _ = single.get().summary();
+                let _ = single.get().lists();
+                NodeKind::Repetition
+            }
         }
     }
 }

@@ -18,6 +18,7 @@ mod run;
 mod section;
 mod settled;
 mod short;
+mod single;
 mod sums;
 
 pub use change::remake;

@@ -6,11 +6,13 @@ ghost use Rattle.spec_trees.specs.Trees.{children_of, elements_of, is_extra_node
 ghost use Rattle.spec_trees.specs.Made.{leaf_of, node_over, rule_node, first_element, next_element, accepted, reduced, made_by, most_span, IsNode, IsLeaf, Lengthens, FitsProduction};
 ghost use Rattle.spec_trees.specs.Made as made;
 ghost use Rattle.ts_node.specs.Entries.{form_is};
-ghost use Rattle.ts_node.specs.Held.{IsSum};
+ghost use Rattle.ts_node.specs.Held.{body_tree, IsSum, IsSummary};
 
 use crate::node::{Kind, Leaf, Node, Repetition, Run, Summary, Sums};
 use crate::productions::{Entry, Form, Productions};
 use crate::rule::RuleNode;
+use crate::short::ShortSummary;
+use crate::single::Single;
 use crate::sums::{copy, moved, narrowed, pad_of_first, plus, sums, totals, with_value};
 use spec_trees::Element;
 use std::alloc::{AllocError, Global};
@@ -64,6 +66,10 @@ impl Node {
             }
             Kind::Repetition(repetition) => {
                 let _ = repetition.get().run().get().counts();
+                unreachable!()
+            }
+            Kind::Single(single) => {
+                let _ = single.get().lists();
                 unreachable!()
             }
         }
@@ -205,16 +211,18 @@ fn first(
     alloc: Global,
     entry: Entry,
     alternative: u32,
-    children: List<Node>,
+    children: &mut Vec<Node>,
     extent: u32,
     state: Option<u16>,
 ) -> Result<Node, AllocError>
     requires { IsNode
-        (first_element entry.symbol.0 alternative entry.dynamic extent state children) }
+        (first_element entry.symbol.0 alternative entry.dynamic extent state children.old.items) }
     ensures { IfOk result (λ node. node
-        ≡ first_element entry.symbol.0 alternative entry.dynamic extent state children) }
+        ≡ first_element entry.symbol.0 alternative entry.dynamic extent state
+        children.old.items) }
 {
-    let total = totals(children.as_slice());
+    let sums = sums(children.as_slice());
+    let total = narrowed(sums.totals);
     let dynamic = with_value(entry.dynamic, total);
     let head = Head {
         symbol: entry.symbol,
@@ -223,8 +231,63 @@ fn first(
         state,
     };
     let element = added(entry, alternative, children.len() as u32, extent);
-    let run = Run::single(alloc, element, children)?;
-    over_run(alloc, head, run)
+    over_one(alloc, head, element, sums, children)
+}
+
+/// A repetition of one element over these children, of which this is added up. They are taken out
+/// of their vector.
+#[inline(always)]
+fn over_one(
+    alloc: Global,
+    head: Head,
+    element: Element,
+    sums: Sums,
+    children: &mut Vec<Node>,
+) -> Result<Node, AllocError>
+    requires own { element.children ≡ length children.old.items }
+    requires sums { IsSum sums children.old.items }
+    requires node { IsNode (node_over head.symbol.0 None head.dynamic head.extent head.state
+        (element ∷ []) children.old.items) }
+    ensures { IfOk result (λ node. node ≡ node_over head.symbol.0 None head.dynamic head.extent
+        head.state (element ∷ []) children.old.items) }
+{
+    let pad = pad_of_first(children.as_slice());
+    let summary = summary(head, 0, pad, 1, sums);
+    let node = of_one(alloc, summary, element, children)?;
+    Ok(node)
+}
+
+/// A repetition of one element over these children, of which the summary tells: in one piece of
+/// memory, where it is a single child and the numbers are small.
+#[inline(always)]
+fn of_one(
+    alloc: Global,
+    summary: Summary,
+    element: Element,
+    children: &mut Vec<Node>,
+) -> Result<Node, AllocError>
+    requires own { element.children ≡ length children.old.items }
+    requires wide { length children.old.items < 2 ^ 32 }
+    requires kept { IsSummary summary
+        (body_tree summary None (element ∷ []) children.old.items) }
+    ensures { IfOk result (λ node. node
+        ≡ body_tree summary None (element ∷ []) children.old.items) }
+{
+    match ShortSummary::of(summary) {
+        Some(short) if children.len() == 1 => {
+            let single = Single::new(alloc, short, element, children)?;
+            Ok(Node {
+                kind: Kind::Single(single),
+            })
+        }
+        Some(_) | None => {
+            let run = Run::single(alloc, element, moved(alloc, children)?)?;
+            let body = Shared::new(alloc, Repetition { summary, run })?;
+            Ok(Node {
+                kind: Kind::Repetition(body),
+            })
+        }
+    }
 }
 
 /// A repetition with one more element, where the first child is the repetition so far.
@@ -314,6 +377,10 @@ fn longer_run(
             let run = run_of(repetition)?;
             Run::with_element(alloc, run, element, more)
         }
+        Kind::Single(single) => {
+            let repetition = single.get().repetition(alloc)?;
+            Run::with_element(alloc, repetition.into_run(), element, more)
+        }
     }
 }
 
@@ -375,10 +442,7 @@ fn made(
 {
     match entry.form {
         Form::Rule => rule(alloc, entry, number, children, extent, state),
-        Form::First(alternative) => {
-            let children = moved(alloc, children)?;
-            first(alloc, entry, alternative, children, extent, state)
-        }
+        Form::First(alternative) => first(alloc, entry, alternative, children, extent, state),
         Form::Next(alternative) => next(alloc, entry, alternative, children, extent, state),
     }
 }
@@ -406,6 +470,10 @@ pub fn accept(
         Kind::Leaf(_) => unreachable!(),
         Kind::Repetition(repetition) => {
             let _ = repetition.get().run();
+            unreachable!()
+        }
+        Kind::Single(single) => {
+            let _ = single.get().lists();
             unreachable!()
         }
         Kind::Rule(rule) => {

@@ -5,6 +5,7 @@ ghost use Rattle.spec_trees.specs.Made.{AreCounted, IsNode, node_limit};
 ghost use Rattle.ts_node.specs.Held.{leaf_tree, extra_leaf, remade_leaf, stretch, stretch_of, joined_stretch, HoldsNodes, Tells};
 
 use crate::rule::RuleNode;
+use crate::single::Single;
 use spec_trees::Element;
 use std::alloc::AllocError;
 use std::marker::Model;
@@ -25,6 +26,7 @@ pub(crate) enum Kind {
     Leaf(Leaf),
     Rule(RuleNode),
     Repetition(Shared<Repetition>),
+    Single(Shared<Single>),
 }
 
 /// A node over a token.
@@ -348,6 +350,7 @@ impl Node {
             Kind::Leaf(leaf) => leaf.summary(),
             Kind::Rule(rule) => rule.summary(),
             Kind::Repetition(repetition) => repetition.get().summary(),
+            Kind::Single(single) => single.get().summary(),
         }
     }
 
@@ -363,6 +366,7 @@ impl Node {
             Kind::Leaf(leaf) => Kind::Leaf(*leaf),
             Kind::Rule(rule) => Kind::Rule(rule.try_clone()?),
             Kind::Repetition(repetition) => Kind::Repetition(repetition.try_clone()?),
+            Kind::Single(single) => Kind::Single(single.try_clone()?),
         };
         Ok(Node { kind })
     }
@@ -384,6 +388,10 @@ impl Node {
             Kind::Rule(rule) => Some(rule.production()),
             Kind::Repetition(repetition) => {
                 let _ = repetition.get().run();
+                None
+            }
+            Kind::Single(single) => {
+                let _ = single.get().lists();
                 None
             }
         }
@@ -466,6 +474,10 @@ impl Node {
                 let _ = repetition.get().summary();
                 false
             }
+            Kind::Single(single) => {
+                let _ = single.get().summary();
+                false
+            }
         }
     }
 
@@ -478,6 +490,10 @@ impl Node {
             Kind::Leaf(_) => 0,
             Kind::Rule(rule) => rule.children().len() as u32,
             Kind::Repetition(repetition) => repetition.get().run().get().counts().children,
+            Kind::Single(single) => {
+                let _ = single.get().lists();
+                1
+            }
         }
     }
 
@@ -491,6 +507,10 @@ impl Node {
             Kind::Leaf(_) => unreachable!(),
             Kind::Rule(rule) => &rule.children()[k as usize],
             Kind::Repetition(repetition) => repetition.get().run().get().child(k),
+            Kind::Single(single) => {
+                let (_, children) = single.get().lists();
+                &children[k as usize]
+            }
         }
     }
 
@@ -509,6 +529,10 @@ impl Node {
                 0
             }
             Kind::Repetition(repetition) => repetition.get().run().get().counts().elements,
+            Kind::Single(single) => {
+                let _ = single.get().lists();
+                1
+            }
         }
     }
 
@@ -525,6 +549,10 @@ impl Node {
                 unreachable!()
             }
             Kind::Repetition(repetition) => repetition.get().run().get().element(k),
+            Kind::Single(single) => {
+                let (elements, _) = single.get().lists();
+                elements[k as usize]
+            }
         }
     }
 }

@@ -25,6 +25,10 @@ impl Node {
                 0
             }
             Kind::Repetition(repetition) => repetition.get().run().get().settled_from(e),
+            Kind::Single(single) => {
+                let (elements, _) = single.get().lists();
+                settled_among(elements, e)
+            }
         }
     }
 
@@ -45,6 +49,11 @@ impl Node {
                 let _ = self.nodes();
                 repetition.get().run().get().bytes_before(e) as u32
             }
+            Kind::Single(single) => {
+                let _ = self.nodes();
+                let (elements, children) = single.get().lists();
+                bytes_among(elements, children, e as usize) as u32
+            }
         }
     }
 
@@ -62,6 +71,10 @@ impl Node {
                 0
             }
             Kind::Repetition(repetition) => repetition.get().run().get().children_before(e),
+            Kind::Single(single) => {
+                let (elements, _) = single.get().lists();
+                owned_before(elements, e as usize)
+            }
         }
     }
 
@@ -79,6 +92,10 @@ impl Node {
                 unreachable!()
             }
             Kind::Repetition(repetition) => repetition.get().run().get().last_by(offset as u64),
+            Kind::Single(single) => {
+                let (elements, children) = single.get().lists();
+                last_among(elements, children, offset as u64)
+            }
         }
     }
 
@@ -97,6 +114,10 @@ impl Node {
             }
             Kind::Repetition(repetition) => {
                 repetition.get().run().get().element_at(offset as u64)
+            }
+            Kind::Single(single) => {
+                let (elements, children) = single.get().lists();
+                element_among(elements, children, offset as u64)
             }
         }
     }

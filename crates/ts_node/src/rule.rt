@@ -388,7 +388,7 @@ fn last_of(nodes: &mut Vec<Node>) -> Node
 }
 
 /// Takes the only node out.
-fn one_of(nodes: &mut Vec<Node>) -> [Node; 1]
+pub(crate) fn one_of(nodes: &mut Vec<Node>) -> [Node; 1]
     requires { length nodes.old.items ≡ 1 }
     ensures { result ≡ nodes.old.items }
 {

@@ -103,6 +103,12 @@ impl Node {
                 let run = Run::behind(alloc, &first, from)?;
                 Ok(Section { run })
             }
+            Kind::Single(single) => {
+                let repetition = single.get().repetition(alloc)?;
+                let whole = Run::first(alloc, repetition.run(), to)?;
+                let run = Run::behind(alloc, &whole, from)?;
+                Ok(Section { run })
+            }
         }
     }
 }
@@ -155,5 +161,9 @@ fn joined_run(alloc: Global, before: &Node, more: &Section) -> Result<Shared<Run
             unreachable!()
         }
         Kind::Repetition(repetition) => Run::join(alloc, repetition.get().run(), &more.run),
+        Kind::Single(single) => {
+            let repetition = single.get().repetition(alloc)?;
+            Run::join(alloc, repetition.run(), &more.run)
+        }
     }
 }

@@ -30,6 +30,10 @@ impl Node {
             Kind::Repetition(repetition) => {
                 repetition.get().run().get().settled_within(e, room as u64)
             }
+            Kind::Single(single) => {
+                let (elements, children) = single.get().lists();
+                settled_behind(elements, children, e as usize, room as u64)
+            }
         }
     }
 }
