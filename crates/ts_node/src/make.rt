@@ -121,6 +121,7 @@ fn over(alloc: Global, head: Head, number: u32, children: List<Node>) -> Result<
 
 /// A node of a rule's production over these children, of which this is added up. They are taken out
 /// of their vector.
+#[inline(always)]
 fn over_summed(
     alloc: Global,
     head: Head,

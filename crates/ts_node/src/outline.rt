@@ -19,6 +19,7 @@ pub struct Outline {
 
 impl Node {
     /// What a reduction has to know of it as a child.
+    #[inline(always)]
     pub fn outline(&self) -> Outline
         ensures span { result.span ≡ span_of self.now }
         ensures extent { result.extent ≡ node_extent self.now }

@@ -66,6 +66,7 @@ pub(crate) struct Seen {
 }
 
 /// What is known of a node and of those behind it.
+#[inline(always)]
 fn with_those_behind(node: Outline, behind: Seen) -> Seen
     requires { node.span + behind.extent < 2 ^ 32 }
     ensures extent { result.extent ≡ max (node.span + behind.extent) node.extent }
@@ -81,6 +82,7 @@ fn with_those_behind(node: Outline, behind: Seen) -> Seen
 
 /// What is known of nodes one after another, where the text was looked at for so many bytes behind
 /// them.
+#[inline(always)]
 pub(crate) fn seen_over(nodes: &[Node], behind: u32) -> Seen
     requires { (limit start : ℕ) × (limit < 2 ^ 31) × EndBy limit start nodes.now
         × (start + (all_spans nodes.now + behind) ≤ limit) }
