@@ -3,6 +3,7 @@ pub mod BodyLemmas
 pub mod ElementLemmas
 pub mod FillLemmas
 pub mod FormLemmas
+pub mod InPlaceLemmas
 pub mod LeafLemmas
 pub mod LeavesLemmas
 pub mod LengthenLemmas

@@ -44,7 +44,7 @@ pub(crate) fn both(left: &Run, right: &Run) -> Counts
 }
 
 /// What is counted of two parts, one after the other, by what is counted of each.
-pub(crate) fn together(low: Counts, high: Counts) -> Counts
+fn together(low: Counts, high: Counts) -> Counts
     requires elements { low.elements + high.elements < 2 ^ 32 }
     requires children { low.children + high.children < 2 ^ 32 }
     requires values { unsigned_abs low.values + unsigned_abs high.values < 2 ^ 63 }
@@ -66,7 +66,7 @@ pub(crate) fn together(low: Counts, high: Counts) -> Counts
 }
 
 /// What is counted of one element over its children.
-pub(crate) fn counts_of_one(element: Element, children: &[Node]) -> Counts
+fn counts_of_one(element: Element, children: &[Node]) -> Counts
     requires wide { length children.now < 2 ^ 32 }
     requires own { element.children ≡ length children.now }
     ensures { IsCount result (stretch (element ∷ []) children.now) }
@@ -80,6 +80,18 @@ pub(crate) fn counts_of_one(element: Element, children: &[Node]) -> Counts
         reach: further(element.extent, sums.spans),
         sums,
     }
+}
+
+/// What is counted of elements with one more behind them, over these children.
+pub(crate) fn with_one(counts: Counts, element: Element, more: &[Node]) -> Counts
+    requires wide { length more.now < 2 ^ 32 }
+    requires own { element.children ≡ length more.now }
+    requires counted { (s : Stretch) × IsCount counts s × (length s.elements + 1 < 2 ^ 32)
+        × (length s.children + length more.now < 2 ^ 32) }
+    ensures { (s : Stretch) → IsCount counts s
+        → IsCount result (joined_stretch s (stretch (element ∷ []) more.now)) }
+{
+    together(counts, counts_of_one(element, more))
 }
 
 /// The extent, or so many bytes, where these are more.

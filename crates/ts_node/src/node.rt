@@ -1,8 +1,8 @@
 //! The node itself, and what it says of itself.
-ghost use Rattle.std.specs.Prelude.{◌≡◌, ◌<◌, IfOk, IfErr, false, length, slice_get, Some, None};
+ghost use Rattle.std.specs.Prelude.{◌≡◌, ◌<◌, IfOk, false, length, slice_get, Some, None};
 ghost use Rattle.spec_trees.specs.Trees.{symbol_of, production_of, pad_of, size_of, node_extent, state_of, total_of, is_settled, is_extra_node, children_of, elements_of, node_count, tree_depth};
 ghost use Rattle.spec_trees.specs.Made.{AreCounted, IsNode, node_limit};
-ghost use Rattle.ts_node.specs.Held.{leaf_tree, extra_leaf, remade_leaf, stretch, stretch_of, joined_stretch, HoldsNodes, Tells};
+ghost use Rattle.ts_node.specs.Held.{leaf_tree, extra_leaf, remade_leaf, HoldsNodes, Tells};
 
 use crate::rule::RuleNode;
 use crate::single::Single;
@@ -247,43 +247,6 @@ impl Repetition {
     {
         let Repetition { summary: _, run } = self;
         run
-    }
-}
-
-impl Run {
-    /// The elements and children of a leaf.
-    ///
-    /// # Errors
-    ///
-    /// Both parts of a branch.
-    pub(crate) fn into_leaf(self) -> Result<(List<Element>, List<Node>), (Shared<Run>, Shared<Run>)>
-        ensures leaf { IfOk result (λ parts. stretch parts.0 parts.1 ≡ self) }
-        ensures branch { IfErr result (λ parts. joined_stretch parts.0 parts.1 ≡ self) }
-    {
-        let Run {
-            counts: _,
-            height: _,
-            shape,
-        } = self;
-        shape.into_leaf()
-    }
-}
-
-impl Shape {
-    /// The elements and children of a leaf.
-    ///
-    /// # Errors
-    ///
-    /// Both parts of a branch.
-    fn into_leaf(self) -> Result<(List<Element>, List<Node>), (Shared<Run>, Shared<Run>)>
-        ensures leaf { IfOk result (λ parts. stretch parts.0 parts.1 ≡ stretch_of self) }
-        ensures branch { IfErr result
-            (λ parts. joined_stretch parts.0 parts.1 ≡ stretch_of self) }
-    {
-        match self {
-            Shape::Leaf(elements, children) => Ok((elements, children)),
-            Shape::Branch(left, right) => Err((left, right)),
-        }
     }
 }
 

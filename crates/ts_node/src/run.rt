@@ -1,15 +1,15 @@
 //! Runs: the elements of a repetition with their children, in a tree of shared parts that is
 //! balanced as an AVL tree is. Heights and balance are no part of what a run means.
-ghost use Rattle.std.specs.Prelude.{◌≡◌, ◌+◌, ◌<◌, ◌^◌, ◌++◌, ◌∷◌, [], IfOk, IfErr, OnOk, ℕ, length, set, slice_get, Some};
+ghost use Rattle.std.specs.Prelude.{◌≡◌, ◌+◌, ◌<◌, ◌≤◌, ◌^◌, ◌++◌, ◌∷◌, [], true, false, IfOk, IfErr, OnOk, OnErr, ℕ, length, set, slice_get, Some};
 ghost use Rattle.spec_trees.specs.declared.tree.Stretch.{Stretch};
 ghost use Rattle.spec_trees.specs.Trees.{first_pad};
 ghost use Rattle.spec_trees.specs.Made.{children_count, loose_element, loosened_at};
-ghost use Rattle.ts_node.specs.Held.{joined_stretch, stretch, changed, loosened_stretch, IsCount};
+ghost use Rattle.ts_node.specs.Held.{joined_stretch, stretch, stretch_of, changed, loosened_stretch, IsCount, HasNoEmptyPart};
 ghost use Rattle.ts_node.specs.Sides.{IsSideOf};
 
-use crate::counts::{both, count, counts_of_one, together};
+use crate::counts::{both, count, with_one};
 use crate::node::{Counts, Node, Run, Shape};
-use crate::sums::{appended, copy, moved};
+use crate::sums::{copy, moved};
 use spec_trees::Element;
 use std::alloc::{AllocError, Global};
 use ts_base::{List, Shared};
@@ -291,133 +291,58 @@ impl Run {
         ensures { IfOk result (λ new. new ≡ joined_stretch run
             (stretch (element ∷ []) more.old.items)) }
     {
-        match run.try_unwrap() {
-            Ok(run) => run.lengthened(alloc, element, more),
-            Err(run) => {
-                let last = Run::single(alloc, element, moved(alloc, more)?)?;
-                Run::with_leaf(alloc, &run, &last)
-            }
-        }
-    }
-
-    /// The run, which nobody else owns, with one more element of these children.
-    fn lengthened(
-        self,
-        alloc: Global,
-        element: Element,
-        more: &mut Vec<Node>,
-    ) -> Result<Shared<Run>, AllocError>
-        requires fits { length self.elements + 1 < 2 ^ 32 }
-        requires wide { length self.children + length more.old.items < 2 ^ 32 }
-        requires own { element.children ≡ length more.old.items }
-        ensures { IfOk result (λ run. run ≡ joined_stretch self
-            (stretch (element ∷ []) more.old.items)) }
-    {
-        let counts = self.counts();
-        match self.into_leaf() {
-            Ok((elements, children)) => {
-                if has_room_alone(counts, more.len()) {
-                    Run::leaf_lengthened(alloc, counts, elements, children, element, more)
-                } else {
-                    let leaf = Run::counted_leaf(alloc, counts, elements, children)?;
-                    let last = Run::single(alloc, element, moved(alloc, more)?)?;
-                    Run::branch(alloc, leaf, last)
-                }
-            }
-            Err((before, end)) => Run::end_lengthened(alloc, before, end, element, more),
-        }
-    }
-
-    /// A run over `before` and its last leaf, `end`, and one more element of these children behind.
-    fn end_lengthened(
-        alloc: Global,
-        before: Shared<Run>,
-        end: Shared<Run>,
-        element: Element,
-        more: &mut Vec<Node>,
-    ) -> Result<Shared<Run>, AllocError>
-        requires fits { length before.elements + length end.elements + 1 < 2 ^ 32 }
-        requires wide { length before.children + length end.children + length more.old.items
-            < 2 ^ 32 }
-        requires own { element.children ≡ length more.old.items }
-        ensures { IfOk result (λ new. new ≡ joined_stretch (joined_stretch before end)
-            (stretch (element ∷ []) more.old.items)) }
-    {
-        match Run::leaf_alone(end, more.len()) {
-            Ok(end) => {
-                let longer = end.last_lengthened(alloc, element, more)?;
-                Run::branch(alloc, before, longer)
-            }
-            Err(end) => {
-                let last = Run::single(alloc, element, moved(alloc, more)?)?;
-                Run::with_last(alloc, &before, &end, &last)
-            }
-        }
-    }
-
-    /// The leaf itself, where nobody else owns it and it has room for one more element of so many
-    /// children.
-    fn leaf_alone(run: Shared<Run>, children: usize) -> Result<Run, Shared<Run>>
-        requires { children < 2 ^ 32 }
-        ensures leaf { IfOk result (λ leaf. leaf ≡ run) }
-        ensures run { IfErr result (λ same. same ≡ run) }
-    {
-        if is_leaf(run.get()) && has_room_alone(run.get().counts(), children) {
-            run.try_unwrap()
+        let mut run = run;
+        if lengthen_alone(&mut run, element, more)? {
+            Ok(run)
         } else {
-            Err(run)
+            let last = Run::single(alloc, element, moved(alloc, more)?)?;
+            Run::with_leaf(alloc, &run, &last)
         }
     }
 
-    /// The last part of a run, which nobody else owns, with one more element of these children: in
-    /// the same leaf, where it is one.
-    fn last_lengthened(
-        self,
-        alloc: Global,
-        element: Element,
-        more: &mut Vec<Node>,
-    ) -> Result<Shared<Run>, AllocError>
-        requires fits { length self.elements + 1 < 2 ^ 32 }
-        requires wide { length self.children + length more.old.items < 2 ^ 32 }
+    /// Lengthens it in place by one more element of these children, where nobody else owns its last
+    /// leaf and this has room. Says whether it did.
+    #[tactic(auto, using(crate::proofs::InPlaceLemmas::whole_still, crate::proofs::InPlaceLemmas::whole_longer))]
+    fn lengthen(&mut self, element: Element, more: &mut Vec<Node>) -> Result<bool, AllocError>
+        requires fits { length self.old.elements + 1 < 2 ^ 32 }
+        requires wide { length self.old.children + length more.old.items < 2 ^ 32 }
         requires own { element.children ≡ length more.old.items }
-        ensures { IfOk result (λ run. run ≡ joined_stretch self
-            (stretch (element ∷ []) more.old.items)) }
+        ensures longer { IfOk result (λ done. done ≡ true → self.new
+            ≡ joined_stretch self.old (stretch (element ∷ []) more.old.items)) }
+        ensures same { IfOk result (λ done. done ≡ false → self.new ≡ self.old) }
+        ensures left { IfOk result (λ done. done ≡ false → more.new.items ≡ more.old.items) }
     {
-        let counts = self.counts();
-        match self.into_leaf() {
-            Ok((elements, children)) => {
-                Run::leaf_lengthened(alloc, counts, elements, children, element, more)
-            }
-            Err((before, end)) => {
-                let run = Run::branch(alloc, before, end)?;
-                let last = Run::single(alloc, element, moved(alloc, more)?)?;
-                Run::branch(alloc, run, last)
-            }
+        let counts = self.counts;
+        let longer = with_one(counts, element, more.as_slice());
+        if lengthen_end(&mut self.shape, counts, element, more)? {
+            self.counts = longer;
+            Ok(true)
+        } else {
+            Ok(false)
         }
     }
 
-    /// A leaf of these, of which this is counted, and one more element of these children at its
-    /// end.
-    fn leaf_lengthened(
-        alloc: Global,
-        counts: Counts,
-        elements: List<Element>,
-        children: List<Node>,
-        element: Element,
-        more: &mut Vec<Node>,
-    ) -> Result<Shared<Run>, AllocError>
-        requires counts { IsCount counts (stretch elements children) }
-        requires fits { length elements + 1 < 2 ^ 32 }
-        requires wide { length children + length more.old.items < 2 ^ 32 }
+    /// The same of a run that is a leaf.
+    #[tactic(auto, using(crate::proofs::InPlaceLemmas::whole_still, crate::proofs::InPlaceLemmas::whole_longer))]
+    fn lengthen_leaf(&mut self, element: Element, more: &mut Vec<Node>) -> Result<bool, AllocError>
+        requires fits { length self.old.elements + 1 < 2 ^ 32 }
+        requires wide { length self.old.children + length more.old.items < 2 ^ 32 }
         requires own { element.children ≡ length more.old.items }
-        ensures { IfOk result (λ run. run ≡ joined_stretch (stretch elements children)
-            (stretch (element ∷ []) more.old.items)) }
+        ensures longer { IfOk result (λ done. done ≡ true → self.new
+            ≡ joined_stretch self.old (stretch (element ∷ []) more.old.items)) }
+        ensures same { IfOk result (λ done. done ≡ false → self.new ≡ self.old) }
+        ensures left { IfOk result (λ done. done ≡ false → more.new.items ≡ more.old.items) }
+        ensures kept { IfErr result (λ e. self.new ≡ self.old) }
+        ensures grown { length self.old.elements ≤ length self.new.elements }
     {
-        let added = counts_of_one(element, more.as_slice());
-        let mut elements = elements;
-        elements.push(element)?;
-        let children = appended(children, more)?;
-        Run::counted_leaf(alloc, together(counts, added), elements, children)
+        let counts = self.counts;
+        let longer = with_one(counts, element, more.as_slice());
+        if lengthen_lists(&mut self.shape, counts, element, more)? {
+            self.counts = longer;
+            Ok(true)
+        } else {
+            Ok(false)
+        }
     }
 
     /// The run, and behind it one more leaf.
@@ -666,6 +591,173 @@ impl Run {
         let mut nodes = nodes.into_vec();
         nodes[k as usize] = child;
         Run::leaf(alloc, kept, List::from_vec(nodes))
+    }
+}
+
+/// Lengthens a run in place by one more element of these children, where nobody else owns it nor
+/// its last leaf, and this has room. Says whether it did.
+#[inline(always)]
+fn lengthen_alone(
+    run: &mut Shared<Run>,
+    element: Element,
+    more: &mut Vec<Node>,
+) -> Result<bool, AllocError>
+    requires fits { length run.old.elements + 1 < 2 ^ 32 }
+    requires wide { length run.old.children + length more.old.items < 2 ^ 32 }
+    requires own { element.children ≡ length more.old.items }
+    ensures longer { IfOk result (λ done. done ≡ true → run.new
+        ≡ joined_stretch run.old (stretch (element ∷ []) more.old.items)) }
+    ensures same { IfOk result (λ done. done ≡ false → run.new ≡ run.old) }
+    ensures left { IfOk result (λ done. done ≡ false → more.new.items ≡ more.old.items) }
+{
+    match run.get_mut() {
+        None => Ok(false),
+        Some(alone) => {
+            let done = alone.lengthen(element, more)?;
+            Ok(done)
+        }
+    }
+}
+
+/// The same of a run that is a leaf.
+#[inline(always)]
+fn lengthen_last(
+    leaf: &mut Shared<Run>,
+    element: Element,
+    more: &mut Vec<Node>,
+) -> Result<bool, AllocError>
+    requires fits { length leaf.old.elements + 1 < 2 ^ 32 }
+    requires wide { length leaf.old.children + length more.old.items < 2 ^ 32 }
+    requires own { element.children ≡ length more.old.items }
+    ensures longer { IfOk result (λ done. done ≡ true → leaf.new
+        ≡ joined_stretch leaf.old (stretch (element ∷ []) more.old.items)) }
+    ensures same { IfOk result (λ done. done ≡ false → leaf.new ≡ leaf.old) }
+    ensures left { IfOk result (λ done. done ≡ false → more.new.items ≡ more.old.items) }
+    ensures kept { IfErr result (λ e. leaf.new ≡ leaf.old) }
+    ensures grown { length leaf.old.elements ≤ length leaf.new.elements }
+{
+    match leaf.get_mut() {
+        None => Ok(false),
+        Some(alone) => {
+            let done = alone.lengthen_leaf(element, more)?;
+            Ok(done)
+        }
+    }
+}
+
+/// Lengthens what a run of these counts holds: a leaf, or the second part of a branch, where this
+/// is one.
+#[inline(always)]
+fn lengthen_end(
+    shape: &mut Shape,
+    counts: Counts,
+    element: Element,
+    more: &mut Vec<Node>,
+) -> Result<bool, AllocError>
+    requires fits { length (stretch_of shape.old).elements + 1 < 2 ^ 32 }
+    requires wide { length (stretch_of shape.old).children + length more.old.items < 2 ^ 32 }
+    requires own { element.children ≡ length more.old.items }
+    requires held { HasNoEmptyPart shape.old }
+    ensures longer { IfOk result (λ done. done ≡ true → stretch_of shape.new
+        ≡ joined_stretch (stretch_of shape.old) (stretch (element ∷ []) more.old.items)) }
+    ensures same { IfOk result (λ done. done ≡ false → stretch_of shape.new
+        ≡ stretch_of shape.old) }
+    ensures left { IfOk result (λ done. done ≡ false → more.new.items ≡ more.old.items) }
+    ensures kept { IfErr result (λ e. stretch_of shape.new ≡ stretch_of shape.old) }
+    ensures held { HasNoEmptyPart shape.new }
+{
+    match shape {
+        Shape::Leaf(elements, children) => {
+            let done = put_in_room(counts, elements, children, element, more)?;
+            Ok(done)
+        }
+        Shape::Branch(_, end) => {
+            let done = lengthen_last(end, element, more)?;
+            Ok(done)
+        }
+    }
+}
+
+/// Lengthens what a run of these counts holds, where it is a leaf.
+#[inline(always)]
+fn lengthen_lists(
+    shape: &mut Shape,
+    counts: Counts,
+    element: Element,
+    more: &mut Vec<Node>,
+) -> Result<bool, AllocError>
+    requires wide { length (stretch_of shape.old).children + length more.old.items < 2 ^ 32 }
+    requires held { HasNoEmptyPart shape.old }
+    ensures longer { IfOk result (λ done. done ≡ true → stretch_of shape.new
+        ≡ joined_stretch (stretch_of shape.old) (stretch (element ∷ []) more.old.items)) }
+    ensures same { IfOk result (λ done. done ≡ false → stretch_of shape.new
+        ≡ stretch_of shape.old) }
+    ensures left { IfOk result (λ done. done ≡ false → more.new.items ≡ more.old.items) }
+    ensures kept { IfErr result (λ e. stretch_of shape.new ≡ stretch_of shape.old) }
+    ensures held { HasNoEmptyPart shape.new }
+    ensures grown { length (stretch_of shape.old).elements
+        ≤ length (stretch_of shape.new).elements }
+{
+    match shape {
+        Shape::Leaf(elements, children) => {
+            let done = put_in_room(counts, elements, children, element, more)?;
+            Ok(done)
+        }
+        Shape::Branch(_, _) => Ok(false),
+    }
+}
+
+/// Puts an element behind those of a leaf of these counts, and its children behind theirs, where
+/// the leaf has room. Says whether it did.
+#[inline(always)]
+fn put_in_room(
+    leaf: Counts,
+    elements: &mut List<Element>,
+    children: &mut List<Node>,
+    element: Element,
+    more: &mut Vec<Node>,
+) -> Result<bool, AllocError>
+    requires { length more.old.items < 2 ^ 32 }
+    ensures elements { IfOk result (λ done. done ≡ true → elements.new
+        ≡ elements.old ++ element ∷ []) }
+    ensures children { IfOk result (λ done. done ≡ true → children.new
+        ≡ children.old ++ more.old.items) }
+    ensures same_elements { IfOk result (λ done. done ≡ false → elements.new ≡ elements.old) }
+    ensures same_children { IfOk result (λ done. done ≡ false → children.new ≡ children.old) }
+    ensures left { IfOk result (λ done. done ≡ false → more.new.items ≡ more.old.items) }
+    ensures kept_elements { IfErr result (λ e. elements.new ≡ elements.old) }
+    ensures kept_children { IfErr result (λ e. children.new ≡ children.old) }
+    ensures grown { length elements.old ≤ length elements.new }
+{
+    if !has_room_alone(leaf, more.len()) {
+        return Ok(false);
+    }
+    put(elements, children, element, more)?;
+    Ok(true)
+}
+
+/// Puts an element behind others, and its children behind theirs. Where memory runs out both lists
+/// are as before.
+#[inline(always)]
+#[tactic(auto, using(crate::proofs::InPlaceLemmas::popped))]
+fn put(
+    elements: &mut List<Element>,
+    children: &mut List<Node>,
+    element: Element,
+    more: &mut Vec<Node>,
+) -> Result<(), AllocError>
+    ensures elements { OnOk result (elements.new ≡ elements.old ++ element ∷ []) }
+    ensures children { OnOk result (children.new ≡ children.old ++ more.old.items) }
+    ensures kept_elements { OnErr result (elements.new ≡ elements.old) }
+    ensures kept_children { OnErr result (children.new ≡ children.old) }
+{
+    elements.push(element)?;
+    match children.append(more) {
+        Ok(()) => Ok(()),
+        Err(error) => {
+            let _ = elements.pop();
+            Err(error)
+        }
     }
 }
 

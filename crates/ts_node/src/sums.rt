@@ -132,12 +132,3 @@ pub(crate) fn moved(alloc: Global, nodes: &mut Vec<Node>) -> Result<List<Node>, 
     append(&mut all, nodes)?;
     Ok(List::from_vec(all))
 }
-
-/// The nodes, and behind them all of a vector, which are taken out of it.
-pub(crate) fn appended(nodes: List<Node>, more: &mut Vec<Node>) -> Result<List<Node>, AllocError>
-    ensures { IfOk result (λ all. all ≡ nodes ++ more.old.items) }
-{
-    let mut all = nodes.into_vec();
-    append(&mut all, more)?;
-    Ok(List::from_vec(all))
-}
