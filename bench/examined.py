@@ -194,12 +194,12 @@ fn put_children<'a>(
 }
 
 /// The places of digits behind a digit.
-fn digits(alloc: Global, bytes: &[u8]) -> Result<Vec<u32>, AllocError> {
+fn digits(alloc: Global, text: &Text) -> Result<Vec<u32>, AllocError> {
     trust();
     let mut found = Vec::new(alloc);
-    for at in 1..bytes.len() {
-        if bytes[at].is_ascii_digit() && bytes[at - 1].is_ascii_digit() {
-            found.push(at as u32)?;
+    for at in 1..text.len() {
+        if text.byte(at).is_ascii_digit() && text.byte(at - 1).is_ascii_digit() {
+            found.push(at)?;
         }
     }
     Ok(found)
@@ -301,7 +301,7 @@ fn edited(
     trust();
     let automaton = ts_automata::build(alloc, table.grammar())?;
     let mut lexer = Lexer::new(alloc, automaton, table)?;
-    let places = digits(alloc, text.as_bytes())?;
+    let places = digits(alloc, &text)?;
     let mut tally = Tally::default();
     let mut text = text;
     let Some(mut tree) = tree_in(parse_with(alloc, table, &mut lexer, &text, &mut Nothing)?) else {

@@ -68,7 +68,7 @@ fn lexed(table: &Table, lexer: &mut Lexer, text: &Text) -> Tally
     requires made { IsLexerOf lexer.old table.now }
     ensures made { IsLexerOf lexer.new table.now }
 {
-    let length = text.as_str().len() as u32;
+    let length = text.len();
     let mut tally = Tally::default();
     for _ in 0..length {
         let place = tally.end.min(length);

@@ -1,5 +1,5 @@
 -- The places that are tried, one after another.
-use Rattle.std.proofs.Common.{◌≡◌, sym, ap, refl, subst, ℕ, ◌+◌, ◌≤◌, ◌<◌, max, Bool, true, false, List, [], ◌∷◌, length, drop, encode_utf8_all, Option, Some, None, ◌⊎◌, inl, inr, length-drop, length-append, arith}
+use Rattle.std.proofs.Common.{◌≡◌, ◌∙◌, sym, ap, refl, subst, ℕ, zero, suc, ◌+◌, ◌≤◌, ◌<◌, max, Bool, IsTrue, ◌↔◌, true, false, List, [], ◌∷◌, length, drop, encode_utf8_all, Option, Some, None, ◌⊎◌, inl, inr, length-drop, length-append, arith}
 use Rattle.std.proofs.lemmas.List.Sums.{prefix_len-le-length}
 use Rattle.std.specs.List.{Contains}
 use Rattle.std.specs.Option.{MatchOption}
@@ -63,6 +63,11 @@ none_at g valid first rest (Some b) e h = cc
 pub empty_of : (bytes : Bytes) → length bytes ≡ 0 → bytes ≡ []
 empty_of [] e = refl
 empty_of (b ∷ bs) e = absurd (omega arith)
+
+-- something is left
+pub some_left : (b : Bool) (n : ℕ) → b ≡ false → IsTrue b ↔ (n ≡ 0) → 0 < n
+some_left b zero none tells = absurd (let e : false ≡ true = sym none ∙ tells.1 refl in cc)
+some_left b (suc n) none tells = omega arith
 
 one_within : (bytes : Bytes) → one_character bytes ≤ length bytes + 1
 one_within [] = omega arith

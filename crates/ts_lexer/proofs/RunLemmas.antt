@@ -17,6 +17,7 @@ use Rattle.ts_lexer.specs.declared.scanned.Progress.{Progress}
 use Rattle.ts_lexer.specs.declared.verdict.Verdict.{Verdict}
 use Rattle.ts_lexer.specs.Judged.{Wanted, Knows, PartWord}
 use Rattle.ts_lexer.specs.Scanned.{PartMatches, IsStep, Sofar}
+use Rattle.ts_lexer.specs.Runs.{Reading, Running}
 use Rattle.ts_lexer.proofs.FrontLemmas.{can_begin, begin_part}
 
 -- the laws of words and characters
@@ -30,20 +31,6 @@ pub record Laws : Type 0 where
   pub follows : (rest tail : Bytes) (u v : List ℕ) (c d n m : ℕ) → BeginsSpelled rest u n → drop n rest ≡ encode_utf8 c ++ tail → BeginsSpelled rest (u ++ d ∷ v) m → d ≡ c
   pub within : (rest : Bytes) (u : List ℕ) (n : ℕ) → BeginsSpelled rest u n → n ≤ length rest
   pub one : (c : ℕ) (more : Bytes) → IsScalar c → IsUtf8 more → one_character (encode_utf8 c ++ more) ≡ length (encode_utf8 c)
-
--- these characters have been read, and so many bytes
-pub record Reading (g : FlatGrammar) (valid : List Symbol) (rest tail : Bytes) (size : ℕ) (characters : List ℕ) : Type 0 where
-  pub begins : BeginsSpelled rest characters size
-  pub rest_is : drop size rest ≡ tail
-  pub utf8 : IsUtf8 tail
-  pub front : (characters ≡ []) ⊎ CanBegin g valid characters
-
--- what has been read and found so far, where `R` says of characters how they have been read
-pub record Running (R : List ℕ → Type 0) (g : FlatGrammar) (valid : List Symbol) (first : Bool) (rest tail : Bytes) (size : ℕ) (p : Progress) : Type 0 where
-  pub characters : List ℕ
-  pub read : R characters
-  pub reading : Reading g valid rest tail size characters
-  pub sofar : Sofar g valid first (PartMatches g rest) size p
 
 module _ (laws : Laws) (g : FlatGrammar) (valid : List Symbol) (first : Bool) (rest : Bytes) where
   can_prefix : (u v : List ℕ) → CanBegin g valid (u ++ v) → CanBegin g valid u

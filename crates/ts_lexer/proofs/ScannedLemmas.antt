@@ -21,9 +21,10 @@ use Rattle.ts_lexer.specs.Judged.{IsTokenPart, Offered, Wanted, IsPicked, IsPick
 use Rattle.ts_lexer.specs.Judged as judged
 use Rattle.ts_lexer.specs.declared.verdict.Verdict.{Verdict}
 use Rattle.ts_lexer.specs.Scanned.{PartMatches, IsFirstPlain, IsStep, Sofar, IsBetterMatch, IsScanned}
+use Rattle.ts_lexer.specs.Runs.{Reading, Running}
 use Rattle.ts_lexer.proofs.ChooseLemmas.{none_chosen, plain_best, keyword_best, both_best}
 use Rattle.ts_lexer.proofs.FrontLemmas.{part_of_separator}
-use Rattle.ts_lexer.proofs.RunLemmas.{Laws, Reading, Running, all_seen, reach_is, end_longest, end_far, step, dead_longest, far, read_more}
+use Rattle.ts_lexer.proofs.RunLemmas.{Laws, all_seen, reach_is, end_longest, end_far, step, dead_longest, far, read_more}
 
 -- what `chosen` says
 pub record Chosen (g : FlatGrammar) (p : Progress) (best : Option Match) : Type 0 where

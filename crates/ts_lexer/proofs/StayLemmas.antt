@@ -1,5 +1,5 @@
 -- Characters over which a set of nodes leads to itself: what is known of them is told at their end.
-use Rattle.std.proofs.Common.{◌≡◌, ◌∙◌, sym, subst, refl, ℕ, ◌+◌, ◌<◌, ◌≤◌, ◌⊎◌, inl, inr, ⊎_elim, Bool, true, List, ◌∷◌, [], ◌++◌, Some, ap, length, length-append, length-drop, drop, get_or, slice_get, arith}
+use Rattle.std.proofs.Common.{◌≡◌, ◌∙◌, sym, subst, refl, ℕ, ◌+◌, ◌<◌, ◌≤◌, ◌⊎◌, inl, inr, ⊎_elim, Bool, true, List, ◌∷◌, [], ◌++◌, Some, ap, append_assoc, length, length-append, length-drop, drop, get_or, slice_get, arith}
 use Rattle.std.specs.Char.{len_utf8}
 use Rattle.std.proofs.Math.Utf8.{encode}
 use Rattle.std.specs.Str.{IsUtf8}
@@ -17,8 +17,9 @@ use Rattle.ts_lexer.specs.declared.verdict.Verdict.{Verdict}
 use Rattle.ts_lexer.specs.Ahead.{AreVerdicts}
 use Rattle.ts_lexer.specs.Judged.{Knows, PartWord}
 use Rattle.ts_lexer.specs.Scanned.{PartMatches, IsStep, Sofar, Stays, unread, past}
+use Rattle.ts_lexer.specs.Runs.{Reading, Running}
 use Rattle.ts_lexer.proofs.KnowLemmas.{row_knows, same_words}
-use Rattle.ts_lexer.proofs.RunLemmas.{Laws, Reading, Running}
+use Rattle.ts_lexer.proofs.RunLemmas.{Laws}
 use Rattle.ts_lexer.proofs.ScannedLemmas.{scalar_of, step_on, read_on}
 
 -- characters have been read that lead to a set; what it says is not told of those behind the bound
@@ -39,6 +40,25 @@ ascii_len c small = ap (λ (l : Bytes). length l) (sym (encode_ascii c small)) �
 pub stays_utf8 : (m : SetTables) (set : ℕ) (text later : Bytes) → Stays m set text later → IsUtf8 text → IsUtf8 later
 stays_utf8 m set text later (unread t) utf8 = utf8
 stays_utf8 m set text later (past t tail after c stays spells on) utf8 = (scalar_of tail later c (stays_utf8 m set text tail stays utf8) spells).1
+
+-- a character that a piece begins with begins all that the piece begins
+pub spelled_before : (text later tail : Bytes) (c : ℕ) → text ≡ encode c ++ later → text ++ tail ≡ encode c ++ (later ++ tail)
+spelled_before text later tail c spells = ap (λ (l : Bytes). l ++ tail) spells ∙ append_assoc (encode c) later tail
+
+-- nor does it matter to what stays what follows the piece
+pub stays_before : (m : SetTables) (set : ℕ) (text later tail : Bytes) → Stays m set text later → Stays m set (text ++ tail) (later ++ tail)
+stays_before m set text later tail (unread t) = unread (text ++ tail)
+stays_before m set text later tail (past t before after c stays spells on) =
+    past (text ++ tail) (before ++ tail) (later ++ tail) c (stays_before m set text before tail stays) (spelled_before before later tail c spells) on
+
+-- what has been read and what is left of a piece are as many bytes at each place of it
+pub same_sum : (piece tail : Bytes) (size from to : ℕ) → from ≤ length piece → to ≤ length piece → size + to + length (drop to piece ++ tail) ≡ size + from + length (drop from piece ++ tail)
+same_sum piece tail size from to low high =
+    let a = length-append (drop to piece) tail in
+    let b = length-append (drop from piece) tail in
+    let d = length-drop to piece in
+    let e = length-drop from piece in
+    omega arith
 
 -- a character that is read at a place of a text ends in it, and what follows it is a text
 pub record Passes (rest : Bytes) (size len : ℕ) (later : Bytes) : Type 0 where

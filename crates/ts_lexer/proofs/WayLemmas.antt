@@ -1,5 +1,5 @@
 -- What is ready on each of the two ways.
-use Rattle.std.proofs.Common.{◌≡◌, ◌∙◌, sym, ap, refl, subst, ℕ, ◌<◌, List, length, Option, Some, None, get_or, slice_get}
+use Rattle.std.proofs.Common.{◌≡◌, ◌∙◌, sym, ap, refl, subst, ℕ, ◌<◌, Bool, List, length, Option, Some, None, get_or, slice_get}
 use Rattle.std.proofs.lemmas.Option.{slice_get_read}
 use Rattle.ts_core.specs.declared.flat.FlatGrammar.{FlatGrammar}
 use Rattle.ts_core.specs.declared.symbol.Symbol.{Symbol}
@@ -16,7 +16,17 @@ use Rattle.ts_lexer.specs.declared.ways.Way.{Way}
 use Rattle.ts_lexer.specs.declared.ways.Way.TheVariants.{Tables, Nodes}
 use Rattle.ts_lexer.specs.Ahead.{HasPair, IsReady}
 use Rattle.ts_lexer.specs.Views.{IsView}
-use Rattle.ts_lexer.specs.Ways.{AreTablesOf, AreNodesOf, IsWayOf, IsReadyOn, IsReadyFor, HasPairOn, HavePairsOn}
+use Rattle.ts_automata.specs.declared.walk.Walk.{Walk}
+use Rattle.ts_automata.specs.Machine.{HasRead, state_count}
+use Rattle.ts_automata.specs.Walks.{HasCome}
+use Rattle.ts_base.specs.Bytes.{Bytes}
+use Rattle.ts_lexer.specs.declared.scanned.Run.{Run}
+use Rattle.ts_lexer.specs.declared.scanned.Scanned.{Scanned}
+use Rattle.ts_lexer.specs.declared.scanned.Read.{Read}
+use Rattle.ts_lexer.specs.declared.scanned.Read.TheVariants.{Ended, Open}
+use Rattle.ts_lexer.specs.Scanned.{IsScanned}
+use Rattle.ts_lexer.specs.Runs.{IsRun, IsReadOn, IfOpen}
+use Rattle.ts_lexer.specs.Ways.{AreTablesOf, AreNodesOf, IsWayOf, IsReadyOn, IsReadyFor, HasPairOn, HavePairsOn, IsSetOn, LeadsOn}
 
 -- what was made of an automaton
 pub tables_read : (a : Automaton) (r : Reader) (m : SetTables) → r ≡ ReaderTables m → IsReader a r → m.automaton ≡ a
@@ -57,3 +67,54 @@ way_tables g way room t is h = subst (λ (w : Way). IsWayOf g w room) is h
 
 pub way_nodes : (g : FlatGrammar) (way : Way) (room : ℕ) (n : LexNodes) → way ≡ Nodes n → IsWayOf g way room → AreNodesOf g n room
 way_nodes g way room n is h = subst (λ (w : Way). IsWayOf g w room) is h
+
+-- ---- reading, on the way on which it is
+
+pub set_tables : (way : Way) (t : LexTables) → way ≡ Tables t → (set : ℕ) → IsSetOn way set → set < state_count t.machine
+set_tables way t is set h = subst (λ (w : Way). IsSetOn w set) is h
+
+pub on_tables : (way : Way) (t : LexTables) → way ≡ Tables t → (read : Read) → IfOpen read (λ (r : Run). r.state < state_count t.machine) → IfOpen read (λ (r : Run). IsSetOn way r.state)
+on_tables way t is read h = subst (λ (w : Way). IfOpen read (λ (r : Run). IsSetOn w r.state)) (sym is) h
+
+pub on_nodes : (way : Way) (n : LexNodes) → way ≡ Nodes n → (read : Read) → IfOpen read (λ (r : Run). IsSetOn way r.state)
+on_nodes way n is read = subst (λ (w : Way). IfOpen read (λ (r : Run). IsSetOn w r.state)) (sym is) (by read)
+  where
+    by : (read : Read) → IfOpen read (λ (r : Run). IsSetOn (Nodes n) r.state)
+    by (Ended s) = tt
+    by (Open r) = tt
+
+module _ (g : FlatGrammar) (valid : List Symbol) (first : Bool) (rest tail : Bytes) (way : Way) (walk : Walk) where
+  pub run_tables : (t : LexTables) → way ≡ Tables t → (run : Run) → IsRun (LeadsOn way walk) g valid first rest tail run → IsRun (λ set w. HasRead t.machine w set) g valid first rest tail run
+  run_tables t is run h = subst (λ (x : Way). IsRun (LeadsOn x walk) g valid first rest tail run) is h
+
+  pub run_nodes : (n : LexNodes) → way ≡ Nodes n → (run : Run) → IsRun (LeadsOn way walk) g valid first rest tail run → IsRun (λ set w. HasCome n.automaton w walk) g valid first rest tail run
+  run_nodes n is run h = subst (λ (x : Way). IsRun (LeadsOn x walk) g valid first rest tail run) is h
+
+  pub read_tables : (t : LexTables) → way ≡ Tables t → (read : Read) → IsReadOn (λ set w. HasRead t.machine w set) g valid first rest tail read → IsReadOn (LeadsOn way walk) g valid first rest tail read
+  read_tables t is read h = subst (λ (x : Way). IsReadOn (LeadsOn x walk) g valid first rest tail read) (sym is) h
+
+  pub read_nodes : (n : LexNodes) → way ≡ Nodes n → (read : Read) → IsReadOn (λ set w. HasCome n.automaton w walk) g valid first rest tail read → IsReadOn (LeadsOn way walk) g valid first rest tail read
+  read_nodes n is read h = subst (λ (x : Way). IsReadOn (LeadsOn x walk) g valid first rest tail read) (sym is) h
+
+-- nothing has been read
+pub leads_tables : (way : Way) (t : LexTables) → way ≡ Tables t → (walk : Walk) (set : ℕ) (w : List ℕ) → HasRead t.machine w set → LeadsOn way walk set w
+leads_tables way t is walk set w h = subst (λ (x : Way). LeadsOn x walk set w) (sym is) h
+
+pub leads_nodes : (way : Way) (n : LexNodes) → way ≡ Nodes n → (walk : Walk) (set : ℕ) (w : List ℕ) → HasCome n.automaton w walk → LeadsOn way walk set w
+leads_nodes way n is walk set w h = subst (λ (x : Way). LeadsOn x walk set w) (sym is) h
+
+pub first_tables : (way : Way) (t : LexTables) → way ≡ Tables t → (set : ℕ) → set < state_count t.machine → IsSetOn way set
+first_tables way t is set h = subst (λ (w : Way). IsSetOn w set) (sym is) h
+
+pub first_nodes : (way : Way) (n : LexNodes) → way ≡ Nodes n → (set : ℕ) → IsSetOn way set
+first_nodes way n is set = subst (λ (w : Way). IsSetOn w set) (sym is) tt
+
+-- what a reading that ended says, and one that is open
+pub ended : (R : ℕ → List ℕ → Type 0) (g : FlatGrammar) (valid : List Symbol) (first : Bool) (rest tail : Bytes) (read : Read) (s : Scanned) → read ≡ Ended s → IsReadOn R g valid first rest tail read → IsScanned g valid first rest s
+ended R g valid first rest tail read s is h = subst (λ (x : Read). IsReadOn R g valid first rest tail x) is h
+
+pub opened : (R : ℕ → List ℕ → Type 0) (g : FlatGrammar) (valid : List Symbol) (first : Bool) (rest tail : Bytes) (read : Read) (r : Run) → read ≡ Open r → IsReadOn R g valid first rest tail read → IsRun R g valid first rest tail r
+opened R g valid first rest tail read r is h = subst (λ (x : Read). IsReadOn R g valid first rest tail x) is h
+
+pub if_open : (P : Run → Type 0) (read : Read) (r : Run) → read ≡ Open r → IfOpen read P → P r
+if_open P read r is h = subst (λ (x : Read). IfOpen x P) is h

@@ -6,6 +6,7 @@ pub mod Lexers
 pub mod Marks
 pub mod Passed
 pub mod Rules
+pub mod Runs
 pub mod Scanned
 pub mod States
 pub mod Views

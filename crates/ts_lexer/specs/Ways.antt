@@ -1,8 +1,11 @@
 -- The two ways of lexing: by the tables of a machine, or from node to node.
-use Rattle.std.specs.Prelude.{◌≡◌, ℕ, List, length, slice_get, Option, Some}
+use Rattle.std.specs.Prelude.{◌≡◌, ℕ, ◌<◌, List, length, slice_get, Option, Some}
 use Rattle.ts_core.specs.declared.flat.FlatGrammar.{FlatGrammar}
 use Rattle.ts_core.specs.declared.symbol.Symbol.{Symbol}
+use Rattle.ts_automata.specs.declared.walk.Walk.{Walk}
 use Rattle.ts_automata.specs.Automata.{IsAutomaton}
+use Rattle.ts_automata.specs.Machine.{HasRead, state_count}
+use Rattle.ts_automata.specs.Walks.{HasCome}
 use Rattle.ts_lexer.specs.declared.ahead.LexTables.{LexTables}
 use Rattle.ts_lexer.specs.declared.ahead.RowPair.{RowPair}
 use Rattle.ts_lexer.specs.declared.view.View.{View}
@@ -50,3 +53,13 @@ abbrev pub HavePairsOn : FlatGrammar → Way → List (List Symbol) → List (Op
 HavePairsOn g way lists pairs =
     (k : ℕ) (valid : List Symbol) (p : RowPair) → slice_get lists k ≡ Some valid
     → slice_get pairs k ≡ Some (Some p) → HasPairOn g valid way p
+
+-- the set is one of the tables'
+abbrev pub IsSetOn : Way → ℕ → Type 0
+IsSetOn (Tables t) set = set < state_count t.machine
+IsSetOn (Nodes n) set = Unit {0}
+
+-- the characters lead to the set, or to where the walk has come
+abbrev pub LeadsOn : Way → Walk → ℕ → List ℕ → Type 0
+LeadsOn (Tables t) walk = λ set w. HasRead t.machine w set
+LeadsOn (Nodes n) walk = λ set w. HasCome n.automaton w walk

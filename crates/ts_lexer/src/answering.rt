@@ -37,19 +37,17 @@ fn goes_on(byte: u8) -> bool
     128 <= byte && byte < 192
 }
 
-/// How many bytes there are up to the next that begins a character.
-fn inner_bytes(rest: &[u8]) -> u32
-    requires { length rest.now < 2 ^ 32 }
-    ensures { result ≡ prefix_len inner_byte rest.now }
+/// How many bytes there are from a place on up to the next that begins a character.
+fn inner_bytes(text: &Text, place: u32) -> u32
+    requires { place ≤ length text.now }
+    ensures { result ≡ prefix_len inner_byte (drop place text.now) }
 {
-    let mut count: u32 = 0;
-    for byte in rest {
-        if !goes_on(*byte) {
-            return count;
+    for end in place..text.len() {
+        if !goes_on(text.byte(end)) {
+            return end - place;
         }
-        count += 1;
     }
-    count
+    text.len() - place
 }
 
 /// The answer that says what was found behind the separators.
@@ -83,10 +81,10 @@ fn inside(text: &Text, place: u32) -> Lexed
     ensures answer { (g : AnyGrammar) (valid : List AnySymbol)
         → IsLexedAnswer g valid text.now place result }
 {
-    let (_, rest) = text.as_bytes().split_at(place as usize);
+    let _ = text.len();
     Lexed::Absent {
         place,
-        extent: inner_bytes(rest),
+        extent: inner_bytes(text, place),
     }
 }
 
@@ -109,10 +107,10 @@ pub(crate) fn answer_at(
         → IsReadyFor g valid.now way.now view.now pair (walk_room walk.old)
         → IsLexedAnswer g valid.now text.now place result }
 {
-    if !text.is_boundary(place) {
+    let size = text.len() - place;
+    let Some(rest) = text.rest_at(place) else {
         return inside(text, place);
-    }
-    let (_, rest) = text.as_str().split_at(place as usize);
-    let passed = pass(way, pair, view, walk, rest, valid);
-    told(&passed, place, text.len() - place)
+    };
+    let passed = pass(way, pair, view, walk, &rest, valid);
+    told(&passed, place, size)
 }

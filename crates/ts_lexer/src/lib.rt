@@ -17,6 +17,8 @@ mod rules;
 mod scanned;
 mod scanning;
 mod states;
+#[cfg(test)]
+mod tests;
 mod tokens;
 mod verdict;
 mod view;

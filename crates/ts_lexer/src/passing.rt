@@ -15,6 +15,7 @@ use crate::walking::scan;
 use crate::ways::Way;
 use ts_automata::Walk;
 use ts_core::Symbol;
+use ts_text::Rest;
 
 /// What stands behind the separators.
 #[derive(Clone, Copy, Debug)]
@@ -34,7 +35,7 @@ fn has_end(valid: &[Symbol]) -> bool
 }
 
 /// Whether the text ends here, and its end is valid.
-fn at_end(rest: &str, valid: &[Symbol]) -> bool
+fn at_end(rest: &Rest<'_>, valid: &[Symbol]) -> bool
     ensures { IsTrue result ↔ ((length rest.now ≡ 0) × Contains valid.now end_symbol) }
 {
     if rest.is_empty() {
@@ -56,7 +57,7 @@ pub(crate) fn pass(
     pair: Option<RowPair>,
     view: &View,
     walk: &mut Walk,
-    text: &str,
+    text: &Rest<'_>,
     valid: &[Symbol],
 ) -> Passed
     requires size { length text.now < 2 ^ 32 }
@@ -68,12 +69,12 @@ pub(crate) fn pass(
         → IsReadyFor g valid.now way.now view.now pair (walk_room walk.old)
         → IsPassed g valid.now text.now result }
 {
-    let mut rest = text;
+    let mut rest = text.copied();
     let mut first = true;
     let mut pad: usize = 0;
     let mut extent: usize = 0;
     'passing: loop {
-        let here = scan(way, pair, view, walk, first, rest);
+        let here = scan(way, pair, view, walk, first, &rest);
         extent = farther(extent, pad, here.reach);
         match here.best {
             Some(found) => {
@@ -85,7 +86,7 @@ pub(crate) fn pass(
             }
             None => {}
         }
-        let ended = at_end(rest, valid);
+        let ended = at_end(&rest, valid);
         if ended {
             let end = Match {
                 symbol: Symbol(0),
@@ -104,8 +105,7 @@ pub(crate) fn pass(
                 extent,
             };
         }
-        let (_, tail) = rest.split_at(here.separator);
-        rest = tail;
+        rest = rest.past(here.separator);
         pad += here.separator;
         first = false;
     }

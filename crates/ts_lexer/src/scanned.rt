@@ -40,3 +40,22 @@ pub(crate) struct Turn {
     /// How many bytes the character has.
     pub len: usize,
 }
+
+/// How far the reading at a place has come.
+#[derive(Clone, Copy, Debug)]
+pub(crate) struct Run {
+    /// The set that is reached, where tables are read.
+    pub state: usize,
+    /// How many bytes have been read.
+    pub size: usize,
+    pub progress: Progress,
+}
+
+/// What the reading of one piece more comes to.
+#[derive(Clone, Copy, Debug)]
+pub(crate) enum Read {
+    /// All is known of the place.
+    Ended(Scanned),
+    /// What follows the piece is read from here.
+    Open(Run),
+}

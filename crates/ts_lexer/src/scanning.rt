@@ -1,14 +1,16 @@
-//! One place of a text, by tables: the rest of the text goes in, and what matches there comes out,
-//! found in one pass over its bytes for all valid tokens and all separators.
-ghost use Rattle.std.specs.Prelude.{◌≡◌, ◌≤◌, ◌<◌, ◌^◌, ◌++◌, ◌∷◌, [], ℕ, List, Bool, Option, Some, IsTrue, length, drop, slice_get};
+//! One place of a text, by tables: how far the reading has come and a piece of the text go in, and
+//! what is known behind the piece comes out, of all valid tokens and all separators at once.
+ghost use Rattle.std.specs.Prelude.{◌≡◌, ◌≤◌, ◌<◌, ◌+◌, ◌^◌, ◌++◌, ◌∷◌, [], ℕ, List, Bool, Option, Some, IsTrue, length, drop, slice_get};
 ghost use Rattle.std.specs.Str.{IsUtf8};
+ghost use Rattle.ts_base.specs.Bytes.{Bytes};
 ghost use Rattle.ts_core.specs.declared.flat.FlatGrammar.{FlatGrammar as AnyGrammar};
 ghost use Rattle.ts_core.specs.declared.symbol.Symbol.{Symbol as AnySymbol};
 ghost use Rattle.ts_automata.specs.Automata.{IsAutomaton};
 ghost use Rattle.ts_automata.specs.Machine.{HasRead, state_count};
 ghost use Rattle.ts_lexer.specs.Rules.{IsRules};
 ghost use Rattle.ts_lexer.specs.Views.{IsView};
-ghost use Rattle.ts_lexer.specs.Scanned.{IsScanned, Stays, Turns};
+ghost use Rattle.ts_lexer.specs.Scanned.{Stays, Turns};
+ghost use Rattle.ts_lexer.specs.Runs.{IfOpen, IsRun, IsReadOn};
 ghost use Rattle.ts_lexer.specs.Ahead.{AreVerdicts, HasPair, IsReady};
 
 use crate::ahead::{LexTables, RowPair, row_at};
@@ -16,7 +18,7 @@ use crate::choosing::chosen;
 use crate::judging::judge;
 use crate::progress::advance;
 use crate::rules::Rules;
-use crate::scanned::{Progress, Scanned, Turn};
+use crate::scanned::{Read, Run, Scanned, Turn};
 use crate::verdict::Verdict;
 use crate::view::View;
 use spec_lexing::{a_front_has_fronts, beginnings, every_word_is_a_front, one_character_at_a_time};
@@ -94,112 +96,123 @@ fn end_of_stay(machine: &Machine, set: usize, bytes: &[u8], from: usize) -> usiz
     place
 }
 
-/// What stands at the beginning of a text, by verdicts that were made ahead: a look-up each for the
-/// character's class and the next set, and one for the verdict of a set that is reached. What it
-/// says is told once, behind the characters over which it stays.
-fn scan_by_row(machine: &Machine, rules: &Rules, row: &[Verdict], rest: &str) -> Scanned
+/// Reads a piece on by verdicts that were made ahead: a look-up each for the character's class and
+/// the next set, and one for the verdict of a set that is reached. What it says is told once, behind
+/// the characters over which it stays.
+fn read_by_row(machine: &Machine, rules: &Rules, row: &[Verdict], run: &Run, piece: &str) -> Read
     requires count { length row.now ≡ state_count machine.now }
-    requires size { length rest.now < 2 ^ 32 }
-    ensures { (g : AnyGrammar) (valid : List AnySymbol) (first : Bool) → IsRules g rules.now
-        → AreVerdicts g valid first machine.now row.now → IsAutomaton g machine.now.automaton
-        → IsScanned g valid first rest.now result }
+    requires set { run.now.state < state_count machine.now }
+    requires size { run.now.size + length piece.now < 2 ^ 32 }
+    ensures set { IfOpen result (λ r. r.state < state_count machine.now) }
+    ensures size { IfOpen result (λ r. r.size ≡ run.now.size + length piece.now) }
+    ensures read { (g : AnyGrammar) (valid : List AnySymbol) (first : Bool) (rest tail : Bytes)
+        → IsRules g rules.now → AreVerdicts g valid first machine.now row.now
+        → IsAutomaton g machine.now.automaton
+        → IsRun (λ set w. HasRead machine.now w set) g valid first rest (piece.now ++ tail) run.now
+        → IsReadOn (λ set w. HasRead machine.now w set) g valid first rest tail result }
 {
     a_front_has_fronts();
     every_word_is_a_front();
     beginnings();
     one_character_at_a_time();
-    let bytes = rest.as_bytes();
-    let mut state = machine.first();
-    let mut size: usize = 0;
-    let mut progress = Progress {
-        plain: None,
-        word: 0,
-        keyword: None,
-        separator: 0,
-    };
-    'reading: while size < bytes.len() {
-        let turn = turn_at(machine, state, rest, size);
+    let bytes = piece.as_bytes();
+    let mut state = run.state;
+    let mut place: usize = 0;
+    let mut progress = run.progress;
+    'reading: while place < bytes.len() {
+        let turn = turn_at(machine, state, piece, place);
         let verdict = verdict_at(row, turn.to);
         if !verdict.lives {
-            return Scanned {
+            return Read::Ended(Scanned {
                 best: chosen(rules, &progress),
                 separator: progress.separator,
-                reach: size + turn.len,
-            };
+                reach: run.size + place + turn.len,
+            });
         }
         state = turn.to;
-        size = end_of_stay(machine, state, bytes, size + turn.len);
-        progress = advance(rules, &progress, &verdict, size);
+        place = end_of_stay(machine, state, bytes, place + turn.len);
+        progress = advance(rules, &progress, &verdict, run.size + place);
     }
-    Scanned {
-        best: chosen(rules, &progress),
-        separator: progress.separator,
-        reach: size + 1,
-    }
+    Read::Open(Run {
+        state,
+        size: run.size + place,
+        progress,
+    })
 }
 
-/// What stands at the beginning of a text, where what the valid tokens make of a set is folded from
-/// its nodes.
-fn scan_by_nodes(machine: &Machine, rules: &Rules, view: &View, first: bool, rest: &str) -> Scanned
-    requires size { length rest.now < 2 ^ 32 }
-    ensures { (g : AnyGrammar) (valid : List AnySymbol) → IsRules g rules.now
-        → IsView g valid view.now → IsAutomaton g machine.now.automaton
-        → IsScanned g valid first rest.now result }
+/// Reads a piece on, where what the valid tokens make of a set is folded from its nodes.
+fn read_by_nodes(
+    machine: &Machine,
+    rules: &Rules,
+    view: &View,
+    first: bool,
+    run: &Run,
+    piece: &str,
+) -> Read
+    requires set { run.now.state < state_count machine.now }
+    requires size { run.now.size + length piece.now < 2 ^ 32 }
+    ensures set { IfOpen result (λ r. r.state < state_count machine.now) }
+    ensures size { IfOpen result (λ r. r.size ≡ run.now.size + length piece.now) }
+    ensures read { (g : AnyGrammar) (valid : List AnySymbol) (rest tail : Bytes)
+        → IsRules g rules.now → IsView g valid view.now → IsAutomaton g machine.now.automaton
+        → IsRun (λ set w. HasRead machine.now w set) g valid first rest (piece.now ++ tail) run.now
+        → IsReadOn (λ set w. HasRead machine.now w set) g valid first rest tail result }
 {
     a_front_has_fronts();
     every_word_is_a_front();
     beginnings();
     one_character_at_a_time();
-    let mut state = machine.first();
-    let mut size: usize = 0;
-    let mut progress = Progress {
-        plain: None,
-        word: 0,
-        keyword: None,
-        separator: 0,
-    };
-    for c in rest.chars() {
+    let mut state = run.state;
+    let mut size = run.size;
+    let mut progress = run.progress;
+    for c in piece.chars() {
         let to = machine.next(state, c);
         let verdict = judge(rules, view, first, machine.automaton(), machine.members(to));
         if !verdict.lives {
-            return Scanned {
+            return Read::Ended(Scanned {
                 best: chosen(rules, &progress),
                 separator: progress.separator,
                 reach: size + c.len_utf8(),
-            };
+            });
         }
         state = to;
         size += c.len_utf8();
         progress = advance(rules, &progress, &verdict, size);
     }
-    Scanned {
-        best: chosen(rules, &progress),
-        separator: progress.separator,
-        reach: size + 1,
-    }
+    Read::Open(Run {
+        state,
+        size,
+        progress,
+    })
 }
 
-/// What stands at the beginning of a text, which is the first place that is tried or a later one,
-/// by tables.
-pub(crate) fn scan_by_tables(
+/// Reads a piece on at the first place that is tried or at a later one, by tables.
+pub(crate) fn read_by_tables(
     tables: &LexTables,
     pair: Option<RowPair>,
     view: &View,
     first: bool,
-    rest: &str,
-) -> Scanned
-    requires size { length rest.now < 2 ^ 32 }
+    run: &Run,
+    piece: &str,
+) -> Read
+    requires set { run.now.state < state_count tables.now.machine }
+    requires size { run.now.size + length piece.now < 2 ^ 32 }
     requires ready { (g : AnyGrammar) × (valid : List AnySymbol)
         × IsReady g valid tables.now view.now pair }
-    ensures { (g : AnyGrammar) (valid : List AnySymbol) → IsRules g tables.now.rules
-        → IsReady g valid tables.now view.now pair → IsAutomaton g tables.now.machine.automaton
-        → IsScanned g valid first rest.now result }
+    ensures set { IfOpen result (λ r. r.state < state_count tables.now.machine) }
+    ensures size { IfOpen result (λ r. r.size ≡ run.now.size + length piece.now) }
+    ensures read { (g : AnyGrammar) (valid : List AnySymbol) (rest tail : Bytes)
+        → IsRules g tables.now.rules → IsReady g valid tables.now view.now pair
+        → IsAutomaton g tables.now.machine.automaton
+        → IsRun (λ set w. HasRead tables.now.machine w set) g valid first rest
+        (piece.now ++ tail) run.now
+        → IsReadOn (λ set w. HasRead tables.now.machine w set) g valid first rest tail result }
 {
     let Some(pair) = pair else {
-        return scan_by_nodes(&tables.machine, &tables.rules, view, first, rest);
+        return read_by_nodes(&tables.machine, &tables.rules, view, first, run, piece);
     };
     let row = row_for(tables, pair, first);
-    scan_by_row(&tables.machine, &tables.rules, row, rest)
+    read_by_row(&tables.machine, &tables.rules, row, run, piece)
 }
 
 /// The row for the first place that is tried, or for a later one.

@@ -69,10 +69,10 @@ impl Content for Text {
     ghost bytes = { λ text. text };
 
     fn len(&self) -> u32 {
-        self.as_str().len() as u32
+        Text::len(self)
     }
 
     fn stands(&self) {
-        let _ = self.as_str();
+        let _ = Text::len(self);
     }
 }

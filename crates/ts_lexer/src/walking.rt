@@ -1,72 +1,182 @@
-//! One place of a text: the rest of the text goes in, and what matches there comes out, found in
-//! one pass over its bytes, by tables or from node to node.
-ghost use Rattle.std.specs.Prelude.{◌≡◌, ◌<◌, ◌^◌, List, length};
+//! One place of a text: what is left of the text from there goes in, and what matches there comes
+//! out, found in one pass over its bytes, by tables or from node to node.
+ghost use Rattle.std.specs.Prelude.{◌≡◌, ◌<◌, ◌+◌, ◌^◌, ◌++◌, [], ℕ, List, length};
+ghost use Rattle.ts_base.specs.Bytes.{Bytes};
 ghost use Rattle.ts_core.specs.declared.flat.FlatGrammar.{FlatGrammar as AnyGrammar};
 ghost use Rattle.ts_core.specs.declared.symbol.Symbol.{Symbol as AnySymbol};
-ghost use Rattle.ts_automata.specs.Walks.{walk_room};
+ghost use Rattle.ts_automata.specs.Walks.{HasCome, walk_room};
+ghost use Rattle.ts_lexer.specs.Rules.{IsRules};
 ghost use Rattle.ts_lexer.specs.Views.{IsView};
 ghost use Rattle.ts_lexer.specs.Scanned.{IsScanned};
-ghost use Rattle.ts_lexer.specs.Ways.{AreNodesOf, IsReadyFor};
+ghost use Rattle.ts_lexer.specs.Runs.{IfOpen, IsRun, IsReadOn};
+ghost use Rattle.ts_lexer.specs.Ways.{AreNodesOf, IsWayOf, IsReadyFor, IsSetOn, LeadsOn};
 
 use crate::ahead::RowPair;
 use crate::choosing::chosen;
 use crate::judging::judge;
 use crate::progress::advance;
-use crate::scanned::{Progress, Scanned};
-use crate::scanning::scan_by_tables;
+use crate::rules::Rules;
+use crate::scanned::{Progress, Read, Run, Scanned};
+use crate::scanning::read_by_tables;
 use crate::view::View;
 use crate::ways::{LexNodes, Way};
 use spec_lexing::{a_front_has_fronts, beginnings, every_word_is_a_front, one_character_at_a_time};
 use ts_automata::Walk;
+use ts_text::Rest;
 
-/// What stands at the beginning of a text, from one set of nodes to the next.
-fn scan_by_walk(nodes: &LexNodes, view: &View, walk: &mut Walk, first: bool, rest: &str) -> Scanned
-    requires size { length rest.now < 2 ^ 32 }
+/// Reads a piece on, from one set of nodes to the next.
+fn read_by_walk(
+    nodes: &LexNodes,
+    view: &View,
+    walk: &mut Walk,
+    first: bool,
+    run: &Run,
+    piece: &str,
+) -> Read
+    requires size { run.now.size + length piece.now < 2 ^ 32 }
     ensures room { walk_room walk.new ≡ walk_room walk.old }
-    ensures scanned { (g : AnyGrammar) (valid : List AnySymbol)
+    ensures size { IfOpen result (λ r. r.size ≡ run.now.size + length piece.now) }
+    ensures read { (g : AnyGrammar) (valid : List AnySymbol) (rest tail : Bytes)
         → AreNodesOf g nodes.now (walk_room walk.old) → IsView g valid view.now
-        → IsScanned g valid first rest.now result }
+        → IsRun (λ set w. HasCome nodes.now.automaton w walk.old) g valid first rest
+        (piece.now ++ tail) run.now
+        → IsReadOn (λ set w. HasCome nodes.now.automaton w walk.new) g valid first rest tail
+        result }
 {
     a_front_has_fronts();
     every_word_is_a_front();
     beginnings();
     one_character_at_a_time();
-    walk.begin(&nodes.automaton);
-    let mut size: usize = 0;
-    let mut progress = Progress {
-        plain: None,
-        word: 0,
-        keyword: None,
-        separator: 0,
-    };
-    for c in rest.chars() {
+    let mut size = run.size;
+    let mut progress = run.progress;
+    for c in piece.chars() {
         walk.step(&nodes.automaton, c);
         let verdict = judge(&nodes.rules, view, first, &nodes.automaton, walk.members());
         if !verdict.lives {
-            return Scanned {
+            return Read::Ended(Scanned {
                 best: chosen(&nodes.rules, &progress),
                 separator: progress.separator,
                 reach: size + c.len_utf8(),
-            };
+            });
         }
         size += c.len_utf8();
         progress = advance(&nodes.rules, &progress, &verdict, size);
     }
-    Scanned {
-        best: chosen(&nodes.rules, &progress),
-        separator: progress.separator,
-        reach: size + 1,
+    Read::Open(Run {
+        state: run.state,
+        size,
+        progress,
+    })
+}
+
+/// Reads a piece on at the first place that is tried or at a later one.
+#[inline(always)]
+fn read_piece(
+    way: &Way,
+    pair: Option<RowPair>,
+    view: &View,
+    walk: &mut Walk,
+    first: bool,
+    run: &Run,
+    piece: &str,
+) -> Read
+    requires set { IsSetOn way.now run.now.state }
+    requires size { run.now.size + length piece.now < 2 ^ 32 }
+    requires ready { (g : AnyGrammar) × (valid : List AnySymbol)
+        × IsReadyFor g valid way.now view.now pair (walk_room walk.old) }
+    ensures room { walk_room walk.new ≡ walk_room walk.old }
+    ensures set { IfOpen result (λ r. IsSetOn way.now r.state) }
+    ensures size { IfOpen result (λ r. r.size ≡ run.now.size + length piece.now) }
+    ensures read { (g : AnyGrammar) (valid : List AnySymbol) (rest tail : Bytes)
+        → IsReadyFor g valid way.now view.now pair (walk_room walk.old)
+        → IsRun (LeadsOn way.now walk.old) g valid first rest (piece.now ++ tail) run.now
+        → IsReadOn (LeadsOn way.now walk.new) g valid first rest tail result }
+{
+    match way {
+        Way::Tables(tables) => read_by_tables(tables, pair, view, first, run, piece),
+        Way::Nodes(nodes) => read_by_walk(nodes, view, walk, first, run, piece),
     }
 }
 
-/// What stands at the beginning of a text, which is the first place that is tried or a later one.
+/// The set from which reading begins, where tables are read. A walk begins at its first nodes.
+fn first_set(way: &Way, walk: &mut Walk) -> usize
+    ensures room { walk_room walk.new ≡ walk_room walk.old }
+    ensures set { IsSetOn way.now result }
+    ensures leads { (g : AnyGrammar) → IsWayOf g way.now (walk_room walk.old)
+        → LeadsOn way.now walk.new result [] }
+{
+    match way {
+        Way::Tables(tables) => tables.machine.first(),
+        Way::Nodes(nodes) => {
+            walk.begin(&nodes.automaton);
+            0
+        }
+    }
+}
+
+/// What its grammar says of tokens.
+fn rules_on(way: &Way) -> &Rules
+    ensures { (g : AnyGrammar) (room : ℕ) → IsWayOf g way.now room → IsRules g result.now }
+{
+    match way {
+        Way::Tables(tables) => &tables.rules,
+        Way::Nodes(nodes) => &nodes.rules,
+    }
+}
+
+/// Reads on behind a piece, up to where nothing more can match.
+#[cold]
+#[inline(never)]
+fn read_on(
+    way: &Way,
+    pair: Option<RowPair>,
+    view: &View,
+    walk: &mut Walk,
+    first: bool,
+    from: &Run,
+    left: &Rest<'_>,
+) -> Scanned
+    requires set { IsSetOn way.now from.now.state }
+    requires size { from.now.size + length left.now < 2 ^ 32 }
+    requires ready { (g : AnyGrammar) × (valid : List AnySymbol)
+        × IsReadyFor g valid way.now view.now pair (walk_room walk.old) }
+    ensures room { walk_room walk.new ≡ walk_room walk.old }
+    ensures scanned { (g : AnyGrammar) (valid : List AnySymbol) (rest : Bytes)
+        → IsReadyFor g valid way.now view.now pair (walk_room walk.old)
+        → IsRun (LeadsOn way.now walk.old) g valid first rest left.now from.now
+        → IsScanned g valid first rest result }
+{
+    a_front_has_fronts();
+    every_word_is_a_front();
+    beginnings();
+    one_character_at_a_time();
+    let mut run = *from;
+    let mut rest = left.copied();
+    'pieces: while !rest.is_empty() {
+        let (piece, later) = rest.split();
+        let read = read_piece(way, pair, view, walk, first, &run, piece);
+        match read {
+            Read::Ended(scanned) => return scanned,
+            Read::Open(more) => run = more,
+        }
+        rest = later;
+    }
+    Scanned {
+        best: chosen(rules_on(way), &run.progress),
+        separator: run.progress.separator,
+        reach: run.size + 1,
+    }
+}
+
+/// What stands at the beginning of what is left of a text, which is the first place that is tried
+/// or a later one. Most tokens end in the piece in which they begin.
 pub(crate) fn scan(
     way: &Way,
     pair: Option<RowPair>,
     view: &View,
     walk: &mut Walk,
     first: bool,
-    rest: &str,
+    rest: &Rest<'_>,
 ) -> Scanned
     requires size { length rest.now < 2 ^ 32 }
     requires ready { (g : AnyGrammar) × (valid : List AnySymbol)
@@ -76,8 +186,26 @@ pub(crate) fn scan(
         → IsReadyFor g valid way.now view.now pair (walk_room walk.old)
         → IsScanned g valid first rest.now result }
 {
-    match way {
-        Way::Tables(tables) => scan_by_tables(tables, pair, view, first, rest),
-        Way::Nodes(nodes) => scan_by_walk(nodes, view, walk, first, rest),
+    a_front_has_fronts();
+    every_word_is_a_front();
+    beginnings();
+    one_character_at_a_time();
+    let state = first_set(way, walk);
+    let run = Run {
+        state,
+        size: 0,
+        progress: Progress {
+            plain: None,
+            word: 0,
+            keyword: None,
+            separator: 0,
+        },
+    };
+    let rest = rest.copied();
+    let (piece, later) = rest.split();
+    let read = read_piece(way, pair, view, walk, first, &run, piece);
+    match read {
+        Read::Ended(scanned) => scanned,
+        Read::Open(more) => read_on(way, pair, view, walk, first, &more, &later),
     }
 }

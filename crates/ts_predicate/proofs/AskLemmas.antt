@@ -1,10 +1,10 @@
 -- One text after another, or one pair after another, leaves the answer open or decides.
-use Rattle.std.proofs.Common.{◌≡◌, ◌∙◌, ◌↔◌, sym, ap, refl, subst, ℕ, ◌+◌, ◌<◌, ◌≤◌, suc, ◌⊎◌, inl, inr, ⊎_elim, Bool, true, false, not, nat_eq, cond, IsTrue, List, [], ◌∷◌, ◌++◌, length, map, take, drop, slice_get, get_or, Option, Some, option_map, Bor, arith}
+use Rattle.std.proofs.Common.{◌≡◌, ◌∙◌, ◌↔◌, sym, ap, refl, subst, ℕ, ◌+◌, ◌<◌, ◌≤◌, suc, ◌⊎◌, inl, inr, ⊎_elim, Bool, true, false, not, nat_eq, cond, IsTrue, List, [], ◌∷◌, ◌++◌, length, map, take, drop, slice_get, get_or, Option, Some, arith}
 use Rattle.std.specs.List.{Contains}
 use Rattle.std.proofs.lemmas.Bool.{cases_lt}
 use Rattle.std.proofs.lemmas.List.{append-nil, map-append, take-append-drop}
 use Rattle.std.proofs.lemmas.List.Elements.{Contains-append_left, Contains-push, Contains-push_cases, filter-append, filter_more}
-use Rattle.std.proofs.lemmas.Option.{slice_get_within, slice_get-map, slice_get-get_or, get_or_from_slice_get}
+use Rattle.std.proofs.lemmas.Option.{slice_get_within, slice_get-get_or}
 use Rattle.ts_base.specs.Bytes.{Bytes}
 use Rattle.ts_query_syntax.specs.declared.read_query.Asked.{Asked}
 use Rattle.ts_query_syntax.specs.declared.read_query.Asked.TheVariants as asked
@@ -92,13 +92,25 @@ pairs_ended false true texts others n within lengths all = ((λ t k x y p. all k
 pairs_ended true false texts others n within lengths all = ((λ t. absurd (untrue t)), (λ o. absurd (all o.0 o.1 o.2 (within o.0 (slice_get_within texts o.0 o.1 o.3.first) (slice_get_within others o.0 o.2 o.3.second)) o.3 o.4)))
 pairs_ended true true texts others n within lengths all = ((λ t. absurd (untrue t)), (λ o. absurd (o.4 (all o.0 o.1 o.2 (within o.0 (slice_get_within texts o.0 o.1 o.3.first) (slice_get_within others o.0 o.2 o.3.second)) o.3))))
 
--- ---- texts behind references
+-- the same, where the texts are read out of their lists
 
-abbrev pub values : List (Bor Bytes) → List Bytes
-values = map (λ t. t.now)
+read_pair : (texts others : List Bytes) (k : ℕ) (x y : Bytes) → k < length texts → k < length others → x ≡ get_or texts k x → y ≡ get_or others k y → IsPair texts others k x y
+read_pair texts others k x y low high first second = record {
+  first = slice_get-get_or texts k x low ∙ ap (λ (t : Bytes). Some t) (sym first);
+  second = slice_get-get_or others k y high ∙ ap (λ (t : Bytes). Some t) (sym second);
+}
 
-pub text_there : (texts : List (Bor Bytes)) (k : ℕ) (d : Bor Bytes) → k < length texts → slice_get (values texts) k ≡ Some (get_or texts k d).now
-text_there texts k d low = slice_get-map (λ (t : Bor Bytes). t.now) texts k ∙ ap (option_map (λ (t : Bor Bytes). t.now)) (slice_get-get_or texts k d low)
+pub pairs_more_read : (some negated : Bool) (texts others : List Bytes) (k : ℕ) (x y : Bytes) (b : Bool) → k < length texts → k < length others
+    → x ≡ get_or texts k x → y ≡ get_or others k y → IsTrue b ↔ (x ≡ y) → LeavesOpen some negated (IsTrue b)
+    → PairsLeaveOpen some negated k texts others → PairsLeaveOpen some negated (k + 1) texts others
+pairs_more_read some negated texts others k x y b low high first second is here all =
+    pairs_more some negated texts others k x y b (read_pair texts others k x y low high first second) is here all
+
+pub pair_decides_read : (some negated : Bool) (texts others : List Bytes) (k : ℕ) (x y : Bytes) (b : Bool) → k < length texts → k < length others
+    → x ≡ get_or texts k x → y ≡ get_or others k y → IsTrue b ↔ (x ≡ y) → (LeavesOpen some negated (IsTrue b) → ⊥)
+    → IsTrue some ↔ OfPairs some negated texts others
+pair_decides_read some negated texts others k x y b low high first second is closed =
+    pair_decides some negated texts others k x y b (read_pair texts others k x y low high first second) is closed
 
 -- ---- the texts that a capture names
 

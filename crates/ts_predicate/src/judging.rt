@@ -1,10 +1,10 @@
 //! One predicate of a match: the texts of the match's captures and what is asked of them go in, and
 //! whether the predicate holds comes out.
-ghost use Rattle.std.specs.Prelude.{◌≡◌, ◌↔◌, true, false, map, nat_eq, IfOk, IsTrue};
+ghost use Rattle.std.specs.Prelude.{◌≡◌, ◌↔◌, true, false, nat_eq, IfOk, IsTrue};
 ghost use Rattle.std.specs.List.{Contains};
 ghost use Rattle.spec_matches.specs.declared.found.Capture.{Capture as Mark};
 ghost use Rattle.ts_query_syntax.specs.declared.read_query.ReadQuery.{ReadQuery as Asking};
-ghost use Rattle.ts_predicate.specs.Predicates.{AnswersOf, IsAs, IsCaptureIn, OfTexts, OfPairs, Holds, texts_of};
+ghost use Rattle.ts_predicate.specs.Predicates.{AnswersOf, IsAs, IsCaptureIn, OfTexts, OfPairs, Holds, capture_text, texts_of};
 ghost use Rattle.ts_predicate.specs.Asking.{HasMatcher, IsOfOne, LeavesOpen};
 
 use crate::asking::is_as;
@@ -13,7 +13,7 @@ use regex::Matcher;
 use spec_matches::Capture;
 use std::alloc::{AllocError, Global};
 use ts_query_syntax::{Asked, Predicate};
-use ts_text::Text;
+use ts_text::{Slice, Text};
 
 /// The texts of the nodes that a capture names, in order.
 fn texts<'a>(
@@ -21,16 +21,15 @@ fn texts<'a>(
     text: &'a Text,
     captures: &[Capture],
     name: u16,
-) -> Result<Vec<&'a str>, AllocError>
+) -> Result<Vec<Slice<'a>>, AllocError>
     requires within { (query : Asking) × ((c : Mark) → Contains captures.now c
         → IsCaptureIn query text.now c) }
-    ensures { IfOk result (λ texts. map (λ t. t.now) texts.items
-        ≡ texts_of text.now name captures.now) }
+    ensures { IfOk result (λ texts. texts.items ≡ texts_of text.now name captures.now) }
 {
     let mut texts = Vec::new(alloc);
     for capture in captures {
         if capture.name == name {
-            texts.push(text.slice(capture.start, capture.end))?;
+            texts.push(text.slice(alloc, capture.start, capture.end)?)?;
         }
     }
     Ok(texts)
@@ -43,35 +42,56 @@ fn is_named(capture: &Capture, name: u16) -> bool
     capture.name == name
 }
 
+/// Whether the text of a node is as a predicate asks.
+fn is_of_node<H: Hosts>(
+    alloc: Global,
+    hosts: &H,
+    text: &Text,
+    predicate: &Predicate,
+    matcher: &mut Option<Matcher<'_>>,
+    capture: &Capture,
+) -> Result<bool, AllocError>
+    requires node { (query : Asking) × IsCaptureIn query text.now capture.now }
+    requires one { IsOfOne predicate.now.asked }
+    requires matcher { HasMatcher matcher.old predicate.now.asked }
+    ensures matcher { HasMatcher matcher.new predicate.now.asked }
+    ensures is { IfOk result (λ is. IsTrue is
+        ↔ IsAs (AnswersOf (H.called hosts.now) (H.accepts hosts.now)) predicate.now.asked
+        (capture_text text.now capture.now)) }
+{
+    let one = text.slice(alloc, capture.start, capture.end)?;
+    Ok(is_as(hosts, &predicate.asked, matcher, one.text()))
+}
+
 /// Whether the texts of the nodes that a predicate's capture names, all or some, are as they are
 /// asked to be. No list of them is made.
 fn of_texts<H: Hosts>(
+    alloc: Global,
     hosts: &H,
     text: &Text,
     predicate: &Predicate,
     matcher: &mut Option<Matcher<'_>>,
     captures: &[Capture],
-) -> bool
+) -> Result<bool, AllocError>
     requires within { (query : Asking) × ((c : Mark) → Contains captures.now c
         → IsCaptureIn query text.now c) }
     requires one { IsOfOne predicate.now.asked }
     requires matcher { HasMatcher matcher.old predicate.now.asked }
     ensures matcher { HasMatcher matcher.new predicate.now.asked }
-    ensures is { IsTrue result ↔ OfTexts predicate.now.some predicate.now.negated
+    ensures is { IfOk result (λ is. IsTrue is ↔ OfTexts predicate.now.some predicate.now.negated
         (IsAs (AnswersOf (H.called hosts.now) (H.accepts hosts.now)) predicate.now.asked)
-        (texts_of text.now predicate.now.capture captures.now) }
+        (texts_of text.now predicate.now.capture captures.now)) }
 {
     for capture in captures {
         if !is_named(capture, predicate.capture) {
             continue;
         }
-        let one = text.slice(capture.start, capture.end);
-        let is = is_as(hosts, &predicate.asked, matcher, one);
+        let is = is_of_node(alloc, hosts, text, predicate, matcher, capture)?;
         if decides(predicate, is) {
-            return predicate.some;
+            return Ok(predicate.some);
         }
     }
-    !predicate.some
+    Ok(!predicate.some)
 }
 
 /// Whether one text, or one pair, decides: one that is not as asked where all have to be, or one
@@ -86,10 +106,10 @@ fn decides(predicate: &Predicate, is: bool) -> bool
 }
 
 /// Whether two texts are equal.
-fn are_same(text: &str, other: &str) -> bool
+fn are_same(text: &Slice<'_>, other: &Slice<'_>) -> bool
     ensures { IsTrue result ↔ (text.now ≡ other.now) }
 {
-    text == other
+    text.text() == other.text()
 }
 
 /// Whether lists of these lengths may be as asked: where they have to be equal, so have the
@@ -104,15 +124,16 @@ fn may_be_equal(predicate: &Predicate, count: usize, other: usize) -> bool
 }
 
 /// Whether the lists are equal, or their pairs, or some pair, are equal or differ.
-fn of_pairs(predicate: &Predicate, texts: &[&str], others: &[&str]) -> bool
-    ensures { IsTrue result ↔ OfPairs predicate.now.some predicate.now.negated
-        (map (λ t. t.now) texts.now) (map (λ t. t.now) others.now) }
+#[tactic(auto, using(crate::proofs::AskLemmas::pairs_more_read, crate::proofs::AskLemmas::pair_decides_read))]
+fn of_pairs(predicate: &Predicate, texts: &[Slice<'_>], others: &[Slice<'_>]) -> bool
+    ensures { IsTrue result
+        ↔ OfPairs predicate.now.some predicate.now.negated texts.now others.now }
 {
     if !may_be_equal(predicate, texts.len(), others.len()) {
         return false;
     }
     for k in 0..texts.len().min(others.len()) {
-        if decides(predicate, are_same(texts[k], others[k])) {
+        if decides(predicate, are_same(&texts[k], &others[k])) {
             return predicate.some;
         }
     }
@@ -140,5 +161,5 @@ pub(crate) fn holds<H: Hosts>(
         let others = texts(alloc, text, captures, other)?;
         return Ok(of_pairs(predicate, own.as_slice(), others.as_slice()));
     }
-    Ok(of_texts(hosts, text, predicate, matcher, captures))
+    of_texts(alloc, hosts, text, predicate, matcher, captures)
 }

@@ -54,19 +54,8 @@ fn opening_of(alloc: Global, source: &Source, first: &First) -> Result<Opening, 
         → IsOpening files source.now opening) }
 {
     match source {
-        Source::Inline(text) => Ok(Opening::Text(copy_of(alloc, text)?)),
+        Source::Inline(text) => Ok(Opening::Text(text.try_clone(alloc)?)),
         Source::Path(path) => text_at(alloc, path.text(), first),
-    }
-}
-
-/// The same text once more.
-fn copy_of(alloc: Global, text: &Text) -> Result<Text, AllocError>
-    ensures { IfOk result (λ copy. copy ≡ text.now) }
-{
-    match Text::from_bytes(alloc, text.as_bytes()) {
-        Ok(text) => Ok(text),
-        // The bytes of a text are one.
-        Err(_) => Err(AllocError),
     }
 }
 

@@ -1,17 +1,17 @@
 -- One part of an edit after another.
-use Rattle.std.proofs.Common.{◌≡◌, ◌∙◌, sym, ap, subst, ℕ, suc, ◌+◌, ◌-◌, ◌*◌, ◌≤◌, ◌<◌, ◌⊎◌, inl, inr, ⊎_elim, List, ◌∷◌, ◌++◌, All, length, take, drop, get_or, slice_get, Some, arith}
+use Rattle.std.proofs.Common.{◌≡◌, ◌∙◌, sym, ap, subst, ℕ, suc, ◌+◌, ◌-◌, ◌*◌, ◌≤◌, ◌<◌, ◌⊎◌, inl, inr, ⊎_elim, refl, List, [], ◌∷◌, ◌++◌, All, length, take, drop, get_or, slice_get, Some, arith}
 use Rattle.std.specs.List.{slice_range}
 use Rattle.std.specs.Str.{IsCharBoundary}
-use Rattle.std.proofs.lemmas.List.{append_assoc, drop_more, take_all, length-append, length-take, length-drop}
+use Rattle.std.proofs.lemmas.List.{append_assoc, drop_more, drop_all, take_all, take_rest, length-append, length-take, length-drop}
 use Rattle.std.proofs.lemmas.List.Elements.{All-get_or}
 use Rattle.std.proofs.lemmas.List.Elements.{All-more}
 use Rattle.std.proofs.lemmas.Option.{slice_get-get_or, slice_get_within, get_or_from_slice_get}
 use Rattle.std.proofs.lemmas.Bool.{cases_lt}
-use Rattle.std.proofs.lemmas.Str.{IsCharBoundary-start}
+use Rattle.std.proofs.lemmas.Str.{IsCharBoundary-start, IsCharBoundary-end}
 use Rattle.ts_base.specs.Bytes.{Bytes}
 use Rattle.ts_text.specs.declared.edit.Part.{Part}
 use Rattle.ts_text.specs.Edit.{AreApart, IsPartOf, replaced_from}
-use Rattle.ts_text.specs.Parts.{AreApartTo, IsAt, IsSize}
+use Rattle.ts_text.specs.Parts.{AreApartTo, IsAt, IsRewritten, IsSize}
 use Rattle.ts_text.specs.Text.{IsText, most_bytes}
 
 pub begins : (text : Bytes) (parts : List Part) → IsText text → IsAt text parts 0 0
@@ -133,7 +133,7 @@ not_apart parts n d e some lt above all =
 -- ---- the bytes
 
 -- what has been written, once a part's two pieces are behind it
-pub written : (text : Bytes) (parts : List Part) (i place : ℕ) (p : Part) (before kept fresh one two all : Bytes) → i < length parts → p ≡ get_or parts i p
+written : (text : Bytes) (parts : List Part) (i place : ℕ) (p : Part) (before kept fresh one two all : Bytes) → i < length parts → p ≡ get_or parts i p
     → kept ≡ slice_range text place p.start → fresh ≡ p.new → one ≡ before ++ kept → two ≡ one ++ fresh
     → before ++ replaced_from text place (drop i parts) ≡ all
     → two ++ replaced_from text p.end (drop (i + 1) parts) ≡ all
@@ -149,3 +149,107 @@ written text parts i place p before kept fresh one two all lt is k f e g whole =
   where
     rest : Bytes
     rest = replaced_from text p.end (drop (i + 1) parts)
+
+-- ---- the text that is written, one part after another
+
+whole_size : (text : Bytes) (parts : List Part) (i place : ℕ) (p : Part) (before all : Bytes) → i < length parts → p ≡ get_or parts i p
+    → before ++ replaced_from text place (drop i parts) ≡ all
+    → length before + (length (slice_range text place p.start) + length p.new + length (replaced_from text p.end (drop (i + 1) parts))) ≡ length all
+whole_size text parts i place p before all lt is whole =
+    let rest = replaced_from text p.end (drop (i + 1) parts) in
+    let one : length (before ++ replaced_from text place (drop i parts)) ≡ length all = ap (λ (bytes : Bytes). length bytes) whole in
+    let two : length (replaced_from text place (drop i parts)) ≡ length (slice_range text place p.start ++ p.new ++ rest) =
+    ap (λ (bytes : Bytes). length bytes) (unrolled text parts i place p lt is) in
+    let three : length (slice_range text place p.start ++ p.new ++ rest) ≡ length (slice_range text place p.start ++ p.new) + length rest =
+    length-append (slice_range text place p.start ++ p.new) rest in
+    let four : length (slice_range text place p.start ++ p.new) ≡ length (slice_range text place p.start) + length p.new =
+    length-append (slice_range text place p.start) p.new in
+    let five : length (before ++ replaced_from text place (drop i parts)) ≡ length before + length (replaced_from text place (drop i parts)) =
+    length-append before (replaced_from text place (drop i parts)) in
+    omega arith
+
+pub rewritten_start : (text : Bytes) (parts : List Part) (now : Bytes) → IsText text → now ≡ [] → IsRewritten text parts 0 0 now
+rewritten_start text parts now is none_there = record {
+  at = begins text parts is;
+  bytes = ap (λ (bytes : Bytes). bytes ++ replaced_from text 0 parts) none_there;
+}
+
+pub kept_ordered : (text : Bytes) (parts : List Part) (i place : ℕ) (p : Part) (now : Bytes) → All (IsPartOf text) parts
+    → i < length parts → p ≡ get_or parts i p → IsRewritten text parts i place now → place ≤ p.start
+kept_ordered text parts i place p now within lt is so = (is_ready text parts i place p within lt is so.at).ordered
+
+pub kept_from : (text : Bytes) (parts : List Part) (i place : ℕ) (now : Bytes) → IsRewritten text parts i place now → IsCharBoundary text place
+kept_from text parts i place now so = so.at.on
+
+pub kept_to : (text : Bytes) (parts : List Part) (i : ℕ) (p : Part) → All (IsPartOf text) parts → i < length parts → p ≡ get_or parts i p → IsCharBoundary text p.start
+kept_to text parts i p within lt is = (part_there text parts i p within lt is).start_on
+
+pub kept_fits : (text : Bytes) (parts : List Part) (i place : ℕ) (p : Part) (now : Bytes) → All (IsPartOf text) parts
+    → i < length parts → p ≡ get_or parts i p → IsRewritten text parts i place now → length (replaced_from text 0 parts) ≤ most_bytes
+    → length now + (p.start - place) ≤ most_bytes
+kept_fits text parts i place p now within lt is so fits =
+    let low : place ≤ p.start = kept_ordered text parts i place p now within lt is so in
+    let inside : p.start ≤ length text = (kept_to text parts i p within lt is).0 in
+    let kept : length (slice_range text place p.start) ≡ p.start - place = slice_length text place p.start low inside in
+    let sum = whole_size text parts i place p now (replaced_from text 0 parts) lt is so.bytes in
+    omega (arith, sum)
+
+pub new_from : (new : Bytes) → IsText new → IsCharBoundary new 0
+new_from new is = IsCharBoundary-start new is.utf8
+
+pub ends_on : (text : Bytes) (n : ℕ) → n ≡ length text → IsCharBoundary text n
+ends_on text n is = subst (λ (m : ℕ). IsCharBoundary text m) (sym is) (IsCharBoundary-end text)
+
+pub new_fits : (text : Bytes) (parts : List Part) (i place n : ℕ) (p : Part) (now one : Bytes) → i < length parts → p ≡ get_or parts i p
+    → IsRewritten text parts i place now → one ≡ now ++ slice_range text place p.start → n ≡ length p.new
+    → length (replaced_from text 0 parts) ≤ most_bytes → length one + (n - 0) ≤ most_bytes
+new_fits text parts i place n p now one lt is so made count fits =
+    let size : length one ≡ length now + length (slice_range text place p.start) =
+    ap (λ (bytes : Bytes). length bytes) made ∙ length-append now (slice_range text place p.start) in
+    let sum = whole_size text parts i place p now (replaced_from text 0 parts) lt is so.bytes in
+    omega (arith, sum)
+
+-- all of a part's new bytes
+all_of : (bytes : Bytes) (n : ℕ) → n ≡ length bytes → slice_range bytes 0 n ≡ bytes
+all_of bytes n is = take_all (n - 0) bytes (omega arith)
+
+pub rewritten_more : (text : Bytes) (parts : List Part) (i place n : ℕ) (p : Part) (now one two : Bytes) → All (IsPartOf text) parts → AreApart parts
+    → i < length parts → p ≡ get_or parts i p → IsRewritten text parts i place now
+    → one ≡ now ++ slice_range text place p.start → n ≡ length p.new → two ≡ one ++ slice_range p.new 0 n
+    → IsRewritten text parts (i + 1) p.end two
+rewritten_more text parts i place n p now one two within apart lt is so made count after = record {
+  at = goes_on text parts i place p within apart lt is so.at;
+  bytes = written text parts i place p now (slice_range text place p.start) (slice_range p.new 0 n) one two (replaced_from text 0 parts) lt is refl (all_of p.new n count) made after so.bytes;
+}
+
+-- what is left behind the last part
+
+pub last_from : (text : Bytes) (parts : List Part) (i place : ℕ) (now : Bytes) → IsRewritten text parts i place now → IsCharBoundary text place
+last_from text parts i place now so = so.at.on
+
+pub last_ordered : (text : Bytes) (parts : List Part) (i place n : ℕ) (now : Bytes) → IsRewritten text parts i place now → n ≡ length text → place ≤ n
+last_ordered text parts i place n now so is =
+    let within : place ≤ length text = so.at.on.0 in
+    omega arith
+
+pub last_fits : (text : Bytes) (parts : List Part) (i place n : ℕ) (now : Bytes) → IsRewritten text parts i place now → length parts ≤ i → n ≡ length text
+    → length (replaced_from text 0 parts) ≤ most_bytes → length now + (n - place) ≤ most_bytes
+last_fits text parts i place n now so ends is fits =
+    let rest : length (replaced_from text place (drop i parts)) ≡ length (drop place text) =
+    ap (λ (ps : List Part). length (replaced_from text place ps)) (drop_all i parts ends) in
+    let size : length (now ++ replaced_from text place (drop i parts)) ≡ length (replaced_from text 0 parts) = ap (λ (bytes : Bytes). length bytes) so.bytes in
+    omega (arith, length-append now (replaced_from text place (drop i parts)), length-drop place text)
+
+pub rewritten_end : (text : Bytes) (parts : List Part) (i place n : ℕ) (now one : Bytes) → IsRewritten text parts i place now → length parts ≤ i → n ≡ length text
+    → one ≡ now ++ slice_range text place n → one ≡ replaced_from text 0 parts
+rewritten_end text parts i place n now one so ends is made =
+    made
+    ∙ ap (λ (m : ℕ). now ++ slice_range text place m) is
+    ∙ ap (λ (bytes : Bytes). now ++ bytes) (take_rest text place)
+    ∙ ap (λ (ps : List Part). now ++ replaced_from text place ps) (sym (drop_all i parts ends))
+    ∙ so.bytes
+
+pub rewritten_small : (text : Bytes) (parts : List Part) (i place n : ℕ) (now one : Bytes) → IsRewritten text parts i place now → length parts ≤ i → n ≡ length text
+    → one ≡ now ++ slice_range text place n → length (replaced_from text 0 parts) ≤ most_bytes → length one ≤ most_bytes
+rewritten_small text parts i place n now one so ends is made fits =
+    subst (λ (bytes : Bytes). length bytes ≤ most_bytes) (sym (rewritten_end text parts i place n now one so ends is made)) fits

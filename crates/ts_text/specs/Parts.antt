@@ -1,5 +1,5 @@
 -- How far the parts of an edit have been gone through; for private clauses and proofs alone.
-use Rattle.std.specs.Prelude.{ℕ, suc, ◌≡◌, ◌≤◌, ◌<◌, ◌+◌, ◌*◌, List, length, drop, slice_get, Some}
+use Rattle.std.specs.Prelude.{ℕ, suc, ◌≡◌, ◌≤◌, ◌<◌, ◌+◌, ◌*◌, ◌++◌, List, length, drop, slice_get, Some}
 use Rattle.std.specs.Str.{IsCharBoundary}
 use Rattle.ts_base.specs.Bytes.{Bytes}
 use Rattle.ts_text.specs.declared.edit.Part.{Part}
@@ -18,6 +18,11 @@ pub record IsSize (text : Bytes) (parts : List Part) (i place size : ℕ) : Type
   pub is : size + length (replaced_from text place (drop i parts))
       ≡ length (replaced_from text 0 parts)
   pub bound : size ≤ place + i * most_bytes
+
+-- what the first i parts leave of the text before the place is written
+pub record IsRewritten (text : Bytes) (parts : List Part) (i place : ℕ) (now : Bytes) : Type 0 where
+  pub at : IsAt text parts i place
+  pub bytes : now ++ replaced_from text place (drop i parts) ≡ replaced_from text 0 parts
 
 -- of the first n parts each ends below the start of the next
 abbrev pub AreApartTo : List Part → ℕ → Type 0

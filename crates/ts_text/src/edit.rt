@@ -1,9 +1,11 @@
 //! Edits of texts: a text and an edit come in, and the text after it or a refusal comes out.
-ghost use Rattle.std.specs.Prelude.{◌≡◌, ◌↔◌, ℕ, All, length, string_bytes};
+ghost use Rattle.std.specs.Prelude.{◌≡◌, ◌↔◌, ℕ, All, length, ◌≤◌};
 ghost use Rattle.std.specs.Prelude.{IsErrOf, IfOk, IsOkUnless, IsTrue};
 ghost use Rattle.ts_text.specs.Edit.{AreApart, IsPartOf, InRange, apply_of, replaced_from, Fits, IsOver};
+ghost use Rattle.ts_text.specs.Text.{most_bytes};
 
 use crate::text::{MOST_BYTES, Text};
+use crate::writing::Writer;
 use std::alloc::{AllocError, Global};
 use thiserror::Error;
 use ts_base::List;
@@ -48,7 +50,8 @@ pub enum EditFault {
 
 /// The text after an edit, all its parts replaced at once.
 ///
-/// Each byte is copied once, into one allocation of the new text's size.
+/// The new text shares the pieces of the old one that lie between the parts. What is copied are the
+/// pieces at the parts' ends.
 ///
 /// # Errors
 ///
@@ -70,8 +73,8 @@ pub fn apply(alloc: Global, text: &Text, edit: &Edit) -> Result<Text, EditFault>
     if size > u64::from(MOST_BYTES) {
         return Err(EditFault::Size(size));
     }
-    match rewritten(alloc, text, parts, size as usize) {
-        Ok(content) => Ok(Text::from_string(content)),
+    match rewritten(alloc, text, parts) {
+        Ok(after) => Ok(after),
         Err(_) => Err(EditFault::Memory),
     }
 }
@@ -132,20 +135,22 @@ fn size_after(text: &Text, parts: &[Part]) -> u64
     size + u64::from(length - place)
 }
 
-/// The text after the edit, in a string that has room for so many bytes from the start.
-fn rewritten(alloc: Global, text: &Text, parts: &[Part], size: usize) -> Result<String, AllocError>
+/// The text after the edit. It shares the pieces that the edit leaves.
+#[tactic(auto, using(crate::proofs::PartLemmas::rewritten_start, crate::proofs::PartLemmas::kept_ordered, crate::proofs::PartLemmas::kept_from, crate::proofs::PartLemmas::kept_to, crate::proofs::PartLemmas::kept_fits, crate::proofs::PartLemmas::new_from, crate::proofs::PartLemmas::ends_on, crate::proofs::PartLemmas::new_fits, crate::proofs::PartLemmas::rewritten_more, crate::proofs::PartLemmas::last_from, crate::proofs::PartLemmas::last_ordered, crate::proofs::PartLemmas::last_fits, crate::proofs::PartLemmas::rewritten_end, crate::proofs::PartLemmas::rewritten_small))]
+fn rewritten(alloc: Global, text: &Text, parts: &[Part]) -> Result<Text, AllocError>
     requires within { All (IsPartOf text.now) parts.now }
     requires apart { AreApart parts.now }
-    ensures { IfOk result (λ whole. string_bytes whole ≡ replaced_from text.now 0 parts.now) }
+    requires fits { length (replaced_from text.now 0 parts.now) ≤ most_bytes }
+    ensures { IfOk result (λ after. after ≡ replaced_from text.now 0 parts.now) }
 {
     let length = text.len();
-    let mut whole = String::with_capacity(alloc, size)?;
+    let mut writer = Writer::new(alloc, text.pieces().len() + 1)?;
     let mut place = 0;
     for part in parts {
-        whole.push_str(text.slice(place, part.start))?;
-        whole.push_str(part.new.as_str())?;
+        writer.put_range(alloc, text, place, part.start)?;
+        writer.put_range(alloc, &part.new, 0, part.new.len())?;
         place = part.end;
     }
-    whole.push_str(text.slice(place, length))?;
-    Ok(whole)
+    writer.put_range(alloc, text, place, length)?;
+    writer.text(alloc)
 }

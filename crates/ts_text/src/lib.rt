@@ -5,12 +5,20 @@
 
 mod edit;
 mod laws;
+mod piece;
 mod point;
+mod rest;
+mod slice;
+mod sliced;
 #[cfg(test)]
 mod tests;
 mod text;
+mod writer;
+mod writing;
 
 pub use edit::{Edit, EditFault, Part, apply};
 pub use laws::{breaks_once, edited_is_text};
 pub use point::PointWalk;
+pub use rest::Rest;
+pub use slice::Slice;
 pub use text::{MOST_BYTES, Text, TextFault};

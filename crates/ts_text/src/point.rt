@@ -15,7 +15,7 @@ const NEWLINE: u8 = b'\n';
 /// the text in all, and a place below the last one a reading from the start. It takes no memory.
 #[derive(Debug, Drop)]
 pub struct PointWalk<'a> {
-    bytes: &'a [u8],
+    text: &'a Text,
     place: u32,
     row: u32,
     column: u32,
@@ -27,9 +27,9 @@ impl<'a> Model for PointWalk<'a> {
 
     ghost Value = { Bytes };
 
-    ghost view = { λ walk. walk.bytes.now };
+    ghost view = { λ walk. walk.text.now };
 
-    ghost invariant = { λ walk. IsWalk walk.bytes.now walk.place walk.row walk.column };
+    ghost invariant = { λ walk. IsWalk walk.text.now walk.place walk.row walk.column };
 }
 
 impl<'a> PointWalk<'a> {
@@ -38,7 +38,7 @@ impl<'a> PointWalk<'a> {
         ensures { result ≡ text.now }
     {
         PointWalk {
-            bytes: text.as_bytes(),
+            text,
             place: 0,
             row: 0,
             column: 0,
@@ -52,9 +52,9 @@ impl<'a> PointWalk<'a> {
         ensures same { self.new ≡ self.old }
     {
         let (row, column) = if place < self.place {
-            advance(self.bytes, 0, place, (0, 0))
+            advance(self.text, 0, place, (0, 0))
         } else {
-            advance(self.bytes, self.place, place, (self.row, self.column))
+            advance(self.text, self.place, place, (self.row, self.column))
         };
         self.place = place;
         self.row = row;
@@ -64,16 +64,22 @@ impl<'a> PointWalk<'a> {
 }
 
 /// The point of `to`, where that of `from` is known.
-#[tactic(auto, using(crate::proofs::PointLemmas::row_of_within, crate::proofs::PointLemmas::column_of_within, crate::proofs::PointLemmas::point_of_more))]
-fn advance(bytes: &[u8], from: u32, to: u32, point: (u32, u32)) -> (u32, u32)
+#[tactic(auto, using(crate::proofs::PointLemmas::row_of_within, crate::proofs::PointLemmas::column_of_within, crate::proofs::PointLemmas::point_of_byte, crate::proofs::PointLemmas::point_here))]
+fn advance(text: &Text, from: u32, to: u32, point: (u32, u32)) -> (u32, u32)
     requires rises { from ≤ to }
-    requires within { to ≤ length bytes.now }
-    requires point { point ≡ point_of bytes.now from }
-    ensures { result ≡ point_of bytes.now to }
+    requires within { to ≤ length text.now }
+    requires point { point ≡ point_of text.now from }
+    ensures { result ≡ point_of text.now to }
 {
     let mut at = point;
-    for place in from..to {
-        at = next_point(at, bytes[place as usize]);
+    let mut place = from;
+    while place < to {
+        let bytes = text.stretch(place);
+        let count = bytes.len().min((to - place) as usize);
+        for k in 0..count {
+            at = next_point(at, bytes[k]);
+        }
+        place += count as u32;
     }
     at
 }

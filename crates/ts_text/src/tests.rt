@@ -1,5 +1,5 @@
 //! Texts, edits and points by examples: those of RFC 3629, and some worked out by hand.
-use crate::{Edit, EditFault, MOST_BYTES, Part, PointWalk, Text, TextFault, apply};
+use crate::{Edit, EditFault, MOST_BYTES, Part, PointWalk, Rest, Text, TextFault, apply};
 use std::alloc::Global;
 use std::process::Abort;
 use std::test::Fail;
@@ -14,6 +14,31 @@ fn breaks_at(alloc: Global, bytes: &[u8]) -> Option<u32> {
         Err(TextFault::Utf8(place)) => Some(place),
         Ok(_) | Err(TextFault::Size(_) | TextFault::Memory) => None,
     }
+}
+
+/// Whether a text has these characters.
+fn has(text: &Text, want: &str) -> bool {
+    let bytes = want.as_bytes();
+    if text.len() as usize != bytes.len() {
+        return false;
+    }
+    for place in 0..text.len() {
+        if text.byte(place) != bytes[place as usize] {
+            return false;
+        }
+    }
+    true
+}
+
+/// The text that has some characters so many times.
+fn repeated(alloc: Global, characters: &str, count: u32) -> Result<Text, TextFault> {
+    let mut bytes = Vec::new(alloc);
+    for _ in 0..count {
+        if bytes.extend_from_slice(characters.as_bytes()).is_err() {
+            return Err(TextFault::Memory);
+        }
+    }
+    Text::from_bytes(alloc, bytes.as_slice())
 }
 
 /// The edit of one part.
@@ -43,12 +68,11 @@ fn reads_texts_and_gives_their_parts(rt: HostRuntime) -> Result<(), Fail> {
     let alloc = rt.alloc();
     let empty = Text::from_bytes(alloc, b"".as_slice())?;
     assert!(rt; empty.is_empty());
-    assert_eq!(rt; empty.as_str(), "");
+    assert!(rt; has(&empty, ""));
     let text = Text::from_bytes(alloc, "aé€😀z".as_bytes())?;
     assert_eq!(rt; text.len(), 11);
     assert!(rt; !text.is_empty());
-    assert_eq!(rt; text.as_str(), "aé€😀z");
-    assert_eq!(rt; text.as_bytes(), "aé€😀z".as_bytes());
+    assert!(rt; has(&text, "aé€😀z"));
     assert_eq!(rt; text.byte(10), b'z');
     for (place, want) in [
         true, true, false, true, false, false, true, false, false, false, true, true, false,
@@ -60,7 +84,7 @@ fn reads_texts_and_gives_their_parts(rt: HostRuntime) -> Result<(), Fail> {
     }
     takes_shared(&text);
     assert!(rt; text.is_boundary(1) && text.is_boundary(6));
-    assert_eq!(rt; text.slice(1, 6), "é€");
+    assert_eq!(rt; text.slice(alloc, 1, 6)?.text(), "é€");
     Ok(())
 }
 
@@ -134,7 +158,7 @@ fn applies_edits(rt: HostRuntime) -> Result<(), Fail> {
     ];
     for (old, start, end, new, want) in cases {
         let after = edited(alloc, old, start, end, new)??;
-        assert_eq!(rt; after.as_str(), want, "{old:?} {start}..{end} {new:?}");
+        assert!(rt; has(&after, want), "{old:?} {start}..{end} {new:?}");
     }
     Ok(())
 }
@@ -171,7 +195,7 @@ fn edited_in_parts(
 fn applies_several_parts_at_once(rt: HostRuntime) -> Result<(), Fail> {
     let alloc = rt.alloc();
     let both = edited_in_parts(alloc, "[1,2]", &[(1, 2, "33"), (3, 4, "null")])??;
-    assert_eq!(rt; both.as_str(), "[33,null]");
+    assert!(rt; has(&both, "[33,null]"));
     let meeting = edited_in_parts(alloc, "[1,2]", &[(1, 2, "33"), (2, 3, "")])?;
     assert_eq!(rt; meeting, Err(EditFault::Range));
     let none = edited_in_parts(alloc, "[1,2]", &[])?;
@@ -237,5 +261,116 @@ fn gives_the_point_of_every_place(rt: HostRuntime) -> Result<(), Fail> {
     ] {
         assert_eq!(rt; leaps.at(place), want, "leaping to {place}");
     }
+    Ok(())
+}
+
+// A piece has about 8,192 bytes, and a character of three bytes lies over that place.
+#[test]
+fn cuts_between_characters(rt: HostRuntime) -> Result<(), Fail> {
+    let alloc = rt.alloc();
+    let text = repeated(alloc, "€", 6_000)?;
+    assert_eq!(rt; text.len(), 18_000);
+    for place in 8_185..8_200 {
+        assert_eq!(rt; text.is_boundary(place), place % 3 == 0, "at {place}");
+        assert_eq!(rt; text.rest_at(place).is_some(), place % 3 == 0, "at {place}");
+        assert_eq!(rt;
+            text.byte(place),
+            "€".as_bytes()[(place % 3) as usize],
+            "at {place}"
+        );
+    }
+    assert!(rt; text.is_boundary(8_181) && text.is_boundary(8_205));
+    assert_eq!(rt; text.slice(alloc, 8_181, 8_205)?.text(), "€€€€€€€€");
+    assert!(rt; text.is_boundary(18_000) && !text.is_boundary(18_003));
+    Ok(())
+}
+
+/// How many bytes a rest has, and how many stretches of them, up to eight.
+fn stretches(rest: Rest<'_>) -> (usize, u32) {
+    let mut left = rest;
+    let mut sum: usize = 0;
+    for count in 0..8 {
+        if left.is_empty() {
+            return (sum, count);
+        }
+        let (stretch, later) = left.split();
+        sum = sum.saturating_add(stretch.len());
+        left = later;
+    }
+    (sum, 8)
+}
+
+#[test]
+fn reads_on_over_the_end_of_a_piece(rt: HostRuntime) -> Result<(), Fail> {
+    let alloc = rt.alloc();
+    let one = repeated(alloc, "a", 8_192)?;
+    let two = repeated(alloc, "a", 8_193)?;
+    let three = repeated(alloc, "ab", 12_288)?;
+    for (text, place, want) in [
+        (&one, 0, (8_192, 1)),
+        (&one, 8_192, (0, 0)),
+        (&two, 0, (8_193, 2)),
+        (&three, 8_190, (16_386, 3)),
+        (&three, 24_576, (0, 0)),
+    ] {
+        match text.rest_at(place) {
+            Some(rest) => assert_eq!(rt; stretches(rest), want, "at {place}"),
+            None => assert!(rt; false, "nothing is left at {place}"),
+        }
+    }
+    Ok(())
+}
+
+// The same bytes, cut at other places.
+#[test]
+fn compares_bytes_and_not_pieces(rt: HostRuntime) -> Result<(), Fail> {
+    let alloc = rt.alloc();
+    let plain = repeated(alloc, "a", 30_000)?;
+    let shorter = repeated(alloc, "a", 29_990)?;
+    let ten = Text::from_bytes(alloc, b"aaaaaaaaaa".as_slice())?;
+    let grown = apply(alloc, &shorter, &one_part(alloc, 5_000, 5_000, ten)?)?;
+    assert!(rt; grown == plain);
+    assert!(rt; shorter != plain);
+    let other = Text::from_bytes(alloc, b"b".as_slice())?;
+    let changed = apply(alloc, &grown, &one_part(alloc, 29_999, 30_000, other)?)?;
+    assert!(rt; changed != plain);
+    assert_eq!(rt; changed.byte(29_999), b'b');
+    assert!(rt; changed.try_clone(alloc)? == changed);
+    Ok(())
+}
+
+// What goes and what comes are whole pieces.
+#[test]
+fn replaces_whole_pieces(rt: HostRuntime) -> Result<(), Fail> {
+    let alloc = rt.alloc();
+    let old = repeated(alloc, "a", 24_576)?;
+    let new = repeated(alloc, "b", 16_384)?;
+    let after = apply(alloc, &old, &one_part(alloc, 8_192, 16_384, new)?)?;
+    assert_eq!(rt; after.len(), 32_768);
+    for (place, want) in [
+        (8_191, b'a'),
+        (8_192, b'b'),
+        (24_575, b'b'),
+        (24_576, b'a'),
+        (32_767, b'a'),
+    ] {
+        assert_eq!(rt; after.byte(place), want, "at {place}");
+    }
+    let nothing = Text::from_bytes(alloc, b"".as_slice())?;
+    let back = apply(alloc, &after, &one_part(alloc, 8_192, 24_576, nothing)?)?;
+    assert!(rt; back == repeated(alloc, "a", 16_384)?);
+    Ok(())
+}
+
+#[test]
+fn gives_points_behind_the_first_piece(rt: HostRuntime) -> Result<(), Fail> {
+    let alloc = rt.alloc();
+    let text = repeated(alloc, "ab\n", 4_000)?;
+    assert_eq!(rt; text.len(), 12_000);
+    assert_eq!(rt; text.point(9_000), (3_000, 0));
+    let mut walk = PointWalk::new(&text);
+    assert_eq!(rt; walk.at(8_191), (2_730, 1));
+    assert_eq!(rt; walk.at(8_192), (2_730, 2));
+    assert_eq!(rt; walk.at(12_000), (4_000, 0));
     Ok(())
 }

@@ -1,4 +1,4 @@
-use Rattle.std.proofs.Common.{◌≡◌, ◌∙◌, sym, ap, refl, subst, ℕ, suc, drop, arith}
+use Rattle.std.proofs.Common.{◌≡◌, ◌∙◌, sym, refl, subst, ℕ, suc, drop, arith}
 use Rattle.std.specs.List.{prefix_len}
 use Rattle.ts_base.specs.Bytes.{Bytes}
 use Rattle.spec_lexing.specs.Lexing.{absent, Lex}
@@ -12,7 +12,7 @@ returns-clause-answer c g valid =
     let place = c.args.place in
     let i = inside text place c.requires.within c.requires.inner in
     let e : c.inner_bytes.result ≡ suc (prefix_len is_inner i.bytes) =
-    c.inner_bytes.ensures ∙ ap (λ (l : Bytes). prefix_len is_inner l) (c.split_at.ensures.back ∙ ap (λ (l : Bytes). drop place l) c.as_bytes.ensures.whole) ∙ inside_extent text place i in
+    c.inner_bytes.ensures ∙ inside_extent text place i in
     record {
       found = absent 0;
       lex = subst (λ (l : Bytes). Lex g valid l (absent 0)) (sym i.rest) (inside_lex g valid i.byte i.bytes i.inner);

@@ -5,12 +5,12 @@ use Rattle.ts_text.proofs.TextLemmas.{whole_breaks_nowhere, breaks_once}
 use Rattle.ts_text.specs.Text.{most_bytes}
 use Rattle.ts_text.proofs.text.Text.from_bytes.Goals as goal
 
-pub returns-in-Ok-from_str-clause-utf8 : goal.returns-in-Ok-from_str-clause-utf8
-returns-in-Ok-from_str-clause-utf8 c = λ n.
+pub returns-in-Ok-text_of-clause-utf8 : goal.returns-in-Ok-text_of-clause-utf8
+returns-in-Ok-text_of-clause-utf8 c = λ n.
     (λ e. cc, λ broken. absurd (whole_breaks_nowhere _ n c.in-Ok.ensures.cases.1 broken))
 
-pub returns-in-Err-from_str-clause-utf8 : goal.returns-in-Err-from_str-clause-utf8
-returns-in-Err-from_str-clause-utf8 c = λ n.
+pub returns-in-Err-text_of-clause-utf8 : goal.returns-in-Err-text_of-clause-utf8
+returns-in-Err-text_of-clause-utf8 c = λ n.
     (λ e. cc, λ broken. absurd (whole_breaks_nowhere _ n c.in-Ok.ensures.cases.1 broken))
 
 pub returns-in-Err-clause-utf8 : goal.returns-in-Err-clause-utf8

@@ -1,0 +1,104 @@
+use Rattle.std.proofs.Common.{rules, ◌≡◌, ◌+◌, ◌++◌, ap, subst, length, length-append, arith, ℕ, List}
+use Rattle.std.specs.Str.Iter.{chars_rest}
+use Rattle.std.proofs.Math.Utf8.{encode}
+use Rattle.std.proofs.lemmas.Str.{length-encode}
+use Rattle.ts_base.specs.Bytes.{Bytes}
+use Rattle.ts_automata.specs.declared.automaton.Automaton.{Automaton}
+use Rattle.ts_automata.specs.Machine.{HasRead}
+use Rattle.ts_lexer.specs.Judged.{JudgesNodes}
+use Rattle.ts_lexer.specs.Runs.{Running}
+use Rattle.ts_lexer.proofs.KnowLemmas.{knows}
+use Rattle.ts_lexer.proofs.PassLemmas.{empty_of}
+use Rattle.ts_lexer.proofs.RunLemmas.{Laws}
+use Rattle.ts_lexer.proofs.ScannedLemmas.{step_at, dead_at, more_at}
+use Rattle.ts_lexer.proofs.StayLemmas.{spelled_before}
+use Rattle.ts_lexer.proofs.scanning.read_by_nodes.Goals as goal
+
+pub loop-c-init : goal.loop-c-init
+loop-c-init c = record {
+  within = c.requires.set;
+  fits = (
+      let same : chars_rest c.into_iter-c-iterator.result ≡ c.args.piece.now = search rules in
+      ap (λ (l : Bytes). c.args.run.now.size + length l) same
+      );
+  running = λ g valid rest tail made view automaton run.
+      let same : chars_rest c.into_iter-c-iterator.result ≡ c.args.piece.now = search rules in
+      rw same run;
+}
+
+pub returns-then-not-verdict-clause-read : goal.returns-then-not-verdict-clause-read
+returns-then-not-verdict-clause-read c g valid rest tail made view automaton before =
+    let laws : Laws = record {
+      front_prefix = c.a_front_has_fronts.ensures;
+      word_front = c.every_word_is_a_front.ensures.word;
+      nothing = c.beginnings.ensures.nothing;
+      prefix = c.beginnings.ensures.prefix;
+      longer = c.beginnings.ensures.longer;
+      more = c.beginnings.ensures.more;
+      follows = c.beginnings.ensures.follows;
+      within = c.beginnings.ensures.within;
+      one = c.one_character_at_a_time.ensures;
+    } in
+    let run = c.loop-c.invariant.running g valid rest tail made view automaton before in
+    let m = c.args.machine.now in
+    let read = c.next-to.ensures.stands run.characters run.read in
+    let judged = subst (λ (a : Automaton). JudgesNodes g valid c.args.first a c.members.result.now c.judge-verdict.result) c.automaton.ensures (c.judge-verdict.ensures g valid made view) in
+    let known = knows g m automaton _ c.next-to.result read c.members.result.now c.members.ensures valid c.args.first c.judge-verdict.result judged in
+    let o = c.chosen.ensures in
+    let here = chars_rest c.loop-c.c-iterator in
+    let there = chars_rest c.next.new.self in
+    dead_at laws g valid c.args.first rest (λ w. HasRead m w c.loop-c.state) (here ++ tail) c.loop-c.size c.loop-c.progress run c.in-Some.c (there ++ tail)
+    (spelled_before here there tail c.in-Some.c c.in-Some.ensures.steps.0) c.len_utf8.result c.len_utf8.ensures.value
+    c.judge-verdict.result known c.if-not-verdict.true c.chosen.result (record { plain = o.plain; keyword = o.keyword; both = λ j k x s a b e f p q. o.both g j k x s a b e f made p q })
+
+pub loop-c-preserved : goal.loop-c-preserved
+loop-c-preserved c =
+    let inv = c.loop-c.invariant in
+    record {
+      within = c.next-to.ensures.within;
+      fits = (
+          let e = ap (λ (l : List ℕ). length l) c.in-Some.ensures.steps.0 in
+          let f = length-append (encode c.in-Some.c) (chars_rest c.next.new.self) in
+          let h = length-encode c.in-Some.c in
+          let k = c.len_utf8-size.ensures.value in
+          let n = inv.fits in
+          omega arith
+          );
+      running = λ g valid rest tail made view automaton before.
+          let laws : Laws = record {
+            front_prefix = c.a_front_has_fronts.ensures;
+            word_front = c.every_word_is_a_front.ensures.word;
+            nothing = c.beginnings.ensures.nothing;
+            prefix = c.beginnings.ensures.prefix;
+            longer = c.beginnings.ensures.longer;
+            more = c.beginnings.ensures.more;
+            follows = c.beginnings.ensures.follows;
+            within = c.beginnings.ensures.within;
+            one = c.one_character_at_a_time.ensures;
+          } in
+          let run = inv.running g valid rest tail made view automaton before in
+          let m = c.args.machine.now in
+          let read = c.next-to.ensures.stands run.characters run.read in
+          let judged = subst (λ (a : Automaton). JudgesNodes g valid c.args.first a c.members.result.now c.judge-verdict.result) c.automaton.ensures (c.judge-verdict.ensures g valid made view) in
+          let known = knows g m automaton _ c.next-to.result read c.members.result.now c.members.ensures valid c.args.first c.judge-verdict.result judged in
+          let here = chars_rest c.loop-c.c-iterator in
+          let there = chars_rest c.next.new.self in
+          let spells = spelled_before here there tail c.in-Some.c c.in-Some.ensures.steps.0 in
+          let step = step_at laws g valid c.args.first rest (λ w. HasRead m w c.loop-c.state) (here ++ tail) c.loop-c.size c.loop-c.progress run c.in-Some.c (there ++ tail) spells c.len_utf8-size.result c.len_utf8-size.ensures.value in
+          let sofar = c.advance-progress.ensures.sofar g valid c.args.first rest c.loop-c.size _ made step known run.sofar in
+          more_at laws g valid c.args.first rest (λ w. HasRead m w c.loop-c.state) (here ++ tail) c.loop-c.size c.loop-c.progress run c.in-Some.c (there ++ tail) spells c.len_utf8-size.result c.len_utf8-size.ensures.value
+          c.judge-verdict.result (λ w. HasRead m w c.next-to.result) c.advance-progress.result known c.if-not-verdict.false read sofar;
+    }
+
+pub returns-clause-size : goal.returns-clause-size
+returns-clause-size c =
+    let fits = c.loop-c.invariant.fits in
+    let none : length (chars_rest c.loop-c.c-iterator) ≡ 0 = c.in-None.ensures.steps.0.0 in
+    let all : c.loop-c.size ≡ c.args.run.now.size + length c.args.piece.now = omega arith in
+    all
+
+pub returns-clause-read : goal.returns-clause-read
+returns-clause-read c g valid rest tail made view automaton before =
+    let run = c.loop-c.invariant.running g valid rest tail made view automaton before in
+    let none = empty_of (chars_rest c.loop-c.c-iterator) c.in-None.ensures.steps.0.0 in
+    subst (λ (l : Bytes). Running (λ w. HasRead c.args.machine.now w c.loop-c.state) g valid c.args.first rest (l ++ tail) c.loop-c.size c.loop-c.progress) none run

@@ -1,8 +1,0 @@
-use Rattle.std.proofs.lemmas.Str.{IsUtf8-string_bytes}
-use Rattle.ts_text.proofs.text.Text.from_string.Goals as goal
-
-pub invariant_of-result : goal.invariant_of-result
-invariant_of-result c = record {
-  utf8 = IsUtf8-string_bytes c.args.content;
-  within = c.requires;
-}
