@@ -5,5 +5,6 @@ pub mod GoingOnLemmas
 pub mod LocalLemmas
 pub mod OneLemmas
 pub mod RegularLemmas
+pub mod SomeLemmas
 pub mod WithinLemmas
 pub mod WordLemmas

@@ -69,6 +69,12 @@ pub fn one_answer()
         → Seen g valid rest n → Seen g valid rest m → n ≡ m }
 {}
 
+/// Lexing comes to something: it cannot be that neither a token is found nor that there is none.
+pub fn something_is_seen()
+    ensures { (g : FlatGrammars) (valid : List Symbols) (rest : Bytes)
+        → ((f : Found) → Lex g valid rest f → ⊥) → ⊥ }
+{}
+
 /// A text that has the same bytes where lexing looks is lexed the same: at any place of it, which
 /// may be inside a character, and also where it is no UTF-8.
 pub fn seen_decides()

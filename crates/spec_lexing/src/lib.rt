@@ -7,5 +7,5 @@ mod laws;
 
 pub use laws::{
     a_front_has_fronts, beginnings, every_word_is_a_front, fewer_tokens, one_answer,
-    one_character_at_a_time, seen_decides, small_forms, token_within,
+    one_character_at_a_time, seen_decides, small_forms, something_is_seen, token_within,
 };
