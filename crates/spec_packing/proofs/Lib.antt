@@ -1,8 +1,11 @@
 pub mod CodeLemmas
 pub mod RankLemmas
+pub mod ReplaceLemmas
 pub mod StackLemmas
 pub mod MadeLemmas
 pub mod ReducedLemmas
 pub mod ReachedLemmas
 pub mod RootLemmas
+pub mod DepthLemmas
 pub mod RunLemmas
+pub mod PackedLemmas

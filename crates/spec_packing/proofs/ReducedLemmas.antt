@@ -1,5 +1,5 @@
--- Nodes over children that serve for others serve for the nodes over those.
-use Rattle.std.proofs.Common.{◌≡◌, ◌∙◌, sym, refl, subst, ℕ, ◌+◌, ◌-◌, ◌<◌, ◌≤◌, inl, inr, max, false, List, [], ◌∷◌, ◌++◌, length, map, Option, Some, None, unwrap_or, arith}
+-- Nodes over children that replace others replace the nodes over those.
+use Rattle.std.proofs.Common.{◌≡◌, ◌∙◌, sym, refl, subst, ℕ, ◌+◌, ◌-◌, ◌<◌, ◌≤◌, inl, inr, false, List, [], ◌∷◌, ◌++◌, length, map, Option, Some, None, unwrap_or, arith}
 use Rattle.std.specs.List.{concat}
 use Rattle.std.proofs.lemmas.List.{length-map}
 use lib.IntN.{ℤ, ◌+ℤ◌}
@@ -7,22 +7,21 @@ use Rattle.ts_core.specs.declared.flat.FlatGrammar.{FlatGrammar}
 use Rattle.ts_core.specs.declared.flat.Production.{Production}
 use Rattle.spec_trees.specs.declared.tree.Tree.{Tree}
 use Rattle.spec_trees.specs.declared.tree.Element.{Element}
-use Rattle.spec_trees.specs.declared.tree.Tree.TheFolds.{fold_out-Tree}
-use Rattle.spec_trees.specs.Trees.{pad_of, size_of, elements_of, children_of, total_of, all_totals, span_of, all_spans, first_pad, tree_depth, depth_step, greatest_depth}
+use Rattle.spec_trees.specs.Trees.{pad_of, size_of, elements_of, children_of, total_of, all_totals, span_of, all_spans, first_pad}
 use Rattle.spec_trees.specs.Made.{node_over, element, Form, of_rule, of_first, of_next, form_of, made_by, value_of, reduced}
 use Rattle.spec_trees.specs.Choice.{code_of, inner_code, element_codes}
-use Rattle.spec_packing.specs.Serving.{ServesFor, AllServe}
+use Rattle.spec_packing.specs.Replacing.{Replaces, AllReplace}
 use Rattle.spec_packing.proofs.CodeLemmas.{Leads, leads_head, leads_tail, leads_raised, words_sorted}
 use Rattle.spec_packing.proofs.RankLemmas.{Ranks, ranks_tree, ranks_not, ranks_join, ranks_value, ranks_by}
-use Rattle.spec_packing.proofs.StackLemmas.{same_length, same_spans, same_pad, same_span, no_shallower}
+use Rattle.spec_packing.proofs.ReplaceLemmas.{same_length, same_spans, same_pad, same_span}
 use Rattle.spec_packing.proofs.MadeLemmas.{IsMade, AllMade, Over, over_says, CanMake, IsLawful, first_some, first_codes, next_codes, before_flat, next_is_flat, no_children, left_is, all_spans_append}
 
 -- ---- children
 
-pub tree_ranks : (g : FlatGrammar) (t u : Tree) → IsMade g t → IsMade g u → ServesFor t u → Ranks (total_of t) (code_of t) (total_of u) (code_of u)
+pub tree_ranks : (g : FlatGrammar) (t u : Tree) → IsMade g t → IsMade g u → Replaces t u → Ranks (total_of t) (code_of t) (total_of u) (code_of u)
 tree_ranks g t u m n s = ranks_tree t u (words_sorted g false 1 (code_of t) (code_of u) m.spelled n.spelled) s.no_better
 
-pub all_ranks : (g : FlatGrammar) (ts us : List Tree) → AllMade g ts → AllMade g us → AllServe ts us → Ranks (all_totals ts) (concat (map code_of ts)) (all_totals us) (concat (map code_of us))
+pub all_ranks : (g : FlatGrammar) (ts us : List Tree) → AllMade g ts → AllMade g us → AllReplace ts us → Ranks (all_totals ts) (concat (map code_of ts)) (all_totals us) (concat (map code_of us))
 all_ranks g [] [] m n a = inr (refl, inl refl)
 all_ranks g [] (u ∷ us) m n a = absurd a
 all_ranks g (t ∷ ts) [] m n a = absurd a
@@ -32,9 +31,9 @@ all_ranks g (t ∷ ts) (u ∷ us) m n a =
 
 -- ---- a node over children
 
-pub serves_over : (symbol : ℕ) (production : Option ℕ) (d e : ℤ) (es fs : List Element) (ks ms : List Tree) (t u : Tree) → Over symbol production d es ks t → Over symbol production e fs ms u → first_pad ks ≡ first_pad ms → all_spans ks ≡ all_spans ms
-    → greatest_depth ms ≤ greatest_depth ks → Ranks d (inner_code es (map code_of ks)) e (inner_code fs (map code_of ms)) → ServesFor t u
-serves_over symbol production d e es fs ks ms t u o q pads spans depths ranks =
+pub replaces_over : (symbol : ℕ) (production : Option ℕ) (d e : ℤ) (es fs : List Element) (ks ms : List Tree) (t u : Tree) → Over symbol production d es ks t → Over symbol production e fs ms u → first_pad ks ≡ first_pad ms → all_spans ks ≡ all_spans ms
+    → Ranks d (inner_code es (map code_of ks)) e (inner_code fs (map code_of ms)) → Replaces t u
+replaces_over symbol production d e es fs ks ms t u o q pads spans ranks =
     let sizes : all_spans ks - first_pad ks ≡ all_spans ms - first_pad ms = omega (arith, pads, spans) in
     let number = unwrap_or production 0 in
     let xs = inner_code es (map code_of ks) in
@@ -44,7 +43,6 @@ serves_over symbol production d e es fs ks ms t u o q pads spans depths ranks =
       extra = o.extra_is ∙ sym q.extra_is;
       pad = o.pad_is ∙ pads ∙ sym q.pad_is;
       size = o.size_is ∙ sizes ∙ sym q.size_is;
-      depth = omega (arith, o.depth_is, q.depth_is, depths);
       no_better = ranks_not t u d e (symbol ∷ number ∷ first_pad ks ∷ (all_spans ks - first_pad ks) ∷ xs) (symbol ∷ number ∷ first_pad ms ∷ (all_spans ms - first_pad ms) ∷ ys)
           o.total_is q.total_is o.code_is q.code_is
           (ranks_by d e xs ys (symbol ∷ number ∷ first_pad ks ∷ (all_spans ks - first_pad ks) ∷ xs) (symbol ∷ number ∷ first_pad ms ∷ (all_spans ms - first_pad ms) ∷ ys)
@@ -61,9 +59,6 @@ pub pad_append : (xs ys : List Tree) → 0 < all_spans xs → first_pad (xs ++ y
 pad_append [] ys some = absurd (omega (arith, some))
 pad_append (x ∷ xs) ys some = refl
 
-greatest_depth_append : (xs ys : List Tree) → greatest_depth (xs ++ ys) ≡ max (greatest_depth xs) (greatest_depth ys)
-greatest_depth_append [] ys = omega arith
-greatest_depth_append (x ∷ xs) ys = omega (arith, greatest_depth_append xs ys)
 
 -- the code of a repetition behind its first four numbers
 flat_leads : (s p d z d' z' : ℕ) (xs ys : List ℕ) → d ≡ d' → z ≡ z' → Leads (s ∷ p ∷ d ∷ z ∷ xs) (s ∷ p ∷ d' ∷ z' ∷ ys) → Leads xs ys
@@ -71,14 +66,14 @@ flat_leads s p d z d' z' xs ys pads sizes l =
     leads_tail z z' xs ys sizes (leads_tail d d' (z ∷ xs) (z' ∷ ys) pads (leads_tail p p (d ∷ z ∷ xs) (d' ∷ z' ∷ ys) refl (leads_tail s s (p ∷ d ∷ z ∷ xs) (p ∷ d' ∷ z' ∷ ys) refl l)))
 
 module _ (g : FlatGrammar) (number left : ℕ) (p : Production) (lawful : IsLawful g number left p) where
-  serves_rule : (ts us : List Tree) → CanMake g number left p ts → CanMake g number left p us → AllServe ts us → ServesFor (made_by of_rule left number (value_of g number) 0 None ts) (made_by of_rule left number (value_of g number) 0 None us)
-  serves_rule ts us c b a =
+  replaces_rule : (ts us : List Tree) → CanMake g number left p ts → CanMake g number left p us → AllReplace ts us → Replaces (made_by of_rule left number (value_of g number) 0 None ts) (made_by of_rule left number (value_of g number) 0 None us)
+  replaces_rule ts us c b a =
       let v = value_of g number in
       let d = v +ℤ all_totals ts in
       let e = v +ℤ all_totals us in
       let many : length (map code_of ts) ≡ length (map code_of us) = length-map ts code_of ∙ same_length ts us a ∙ sym (length-map us code_of) in
-      serves_over left (Some number) d e [] [] ts us (node_over left (Some number) d 0 None [] ts) (node_over left (Some number) e 0 None [] us)
-      (over_says left (Some number) d [] ts) (over_says left (Some number) e [] us) (same_pad ts us a) (same_spans ts us a) (no_shallower ts us a)
+      replaces_over left (Some number) d e [] [] ts us (node_over left (Some number) d 0 None [] ts) (node_over left (Some number) e 0 None [] us)
+      (over_says left (Some number) d [] ts) (over_says left (Some number) e [] us) (same_pad ts us a) (same_spans ts us a)
       (ranks_by d e (concat (map code_of ts)) (concat (map code_of us)) (length (map code_of ts) ∷ concat (map code_of ts)) (length (map code_of us) ∷ concat (map code_of us))
       (λ l. leads_head (length (map code_of ts)) (length (map code_of us)) (concat (map code_of ts)) (concat (map code_of us)) many l)
       (ranks_value v (all_totals ts) (all_totals us) (concat (map code_of ts)) (concat (map code_of us)) (all_ranks g ts us c.made b.made a)))
@@ -87,8 +82,8 @@ module _ (g : FlatGrammar) (number left : ℕ) (p : Production) (lawful : IsLawf
   element_leads : (a n m : ℕ) (xs ys : List ℕ) → n ≡ m → Leads xs ys → Leads (a ∷ n ∷ xs) (a ∷ m ∷ ys)
   element_leads a n m xs ys e l = leads_head a a (n ∷ xs) (m ∷ ys) refl (leads_head n m xs ys e l)
 
-  serves_first : (k : ℕ) (ts us : List Tree) → CanMake g number left p ts → CanMake g number left p us → AllServe ts us → ServesFor (made_by (of_first k) left number (value_of g number) 0 None ts) (made_by (of_first k) left number (value_of g number) 0 None us)
-  serves_first k ts us c b a =
+  replaces_first : (k : ℕ) (ts us : List Tree) → CanMake g number left p ts → CanMake g number left p us → AllReplace ts us → Replaces (made_by (of_first k) left number (value_of g number) 0 None ts) (made_by (of_first k) left number (value_of g number) 0 None us)
+  replaces_first k ts us c b a =
       let v = value_of g number in
       let d = v +ℤ all_totals ts in
       let e = v +ℤ all_totals us in
@@ -96,16 +91,16 @@ module _ (g : FlatGrammar) (number left : ℕ) (p : Production) (lawful : IsLawf
       let fs : List Element = element k (length us) v 0 ∷ [] in
       let xs : List ℕ = concat (map code_of ts) in
       let ys : List ℕ = concat (map code_of us) in
-      serves_over left None d e es fs ts us (node_over left None d 0 None es ts) (node_over left None e 0 None fs us)
-      (over_says left None d es ts) (over_says left None e fs us) (same_pad ts us a) (same_spans ts us a) (no_shallower ts us a)
+      replaces_over left None d e es fs ts us (node_over left None d 0 None es ts) (node_over left None e 0 None fs us)
+      (over_says left None d es ts) (over_says left None e fs us) (same_pad ts us a) (same_spans ts us a)
       (ranks_same d e (inner_code es (map code_of ts)) (inner_code fs (map code_of us)) (1 ∷ k ∷ length ts ∷ xs) (1 ∷ k ∷ length us ∷ ys) (first_codes k v 0 ts) (first_codes k v 0 us)
       (ranks_by d e xs ys (1 ∷ k ∷ length ts ∷ xs) (1 ∷ k ∷ length us ∷ ys)
       (λ l. leads_head 1 1 (k ∷ length ts ∷ xs) (k ∷ length us ∷ ys) refl (element_leads k (length ts) (length us) xs ys (same_length ts us a) l))
       (ranks_value v (all_totals ts) (all_totals us) xs ys (all_ranks g ts us c.made b.made a))))
 
-  serves_next : (k : ℕ) (t u : Tree) (ts us : List Tree) → form_of g left number ≡ of_next k → CanMake g number left p (t ∷ ts) → CanMake g number left p (u ∷ us) → AllServe (t ∷ ts) (u ∷ us)
-      → ServesFor (made_by (of_next k) left number (value_of g number) 0 None (t ∷ ts)) (made_by (of_next k) left number (value_of g number) 0 None (u ∷ us))
-  serves_next k t u ts us form c b a =
+  replaces_next : (k : ℕ) (t u : Tree) (ts us : List Tree) → form_of g left number ≡ of_next k → CanMake g number left p (t ∷ ts) → CanMake g number left p (u ∷ us) → AllReplace (t ∷ ts) (u ∷ us)
+      → Replaces (made_by (of_next k) left number (value_of g number) 0 None (t ∷ ts)) (made_by (of_next k) left number (value_of g number) 0 None (u ∷ us))
+  replaces_next k t u ts us form c b a =
       let rep = next_is_flat g number left p lawful k form in
       let x = before_flat g number left p lawful k t ts form rep c in
       let y = before_flat g number left p lawful k u us form rep b in
@@ -121,10 +116,6 @@ module _ (g : FlatGrammar) (number left : ℕ) (p : Production) (lawful : IsLawf
       let pads : first_pad ks ≡ first_pad ms = pad_append (children_of t) ts some_t ∙ sym x.whole.pad ∙ a.0.pad ∙ y.whole.pad ∙ sym (pad_append (children_of u) us some_u) in
       let spans : all_spans ks ≡ all_spans ms =
       omega (arith, all_spans_append (children_of t) ts, all_spans_append (children_of u) us, x.whole.span, y.whole.span, same_span t u a.0, same_spans ts us a.1) in
-      let depth_t : tree_depth t ≡ 1 + greatest_depth (children_of t) = fold_out-Tree ℕ depth_step t in
-      let depth_u : tree_depth u ≡ 1 + greatest_depth (children_of u) = fold_out-Tree ℕ depth_step u in
-      let depths : greatest_depth ms ≤ greatest_depth ks =
-      omega (arith, greatest_depth_append (children_of t) ts, greatest_depth_append (children_of u) us, depth_t, depth_u, a.0.depth, no_shallower ts us a.1) in
       let n = length (elements_of t) in
       let m = length (elements_of u) in
       let xs : List ℕ = element_codes (elements_of t) (map code_of (children_of t)) in
@@ -141,24 +132,24 @@ module _ (g : FlatGrammar) (number left : ℕ) (p : Production) (lawful : IsLawf
       (λ l. element_leads k (length ts) (length us) vs ws (same_length ts us a.1) l) (all_ranks g ts us c.made.1 b.made.1 a.1) in
       let both : Ranks (total_of t +ℤ all_totals ts) (n ∷ (xs ++ k ∷ length ts ∷ vs)) (total_of u +ℤ all_totals us) (m ∷ (ys ++ k ∷ length us ∷ ws)) =
       ranks_join (total_of t) (total_of u) (all_totals ts) (all_totals us) (n ∷ xs) (m ∷ ys) (k ∷ length ts ∷ vs) (k ∷ length us ∷ ws) own added in
-      serves_over left None d e es fs ks ms (node_over left None d 0 None es ks) (node_over left None e 0 None fs ms)
-      (over_says left None d es ks) (over_says left None e fs ms) pads spans depths
+      replaces_over left None d e es fs ks ms (node_over left None d 0 None es ks) (node_over left None e 0 None fs ms)
+      (over_says left None d es ks) (over_says left None e fs ms) pads spans
       (ranks_same d e (inner_code es (map code_of ks)) (inner_code fs (map code_of ms)) ((1 + n) ∷ (xs ++ k ∷ length ts ∷ vs)) ((1 + m) ∷ (ys ++ k ∷ length us ∷ ws))
       (next_codes g left k v (0 - span_of t) t ts x) (next_codes g left k v (0 - span_of u) u us y)
       (ranks_by d e (n ∷ (xs ++ k ∷ length ts ∷ vs)) (m ∷ (ys ++ k ∷ length us ∷ ws)) ((1 + n) ∷ (xs ++ k ∷ length ts ∷ vs)) ((1 + m) ∷ (ys ++ k ∷ length us ∷ ws))
       (λ l. leads_raised 1 n m (xs ++ k ∷ length ts ∷ vs) (ys ++ k ∷ length us ∷ ws) l)
       (ranks_value v (total_of t +ℤ all_totals ts) (total_of u +ℤ all_totals us) (n ∷ (xs ++ k ∷ length ts ∷ vs)) (m ∷ (ys ++ k ∷ length us ∷ ws)) both)))
 
-  serves_by_form : (f : Form) (ts us : List Tree) → form_of g left number ≡ f → CanMake g number left p ts → CanMake g number left p us → AllServe ts us
-      → ServesFor (made_by f left number (value_of g number) 0 None ts) (made_by f left number (value_of g number) 0 None us)
-  serves_by_form of_rule ts us e c b a = serves_rule ts us c b a
-  serves_by_form (of_first k) ts us e c b a = serves_first k ts us c b a
-  serves_by_form (of_next k) [] us e c b a = absurd (no_children g number left p lawful k e c)
-  serves_by_form (of_next k) (t ∷ ts) [] e c b a = absurd a
-  serves_by_form (of_next k) (t ∷ ts) (u ∷ us) e c b a = serves_next k t u ts us e c b a
+  replaces_by_form : (f : Form) (ts us : List Tree) → form_of g left number ≡ f → CanMake g number left p ts → CanMake g number left p us → AllReplace ts us
+      → Replaces (made_by f left number (value_of g number) 0 None ts) (made_by f left number (value_of g number) 0 None us)
+  replaces_by_form of_rule ts us e c b a = replaces_rule ts us c b a
+  replaces_by_form (of_first k) ts us e c b a = replaces_first k ts us c b a
+  replaces_by_form (of_next k) [] us e c b a = absurd (no_children g number left p lawful k e c)
+  replaces_by_form (of_next k) (t ∷ ts) [] e c b a = absurd a
+  replaces_by_form (of_next k) (t ∷ ts) (u ∷ us) e c b a = replaces_next k t u ts us e c b a
 
-  pub serves_reduced : (ts us : List Tree) → CanMake g number left p ts → CanMake g number left p us → AllServe ts us → ServesFor (reduced g number 0 None ts) (reduced g number 0 None us)
-  serves_reduced ts us c b a =
-      subst (λ (s : ℕ). ServesFor (made_by (form_of g s number) s number (value_of g number) 0 None ts) (made_by (form_of g s number) s number (value_of g number) 0 None us))
+  pub replaces_reduced : (ts us : List Tree) → CanMake g number left p ts → CanMake g number left p us → AllReplace ts us → Replaces (reduced g number 0 None ts) (reduced g number 0 None us)
+  replaces_reduced ts us c b a =
+      subst (λ (s : ℕ). Replaces (made_by (form_of g s number) s number (value_of g number) 0 None ts) (made_by (form_of g s number) s number (value_of g number) 0 None us))
       (sym (left_is g number left p lawful c.at))
-      (serves_by_form (form_of g left number) ts us refl c b a)
+      (replaces_by_form (form_of g left number) ts us refl c b a)

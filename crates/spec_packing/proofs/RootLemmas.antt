@@ -1,4 +1,4 @@
--- Of two roots that serve, with extras before and after them, the accepted trees serve in their order.
+-- Of two roots of which one replaces the other, with extras before and after them, the accepted trees stand in their order.
 use Rattle.std.proofs.Common.{◌≡◌, ◌∙◌, sym, ap, refl, subst, ℕ, ◌+◌, ◌-◌, ◌<◌, ◌⊎◌, inl, inr, ⊎_elim, Bool, true, false, true≢false, List, [], ◌∷◌, ◌++◌, length, length-append, map, Option, unwrap_or, arith}
 use Rattle.std.specs.List.{concat}
 use Rattle.std.proofs.lemmas.List.{length-map}
@@ -11,10 +11,10 @@ use Rattle.spec_trees.specs.Trees.{symbol_of, production_of, pad_of, size_of, el
 use Rattle.spec_trees.specs.Made.{accepted}
 use Rattle.spec_trees.specs.Choice.{code_of, inner_code, has_form, Better}
 use Rattle.spec_runs.specs.Configurations.{AreExtras}
-use Rattle.spec_packing.specs.Serving.{ServesFor, AllServe}
+use Rattle.spec_packing.specs.Replacing.{Replaces, AllReplace}
 use Rattle.spec_packing.proofs.CodeLemmas.{Leads, leads_head, leads_tail, leads_step, leads_raised, leads_join}
 use Rattle.spec_packing.proofs.RankLemmas.{ranks_not, ranks_by}
-use Rattle.spec_packing.proofs.StackLemmas.{same_length, same_spans, same_pad, same_span}
+use Rattle.spec_packing.proofs.ReplaceLemmas.{same_length, same_spans, same_pad, same_span}
 use Rattle.spec_packing.proofs.MadeLemmas.{IsMade, AllMade, IsPlain, IsWhole, over_says, code_is, map_append, all_spans_append}
 use Rattle.spec_packing.proofs.ReducedLemmas.{tree_ranks}
 
@@ -30,7 +30,7 @@ plain_code t p =
 same_four : (a b c d x y : ℕ) → a ≡ b → c ≡ d → x ≡ y → a ∷ 0 ∷ c ∷ x ∷ 0 ∷ [] ≡ b ∷ 0 ∷ d ∷ y ∷ 0 ∷ []
 same_four a b c d x y e f h = cc
 
-extra_codes : (g : FlatGrammar) (ts us : List Tree) → AllMade g ts → AllMade g us → AreExtras ts → AreExtras us → AllServe ts us → map code_of ts ≡ map code_of us
+extra_codes : (g : FlatGrammar) (ts us : List Tree) → AllMade g ts → AllMade g us → AreExtras ts → AreExtras us → AllReplace ts us → map code_of ts ≡ map code_of us
 extra_codes g [] [] m n x y a = refl
 extra_codes g [] (u ∷ us) m n x y a = absurd a
 extra_codes g (t ∷ ts) [] m n x y a = absurd a
@@ -48,7 +48,7 @@ no_elements true (e ∷ es) plain form = absurd (true≢false plain)
 no_elements false (e ∷ es) plain form = absurd (true≢false (sym form))
 
 -- the first pad of a root's children between extras
-root_pads : (bt ct at bu cu au : List Tree) → AllServe bt bu → AllServe at au → (first_pad ct ≡ first_pad cu) → ((ct ≡ []) → (cu ≡ [])) → ((cu ≡ []) → (ct ≡ [])) → first_pad ((bt ++ ct) ++ at) ≡ first_pad ((bu ++ cu) ++ au)
+root_pads : (bt ct at bu cu au : List Tree) → AllReplace bt bu → AllReplace at au → (first_pad ct ≡ first_pad cu) → ((ct ≡ []) → (cu ≡ [])) → ((cu ≡ []) → (ct ≡ [])) → first_pad ((bt ++ ct) ++ at) ≡ first_pad ((bu ++ cu) ++ au)
 root_pads [] [] at [] [] au b a pads there back = same_pad at au a
 root_pads [] [] at [] (u ∷ cu) au b a pads there back = absurd (let h : u ∷ cu ≡ [] = there refl in cc)
 root_pads [] (t ∷ ct) at [] [] au b a pads there back = absurd (let h : t ∷ ct ≡ [] = back refl in cc)
@@ -64,8 +64,8 @@ childless t u w spans (inl some) e = absurd (let z : all_spans (children_of t) �
 
 -- ---- the accepted trees
 
-module _ (g : FlatGrammar) (plain : is_repetition g (start_symbol g) ≡ false) (t u : Tree) (bt at bu au : List Tree) (mt : IsMade g t) (mu : IsMade g u) (start : symbol_of u ≡ start_symbol g) (s : ServesFor t u)
-    (mbt : AllMade g bt) (mbu : AllMade g bu) (mat : AllMade g at) (mau : AllMade g au) (xbt : AreExtras bt) (xbu : AreExtras bu) (xat : AreExtras at) (xau : AreExtras au) (b : AllServe bt bu) (a : AllServe at au) where
+module _ (g : FlatGrammar) (plain : is_repetition g (start_symbol g) ≡ false) (t u : Tree) (bt at bu au : List Tree) (mt : IsMade g t) (mu : IsMade g u) (start : symbol_of u ≡ start_symbol g) (s : Replaces t u)
+    (mbt : AllMade g bt) (mbu : AllMade g bu) (mat : AllMade g at) (mau : AllMade g au) (xbt : AreExtras bt) (xbu : AreExtras bu) (xat : AreExtras at) (xau : AreExtras au) (b : AllReplace bt bu) (a : AllReplace at au) where
   start_t : symbol_of t ≡ start_symbol g
   start_t = s.symbol ∙ start
 
@@ -178,8 +178,8 @@ module _ (g : FlatGrammar) (plain : is_repetition g (start_symbol g) ≡ false) 
       (leads_tail (pad_of t) (pad_of u) (size_of t ∷ length (children_of t) ∷ own t) (size_of u ∷ length (children_of u) ∷ own u) s.pad h))))))
 
   -- the accepted tree of the second is not better
-  pub accepted_serves : Better (accepted u bu au 0) (accepted t bt at 0) → ⊥
-  accepted_serves =
+  pub accepted_replaces : Better (accepted u bu au 0) (accepted t bt at 0) → ⊥
+  accepted_replaces =
       let o = over_says (symbol_of t) (production_of t) (total_of t) [] kids_t in
       let q = over_says (symbol_of u) (production_of u) (total_of u) [] kids_u in
       ranks_not (accepted t bt at 0) (accepted u bu au 0) (total_of t) (total_of u)

@@ -15,45 +15,63 @@ use Rattle.spec_trees.specs.Choice.{Better}
 use Rattle.spec_runs.specs.Configurations.{Configuration, stack_symbols, token_tree, pushed, HasMove, AreValidTokens, NextIs, AreExtras, IsReduction}
 use Rattle.spec_runs.specs.Moves.{EndsWithProduction}
 use Rattle.spec_runs.specs.Runs.{CanMove, StepsOn, shift_token, pass_extra, reduce_trees, Run, run_here, run_on, IsReached, ComesTooDeep, AcceptsTree, StopsAt}
+use Rattle.spec_packing.specs.Replacing.{Replaces, AllReplace}
 use Rattle.spec_packing.specs.Serving.{ServesFor, AllServe, ServesConfiguration, ComesToServe}
 use Rattle.spec_packing.specs.Laws.{RunLaws}
 use Rattle.spec_packing.proofs.RankLemmas.{serves_itself, serves_bare, unbared}
 use Rattle.spec_packing.proofs.StackLemmas.{all_append, split, turned, same_symbols, same_extras, same_begins, serves_chain}
 use Rattle.spec_packing.proofs.MadeLemmas.{IsMade, AllMade}
-use Rattle.spec_packing.proofs.ReducedLemmas.{serves_reduced}
+use Rattle.spec_packing.proofs.ReplaceLemmas.{same_symbols as replace_symbols, same_extras as replace_extras, split as replace_split, turned as replace_turned}
+use Rattle.spec_packing.proofs.DepthLemmas.{all_replace, serves_reduced}
 use Rattle.spec_packing.proofs.ReachedLemmas.{lawful, reduction_makes, made_step, made_reached, all_made_left, all_made_right, all_made_back, filling_extras}
-use Rattle.spec_packing.proofs.RootLemmas.{accepted_serves}
+use Rattle.spec_packing.proofs.RootLemmas.{accepted_replaces}
 
 -- ---- what is seen, and which moves stay
 
-module _ (g : FlatGrammar) (text : Bytes) (c d : Configuration) (s : ServesConfiguration d c) where
-  symbols_same : stack_symbols c.stack ≡ stack_symbols d.stack
-  symbols_same = sym (same_symbols d.stack c.stack s.stack)
-
-  pub next_served : (f : Found) → NextIs g text c f → NextIs g text d f
-  next_served f n = (
+module _ (g : FlatGrammar) (text : Bytes) (c d : Configuration) (same_place : d.place ≡ c.place) (symbols_same : stack_symbols c.stack ≡ stack_symbols d.stack) where
+  pub next_alike : (f : Found) → NextIs g text c f → NextIs g text d f
+  next_alike f n = (
     n.0,
     subst (λ (read : List ℕ). AreValidTokens g read n.0) symbols_same n.1,
-    subst (λ (place : ℕ). Lex g n.0 (drop place text) f) (sym s.place) n.2,
+    subst (λ (place : ℕ). Lex g n.0 (drop place text) f) (sym same_place) n.2,
   )
 
-  pub act_served : (t : ℕ) (move : Move) → Act g (stack_symbols c.stack) t move → Act g (stack_symbols d.stack) t move
-  act_served t move a = subst (λ (read : List ℕ). Act g read t move) symbols_same a
+  pub act_alike : (t : ℕ) (move : Move) → Act g (stack_symbols c.stack) t move → Act g (stack_symbols d.stack) t move
+  act_alike t move a = subst (λ (read : List ℕ). Act g read t move) symbols_same a
 
-  pub none_served : (t : ℕ) → (HasMove g (stack_symbols c.stack) t → ⊥) → HasMove g (stack_symbols d.stack) t → ⊥
-  none_served t none m = none (subst (λ (read : List ℕ). HasMove g read t) (sym symbols_same) m)
+  pub none_alike : (t : ℕ) → (HasMove g (stack_symbols c.stack) t → ⊥) → HasMove g (stack_symbols d.stack) t → ⊥
+  none_alike t none m = none (subst (λ (read : List ℕ). HasMove g read t) (sym symbols_same) m)
 
-  pub move_served : (move : Move) → CanMove g text c move → CanMove g text d move
-  move_served move m = record {
+  pub move_alike : (move : Move) → CanMove g text c move → CanMove g text d move
+  move_alike move m = record {
     symbol = m.symbol;
     pad = m.pad;
     size = m.size;
-    next = next_served (token m.symbol m.pad m.size) m.next;
-    stays = act_served m.symbol.0 move m.stays;
+    next = next_alike (token m.symbol m.pad m.size) m.next;
+    stays = act_alike m.symbol.0 move m.stays;
   }
 
+  pub stops_alike : (place : ℕ) → StopsAt g text c place → StopsAt g text d place
+  stops_alike place (n, next, is) = (n, next_alike (absent n) next, is ∙ ap (λ (p : ℕ). p + n) (sym same_place))
+
+module _ (g : FlatGrammar) (text : Bytes) (c d : Configuration) (s : ServesConfiguration d c) where
+  symbols_served : stack_symbols c.stack ≡ stack_symbols d.stack
+  symbols_served = sym (same_symbols d.stack c.stack s.stack)
+
+  pub next_served : (f : Found) → NextIs g text c f → NextIs g text d f
+  next_served = next_alike g text c d s.place symbols_served
+
+  pub act_served : (t : ℕ) (move : Move) → Act g (stack_symbols c.stack) t move → Act g (stack_symbols d.stack) t move
+  act_served = act_alike g text c d s.place symbols_served
+
+  pub none_served : (t : ℕ) → (HasMove g (stack_symbols c.stack) t → ⊥) → HasMove g (stack_symbols d.stack) t → ⊥
+  none_served = none_alike g text c d s.place symbols_served
+
+  pub move_served : (move : Move) → CanMove g text c move → CanMove g text d move
+  move_served = move_alike g text c d s.place symbols_served
+
   pub stops_served : (place : ℕ) → StopsAt g text c place → StopsAt g text d place
-  stops_served place (n, next, is) = (n, next_served (absent n) next, is ∙ ap (λ (p : ℕ). p + n) (sym s.place))
+  stops_served = stops_alike g text c d s.place symbols_served
 
   pub push_served : (t : Tree) → ServesConfiguration (pushed d t) (pushed c t)
   push_served t = record { place = ap (λ (p : ℕ). p + span_of t) s.place; stack = (serves_itself t, s.stack) }
@@ -193,8 +211,8 @@ module _ (laws : RunLaws) (g : FlatGrammar) (fit : Fit g) where
 
     -- ---- acceptance
 
-    -- what serves for a tree before others
-    first_of : (ts : List Tree) (u : Tree) (us : List Tree) → AllServe ts (u ∷ us) → (t : Tree) × (rest : List Tree) × (ts ≡ t ∷ rest) × ServesFor t u × AllServe rest us
+    -- what replaces a tree before others
+    first_of : (ts : List Tree) (u : Tree) (us : List Tree) → AllReplace ts (u ∷ us) → (t : Tree) × (rest : List Tree) × (ts ≡ t ∷ rest) × Replaces t u × AllReplace rest us
     first_of [] u us a = absurd a
     first_of (t ∷ ts) u us a = (t, ts, refl, a.0, a.1)
 
@@ -229,25 +247,25 @@ module _ (laws : RunLaws) (g : FlatGrammar) (fit : Fit g) where
           after_made = all_made_back g after (all_made_left g (reverse after) (root ∷ reverse before) all);
         }
 
-    pub accept_served : (c d : Configuration) (u : Tree) → IsReached g text c → IsReached g text d → ServesConfiguration d c → AcceptsTree g text c u → (t : Tree) × AcceptsTree g text d t × (Better u t → ⊥)
-    accept_served c d u rc rd s x =
-        let k = split d.stack (reverse x.after) (x.root ∷ reverse x.before) (subst (λ (l : List Tree). AllServe d.stack l) x.stack_is s.stack) in
+    pub accept_replaced : (c d : Configuration) (u : Tree) → IsReached g text c → IsReached g text d → d.place ≡ c.place → AllReplace d.stack c.stack → AcceptsTree g text c u → (t : Tree) × AcceptsTree g text d t × (Better u t → ⊥)
+    accept_replaced c d u rc rd same_place a x =
+        let k = replace_split d.stack (reverse x.after) (x.root ∷ reverse x.before) (subst (λ (l : List Tree). AllReplace d.stack l) x.stack_is a) in
         let r = first_of k.right x.root (reverse x.before) k.second in
-        let after = turned k.left x.after k.first in
-        let before = turned r.1 x.before r.4 in
+        let after = replace_turned k.left x.after k.first in
+        let before = replace_turned r.1 x.before r.4 in
         let stack_is : d.stack ≡ reverse after.forth ++ r.0 ∷ reverse before.forth =
         k.is ∙ ap (λ (l : List Tree). l ++ k.right) after.is ∙ ap (λ (l : List Tree). reverse after.forth ++ l) (r.2 ∙ ap (λ (l : List Tree). r.0 ∷ l) before.is) in
         let mc = root_parts c.stack x.root x.before x.after x.stack_is (made_reached laws g fit text c rc) in
         let md = root_parts d.stack r.0 before.forth after.forth stack_is (made_reached laws g fit text d rd) in
         let read = (laws.accepts g (stack_symbols c.stack) x.move.symbol.0 x.move.stays).1 in
         let start = root_symbol c.stack x.root x.before x.after x.stack_is x.after_extras x.root_fills read in
-        let before_extras = same_extras before.forth x.before before.serve x.before_extras in
-        let after_extras = same_extras after.forth x.after after.serve x.after_extras in
+        let before_extras = replace_extras before.forth x.before before.replace x.before_extras in
+        let after_extras = replace_extras after.forth x.after after.replace x.after_extras in
         let kept : Tree = accepted r.0 before.forth after.forth 0 in
         let dropped : Tree = accepted x.root x.before x.after 0 in (
           bare kept,
           record {
-            move = move_served g text c d s accept x.move;
+            move = move_alike g text c d same_place (sym (replace_symbols d.stack c.stack a)) accept x.move;
             before = before.forth;
             root = r.0;
             after = after.forth;
@@ -257,7 +275,10 @@ module _ (laws : RunLaws) (g : FlatGrammar) (fit : Fit g) where
             after_extras = after_extras;
             tree_is = refl;
           },
-          λ better. accepted_serves g (laws.start_rule g fit) r.0 x.root before.forth after.forth x.before x.after md.root_made mc.root_made start r.3
-              md.before_made mc.before_made md.after_made mc.after_made before_extras x.before_extras after_extras x.after_extras before.serve after.serve
+          λ better. accepted_replaces g (laws.start_rule g fit) r.0 x.root before.forth after.forth x.before x.after md.root_made mc.root_made start r.3
+              md.before_made mc.before_made md.after_made mc.after_made before_extras x.before_extras after_extras x.after_extras before.replace after.replace
               (unbared kept dropped (laws.keeps kept) (laws.keeps dropped) (subst (λ (v : Tree). Better v (bare kept)) x.tree_is better)),
         )
+
+    pub accept_served : (c d : Configuration) (u : Tree) → IsReached g text c → IsReached g text d → ServesConfiguration d c → AcceptsTree g text c u → (t : Tree) × AcceptsTree g text d t × (Better u t → ⊥)
+    accept_served c d u rc rd s x = accept_replaced c d u rc rd s.place (all_replace d.stack c.stack s.stack) x

@@ -1,2 +1,4 @@
 pub mod Serving
 pub mod Laws
+pub mod Replacing
+pub mod Packing

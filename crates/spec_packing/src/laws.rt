@@ -1,6 +1,6 @@
 //! Laws of the definitions, each a function without a body: what other crates may use of them.
 
-ghost use Rattle.std.specs.Prelude.{◌≡◌, ℕ, List, ◌∷◌};
+ghost use Rattle.std.specs.Prelude.{◌≡◌, ℕ, ◌⊎◌, List, ◌∷◌};
 ghost use Rattle.ts_base.specs.Bytes.{Bytes};
 ghost use Rattle.ts_core.specs.declared.flat.FlatGrammar.{FlatGrammar};
 ghost use Rattle.spec_tables.specs.Fit.{Fit};
@@ -9,7 +9,9 @@ ghost use Rattle.spec_trees.specs.Trees.{bare};
 ghost use Rattle.spec_trees.specs.Choice.{Better};
 ghost use Rattle.spec_runs.specs.Configurations.{Configuration};
 ghost use Rattle.spec_runs.specs.Runs.{Run, IsReached, ComesTooDeep, AcceptsTree, StopsAt};
+ghost use Rattle.spec_runs.specs.Outcomes.{SomeIsTooDeep};
 ghost use Rattle.spec_packing.specs.Laws.{RunLaws};
+ghost use Rattle.spec_packing.specs.Packing.{PackedStack, own_config, stack_alone, Packs, WasMet, GoesThrough, PackedStepsOn, PackedIsTooDeep, joined_stacks, MayJoin};
 ghost use Rattle.spec_packing.specs.Serving.{ServesFor, ServesConfiguration, ComesToServe};
 
 use spec_runs::{
@@ -81,3 +83,51 @@ pub fn runs_are_served()
 {
     laws_hold();
 }
+
+/// A reading that is reached is a stack of layers that was met, and stands for it. A step of a stack
+/// that was met comes to such a one again, and where it is too deep, some run is. A run that goes
+/// through what the stack stands for ends there, or goes through what it stands for after one of its
+/// steps, or the stack is too deep.
+pub fn packed_stacks_follow()
+    ensures own { (g : FlatGrammar) → Fit g → (text : Bytes) (c : Configuration)
+        → IsReached g text c → WasMet g text (stack_alone c) × Packs (stack_alone c) c }
+    ensures met { (g : FlatGrammar) → Fit g → (text : Bytes) (k n : PackedStack)
+        → WasMet g text k → PackedStepsOn g text k n → WasMet g text n }
+    ensures deep { (g : FlatGrammar) → Fit g → (text : Bytes) (k : PackedStack) → WasMet g text k
+        → PackedIsTooDeep g text k → SomeIsTooDeep g text }
+    ensures on { (g : FlatGrammar) → Fit g → (text : Bytes) (k : PackedStack)
+        (d : Configuration) → WasMet g text k → GoesThrough g text k d
+        → Packs k d ⊎ (PackedIsTooDeep g text k
+        ⊎ ((n : PackedStack) × PackedStepsOn g text k n × GoesThrough g text n d)) }
+{
+    laws_hold();
+}
+
+/// How a run ends at a configuration, it ends too at a stack of layers that stands for it: that is
+/// too deep, or its own trees stop, or are accepted as a tree that is no worse.
+pub fn packed_stacks_end()
+    ensures deep { (g : FlatGrammar) → Fit g → (text : Bytes) (k : PackedStack)
+        (c : Configuration) → WasMet g text k → IsReached g text c → Packs k c
+        → ComesTooDeep g text c → PackedIsTooDeep g text k }
+    ensures stops { (g : FlatGrammar) → Fit g → (text : Bytes) (k : PackedStack)
+        (c : Configuration) (place : ℕ) → Packs k c → StopsAt g text c place
+        → StopsAt g text (own_config k) place }
+    ensures accepts { (g : FlatGrammar) → Fit g → (text : Bytes) (k : PackedStack)
+        (c : Configuration) (u : Tree) → WasMet g text k → IsReached g text c → Packs k c
+        → AcceptsTree g text c u
+        → (t : Tree) × AcceptsTree g text (own_config k) t × (Better u t → ⊥) }
+{
+    laws_hold();
+}
+
+/// Two stacks of layers as one stand for all that either stands for, and this one was met if both
+/// were.
+pub fn packed_stacks_join()
+    ensures stands { (k j : PackedStack) (c : Configuration) → MayJoin k j
+        → Packs k c ⊎ Packs j c → Packs (joined_stacks k j) c }
+    ensures leads { (g : FlatGrammar) (text : Bytes) (k j : PackedStack) (d : Configuration)
+        → MayJoin k j → GoesThrough g text k d ⊎ GoesThrough g text j d
+        → GoesThrough g text (joined_stacks k j) d }
+    ensures met { (g : FlatGrammar) (text : Bytes) (k j : PackedStack) → WasMet g text k
+        → WasMet g text j → MayJoin k j → WasMet g text (joined_stacks k j) }
+{}
