@@ -1,46 +1,69 @@
 -- The depth of a node is that of one of its children: where the greatest depths of the children are
 -- met by different readings, that of the node is met by one of these.
-use Rattle.std.proofs.Common.{◌≡◌, ◌∙◌, sym, ap, refl, subst, ℕ, zero, suc, ◌+◌, ◌-◌, ◌<◌, ◌≤◌, ◌⊎◌, inl, inr, max, List, [], ◌∷◌, ◌++◌, length, map, reverse, slice_get, Option, Some, None, arith}
+use Rattle.std.proofs.Common.{◌≡◌, ◌∙◌, sym, ap, refl, subst, ℕ, zero, suc, ◌+◌, ◌-◌, ◌<◌, ◌≤◌, ◌⊎◌, inl, inr, max, false, List, [], ◌∷◌, ◌++◌, length, map, reverse, slice_get, Option, Some, None, arith}
 use Rattle.std.proofs.lemmas.Bool.{cases_order}
 use Rattle.std.proofs.lemmas.List.{reverse-append, length-reverse}
 use lib.IntN.{ℤ, ◌+ℤ◌}
 use Rattle.ts_core.specs.declared.flat.FlatGrammar.{FlatGrammar}
 use Rattle.ts_core.specs.declared.flat.Production.{Production}
 use Rattle.spec_trees.specs.declared.tree.Tree.{Tree}
-use Rattle.spec_trees.specs.declared.tree.Element.{Element}
 use Rattle.spec_trees.specs.declared.tree.Tree.TheFolds.{fold_out-Tree}
-use Rattle.spec_trees.specs.Trees.{elements_of, children_of, total_of, all_totals, span_of, tree_depth, depth_step, greatest_depth, maximum}
+use Rattle.spec_trees.specs.Trees.{symbol_of, pad_of, is_extra_node, elements_of, children_of, total_of, all_totals, span_of, all_spans, first_pad, tree_depth, depth_step, greatest_depth, maximum}
 use Rattle.spec_trees.specs.Made.{element, Form, of_rule, of_first, of_next, form_of, made_by, value_of, reduced}
 use Rattle.spec_packing.specs.Serving.{ServesFor, AllServe}
-use Rattle.spec_packing.specs.Replacing.{Replaces, AllReplace, depth_over}
+use Rattle.spec_packing.specs.Replacing.{AllReplace, depth_over}
 use Rattle.spec_packing.proofs.ReplaceLemmas.{AllDeeper, deeper_maximum, deeper_over}
-use Rattle.spec_packing.proofs.MadeLemmas.{over_says, CanMake, IsLawful, before_flat, next_is_flat, no_children, left_is}
-use Rattle.spec_packing.proofs.ReducedLemmas.{replaces_reduced}
+use Rattle.spec_packing.proofs.MadeLemmas.{over_says, CanMake, IsLawful, before_flat, next_is_flat, no_children, left_is, first_some, all_spans_append}
+use Rattle.spec_packing.proofs.ReducedLemmas.{pad_append, replaces_reduced}
 
 greatest_append : (xs ys : List Tree) → greatest_depth (xs ++ ys) ≡ max (greatest_depth xs) (greatest_depth ys)
 greatest_append [] ys = omega arith
 greatest_append (x ∷ xs) ys = omega (arith, greatest_append xs ys)
 
--- ---- the depth of the node of a reduction
+first_pad_within : (ks : List Tree) → first_pad ks ≤ all_spans ks
+first_pad_within [] = omega arith
+first_pad_within (k ∷ ks) = omega arith
+
+-- ---- the node of a reduction
+
+-- what it is over its children, by its form
+pub record NodeSays (left : ℕ) (f : Form) (ks : List Tree) (t : Tree) : Type 0 where
+  pub symbol : symbol_of t ≡ left
+  pub kind : is_extra_node t ≡ false
+  pub pad : pad_of t ≡ first_pad ks
+  pub span : span_of t ≡ all_spans ks
+  pub depth : tree_depth t ≡ depth_over f (map tree_depth ks)
 
 module _ (g : FlatGrammar) (number left : ℕ) (p : Production) (lawful : IsLawful g number left p) where
-  form_depth : (f : Form) (ks : List Tree) → form_of g left number ≡ f → CanMake g number left p ks
-      → tree_depth (made_by f left number (value_of g number) 0 None ks) ≡ depth_over f (map tree_depth ks)
-  form_depth of_rule ks e c =
-      let o = over_says left (Some number) (value_of g number +ℤ all_totals ks) [] ks in omega (arith, o.depth_is)
-  form_depth (of_first a) ks e c =
-      let o = over_says left None (value_of g number +ℤ all_totals ks) (element a (length ks) (value_of g number) 0 ∷ []) ks in omega (arith, o.depth_is)
-  form_depth (of_next a) [] e c = absurd (no_children g number left p lawful a e c)
-  form_depth (of_next a) (before ∷ more) e c =
+  form_says : (f : Form) (ks : List Tree) → form_of g left number ≡ f → CanMake g number left p ks → NodeSays left f ks (made_by f left number (value_of g number) 0 None ks)
+  form_says of_rule ks e c =
+      let o = over_says left (Some number) (value_of g number +ℤ all_totals ks) [] ks in
+      record { symbol = o.symbol_is; kind = o.extra_is; pad = o.pad_is; span = omega (arith, o.pad_is, o.size_is, first_pad_within ks); depth = omega (arith, o.depth_is) }
+  form_says (of_first a) ks e c =
+      let o = over_says left None (value_of g number +ℤ all_totals ks) (element a (length ks) (value_of g number) 0 ∷ []) ks in
+      record { symbol = o.symbol_is; kind = o.extra_is; pad = o.pad_is; span = omega (arith, o.pad_is, o.size_is, first_pad_within ks); depth = omega (arith, o.depth_is) }
+  form_says (of_next a) [] e c = absurd (no_children g number left p lawful a e c)
+  form_says (of_next a) (before ∷ more) e c =
+      let x = before_flat g number left p lawful a before more e (next_is_flat g number left p lawful a e) c in
+      let some : 0 < all_spans (children_of before) = omega (arith, first_some g number left p before more c, x.whole.span) in
       let all : List Tree = children_of before ++ more in
       let o = over_says left None (value_of g number +ℤ (total_of before +ℤ all_totals more)) (elements_of before ++ element a (length more) (value_of g number) (0 - span_of before) ∷ []) all in
       let deep : tree_depth before ≡ 1 + greatest_depth (children_of before) = fold_out-Tree ℕ depth_step before in
-      omega (arith, o.depth_is, greatest_append (children_of before) more, deep)
+      record {
+        symbol = o.symbol_is;
+        kind = o.extra_is;
+        pad = o.pad_is ∙ pad_append (children_of before) more some ∙ sym x.whole.pad;
+        span = omega (arith, o.pad_is, o.size_is, first_pad_within all, all_spans_append (children_of before) more, x.whole.span);
+        depth = omega (arith, o.depth_is, greatest_append (children_of before) more, deep);
+      }
+
+  pub reduced_says : (ks : List Tree) → CanMake g number left p ks → NodeSays left (form_of g left number) ks (reduced g number 0 None ks)
+  reduced_says ks c =
+      subst (λ (s : ℕ). NodeSays left (form_of g left number) ks (made_by (form_of g s number) s number (value_of g number) 0 None ks))
+      (sym (left_is g number left p lawful c.at)) (form_says (form_of g left number) ks refl c)
 
   pub reduced_depth : (ks : List Tree) → CanMake g number left p ks → tree_depth (reduced g number 0 None ks) ≡ depth_over (form_of g left number) (map tree_depth ks)
-  reduced_depth ks c =
-      subst (λ (s : ℕ). tree_depth (made_by (form_of g s number) s number (value_of g number) 0 None ks) ≡ depth_over (form_of g left number) (map tree_depth ks))
-      (sym (left_is g number left p lawful c.at)) (form_depth (form_of g left number) ks refl c)
+  reduced_depth ks c = (reduced_says ks c).depth
 
 -- ---- what serves replaces, and is no less deep
 

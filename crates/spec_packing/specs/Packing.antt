@@ -8,11 +8,11 @@ use Rattle.spec_grammar.specs.Symbols.{production_at, is_extra}
 use Rattle.spec_lexing.specs.Lexing.{token}
 use Rattle.spec_tables.specs.Actions.{Act, shift, reduce}
 use Rattle.spec_trees.specs.declared.tree.Tree.{Tree}
-use Rattle.spec_trees.specs.Trees.{span_of, tree_depth, bare}
+use Rattle.spec_trees.specs.Trees.{symbol_of, pad_of, size_of, is_extra_node, span_of, tree_depth, bare}
 use Rattle.spec_trees.specs.Made.{as_extra, reduced, form_of, filling, BeginsFilled, most_depth}
 use Rattle.spec_runs.specs.Configurations.{Configuration, stack_symbols, token_tree, HasMove, NextIs, AreExtras}
 use Rattle.spec_runs.specs.Runs.{CanMove, Run, IsReached}
-use Rattle.spec_packing.specs.Replacing.{Replaces, AllReplace, depth_over}
+use Rattle.spec_packing.specs.Replacing.{AllReplace, depth_over}
 
 -- ---- layers
 
@@ -48,31 +48,41 @@ stack_alone c = record { stack = map packed_alone c.stack; place = c.place }
 
 -- ---- what layers stand for
 
--- The layer may stand for the tree: its own tree may take its place, and its depth is no less.
-pub record PacksTree (l : PackedTree) (t : Tree) : Type 0 where
-  pub tree : Replaces l.tree t
+-- The layer covers the tree: it is of one kind with its own tree, with one symbol and the same bytes,
+-- and no deeper than the layer says.
+pub record CoversTree (l : PackedTree) (t : Tree) : Type 0 where
+  pub symbol : symbol_of l.tree ≡ symbol_of t
+  pub extra : is_extra_node l.tree ≡ is_extra_node t
+  pub pad : pad_of l.tree ≡ pad_of t
+  pub size : size_of l.tree ≡ size_of t
   pub depth : tree_depth t ≤ l.depth
 
 -- layer by layer, for as many trees
-abbrev pub AllPack : List PackedTree → List Tree → Type 0
-AllPack [] [] = Unit {0}
-AllPack [] (t ∷ ts) = ⊥
-AllPack (l ∷ ls) [] = ⊥
-AllPack (l ∷ ls) (t ∷ ts) = PacksTree l t × AllPack ls ts
+abbrev pub AllCover : List PackedTree → List Tree → Type 0
+AllCover [] [] = Unit {0}
+AllCover [] (t ∷ ts) = ⊥
+AllCover (l ∷ ls) [] = ⊥
+AllCover (l ∷ ls) (t ∷ ts) = CoversTree l t × AllCover ls ts
 
--- The layers may stand for the configuration: they are at the same place, and each may stand for the
--- tree in its place.
-pub record Packs (k : PackedStack) (c : Configuration) : Type 0 where
+-- the stack is at the same place as the configuration, and each layer covers the tree in its place
+pub record Covers (k : PackedStack) (c : Configuration) : Type 0 where
   pub place : k.place ≡ c.place
-  pub stack : AllPack k.stack c.stack
+  pub stack : AllCover k.stack c.stack
 
--- The layers were met: a run comes to their own trees, for which they stand, and for each depth a
--- run comes to a configuration for which they stand, with a tree of this depth in that place.
+-- The stack may stand for the configuration: it covers it, and its own trees may take the place of
+-- those of the configuration.
+pub record Packs (k : PackedStack) (c : Configuration) : Type 0 where
+  pub covers : Covers k c
+  pub trees : AllReplace (packed_trees k.stack) c.stack
+
+-- The stack was met: a run comes to its own trees, none of which is deeper than its layer says; and
+-- for each depth a run comes to a configuration that it covers, with a tree of this depth in that
+-- place.
 pub record WasMet (g : FlatGrammar) (text : Bytes) (k : PackedStack) : Type 0 where
   pub reached : IsReached g text (own_config k)
-  pub own : Packs k (own_config k)
+  pub own : Covers k (own_config k)
   pub deepest : (n d : ℕ) → slice_get (packed_depths k.stack) n ≡ Some d
-      → (c : Configuration) × IsReached g text c × Packs k c
+      → (c : Configuration) × IsReached g text c × Covers k c
       × (slice_get (map tree_depth c.stack) n ≡ Some d)
 
 -- some run that comes to the configuration goes through one for which the layers stand
