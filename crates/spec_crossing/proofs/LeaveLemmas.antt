@@ -13,6 +13,8 @@ use Rattle.spec_trees.specs.Made.{IsLeaf, element, Form, of_rule, of_first, of_n
 use Rattle.spec_runs.specs.Configurations.{Configuration, token_tree, pushed}
 use Rattle.spec_runs.specs.Runs.{StepsOn, shift_token, Run, run_here, run_on, IsReached, ComesTooDeep}
 use Rattle.spec_packing.specs.Laws.{RunLaws}
+use Rattle.spec_packing.specs.Replacing.{AllReplace}
+use Rattle.spec_packing.specs.Packing.{packed_trees, AllCover, Packs, GoesThrough}
 use Rattle.spec_packing.specs.Serving.{AllServe, ServesConfiguration, ComesToServe}
 use Rattle.spec_packing.proofs.MadeLemmas.{over_says, CanMake, IsLawful, no_children, left_is}
 use Rattle.spec_graph.specs.declared.graph.Head.{Head}
@@ -28,7 +30,7 @@ use Rattle.spec_graph.proofs.BaseLemmas.{start_facts, start_base, base_of, run_l
 use Rattle.spec_graph.proofs.OutcomeLemmas.{own_trees}
 use Rattle.spec_graph.proofs.GroundLemmas.{graph_start}
 use Rattle.spec_crossing.specs.Laws.{ServingLaws}
-use Rattle.spec_crossing.specs.Leaving.{AreExact, IsOnlyWay, EndsWithToken, StandsAlone, way_config, EndsBefore}
+use Rattle.spec_crossing.specs.Leaving.{AreExact, IsOnlyWay, EndsWithToken, StandsAlone, way_config, packed_link, way_stack, EndsBefore}
 use Rattle.spec_crossing.proofs.BeforeLemmas.{IsBefore, begun_before, EndsEarly, GoesPast, run_before}
 use Rattle.spec_crossing.proofs.EndLemmas.{way_of, ends_early}
 
@@ -191,6 +193,31 @@ exact_serve (l ∷ way) (t ∷ ts) e a = (
   exact_serve way ts e.1 a.1,
 )
 
+-- the layers of links cover all for which the links stand, and their trees may take the place of it
+links_cover : (way : List Link) (ts : List Tree) → AllStandFor way ts → AllCover (map packed_link way) ts
+links_cover [] [] a = tt
+links_cover [] (t ∷ ts) a = absurd a
+links_cover (l ∷ way) [] a = absurd a
+links_cover (l ∷ way) (t ∷ ts) a = (
+  record { symbol = a.0.tree.symbol; extra = a.0.tree.extra; pad = a.0.tree.pad; size = a.0.tree.size; depth = a.0.depth },
+  links_cover way ts a.1,
+)
+
+links_replace : (way : List Link) (ts : List Tree) → AllStandFor way ts → AllReplace (packed_trees (map packed_link way)) ts
+links_replace [] [] a = tt
+links_replace [] (t ∷ ts) a = absurd a
+links_replace (l ∷ way) [] a = absurd a
+links_replace (l ∷ way) (t ∷ ts) a = (
+  record {
+    symbol = a.0.tree.symbol;
+    extra = a.0.tree.extra;
+    pad = a.0.tree.pad;
+    size = a.0.tree.size;
+    no_better = a.0.tree.no_better;
+  },
+  links_replace way ts a.1,
+)
+
 module _ (P : Parsing) (facts : Facts P) (serving : ServingLaws) (c : Configuration) (reached : IsReached P.grammar P.text c) (begun : IsBegun P c) (rank : ℕ → ℕ) (most : ℕ) (ranked : AreRanks P.grammar rank most)
     (heads : List Head) (links : List Link) (graph : IsGraph P heads links) (n : ℕ) (whole : IsWholeTo P rank heads links (record { look = n; begins = n; rank = most })) (early : c.place < n) where
   base : IsBase P
@@ -261,3 +288,25 @@ module _ (P : Parsing) (facts : Facts P) (serving : ServingLaws) (c : Configurat
         by (inl e) = inl (served_ends w.at d e (at_reached w.at w.run) rd w.serves)
         by (inr past) = inr (serving.through P.grammar facts.fit P.text past.at (way_config way place) d (at_reached past.at past.to) left
             (past_served past.at past.before past.past) (record { at = w.at; run = past.on; serves = w.serves }))
+
+  -- the same for the layers of the only way, whatever its depths
+  module _ (h place : ℕ) (read : List ℕ) (way : List Link) (at : IsAt P heads h read place) (alone : StandsAlone heads n h) (only : (other : List Link) → IsWay links h other 0 → other ≡ way) where
+    past_packed : (e : Configuration) → IsBefore P facts base rank most ranked n e → n ≤ e.place → Packs (way_stack way place) e
+    past_packed e before past =
+        let w = way_of P facts base rank most ranked n heads links graph whole e before in
+        let place_at : w.at.head.place ≡ e.place = w.at.place_is in
+        let same : w.head ≡ h = alone w.head w.at.head w.at.is (omega (arith, past, place_at)) in
+        let top : IsAt P heads h (filling e.stack) e.place = subst (λ (k : ℕ). IsAt P heads k (filling e.stack) e.place) same w.at in
+        let down : IsWay links h w.way 0 = subst (λ (k : ℕ). IsWay links k w.way 0) same w.is in
+        let stands : AllStandFor way e.stack = subst (λ (v : List Link). AllStandFor v e.stack) (only w.way down) w.stands in
+        record {
+          covers = record { place = same_place P facts heads h read (filling e.stack) place e.place at top; stack = links_cover way e.stack stands };
+          trees = links_replace way e.stack stands;
+        }
+
+    pub run_through : (d : Configuration) → Run P.grammar P.text c d → EndsBefore P heads links n d ⊎ GoesThrough P.grammar P.text (way_stack way place) d
+    run_through d run = by (runs_on d run)
+      where
+        by : EndsEarly P facts base rank most ranked n d ⊎ GoesPast P facts base rank most ranked n c d → EndsBefore P heads links n d ⊎ GoesThrough P.grammar P.text (way_stack way place) d
+        by (inl e) = inl (ends_early P facts base rank most ranked n heads links graph whole d e)
+        by (inr past) = inr (record { from = past.at; reached = at_reached past.at past.to; stands = past_packed past.at past.before past.past; run = past.on })

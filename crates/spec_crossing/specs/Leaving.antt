@@ -1,11 +1,12 @@
 -- Where one stack is left in a graph of stacks, and what is known then of all runs.
-use Rattle.std.specs.Prelude.{◌≡◌, ℕ, ◌<◌, ◌≤◌, false, List, [], ◌∷◌, slice_get, Some}
+use Rattle.std.specs.Prelude.{◌≡◌, ℕ, ◌<◌, ◌≤◌, false, List, [], ◌∷◌, map, slice_get, Some}
 use Rattle.spec_trees.specs.declared.tree.Tree.{Tree}
 use Rattle.spec_trees.specs.Trees.{is_extra_node, tree_depth}
 use Rattle.spec_trees.specs.Made.{IsLeaf}
 use Rattle.spec_trees.specs.Choice.{Better}
 use Rattle.spec_runs.specs.Configurations.{Configuration}
 use Rattle.spec_runs.specs.Runs.{ComesTooDeep, AcceptsTree, StopsAt}
+use Rattle.spec_packing.specs.Packing.{PackedTree, PackedStack}
 use Rattle.spec_graph.specs.declared.graph.Head.{Head}
 use Rattle.spec_graph.specs.declared.graph.Link.{Link}
 use Rattle.spec_graph.specs.Laying.{Parsing}
@@ -40,6 +41,14 @@ StandsAlone heads n h =
 -- the configuration of the trees of a way, at a place
 abbrev pub way_config : List Link → ℕ → Configuration
 way_config way place = record { stack = way_trees way; place = place }
+
+-- the layer of a link
+abbrev pub packed_link : Link → PackedTree
+packed_link l = record { tree = l.tree; depth = l.depth }
+
+-- the layers of the links of a way, at a place
+abbrev pub way_stack : List Link → ℕ → PackedStack
+way_stack way place = record { stack = map packed_link way; place = place }
 
 -- All ends that runs have at a configuration are in the graph, from the place on from which runs go
 -- on, and before this one: no node would be too deep, a tree that is no worse is accepted, and a

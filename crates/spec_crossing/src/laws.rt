@@ -16,6 +16,7 @@ ghost use Rattle.spec_runs.specs.Configurations.{Configuration, NextIs};
 ghost use Rattle.spec_runs.specs.Moves.{IsUnused};
 ghost use Rattle.spec_runs.specs.Runs.{StepsOn, Run, IsReached, ComesTooDeep, AcceptsTree, StopsAt};
 ghost use Rattle.spec_runs.specs.Outcomes.{IsBestTree, IsLastStop};
+ghost use Rattle.spec_packing.specs.Packing.{GoesThrough};
 ghost use Rattle.spec_packing.specs.Serving.{ComesToServe};
 ghost use Rattle.spec_graph.specs.declared.graph.Head.{Head};
 ghost use Rattle.spec_graph.specs.declared.graph.Link.{Link};
@@ -25,7 +26,7 @@ ghost use Rattle.spec_graph.specs.Grounded.{Spells, IsMadeTree, IsGrounded};
 ghost use Rattle.spec_graph.specs.Links.{IsAt, IsWay, way_trees, IsGraph, IsWholeTo};
 ghost use Rattle.spec_graph.specs.Laws.{GraphLaws};
 ghost use Rattle.spec_crossing.specs.Laws.{ServingLaws};
-ghost use Rattle.spec_crossing.specs.Leaving.{IsOnlyWay, EndsWithToken, StandsAlone, way_config, EndsBefore};
+ghost use Rattle.spec_crossing.specs.Leaving.{IsOnlyWay, EndsWithToken, StandsAlone, way_config, way_stack, EndsBefore};
 ghost use Rattle.spec_crossing.specs.Resting.{Rests, AccountsForGraph};
 
 use spec_graph::graphs_are_sound;
@@ -93,6 +94,26 @@ pub fn one_stack_goes_on()
         → c.place < n → length P.text < n → P.place ≤ length P.text
         → (d : Configuration) → IsReached P.grammar P.text d
         → ComesToServe P.grammar P.text c d → EndsBefore P heads links n d }
+{
+    laws_hold();
+    serving_laws_hold();
+}
+
+/// Where one head stands alone at a place or past it, and one way leads down from it, each run from
+/// the stack from which runs go on ends in the graph before that place, or goes through what the
+/// layers of that way stand for, however deep its trees are.
+pub fn runs_go_through()
+    ensures { (P : Parsing) → Fit P.grammar → AreStates P.grammar P.goto
+        → (c : Configuration) → IsReached P.grammar P.text c → IsBegun P c
+        → (rank : ℕ → ℕ) (most : ℕ) → AreRanks P.grammar rank most
+        → (heads : List Head) (links : List Link) → IsGraph P heads links
+        → (n : ℕ) → IsWholeTo P rank heads links (record { look = n; begins = n; rank = most })
+        → c.place < n
+        → (h place : ℕ) (read : List ℕ) (way : List Link) → IsAt P heads h read place
+        → StandsAlone heads n h → ((other : List Link) → IsWay links h other 0 → other ≡ way)
+        → (d : Configuration) → Run P.grammar P.text c d
+        → EndsBefore P heads links n d
+        ⊎ GoesThrough P.grammar P.text (way_stack way place) d }
 {
     laws_hold();
     serving_laws_hold();
