@@ -304,8 +304,7 @@ module _ (laws : RunLaws) (g : FlatGrammar) (fit : Fit g) where
       let v = reduced_says g number left p l (packed_trees ks) x in
       let w = reduced_says g number left p l ts y in
       let pads : pad_of (bare own) ≡ pad_of (bare made) = j.pad ∙ v.pad ∙ stand_pad ks ts a ∙ sym w.pad ∙ sym k.pad in
-      let depth : tree_depth (bare made) ≡ depth_over (form_of g left number) (own_depths ts) = k.depth ∙ w.depth in
-      (
+      let depth : tree_depth (bare made) ≡ depth_over (form_of g left number) (own_depths ts) = k.depth ∙ w.depth in (
         depth,
         record {
           symbol = j.symbol ∙ v.symbol ∙ sym w.symbol ∙ sym k.symbol;
@@ -635,8 +634,7 @@ module _ (laws : RunLaws) (g : FlatGrammar) (fit : Fit g) where
                 let b = behind_all n d (ap (λ (l : List ℕ). slice_get l n) (sym depths_behind) ∙ e) in
                 let x = b.reduces in
                 let left : List Tree = x.lifted ++ x.made ∷ x.below in
-                let m : Configuration = record { stack = left; place = b.from.place } in
-                (
+                let m : Configuration = record { stack = left; place = b.from.place } in (
                   m,
                   run_further g text starting b.from m b.reached (reduce_trees number x.made left (down_move b.from b.stands (reduce number) move) x.reduction (omega (arith, low, x.node_for.depth))),
                   record {
@@ -655,8 +653,7 @@ module _ (laws : RunLaws) (g : FlatGrammar) (fit : Fit g) where
             let b = behind_all m.0 node.depth (m.1 (packed_depths r.lifted) (node.depth ∷ packed_depths r.below) refl) in
             let x = b.reduces in
             let same : tree_depth x.made ≡ node.depth = some_same (tree_depth x.made) node.depth
-            (sym (m.1 (own_depths x.lifted) (tree_depth x.made ∷ own_depths x.below) (stand_length r.lifted x.lifted x.first)) ∙ b.depth) in
-            (
+            (sym (m.1 (own_depths x.lifted) (tree_depth x.made ∷ own_depths x.below) (stand_length r.lifted x.lifted x.first)) ∙ b.depth) in (
               b.from,
               b.reached,
               record {

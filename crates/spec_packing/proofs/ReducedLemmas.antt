@@ -59,7 +59,6 @@ pub pad_append : (xs ys : List Tree) → 0 < all_spans xs → first_pad (xs ++ y
 pad_append [] ys some = absurd (omega (arith, some))
 pad_append (x ∷ xs) ys some = refl
 
-
 -- the code of a repetition behind its first four numbers
 flat_leads : (s p d z d' z' : ℕ) (xs ys : List ℕ) → d ≡ d' → z ≡ z' → Leads (s ∷ p ∷ d ∷ z ∷ xs) (s ∷ p ∷ d' ∷ z' ∷ ys) → Leads xs ys
 flat_leads s p d z d' z' xs ys pads sizes l =
