@@ -100,7 +100,7 @@ module _ (P : Parsing) (facts : Facts P) (base : IsBase P) (rank : ℕ → ℕ) 
       let is : xs ++ node_made P number ks ∷ w ≡ after = ap (λ (t : Tree). xs ++ t ∷ w) (sym r.node_is) ∙ sym r.after_is in
       settle after d.place (r.left ∷ now) (subst (λ (s : List Tree). LaysBefore P rank first [] 0 s d.place (r.left ∷ now)) is done)
 
-  step_before : (d e : Configuration) → IsBefore d → P.place ≤ d.place → d.place < n → StepsOn P.grammar P.text d e → IsBefore e × (P.place ≤ e.place)
+  pub step_before : (d e : Configuration) → IsBefore d → P.place ≤ d.place → d.place < n → StepsOn P.grammar P.text d e → IsBefore e × (P.place ≤ e.place)
   step_before d _ b late lt (shift_token s pad size next acts) =
       let t : Tree = token_tree s pad size in
       let says = token_says facts.laws.runs s pad size in

@@ -25,7 +25,7 @@ use Rattle.spec_graph.specs.Links.{IsAt, IsWay, way_trees, AllStandFor, IsLinked
 use Rattle.spec_graph.proofs.SightLemmas.{Facts, clash, sees_shared}
 use Rattle.spec_graph.proofs.EntryLemmas.{token_says, extra_says, lawful_at}
 use Rattle.spec_graph.proofs.LayLemmas.{IsBase, no_middle, begins_taken, can_make, lays_read, lays_none, run_join}
-use Rattle.spec_graph.proofs.GraphLemmas.{WayLaid, share_head, same_place, ways, way_reached}
+use Rattle.spec_graph.proofs.GraphLemmas.{AreLaid, WayLaid, share_head, same_place, ways, way_reached}
 use Rattle.spec_graph.proofs.BaseLemmas.{start_facts, start_base, base_of, run_laid, within}
 use Rattle.spec_graph.proofs.OutcomeLemmas.{own_trees}
 use Rattle.spec_graph.proofs.GroundLemmas.{graph_start}
@@ -72,7 +72,7 @@ module _ (g : FlatGrammar) (number left : ℕ) (p : Production) (lawful : IsLawf
 
 -- ---- a leaf that is no extra was shifted
 
-record IsShifted (P : Parsing) (γ : List ℕ) (q : ℕ) (t : Tree) (p : ℕ) : Type 0 where
+pub record IsShifted (P : Parsing) (γ : List ℕ) (q : ℕ) (t : Tree) (p : ℕ) : Type 0 where
   pub symbol : Symbol
   pub pad : ℕ
   pub size : ℕ
@@ -109,43 +109,15 @@ leaf_shifted P facts base fresh γ q _ t _ _ (made _ _ w p δ ks end ε xs look 
 -- ---- the stack that is left is reached
 
 module _ (P : Parsing) (facts : Facts P) (base : IsBase P) (fresh : P.stack ≡ []) (zero_place : P.place ≡ 0) (heads : List Head) (links : List Link) (graph : IsGraph P heads links) (h place : ℕ) (read : List ℕ) (way : List Link)
-    (at : IsAt P heads h read place) (one : IsOnlyWay links h way) (ends : EndsWithToken way) where
-  down : IsWay links h (ends.last ∷ ends.rest) 0
-  down = subst (λ (w : List Link). IsWay links h w 0) ends.way_is one.down
+    (at : IsAt P heads h read place) (leads : IsWay links h way 0) (ends : EndsWithToken way) where
+  pub down : IsWay links h (ends.last ∷ ends.rest) 0
+  down = subst (λ (w : List Link). IsWay links h w 0) ends.way_is leads
 
-  linked : IsLinked P heads ends.last
+  pub linked : IsLinked P heads ends.last
   linked = graph.linked ends.last down.0
 
-  leaf : IsShifted P linked.under linked.from ends.last.tree linked.to
+  pub leaf : IsShifted P linked.under linked.from ends.last.tree linked.to
   leaf = leaf_shifted P facts base fresh linked.under linked.from (ends.last.tree ∷ []) ends.last.tree linked.to linked.over linked.lays refl ends.fills ends.leaf
-
-  tail : WayLaid P facts base heads 0 [] 0 (way_trees ends.rest) ends.last.below linked.from
-  tail = ways P facts base heads links 0 [] 0 graph.start ends.rest (way_trees ends.rest) ends.last.below linked.from linked.under
-      linked.below down.2 (own_trees P facts base heads links graph ends.rest ends.last.below 0 down.2)
-
-  share : ShareState P.goto linked.under tail.now
-  share = share_head P facts heads ends.last.below linked.under tail.now linked.from linked.from linked.below tail.at
-
-  sees : SeesAt P tail.now linked.from (token leaf.symbol leaf.pad leaf.size)
-  sees = sees_shared P facts linked.under tail.now share linked.from (token leaf.symbol leaf.pad leaf.size) leaf.sees
-
-  acts : Act P.grammar tail.now leaf.symbol.0 shift
-  acts = facts.states.acts linked.under tail.now leaf.symbol.0 shift share leaf.acts
-
-  goes : GoesOn P tail.now linked.from
-  goes = record { symbol = leaf.symbol; pad = leaf.pad; size = leaf.size; sees = sees; moves = (shift, acts) }
-
-  tail_reached : IsReached P.grammar P.text (way_config ends.rest linked.from)
-  tail_reached = way_reached P facts base fresh zero_place heads (way_trees ends.rest) ends.last.below linked.from tail
-      (λ s pad size p. clash P facts tail.now linked.from s pad size goes p)
-
-  tail_read : tail.now ≡ filling (way_trees ends.rest)
-  tail_read = lays_read P facts [] 0 (way_trees ends.rest) linked.from tail.now tail.lays ∙ append-nil (filling (way_trees ends.rest))
-
-  stepped : StepsOn P.grammar P.text (way_config ends.rest linked.from) (pushed (way_config ends.rest linked.from) (token_tree leaf.symbol leaf.pad leaf.size))
-  stepped = shift_token leaf.symbol leaf.pad leaf.size
-      (subst (λ (r : List ℕ). SeesAt P r linked.from (token leaf.symbol leaf.pad leaf.size)) tail_read sees)
-      (subst (λ (r : List ℕ). Act P.grammar r leaf.symbol.0 shift) tail_read acts)
 
   place_is : linked.from + span_of (token_tree leaf.symbol leaf.pad leaf.size) ≡ place
   place_is =
@@ -153,26 +125,63 @@ module _ (P : Parsing) (facts : Facts P) (base : IsBase P) (fresh : P.stack ≡ 
       let to : linked.to ≡ place = same_place P facts heads h linked.over read linked.to place (subst (λ (n : ℕ). IsAt P heads n linked.over linked.to) down.1 linked.above) at in
       omega (arith, says.pad, says.size, leaf.ends, to)
 
-  config_is : pushed (way_config ends.rest linked.from) (token_tree leaf.symbol leaf.pad leaf.size) ≡ way_config way place
-  config_is =
-      ap (λ (m : ℕ). pair (token_tree leaf.symbol leaf.pad leaf.size ∷ way_trees ends.rest) m) place_is
-      ∙ ap (λ (t : Tree). pair (t ∷ way_trees ends.rest) place) (sym leaf.tree_is)
-      ∙ ap (λ (w : List Link). pair (way_trees w) place) (sym ends.way_is)
-    where
-      pair : List Tree → ℕ → Configuration
-      pair stack m = record { stack = stack; place = m }
+  -- the topmost tree behind any that are laid along the rest of the way
+  module _ (ts : List Tree) (laid : AreLaid P facts base heads ends.rest ts) where
+    tail : WayLaid P facts base heads 0 [] 0 ts ends.last.below linked.from
+    tail = ways P facts base heads links 0 [] 0 graph.start ends.rest ts ends.last.below linked.from linked.under linked.below down.2 laid
+
+    share : ShareState P.goto linked.under tail.now
+    share = share_head P facts heads ends.last.below linked.under tail.now linked.from linked.from linked.below tail.at
+
+    sees : SeesAt P tail.now linked.from (token leaf.symbol leaf.pad leaf.size)
+    sees = sees_shared P facts linked.under tail.now share linked.from (token leaf.symbol leaf.pad leaf.size) leaf.sees
+
+    acts : Act P.grammar tail.now leaf.symbol.0 shift
+    acts = facts.states.acts linked.under tail.now leaf.symbol.0 shift share leaf.acts
+
+    goes : GoesOn P tail.now linked.from
+    goes = record { symbol = leaf.symbol; pad = leaf.pad; size = leaf.size; sees = sees; moves = (shift, acts) }
+
+    abbrev before : Configuration
+    before = record { stack = ts; place = linked.from }
+
+    abbrev shifted_tree : Tree
+    shifted_tree = token_tree leaf.symbol leaf.pad leaf.size
+
+    tail_reached : IsReached P.grammar P.text before
+    tail_reached = way_reached P facts base fresh zero_place heads ts ends.last.below linked.from tail
+        (λ s pad size p. clash P facts tail.now linked.from s pad size goes p)
+
+    tail_read : tail.now ≡ filling ts
+    tail_read = lays_read P facts [] 0 ts linked.from tail.now tail.lays ∙ append-nil (filling ts)
+
+    stepped : StepsOn P.grammar P.text before (pushed before shifted_tree)
+    stepped = shift_token leaf.symbol leaf.pad leaf.size
+        (subst (λ (r : List ℕ). SeesAt P r linked.from (token leaf.symbol leaf.pad leaf.size)) tail_read sees)
+        (subst (λ (r : List ℕ). Act P.grammar r leaf.symbol.0 shift) tail_read acts)
+
+    config_is : pushed before shifted_tree ≡ record { stack = ends.last.tree ∷ ts; place = place }
+    config_is =
+        ap (λ (m : ℕ). pair (shifted_tree ∷ ts) m) place_is
+        ∙ ap (λ (t : Tree). pair (t ∷ ts) place) (sym leaf.tree_is)
+      where
+        pair : List Tree → ℕ → Configuration
+        pair stack m = record { stack = stack; place = m }
+
+    pub left_laid : IsReached P.grammar P.text (record { stack = ends.last.tree ∷ ts; place = place })
+    left_laid = subst (λ (c : Configuration). IsReached P.grammar P.text c) config_is
+        (run_join P facts _ before (pushed before shifted_tree) tail_reached
+        (run_on before (pushed before shifted_tree) (pushed before shifted_tree) stepped (run_here (pushed before shifted_tree))))
 
   pub left_reached : IsReached P.grammar P.text (way_config way place)
-  left_reached = subst (λ (c : Configuration). IsReached P.grammar P.text c) config_is
-      (run_join P facts _ (way_config ends.rest linked.from) (pushed (way_config ends.rest linked.from) (token_tree leaf.symbol leaf.pad leaf.size)) tail_reached
-      (run_on (way_config ends.rest linked.from) (pushed (way_config ends.rest linked.from) (token_tree leaf.symbol leaf.pad leaf.size)) (pushed (way_config ends.rest linked.from) (token_tree leaf.symbol leaf.pad leaf.size)) stepped
-      (run_here (pushed (way_config ends.rest linked.from) (token_tree leaf.symbol leaf.pad leaf.size)))))
+  left_reached = subst (λ (w : List Link). IsReached P.grammar P.text (way_config w place)) (sym ends.way_is)
+      (left_laid (way_trees ends.rest) (own_trees P facts base heads links graph ends.rest ends.last.below 0 down.2))
 
 -- the same where a run came to the stack from which runs go on
 pub left_from : (P : Parsing) (facts : Facts P) (c : Configuration) → IsReached P.grammar P.text c → IsBegun P c → (heads : List Head) (links : List Link) → IsGraph P heads links → (h place : ℕ) (read : List ℕ) (way : List Link)
     → IsAt P heads h read place → IsOnlyWay links h way → EndsWithToken way → IsReached P.grammar P.text (way_config way place)
 left_from P facts c reached begun heads links graph h place read way at one ends =
-    left_reached (from_start P) (start_facts P facts) (start_base P facts) refl refl heads links (graph_start P facts c reached begun heads links graph) h place read way at one ends
+    left_reached (from_start P) (start_facts P facts) (start_base P facts) refl refl heads links (graph_start P facts c reached begun heads links graph) h place read way at one.down ends
 
 -- ---- what runs come to
 
@@ -220,10 +229,10 @@ links_replace (l ∷ way) (t ∷ ts) a = (
 
 module _ (P : Parsing) (facts : Facts P) (serving : ServingLaws) (c : Configuration) (reached : IsReached P.grammar P.text c) (begun : IsBegun P c) (rank : ℕ → ℕ) (most : ℕ) (ranked : AreRanks P.grammar rank most)
     (heads : List Head) (links : List Link) (graph : IsGraph P heads links) (n : ℕ) (whole : IsWholeTo P rank heads links (record { look = n; begins = n; rank = most })) (early : c.place < n) where
-  base : IsBase P
+  pub base : IsBase P
   base = base_of P facts c reached begun
 
-  at_reached : (d : Configuration) → Run P.grammar P.text c d → IsReached P.grammar P.text d
+  pub at_reached : (d : Configuration) → Run P.grammar P.text c d → IsReached P.grammar P.text d
   at_reached d run = run_join P facts _ c d reached run
 
   runs_on : (d : Configuration) → Run P.grammar P.text c d → EndsEarly P facts base rank most ranked n d ⊎ GoesPast P facts base rank most ranked n c d
@@ -232,7 +241,7 @@ module _ (P : Parsing) (facts : Facts P) (serving : ServingLaws) (c : Configurat
       ((run_laid P facts c reached begun c (run_here c)).1) early run
 
   -- how runs end at what may stand for a configuration, they end at that
-  served_ends : (at d : Configuration) → EndsEarly P facts base rank most ranked n at → IsReached P.grammar P.text at → IsReached P.grammar P.text d → ComesTooDeep P.grammar P.text at ⊎ ServesConfiguration at d → EndsBefore P heads links n d
+  pub served_ends : (at d : Configuration) → EndsEarly P facts base rank most ranked n at → IsReached P.grammar P.text at → IsReached P.grammar P.text d → ComesTooDeep P.grammar P.text at ⊎ ServesConfiguration at d → EndsBefore P heads links n d
   served_ends at d ends ra rd serves = by serves
     where
       here : EndsBefore P heads links n at
@@ -291,7 +300,7 @@ module _ (P : Parsing) (facts : Facts P) (serving : ServingLaws) (c : Configurat
 
   -- the same for the layers of the only way, whatever its depths
   module _ (h place : ℕ) (read : List ℕ) (way : List Link) (at : IsAt P heads h read place) (alone : StandsAlone heads n h) (only : (other : List Link) → IsWay links h other 0 → other ≡ way) where
-    past_packed : (e : Configuration) → IsBefore P facts base rank most ranked n e → n ≤ e.place → Packs (way_stack way place) e
+    pub past_packed : (e : Configuration) → IsBefore P facts base rank most ranked n e → n ≤ e.place → Packs (way_stack way place) e
     past_packed e before past =
         let w = way_of P facts base rank most ranked n heads links graph whole e before in
         let place_at : w.at.head.place ≡ e.place = w.at.place_is in

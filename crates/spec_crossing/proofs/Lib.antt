@@ -7,3 +7,4 @@ pub mod MadeLemmas
 pub mod ReadLemmas
 pub mod RestLemmas
 pub mod HaltLemmas
+pub mod PackedLemmas

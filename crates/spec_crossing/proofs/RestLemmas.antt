@@ -6,14 +6,13 @@ use Rattle.spec_trees.specs.Choice.{Better}
 use Rattle.spec_runs.specs.Configurations.{Configuration}
 use Rattle.spec_runs.specs.Runs.{IsReached, ComesTooDeep, AcceptsTree, StopsAt}
 use Rattle.spec_runs.specs.Outcomes.{SomeAccepts, SomeStopsAt, IsBestTree, IsLastStop}
-use Rattle.spec_packing.specs.Serving.{ComesToServe}
 use Rattle.spec_graph.specs.declared.graph.Head.{Head}
 use Rattle.spec_graph.specs.declared.graph.Link.{Link}
 use Rattle.spec_graph.specs.Laying.{Parsing}
 use Rattle.spec_graph.specs.Outcomes.{GraphAccepts, GraphStopsAt}
 use Rattle.spec_crossing.specs.Laws.{ServingLaws}
 use Rattle.spec_crossing.specs.Leaving.{EndsBefore}
-use Rattle.spec_crossing.specs.Resting.{Withstands, IsPastStuck, AccountsFor, Rests, AccountsForGraph}
+use Rattle.spec_crossing.specs.Resting.{Withstands, IsPastStuck, AccountsFor, AccountsForGraph}
 
 same_tree : (t u : Tree) → ◌≡◌ {A = Option Tree} (Some t) (Some u) → t ≡ u
 same_tree t u e = cc
@@ -26,9 +25,10 @@ never_withstands : (best : Option Tree) (u : Tree) → best ≡ None → Withsta
 never_withstands best u none w = let e : ◌≡◌ {A = Option Tree} None (Some w.0) = sym none ∙ w.1 in absurd (let f : ◌≡◌ {A = Option Tree} None (Some w.0) = e in cc)
 
 module _ (P : Parsing) (heads : List Head) (links : List Link) (n : ℕ) (best : Option Tree) (before stuck : Option ℕ) (counts : AccountsForGraph P heads links n best before stuck)
-    (c : Configuration) (r : Rests P.grammar P.text before c) (halts : (q : ℕ) → GraphStopsAt P heads q → SomeStopsAt P.grammar P.text q) where
-  stuck_there : (q : ℕ) → stuck ≡ Some q → SomeStopsAt P.grammar P.text q
-  stuck_there q is = ⊎_elim (λ b. r.stuck_from q b) (λ s. halts q s) (counts.stuck_from q is)
+    (Leads : Configuration → Type 0) (done : (d : Configuration) → IsReached P.grammar P.text d → AccountsFor P.grammar P.text None before d ⊎ Leads d) (from : (q : ℕ) → before ≡ Some q → SomeStopsAt P.grammar P.text q)
+    (halts : (q : ℕ) → GraphStopsAt P heads q → SomeStopsAt P.grammar P.text q) where
+  pub stuck_there : (q : ℕ) → stuck ≡ Some q → SomeStopsAt P.grammar P.text q
+  stuck_there q is = ⊎_elim (λ b. from q b) (λ s. halts q s) (counts.stuck_from q is)
 
   -- ---- where one stack is left
 
@@ -43,21 +43,16 @@ module _ (P : Parsing) (heads : List Head) (links : List Link) (n : ℕ) (best :
       shallow = e.shallow;
     }
 
-    pub rests_left : (k : Configuration) → IsReached P.grammar P.text k
-        → ((d : Configuration) → IsReached P.grammar P.text d → ComesToServe P.grammar P.text c d → EndsBefore P heads links n d ⊎ ComesToServe P.grammar P.text k d)
-        → Rests P.grammar P.text stuck k
-    rests_left k reached serves = record {
-      reached = reached;
-      done = λ d rd. ⊎_elim (λ cov. inl (widened d cov)) (λ w. ⊎_elim (λ e. inl (known d e)) (λ s. inr s) (serves d rd w)) (r.done d rd);
-      stuck_from = stuck_there;
-    }
+    pub left_done : (Next : Configuration → Type 0) → ((d : Configuration) → IsReached P.grammar P.text d → Leads d → EndsBefore P heads links n d ⊎ Next d)
+        → (d : Configuration) → IsReached P.grammar P.text d → AccountsFor P.grammar P.text None stuck d ⊎ Next d
+    left_done Next serves d rd = ⊎_elim (λ cov. inl (widened d cov)) (λ w. ⊎_elim (λ e. inl (known d e)) (λ s. inr s) (serves d rd w)) (done d rd)
 
   -- ---- the end
 
   module _ (serving : ServingLaws) (accepts : (t : Tree) → GraphAccepts P heads links t → SomeAccepts P.grammar P.text t)
-      (ends : (d : Configuration) → IsReached P.grammar P.text d → ComesToServe P.grammar P.text c d → EndsBefore P heads links n d) where
+      (ends : (d : Configuration) → IsReached P.grammar P.text d → Leads d → EndsBefore P heads links n d) where
     never_deep : (d : Configuration) → IsReached P.grammar P.text d → ComesTooDeep P.grammar P.text d → ⊥
-    never_deep d rd deep = ⊎_elim (λ cov. cov.shallow deep) (λ w. (ends d rd w).shallow deep) (r.done d rd)
+    never_deep d rd deep = ⊎_elim (λ cov. cov.shallow deep) (λ w. (ends d rd w).shallow deep) (done d rd)
 
     -- a tree that some run accepts is no better than one that is accounted for
     accounted : (d : Configuration) (u : Tree) → IsReached P.grammar P.text d → AcceptsTree P.grammar P.text d u → (b : Tree) × (best ≡ Some b) × (Better u (bare b) → ⊥)
@@ -66,7 +61,7 @@ module _ (P : Parsing) (heads : List Head) (links : List Link) (n : ℕ) (best :
         let v = (ends d rd w).accepts u a in
         let k = counts.accepted v.0 v.1 v.2 v.3 in
         (k.0, k.1, serving.no_better (bare k.0) v.0 u k.2 v.4))
-        (r.done d rd)
+        (done d rd)
 
     pub rests_tree : (b : Tree) → best ≡ Some b → IsBestTree P.grammar P.text (bare b)
     rests_tree b is = record {
@@ -87,7 +82,7 @@ module _ (P : Parsing) (heads : List Head) (links : List Link) (n : ℕ) (best :
     }
       where
         past : (p : ℕ) → SomeStopsAt P.grammar P.text p → IsPastStuck stuck p
-        past p w = ⊎_elim (λ cov. counts.past p (cov.places p w.2)) (λ s. let v = (ends w.0 w.1 s).stops p w.2 in counts.places p v.0 v.1 v.2) (r.done w.0 w.1)
+        past p w = ⊎_elim (λ cov. counts.past p (cov.places p w.2)) (λ s. let v = (ends w.0 w.1 s).stops p w.2 in counts.places p v.0 v.1 v.2) (done w.0 w.1)
 
         no_greater : (p : ℕ) → IsPastStuck stuck p → p ≤ q
         no_greater p k = let same : k.0 ≡ q = same_place k.0 q (sym k.1 ∙ is) in let le = k.2 in omega (arith, same, le)
@@ -101,4 +96,4 @@ module _ (P : Parsing) (heads : List Head) (links : List Link) (n : ℕ) (best :
         (λ s. let k = past d rd s.0 s.1 in let e : ◌≡◌ {A = Option ℕ} None (Some k.0) = sym nowhere ∙ k.1 in cc) more) end)
       where
         past : (d : Configuration) → IsReached P.grammar P.text d → (q : ℕ) → StopsAt P.grammar P.text d q → IsPastStuck stuck q
-        past d rd q s = ⊎_elim (λ cov. counts.past q (cov.places q s)) (λ w. let v = (ends d rd w).stops q s in counts.places q v.0 v.1 v.2) (r.done d rd)
+        past d rd q s = ⊎_elim (λ cov. counts.past q (cov.places q s)) (λ w. let v = (ends d rd w).stops q s in counts.places q v.0 v.1 v.2) (done d rd)

@@ -25,6 +25,11 @@ pub record IsOnlyWay (links : List Link) (h : ℕ) (way : List Link) : Type 0 wh
   pub only : (other : List Link) → IsWay links h other 0 → other ≡ way
   pub exact : AreExact way
 
+-- one way alone leads down from the head to that of the empty stack, however deep its trees are
+pub record IsOneWay (links : List Link) (h : ℕ) (way : List Link) : Type 0 where
+  pub down : IsWay links h way 0
+  pub only : (other : List Link) → IsWay links h other 0 → other ≡ way
+
 -- the topmost tree of a way is a token that was shifted
 pub record EndsWithToken (way : List Link) : Type 0 where
   pub last : Link

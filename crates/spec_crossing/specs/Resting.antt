@@ -9,6 +9,7 @@ use Rattle.spec_trees.specs.Choice.{Better}
 use Rattle.spec_runs.specs.Configurations.{Configuration}
 use Rattle.spec_runs.specs.Runs.{IsReached, ComesTooDeep, AcceptsTree, StopsAt}
 use Rattle.spec_runs.specs.Outcomes.{SomeStopsAt}
+use Rattle.spec_packing.specs.Packing.{PackedStack, WasMet, GoesThrough}
 use Rattle.spec_packing.specs.Serving.{ComesToServe}
 use Rattle.spec_graph.specs.declared.graph.Head.{Head}
 use Rattle.spec_graph.specs.declared.graph.Link.{Link}
@@ -41,6 +42,15 @@ pub record Rests (g : FlatGrammar) (text : Bytes) (stuck : Option ℕ) (c : Conf
   pub reached : IsReached g text c
   pub done : (d : Configuration) → IsReached g text d
       → AccountsFor g text None stuck d ⊎ ComesToServe g text c d
+  pub stuck_from : (q : ℕ) → stuck ≡ Some q → SomeStopsAt g text q
+
+-- The same where the live head stands for layers: they were met, and the ends at each configuration
+-- that is reached are known, or a run to it goes through what the layers stand for.
+pub record PackedRests (g : FlatGrammar) (text : Bytes) (stuck : Option ℕ) (k : PackedStack)
+    : Type 0 where
+  pub met : WasMet g text k
+  pub done : (d : Configuration) → IsReached g text d
+      → AccountsFor g text None stuck d ⊎ GoesThrough g text k d
   pub stuck_from : (q : ℕ) → stuck ≡ Some q → SomeStopsAt g text q
 
 -- ---- the ends in a graph

@@ -16,7 +16,7 @@ ghost use Rattle.spec_runs.specs.Configurations.{Configuration, NextIs};
 ghost use Rattle.spec_runs.specs.Moves.{IsUnused};
 ghost use Rattle.spec_runs.specs.Runs.{StepsOn, Run, IsReached, ComesTooDeep, AcceptsTree, StopsAt};
 ghost use Rattle.spec_runs.specs.Outcomes.{IsBestTree, IsLastStop};
-ghost use Rattle.spec_packing.specs.Packing.{GoesThrough};
+ghost use Rattle.spec_packing.specs.Packing.{stack_alone, GoesThrough};
 ghost use Rattle.spec_packing.specs.Serving.{ComesToServe};
 ghost use Rattle.spec_graph.specs.declared.graph.Head.{Head};
 ghost use Rattle.spec_graph.specs.declared.graph.Link.{Link};
@@ -26,12 +26,12 @@ ghost use Rattle.spec_graph.specs.Grounded.{Spells, IsMadeTree, IsGrounded};
 ghost use Rattle.spec_graph.specs.Links.{IsAt, IsWay, way_trees, IsGraph, IsWholeTo};
 ghost use Rattle.spec_graph.specs.Laws.{GraphLaws};
 ghost use Rattle.spec_crossing.specs.Laws.{ServingLaws};
-ghost use Rattle.spec_crossing.specs.Leaving.{IsOnlyWay, EndsWithToken, StandsAlone, way_config, way_stack, EndsBefore};
-ghost use Rattle.spec_crossing.specs.Resting.{Rests, AccountsForGraph};
+ghost use Rattle.spec_crossing.specs.Leaving.{IsOnlyWay, IsOneWay, EndsWithToken, StandsAlone, way_config, way_stack, EndsBefore};
+ghost use Rattle.spec_crossing.specs.Resting.{Rests, PackedRests, AccountsForGraph};
 
 use spec_graph::graphs_are_sound;
 use spec_lexing::{fewer_tokens, one_answer, token_within};
-use spec_packing::{ends_are_served, no_better_through, runs_are_served};
+use spec_packing::{configurations_step, ends_are_served, no_better_through, runs_are_served};
 use spec_reuse::{no_new_tokens, some_move_stays};
 use spec_runs::{
     bare_trees, empty_rules_are_unused, moves_have_their_place, repetitions_repeat,
@@ -59,6 +59,7 @@ fn serving_laws_hold()
     ensures { ServingLaws }
 {
     no_better_through();
+    configurations_step();
     ends_are_served();
     runs_are_served();
 }
@@ -163,6 +164,60 @@ pub fn followed_graphs_rest()
         → (best : Option Tree) (before stuck : Option ℕ)
         → AccountsForGraph P heads links n best before stuck
         → Rests P.grammar P.text before c
+        → (((d : Configuration) → IsReached P.grammar P.text d
+        → ComesTooDeep P.grammar P.text d
+        ⊎ (((u : Tree) × AcceptsTree P.grammar P.text d u)
+        ⊎ ((q : ℕ) × StopsAt P.grammar P.text d q)) → ⊥) → ⊥)
+        → best ≡ None → stuck ≡ None → ⊥ }
+{
+    laws_hold();
+    serving_laws_hold();
+    graphs_are_sound();
+}
+
+/// The same where they rest at layers: at a configuration that stands for itself alone, and then at
+/// the layers of the way that is left, however deep its trees are.
+pub fn followed_graphs_pack()
+    ensures leaves { (P : Parsing) → Fit P.grammar → AreStates P.grammar P.goto
+        → (c : Configuration) → IsReached P.grammar P.text c → IsBegun P c
+        → (rank : ℕ → ℕ) (most : ℕ) → AreRanks P.grammar rank most
+        → (heads : List Head) (links : List Link) → IsGraph P heads links
+        → (n : ℕ) → IsWholeTo P rank heads links (record { look = n; begins = n; rank = most })
+        → c.place < n
+        → (before stuck : Option ℕ) → AccountsForGraph P heads links n None before stuck
+        → PackedRests P.grammar P.text before (stack_alone c)
+        → (h place : ℕ) (read : List ℕ) (way : List Link) → IsAt P heads h read place
+        → StandsAlone heads n h → IsOneWay links h way → EndsWithToken way
+        → PackedRests P.grammar P.text stuck (way_stack way place) }
+    ensures tree { (P : Parsing) → Fit P.grammar → AreStates P.grammar P.goto
+        → (c : Configuration) → IsReached P.grammar P.text c → IsBegun P c
+        → (rank : ℕ → ℕ) (most : ℕ) → AreRanks P.grammar rank most
+        → (heads : List Head) (links : List Link) → IsGraph P heads links
+        → (n : ℕ) → IsWholeTo P rank heads links (record { look = n; begins = n; rank = most })
+        → c.place < n → length P.text < n → P.place ≤ length P.text
+        → (best : Option Tree) (before stuck : Option ℕ)
+        → AccountsForGraph P heads links n best before stuck
+        → PackedRests P.grammar P.text before (stack_alone c)
+        → (b : Tree) → best ≡ Some b → IsBestTree P.grammar P.text (bare b) }
+    ensures stop { (P : Parsing) → Fit P.grammar → AreStates P.grammar P.goto
+        → (c : Configuration) → IsReached P.grammar P.text c → IsBegun P c
+        → (rank : ℕ → ℕ) (most : ℕ) → AreRanks P.grammar rank most
+        → (heads : List Head) (links : List Link) → IsGraph P heads links
+        → (n : ℕ) → IsWholeTo P rank heads links (record { look = n; begins = n; rank = most })
+        → c.place < n → length P.text < n → P.place ≤ length P.text
+        → (best : Option Tree) (before stuck : Option ℕ)
+        → AccountsForGraph P heads links n best before stuck
+        → PackedRests P.grammar P.text before (stack_alone c)
+        → (q : ℕ) → best ≡ None → stuck ≡ Some q → IsLastStop P.grammar P.text q }
+    ensures some { (P : Parsing) → Fit P.grammar → AreStates P.grammar P.goto
+        → (c : Configuration) → IsReached P.grammar P.text c → IsBegun P c
+        → (rank : ℕ → ℕ) (most : ℕ) → AreRanks P.grammar rank most
+        → (heads : List Head) (links : List Link) → IsGraph P heads links
+        → (n : ℕ) → IsWholeTo P rank heads links (record { look = n; begins = n; rank = most })
+        → c.place < n → length P.text < n → P.place ≤ length P.text
+        → (best : Option Tree) (before stuck : Option ℕ)
+        → AccountsForGraph P heads links n best before stuck
+        → PackedRests P.grammar P.text before (stack_alone c)
         → (((d : Configuration) → IsReached P.grammar P.text d
         → ComesTooDeep P.grammar P.text d
         ⊎ (((u : Tree) × AcceptsTree P.grammar P.text d u)

@@ -179,6 +179,10 @@ module _ (laws : RunLaws) (g : FlatGrammar) (fit : Fit g) where
             })
             cases (inr (inr less)) = goes (omega (arith, less))
 
+    pub step_from : (c d m : Configuration) → IsReached g text c → IsReached g text d → ServesConfiguration d c → StepsOn g text c m
+        → ComesTooDeep g text d ⊎ ((n : Configuration) × StepsOn g text d n × ServesConfiguration n m)
+    step_from c d m rc rd s step = step_served c d m (made_reached laws g fit text c rc) (made_reached laws g fit text d rd) s step
+
     -- ---- runs
 
     run_further : (d m e : Configuration) → AllMade g d.stack → ((n : Configuration) → AllMade g n.stack → ServesConfiguration n m → ComesToServe g text n e) → StepServed d m → ComesToServe g text d e

@@ -8,7 +8,7 @@ ghost use Rattle.spec_trees.specs.declared.tree.Tree.{Tree};
 ghost use Rattle.spec_trees.specs.Trees.{bare};
 ghost use Rattle.spec_trees.specs.Choice.{Better};
 ghost use Rattle.spec_runs.specs.Configurations.{Configuration};
-ghost use Rattle.spec_runs.specs.Runs.{Run, IsReached, ComesTooDeep, AcceptsTree, StopsAt};
+ghost use Rattle.spec_runs.specs.Runs.{StepsOn, Run, IsReached, ComesTooDeep, AcceptsTree, StopsAt};
 ghost use Rattle.spec_runs.specs.Outcomes.{SomeIsTooDeep};
 ghost use Rattle.spec_packing.specs.Laws.{RunLaws};
 ghost use Rattle.spec_packing.specs.Packing.{PackedStack, own_config, stack_alone, Packs, WasMet, GoesThrough, PackedStepsOn, PackedIsTooDeep, joined_stacks, MayJoin};
@@ -67,6 +67,17 @@ pub fn ends_are_served()
         → IsReached g text c → IsReached g text d → ServesConfiguration d c
         → AcceptsTree g text c u
         → (t : Tree) × AcceptsTree g text d t × (Better u t → ⊥) }
+{
+    laws_hold();
+}
+
+/// Each step from a configuration is also one from a configuration that stands for it, to one that
+/// stands for what it comes to, or a node would be too deep there.
+pub fn configurations_step()
+    ensures { (g : FlatGrammar) → Fit g → (text : Bytes) (c d m : Configuration)
+        → IsReached g text c → IsReached g text d → ServesConfiguration d c → StepsOn g text c m
+        → ComesTooDeep g text d
+        ⊎ ((n : Configuration) × StepsOn g text d n × ServesConfiguration n m) }
 {
     laws_hold();
 }

@@ -6,5 +6,6 @@ returns c = record {
   deep = c.ends_are_served.ensures.deep;
   stops = c.ends_are_served.ensures.stops;
   accepts = c.ends_are_served.ensures.accepts;
+  step = c.configurations_step.ensures;
   through = c.runs_are_served.ensures.through;
 }
