@@ -3,10 +3,10 @@ use Rattle.std.proofs.Common.{◌≡◌, ◌∙◌, sym, ap, refl, subst, ℕ, z
 use Rattle.std.proofs.lemmas.List.{take-append-drop, take-append-le, take_all, length-take-le}
 use Rattle.std.proofs.lemmas.Option.{slice_get_within}
 use Rattle.ts_base.proofs.PlaceLemmas.{in_prefix, at_end, push_cases}
-use Rattle.spec_trees.specs.Trees.{tree_depth, greatest_depth}
+use Rattle.spec_trees.specs.Trees.{maximum}
 use Rattle.ts_gss.specs.declared.layer.Layer.{Layer}
 use Rattle.ts_gss.specs.declared.graph.Cell.{Cell}
-use Rattle.ts_gss.specs.Stacks.{layer_of, stack_at, trees_on}
+use Rattle.ts_gss.specs.Stacks.{layer_of, stack_at, depths_on}
 use Rattle.ts_gss.specs.Cells.{with_cell, with_cells, stacks_of, LieAbove, NoneIsDeeper}
 
 many_with : (ss : List (List Layer)) (cs : List Cell) → length (with_cells ss cs) ≡ length ss + length cs
@@ -100,11 +100,11 @@ first_part cs head k c at =
     ∙ in_prefix (take head cs) (drop head cs) k (slice_get_within (take head cs) k c at)
     ∙ at
 
--- ---- how deep the trees are
+-- ---- how deep the layers are
 
-pub shallow_more : (cs : List Cell) (c : Cell) (deepest deeper : ℕ) → NoneIsDeeper deepest cs → deepest ≤ deeper → tree_depth c.node ≤ deeper → NoneIsDeeper deeper (cs ++ c ∷ [])
+pub shallow_more : (cs : List Cell) (c : Cell) (deepest deeper : ℕ) → NoneIsDeeper deepest cs → deepest ≤ deeper → c.depth ≤ deeper → NoneIsDeeper deeper (cs ++ c ∷ [])
 shallow_more cs c deepest deeper low more one k d at =
-    ⊎_elim (λ w. omega (arith, low k d w.1, more)) (λ w. subst (λ (x : Cell). tree_depth x.node ≤ deeper) w.1 one) (push_cases cs c k d at)
+    ⊎_elim (λ w. omega (arith, low k d w.1, more)) (λ w. subst (λ (x : Cell). x.depth ≤ deeper) w.1 one) (push_cases cs c k d at)
 
 pub shallow_first : (cs new : List Cell) (head deepest : ℕ) → new ≡ take head cs → NoneIsDeeper deepest cs → NoneIsDeeper deepest new
 shallow_first cs new head deepest is low k c at = low k c (first_part cs head k c (subst (λ (xs : List Cell). slice_get xs k ≡ Some c) is at))
@@ -114,13 +114,13 @@ is_there [] k e low = omega (arith, low)
 is_there (c ∷ cs) zero e low = let f : Some c ≡ None = e in cc
 is_there (c ∷ cs) (suc k) e low = is_there cs k e (omega (arith, low))
 
--- no tree on a stack is deeper than the deepest in a cell
-stack_shallow : (cs : List Cell) (deepest : ℕ) → LieAbove cs → NoneIsDeeper deepest cs → (n head : ℕ) → head < n → head ≤ length cs → greatest_depth (trees_on (stack_at (stacks_of cs) head)) ≤ deepest
+-- no layer of a stack is deeper than the deepest cell
+stack_shallow : (cs : List Cell) (deepest : ℕ) → LieAbove cs → NoneIsDeeper deepest cs → (n head : ℕ) → head < n → head ≤ length cs → maximum (depths_on (stack_at (stacks_of cs) head)) ≤ deepest
 stack_shallow cs deepest lie low zero head less there = absurd (omega (arith, less))
 stack_shallow cs deepest lie low (suc n) zero less there = rw (stack_of_none cs) (omega arith)
 stack_shallow cs deepest lie low (suc n) (suc k) less there = by (slice_get cs (suc k - 1)) refl (stack_shallow cs deepest lie low n)
   where
-    by : (o : Option Cell) → slice_get cs (suc k - 1) ≡ o → ((head : ℕ) → head < n → head ≤ length cs → greatest_depth (trees_on (stack_at (stacks_of cs) head)) ≤ deepest) → greatest_depth (trees_on (stack_at (stacks_of cs) (suc k))) ≤ deepest
+    by : (o : Option Cell) → slice_get cs (suc k - 1) ≡ o → ((head : ℕ) → head < n → head ≤ length cs → maximum (depths_on (stack_at (stacks_of cs) head)) ≤ deepest) → maximum (depths_on (stack_at (stacks_of cs) (suc k))) ≤ deepest
     by (Some c) e rest =
         let below = lie (suc k - 1) c e in
         let s : stack_at (stacks_of cs) (suc k) ≡ layer_of c ∷ stack_at (stacks_of cs) c.below = stack_of_cell cs (suc k) c lie (omega arith) e in
@@ -216,9 +216,9 @@ module _ (cs : List Cell) (ss : List (List Layer)) (view : stacks_of cs ≡ ss) 
       let e : length new ≡ length (take (head + 1) ss) = ap (λ (xs : List (List Layer)). length xs) is in
       omega (arith, low, e, length-take-le (head + 1) ss (omega (arith, low)))
 
-  pub no_deeper : (deepest head : ℕ) → LieAbove cs → NoneIsDeeper deepest cs → head < length ss → greatest_depth (trees_on (stack_at ss head)) ≤ deepest
+  pub no_deeper : (deepest head : ℕ) → LieAbove cs → NoneIsDeeper deepest cs → head < length ss → maximum (depths_on (stack_at ss head)) ≤ deepest
   no_deeper deepest head lie low there =
-      subst (λ (xs : List (List Layer)). greatest_depth (trees_on (stack_at xs head)) ≤ deepest) view
+      subst (λ (xs : List (List Layer)). maximum (depths_on (stack_at xs head)) ≤ deepest) view
       (stack_shallow cs deepest lie low (suc head) head (omega arith) (omega (arith, there, many)))
 
   -- ---- the top cell

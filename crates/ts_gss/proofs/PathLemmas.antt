@@ -1,13 +1,13 @@
 -- Steps down a stack.
-use Rattle.std.proofs.Common.{◌≡◌, ◌∙◌, sym, ap, refl, subst, ℕ, zero, suc, ◌+◌, ◌-◌, ◌<◌, ◌≤◌, Bool, true, false, true≢false, if◌then◌else◌, List, [], ◌∷◌, ◌++◌, append_assoc, length, length-append, drop, reverse, Some, arith}
-use Rattle.std.proofs.lemmas.List.{reverse-append, reverse-reverse, length-reverse}
+use Rattle.std.proofs.Common.{◌≡◌, ◌∙◌, sym, ap, refl, subst, ℕ, zero, suc, ◌+◌, ◌-◌, ◌<◌, ◌≤◌, max, Bool, true, false, true≢false, if◌then◌else◌, List, [], ◌∷◌, ◌++◌, append_assoc, length, length-append, take, drop, reverse, Some, arith}
+use Rattle.std.proofs.lemmas.List.{map-append, reverse-append, reverse-reverse, length-reverse}
 use Rattle.spec_trees.specs.declared.tree.Tree.{Tree}
-use Rattle.spec_trees.specs.Trees.{is_extra_node}
+use Rattle.spec_trees.specs.Trees.{is_extra_node, maximum}
 use Rattle.spec_trees.specs.Made.{filling, BeginsFilled}
 use Rattle.spec_runs.specs.Configurations.{AreExtras}
 use Rattle.ts_gss.specs.declared.layer.Layer.{Layer}
-use Rattle.ts_gss.specs.Stacks.{trees_on, tree_on, under_top, begins_with_extra}
-use Rattle.ts_gss.specs.Paths.{IsLifted, IsTakenOff, still_wanting, Lifting, Taking}
+use Rattle.ts_gss.specs.Stacks.{trees_on, depths_on, tree_on, depth_on, under_top, begins_with_extra}
+use Rattle.ts_gss.specs.Paths.{IsLifted, IsTakenOff, depths_of, AreDepthsOf, still_wanting, Lifting, Taking}
 
 extras_more : (es : List Tree) (t : Tree) → AreExtras es → is_extra_node t ≡ true → AreExtras (es ++ t ∷ [])
 extras_more [] t all h = (h, tt)
@@ -129,3 +129,45 @@ take_ends stack below count wanting trees new b none new_is =
       begins = subst BeginsFilled (sym new_is) (b.begins (omega arith));
       rest = b.rest ∙ ap (λ (k : ℕ). drop k stack) (sym m);
     }
+
+-- ---- depths
+
+take_one_more : (n : ℕ) (stack rest : List Layer) (l : Layer) → l ∷ rest ≡ drop n stack → take (suc n) stack ≡ take n stack ++ l ∷ []
+take_one_more zero [] rest l e = absurd (let h : l ∷ rest ≡ [] = e in cc)
+take_one_more zero (x ∷ stack) rest l e =
+    let h : l ∷ rest ≡ x ∷ stack = e in
+    let same : x ≡ l = cc in
+    ap (λ (y : Layer). y ∷ []) same
+take_one_more (suc n) [] rest l e = absurd (let h : l ∷ rest ≡ [] = e in cc)
+take_one_more (suc n) (x ∷ stack) rest l e = ap (λ (ls : List Layer). x ∷ ls) (take_one_more n stack rest l e)
+
+depths_one_more : (n : ℕ) (stack rest : List Layer) (l : Layer) → l ∷ rest ≡ drop n stack → depths_of (suc n) stack ≡ l.depth ∷ depths_of n stack
+depths_one_more n stack rest l e =
+    ap (λ (ls : List Layer). reverse (depths_on ls)) (take_one_more n stack rest l e)
+    ∙ ap (λ (ds : List ℕ). reverse ds) (map-append (λ (x : Layer). x.depth) (take n stack) (l ∷ []))
+    ∙ reverse-append (depths_on (take n stack)) (l.depth ∷ [])
+
+whole_maximum : (ds : List ℕ) → maximum ds ≡ max (maximum (take 1 ds)) (maximum (drop 1 ds))
+whole_maximum [] = refl
+whole_maximum (d ∷ ds) = omega arith
+
+-- no layer was taken yet
+pub depths_begin : (stack : List Layer) (trees : List Tree) → trees ≡ [] → AreDepthsOf (depths_of (length trees) stack) 0 0
+depths_begin stack trees none = subst (λ (ts : List Tree). AreDepthsOf (depths_of (length ts) stack) 0 0) (sym none) (refl, refl)
+
+pub depths_more : (stack below : List Layer) (trees more : List Tree) (t : Tree) (first others depth most : ℕ) → below ≡ drop (length trees) stack → Some depth ≡ depth_on below → more ≡ trees ++ t ∷ [] → most ≡ max first others
+    → AreDepthsOf (depths_of (length trees) stack) first others → AreDepthsOf (depths_of (length more) stack) depth most
+depths_more stack [] trees more t first others depth most rest top more_is most_is are = absurd (cc)
+depths_more stack (l ∷ below) trees more t first others depth most rest top more_is most_is are =
+    let n : length more ≡ suc (length trees) = omega (arith, ap (λ (ts : List Tree). length ts) more_is, length-append trees (t ∷ [])) in
+    let d : depth ≡ l.depth = let h : Some depth ≡ Some l.depth = top in cc in
+    let ds : depths_of (length more) stack ≡ l.depth ∷ depths_of (length trees) stack = ap (λ (k : ℕ). depths_of k stack) n ∙ depths_one_more (length trees) stack below l rest in
+    let whole = whole_maximum (depths_of (length trees) stack) in
+    let one = are.0 in
+    let two = are.1 in
+    subst (λ (xs : List ℕ). AreDepthsOf xs depth most) (sym ds) ((omega arith), (omega arith))
+
+-- the trees were turned
+pub depths_end : (stack : List Layer) (trees new : List Tree) (first others : ℕ) → new ≡ reverse trees → AreDepthsOf (depths_of (length trees) stack) first others → AreDepthsOf (depths_of (length new) stack) first others
+depths_end stack trees new first others new_is are =
+    subst (λ (n : ℕ). AreDepthsOf (depths_of n stack) first others) (sym (ap (λ (ts : List Tree). length ts) new_is ∙ length-reverse trees)) are

@@ -1,6 +1,5 @@
 -- The stacks that cells stand for.
 use Rattle.std.specs.Prelude.{◌≡◌, ℕ, ◌≤◌, List, [], ◌∷◌, ◌++◌, slice_get, Some}
-use Rattle.spec_trees.specs.Trees.{tree_depth}
 use Rattle.ts_gss.specs.declared.layer.Layer.{Layer}
 use Rattle.ts_gss.specs.declared.graph.Cell.{Cell}
 use Rattle.ts_gss.specs.Stacks.{layer_of, stack_at}
@@ -22,7 +21,7 @@ stacks_of cells = with_cells ([] ∷ []) cells
 abbrev pub LieAbove : List Cell → Type 0
 LieAbove cells = (k : ℕ) (c : Cell) → slice_get cells k ≡ Some c → c.below ≤ k
 
--- no cell has a deeper node
+-- no cell has a greater depth
 abbrev pub NoneIsDeeper : ℕ → List Cell → Type 0
 NoneIsDeeper deepest cells =
-    (k : ℕ) (c : Cell) → slice_get cells k ≡ Some c → tree_depth c.node ≤ deepest
+    (k : ℕ) (c : Cell) → slice_get cells k ≡ Some c → c.depth ≤ deepest

@@ -1,8 +1,8 @@
 //! Plain stacks in one arena: a node and the number of a stack go in, and the number of the stack
 //! with the node on top comes out.
 ghost use Rattle.std.specs.Prelude.{◌≡◌, ℕ, ◌<◌, ◌≤◌, ◌+◌, ◌++◌, ◌∷◌, [], ◌-◌, true, false, length, slice_get, take, Some, IfOk, IfErr};
-ghost use Rattle.spec_trees.specs.Trees.{greatest_depth};
-ghost use Rattle.ts_gss.specs.Stacks.{stack_at, layer_with, state_on, tree_on, trees_on, under_top, begins_with_extra, layer_of};
+ghost use Rattle.spec_trees.specs.Trees.{maximum};
+ghost use Rattle.ts_gss.specs.Stacks.{stack_at, packed_layer, layer_with, state_on, depth_on, depths_on, tree_on, under_top, begins_with_extra, layer_of};
 
 use std::alloc::{AllocError, Global};
 use std::marker::Model;
@@ -14,6 +14,7 @@ use ts_node::Node;
 pub(crate) struct Cell {
     pub node: Node,
     pub below: usize,
+    pub depth: u32,
     pub state: u16,
 }
 
@@ -24,7 +25,7 @@ pub struct Graph {
     cells: Vec<Cell>,
     /// Memory for the nodes that are taken off next.
     spare: Vec<Node>,
-    /// No node in a cell is deeper.
+    /// No cell has a greater depth.
     deepest: u32,
 }
 
@@ -77,10 +78,10 @@ impl Graph {
         }
     }
 
-    /// No node on a stack is deeper.
+    /// No layer of a stack is deeper.
     pub fn deepest(&self) -> u32
         ensures { (head : ℕ) → head < length self.now
-            → greatest_depth (trees_on (stack_at self.now head)) ≤ result }
+            → maximum (depths_on (stack_at self.now head)) ≤ result }
     {
         self.deepest
     }
@@ -139,6 +140,15 @@ impl Graph {
         &self.cell(head).node
     }
 
+    /// The depth of the layer on top of a stack that is not empty.
+    pub fn depth(&self, head: usize) -> u32
+        requires there { head < length self.now }
+        requires some { 0 < length (stack_at self.now head) }
+        ensures { Some result ≡ depth_on (stack_at self.now head) }
+    {
+        self.cell(head).depth
+    }
+
     /// The stack below the top of one that is not empty.
     pub fn below(&self, head: usize) -> usize
         requires there { head < length self.now }
@@ -149,8 +159,8 @@ impl Graph {
         self.cell(head).below
     }
 
-    /// Puts a node on a stack, with the state above it, and gives the head of the new stack. All
-    /// stacks that were there stay.
+    /// Puts a node that stands for itself alone on a stack, with the state above it, and gives the
+    /// head of the new stack. All stacks that were there stay.
     ///
     /// # Errors
     ///
@@ -164,7 +174,36 @@ impl Graph {
         ensures kept { IfErr result (λ e. self.new ≡ self.old) }
     {
         let depth = node.depth();
-        self.cells.push(Cell { node, below, state })?;
+        let head = self.push_packed(below, node, state, depth)?;
+        Ok(head)
+    }
+
+    /// Puts a node on a stack, with the state above it and the greatest depth of the nodes for which
+    /// it stands, and gives the head of the new stack. All stacks that were there stay.
+    ///
+    /// # Errors
+    ///
+    /// `AllocError` where memory runs out. No stack is added then.
+    #[inline(always)]
+    pub fn push_packed(
+        &mut self,
+        below: usize,
+        node: Node,
+        state: u16,
+        depth: u32,
+    ) -> Result<usize, AllocError>
+        requires { below < length self.old }
+        ensures head { IfOk result (λ head. head ≡ length self.old) }
+        ensures pushed { IfOk result (λ head. self.new
+            ≡ self.old ++ (packed_layer node state depth ∷ stack_at self.old below) ∷ []) }
+        ensures kept { IfErr result (λ e. self.new ≡ self.old) }
+    {
+        self.cells.push(Cell {
+            node,
+            below,
+            depth,
+            state,
+        })?;
         self.deepest = self.deepest.max(depth);
         Ok(self.cells.len())
     }

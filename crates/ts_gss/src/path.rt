@@ -1,9 +1,9 @@
 //! Ways down a stack: its number goes in; the extras on top of it, or its topmost nodes that are no
 //! extras with the extras between them, come out, and the stack that is left.
-ghost use Rattle.std.specs.Prelude.{◌≡◌, ◌<◌, ◌≤◌, length, IfOk};
+ghost use Rattle.std.specs.Prelude.{◌≡◌, ◌<◌, ◌≤◌, max, length, IfOk};
 ghost use Rattle.spec_trees.specs.Made.{filling};
 ghost use Rattle.ts_gss.specs.Stacks.{stack_at, trees_on};
-ghost use Rattle.ts_gss.specs.Paths.{IsLifted, IsTakenOff, still_wanting};
+ghost use Rattle.ts_gss.specs.Paths.{IsLifted, IsTakenOff, AreDepthsOf, depths_of, still_wanting};
 
 use crate::graph::{Cell, Graph};
 use std::alloc::{AllocError, Global};
@@ -16,10 +16,13 @@ pub struct Lifted {
     pub under: usize,
 }
 
-/// Nodes from the top of a stack, the lowest first, and the stack under them.
+/// Nodes from the top of a stack, the lowest first; the depth of the lowest layer of them, and the
+/// greatest of the others, 0 where there is none; and the stack under them.
 #[derive(Drop)]
 pub struct Taken {
     pub nodes: Vec<Node>,
+    pub first: u32,
+    pub others: u32,
     pub below: usize,
 }
 
@@ -74,19 +77,31 @@ impl Graph {
         requires enough { count ≤ length (filling (trees_on (stack_at self.now head))) }
         ensures nodes { IfOk result (λ taken. IsTakenOff (stack_at self.now head) count
             taken.nodes.items (stack_at self.now taken.below)) }
+        ensures depths { IfOk result (λ taken. AreDepthsOf
+            (depths_of (length taken.nodes.items) (stack_at self.now head))
+            taken.first taken.others) }
         ensures there { IfOk result (λ taken. taken.below < length self.now) }
     {
         let mut nodes = Vec::with_capacity(alloc, count)?;
         let mut at = head;
         let mut wanting = count;
+        let mut first = 0;
+        let mut others = 0;
         while wanting > 0 {
             let node = self.node(at);
             nodes.push(node.try_clone()?)?;
             wanting = left_to_take(node, wanting);
+            others = greater(first, others);
+            first = self.depth(at);
             at = self.below(at);
         }
         nodes.reverse();
-        Ok(Taken { nodes, below: at })
+        Ok(Taken {
+            nodes,
+            first,
+            others,
+            below: at,
+        })
     }
 
     /// Takes so many nodes that are no extras off the top of a stack, with the extras between them.
@@ -105,6 +120,9 @@ impl Graph {
         requires enough { count ≤ length (filling (trees_on (stack_at self.old head))) }
         ensures nodes { IfOk result (λ taken. IsTakenOff (stack_at self.old head) count
             taken.nodes.items (stack_at self.old taken.below)) }
+        ensures depths { IfOk result (λ taken. AreDepthsOf
+            (depths_of (length taken.nodes.items) (stack_at self.old head))
+            taken.first taken.others) }
         ensures stack { IfOk result
             (λ taken. stack_at self.new taken.below ≡ stack_at self.old taken.below) }
         ensures there { IfOk result (λ taken. taken.below < length self.new) }
@@ -112,23 +130,37 @@ impl Graph {
         let mut taken = self.spare(alloc);
         let mut at = head;
         let mut wanting = count;
+        let mut first = 0;
+        let mut others = 0;
         while wanting > 0 {
             let left = left_to_take(self.node(at), wanting);
             let Cell {
                 node,
                 below,
+                depth,
                 state: _,
             } = self.take_top(at);
             taken.push(node)?;
             wanting = left;
+            others = greater(first, others);
+            first = depth;
             at = below;
         }
         taken.reverse();
         Ok(Taken {
             nodes: taken,
+            first,
+            others,
             below: at,
         })
     }
+}
+
+/// The greater of two depths.
+fn greater(one: u32, other: u32) -> u32
+    ensures { result ≡ max one other }
+{
+    one.max(other)
 }
 
 /// How many nodes are left to take after this one.

@@ -17,8 +17,17 @@ fn a_node_lies_on_its_stack(rt: HostRuntime) -> Result<(), Fail> {
     let taken = graph.take(alloc, top, 0)?;
     assert_eq!(rt; taken.nodes.len(), 0);
     assert_eq!(rt; graph.deepest(), 1);
-    let Taken { nodes, below } = graph.take_off(alloc, top, 1)?;
+    assert_eq!(rt; graph.depth(top), 1);
+    let packed = graph.push_packed(0, Node::leaf(Symbol(2), 0, 1, 2, None), 7, 3)?;
+    let Taken {
+        nodes,
+        first,
+        others,
+        below,
+    } = graph.take_off(alloc, packed, 1)?;
     assert_eq!(rt; nodes.len(), 1);
+    assert_eq!(rt; first, 3);
+    assert_eq!(rt; others, 0);
     assert_eq!(rt; below, 0);
     graph.keep(nodes);
     Ok(())

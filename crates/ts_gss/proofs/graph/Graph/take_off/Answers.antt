@@ -2,10 +2,10 @@ use Rattle.std.proofs.Common.{◌∙◌, sym, ap, Some, List, ◌<◌, ◌≡◌
 use Rattle.std.proofs.lemmas.List.{length-take-le}
 use Rattle.spec_trees.specs.declared.tree.Tree.{Tree}
 use Rattle.ts_gss.specs.declared.layer.Layer.{Layer}
-use Rattle.ts_gss.specs.Stacks.{stack_at, tree_on, under_top}
+use Rattle.ts_gss.specs.Stacks.{stack_at, tree_on, depth_on, under_top}
 use Rattle.ts_gss.specs.Paths.{still_wanting}
 use Rattle.ts_gss.proofs.CellLemmas.{stack_within}
-use Rattle.ts_gss.proofs.PathLemmas.{take_begins, take_more, take_ends, some_wanted}
+use Rattle.ts_gss.proofs.PathLemmas.{take_begins, take_more, take_ends, some_wanted, depths_begin, depths_more, depths_end}
 use Rattle.ts_gss.proofs.graph.Graph.take_off.Goals as goal
 
 pub loop-wanting-init : goal.loop-wanting-init
@@ -15,6 +15,7 @@ loop-wanting-init c =
       within = subst (λ (s : List (List Layer)). c.args.head < length s) (sym e) c.requires.there;
       same = λ k low. ap (λ (s : List (List Layer)). stack_at s k) e;
       taking = take_begins (stack_at c.args.self.now c.args.head) c.args.count c.spare-taken.result.items c.spare-taken.ensures.empty c.requires.enough;
+      depths = depths_begin (stack_at c.args.self.now c.args.head) c.spare-taken.result.items c.spare-taken.ensures.empty;
     }
 
 pub node-requires-clause-some : goal.node-requires-clause-some
@@ -54,6 +55,8 @@ loop-wanting-preserved c =
           (sym same ∙ sym (ap under_top top))
           c.in_ok-push.ensures.items
           (c.left_to_take-left.ensures ∙ ap (λ (x : Tree). still_wanting x c.loop-wanting.wanting) node);
+      depths = depths_more (stack_at old c.args.head) (stack_at old at) c.loop-wanting.taken.items c.push.new.self.items cell.node c.loop-wanting.first c.loop-wanting.others cell.depth c.greater-others.result
+          i.taking.rest (sym (ap depth_on top)) c.in_ok-push.ensures.items c.greater-others.ensures i.depths;
     }
 
 pub returns-clause-nodes : goal.returns-clause-nodes
@@ -62,3 +65,7 @@ returns-clause-nodes c =
 
 pub returns-clause-stack : goal.returns-clause-stack
 returns-clause-stack c = c.loop-wanting.invariant.same c.loop-wanting.at (omega arith)
+
+pub returns-clause-depths : goal.returns-clause-depths
+returns-clause-depths c =
+    depths_end (stack_at c.args.self.now c.args.head) c.loop-wanting.taken.items c.reverse.new.self.items c.loop-wanting.first c.loop-wanting.others c.reverse.ensures.items c.loop-wanting.invariant.depths
