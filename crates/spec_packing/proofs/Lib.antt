@@ -9,3 +9,5 @@ pub mod RootLemmas
 pub mod DepthLemmas
 pub mod RunLemmas
 pub mod PackedLemmas
+pub mod OneLemmas
+pub mod AloneLemmas

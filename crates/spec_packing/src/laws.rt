@@ -1,17 +1,18 @@
 //! Laws of the definitions, each a function without a body: what other crates may use of them.
 
-ghost use Rattle.std.specs.Prelude.{◌≡◌, ℕ, ◌⊎◌, List, ◌∷◌};
+ghost use Rattle.std.specs.Prelude.{◌≡◌, ℕ, ◌⊎◌, List, ◌∷◌, map};
 ghost use Rattle.ts_base.specs.Bytes.{Bytes};
 ghost use Rattle.ts_core.specs.declared.flat.FlatGrammar.{FlatGrammar};
+ghost use Rattle.spec_tables.specs.Actions.{reduce};
 ghost use Rattle.spec_tables.specs.Fit.{Fit};
 ghost use Rattle.spec_trees.specs.declared.tree.Tree.{Tree};
 ghost use Rattle.spec_trees.specs.Trees.{bare};
 ghost use Rattle.spec_trees.specs.Choice.{Better};
-ghost use Rattle.spec_runs.specs.Configurations.{Configuration};
-ghost use Rattle.spec_runs.specs.Runs.{StepsOn, Run, IsReached, ComesTooDeep, AcceptsTree, StopsAt};
+ghost use Rattle.spec_runs.specs.Configurations.{Configuration, IsReduction};
+ghost use Rattle.spec_runs.specs.Runs.{CanMove, StepsOn, Run, IsReached, ComesTooDeep, AcceptsTree, StopsAt};
 ghost use Rattle.spec_runs.specs.Outcomes.{SomeIsTooDeep};
 ghost use Rattle.spec_packing.specs.Laws.{RunLaws};
-ghost use Rattle.spec_packing.specs.Packing.{PackedStack, own_config, stack_alone, Packs, WasMet, GoesThrough, PackedStepsOn, PackedIsTooDeep, joined_stacks, MayJoin};
+ghost use Rattle.spec_packing.specs.Packing.{PackedTree, PackedStack, IsPackedReduction, own_config, packed_alone, stack_alone, Packs, WasMet, GoesThrough, PackedStepsOn, PackedIsTooDeep, joined_stacks, MayJoin};
 ghost use Rattle.spec_packing.specs.Serving.{ServesFor, ServesConfiguration, ComesToServe};
 
 use spec_runs::{
@@ -110,6 +111,28 @@ pub fn packed_stacks_follow()
         (d : Configuration) → WasMet g text k → GoesThrough g text k d
         → Packs k d ⊎ (PackedIsTooDeep g text k
         ⊎ ((n : PackedStack) × PackedStepsOn g text k n × GoesThrough g text n d)) }
+{
+    laws_hold();
+}
+
+/// A reduction of layers by the production of a number makes one layer, on one stack.
+pub fn one_packed_reduction()
+    ensures { (g : FlatGrammar) (number : ℕ) (stack : List PackedTree) (n m : PackedTree)
+        (after other : List PackedTree)
+        → IsPackedReduction g number stack n after → IsPackedReduction g number stack m other
+        → (n ≡ m) × (after ≡ other) }
+{}
+
+/// A reading that is reached goes on as its layers do, each as deep as its tree.
+pub fn readings_stand_alone()
+    ensures reduced { (g : FlatGrammar) → Fit g → (text : Bytes) (c : Configuration)
+        → IsReached g text c → (number : ℕ) → CanMove g text c (reduce number)
+        → (node : Tree) (after : List Tree) → IsReduction g number c.stack node after
+        → IsPackedReduction g number (stack_alone c).stack (packed_alone node)
+        (map packed_alone after) }
+    ensures steps { (g : FlatGrammar) → Fit g → (text : Bytes) (c : Configuration)
+        → IsReached g text c → (d : Configuration) → StepsOn g text c d
+        → PackedStepsOn g text (stack_alone c) (stack_alone d) }
 {
     laws_hold();
 }

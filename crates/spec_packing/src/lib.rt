@@ -6,5 +6,6 @@ mod laws;
 
 pub use laws::{
     configurations_serve, configurations_step, ends_are_served, no_better_through,
-    packed_stacks_end, packed_stacks_follow, packed_stacks_join, runs_are_served, trees_serve,
+    one_packed_reduction, packed_stacks_end, packed_stacks_follow, packed_stacks_join,
+    readings_stand_alone, runs_are_served, trees_serve,
 };
