@@ -1,10 +1,11 @@
 -- What bare trees and the trees of links are: such as moves make.
-use Rattle.std.proofs.Common.{◌∙◌, sym, subst, ℕ, Bool, true, false, List, [], ◌∷◌, IsTrue, is_some, Option}
+use Rattle.std.proofs.Common.{◌≡◌, ◌∙◌, sym, ap, subst, ℕ, ◌+◌, arith, Bool, true, false, List, [], ◌∷◌, IsTrue, is_some, Option}
 use Rattle.std.specs.List.{Contains}
 use Rattle.ts_core.specs.declared.flat.FlatGrammar.{FlatGrammar}
 use Rattle.spec_grammar.specs.Symbols.{is_repetition}
 use Rattle.spec_trees.specs.declared.tree.Tree.{Tree}
-use Rattle.spec_trees.specs.Trees.{bare}
+use Rattle.spec_trees.specs.declared.tree.Tree.TheFolds.{fold_out-Tree}
+use Rattle.spec_trees.specs.Trees.{is_extra_node, children_of, tree_depth, depth_step, greatest_depth, bare}
 use Rattle.spec_trees.specs.Choice.{code_of}
 use Rattle.spec_runs.specs.BareTrees.{KeepsAll}
 use Rattle.spec_packing.proofs.CodeLemmas.{Words, nothing, a_node, an_element}
@@ -16,6 +17,7 @@ use Rattle.spec_graph.specs.Grounded.{Spells, nothing_more, a_tree, one_part, Is
 use Rattle.spec_graph.specs.Links.{IsGraph}
 use Rattle.spec_graph.proofs.SightLemmas.{Facts}
 use Rattle.spec_graph.proofs.LayLemmas.{IsRuled, IsBase, lays_made, lays_ruled}
+use Rattle.spec_graph.proofs.GraphLemmas.{like}
 use Rattle.spec_crossing.proofs.SpellLemmas.{words_spelled}
 
 spelled_words : (g : FlatGrammar) (b : Bool) (n : ℕ) (xs : List ℕ) → Spells g b n xs → Words g b n xs
@@ -58,3 +60,20 @@ link_made P facts base heads links graph l there =
     made_tree P.grammar l.tree
     (lays_made P facts base k.under k.from (l.tree ∷ []) k.to k.over k.lays).0
     (lays_ruled P facts base k.under k.from (l.tree ∷ []) k.to k.over k.lays).0
+
+-- an extra has nothing below it
+plain_flat : (g : FlatGrammar) (t : Tree) → IsMade g t → is_extra_node t ≡ true → tree_depth t ≡ 1
+plain_flat g t m extra =
+    let d : tree_depth t ≡ 1 + greatest_depth (children_of t) = fold_out-Tree ℕ depth_step t in
+    let none : greatest_depth (children_of t) ≡ 0 = ap greatest_depth (m.extra extra).children in
+    omega (arith, d, none)
+
+pub extra_flat : (P : Parsing) (facts : Facts P) → IsBase P → (heads : List Head) (links : List Link) → IsGraph P heads links → (l : Link) → Contains links l → is_extra_node l.tree ≡ true → l.depth ≡ tree_depth l.tree
+extra_flat P facts base heads links graph l there extra =
+    let k = graph.linked l there in
+    let t = k.deepest.0 in
+    let same = like P facts base heads l.below l.above k.under k.over k.under k.over k.from k.to t l.tree k.below k.above k.below k.above k.deepest.1 k.lays in
+    let one = plain_flat P.grammar t (lays_made P facts base k.under k.from (t ∷ []) k.to k.over k.deepest.1).0 (same.extra ∙ extra) in
+    let two = plain_flat P.grammar l.tree (lays_made P facts base k.under k.from (l.tree ∷ []) k.to k.over k.lays).0 extra in
+    let d = k.deepest.2 in
+    omega (arith, one, two, d)

@@ -1,6 +1,6 @@
 //! Laws of the definitions, each a function without a body: what other crates may use of them.
 
-ghost use Rattle.std.specs.Prelude.{◌≡◌, ℕ, ◌+◌, ◌<◌, ◌≤◌, ◌⊎◌, false, List, [], ◌∷◌, ◌++◌, length, Option, Some, None};
+ghost use Rattle.std.specs.Prelude.{◌≡◌, ℕ, ◌+◌, ◌<◌, ◌≤◌, ◌⊎◌, true, false, List, [], ◌∷◌, ◌++◌, length, Option, Some, None};
 ghost use Rattle.std.specs.List.{Contains};
 ghost use Rattle.ts_base.specs.Bytes.{Bytes};
 ghost use Rattle.ts_core.specs.declared.flat.FlatGrammar.{FlatGrammar};
@@ -8,7 +8,7 @@ ghost use Rattle.spec_lexing.specs.Lexing.{Found};
 ghost use Rattle.spec_tables.specs.Actions.{Move, Act, accept};
 ghost use Rattle.spec_tables.specs.Fit.{Fit};
 ghost use Rattle.spec_trees.specs.declared.tree.Tree.{Tree};
-ghost use Rattle.spec_trees.specs.Trees.{elements_of, children_of, span_of, all_spans, bare};
+ghost use Rattle.spec_trees.specs.Trees.{is_extra_node, elements_of, children_of, span_of, all_spans, tree_depth, bare};
 ghost use Rattle.spec_trees.specs.Inside.{IsNodeIn};
 ghost use Rattle.spec_trees.specs.Made.{filling, AreCounted};
 ghost use Rattle.spec_trees.specs.Choice.{code_of, IsInForm};
@@ -284,6 +284,16 @@ pub fn links_are_made()
     ensures { (P : Parsing) → Fit P.grammar → AreStates P.grammar P.goto → IsGrounded P
         → (heads : List Head) (links : List Link) → IsGraph P heads links
         → (l : Link) → Contains links l → IsMadeTree P.grammar l.tree }
+{
+    laws_hold();
+}
+
+/// The link of an extra stands for trees of its own depth alone.
+pub fn extras_are_flat()
+    ensures { (P : Parsing) → Fit P.grammar → AreStates P.grammar P.goto → IsGrounded P
+        → (heads : List Head) (links : List Link) → IsGraph P heads links
+        → (l : Link) → Contains links l → is_extra_node l.tree ≡ true
+        → l.depth ≡ tree_depth l.tree }
 {
     laws_hold();
 }
