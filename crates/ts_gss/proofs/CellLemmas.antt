@@ -1,13 +1,13 @@
 -- The stacks of cells: one more cell is one more stack, and each cell's stack lies on an earlier one.
-use Rattle.std.proofs.Common.{◌≡◌, ◌∙◌, sym, ap, refl, subst, ℕ, zero, suc, ◌+◌, ◌-◌, ◌<◌, ◌≤◌, List, [], ◌∷◌, ◌++◌, length, length-append, take, drop, slice_get, Some, None, Option, unwrap_or, ⊎_elim, arith}
+use Rattle.std.proofs.Common.{◌≡◌, ◌∙◌, sym, ap, refl, subst, ℕ, zero, suc, ◌+◌, ◌-◌, ◌<◌, ◌≤◌, List, [], ◌∷◌, ◌++◌, length, length-append, take, drop, slice_get, Some, None, Option, unwrap_or, ◌⊎◌, inl, inr, ⊎_elim, arith}
 use Rattle.std.proofs.lemmas.List.{take-append-drop, take-append-le, take_all, length-take-le}
 use Rattle.std.proofs.lemmas.Option.{slice_get_within}
 use Rattle.ts_base.proofs.PlaceLemmas.{in_prefix, at_end, push_cases}
-use Rattle.spec_trees.specs.Trees.{maximum}
+use Rattle.spec_trees.specs.Trees.{maximum, tree_depth}
 use Rattle.ts_gss.specs.declared.layer.Layer.{Layer}
 use Rattle.ts_gss.specs.declared.graph.Cell.{Cell}
-use Rattle.ts_gss.specs.Stacks.{layer_of, stack_at, depths_on}
-use Rattle.ts_gss.specs.Cells.{with_cell, with_cells, stacks_of, LieAbove, NoneIsDeeper}
+use Rattle.ts_gss.specs.Stacks.{layer_of, stack_at, AreExact, depths_on}
+use Rattle.ts_gss.specs.Cells.{with_cell, with_cells, stacks_of, LieAbove, NoneIsDeeper, AreExactTo}
 
 many_with : (ss : List (List Layer)) (cs : List Cell) → length (with_cells ss cs) ≡ length ss + length cs
 many_with ss [] = omega arith
@@ -109,6 +109,27 @@ shallow_more cs c deepest deeper low more one k d at =
 pub shallow_first : (cs new : List Cell) (head deepest : ℕ) → new ≡ take head cs → NoneIsDeeper deepest cs → NoneIsDeeper deepest new
 shallow_first cs new head deepest is low k c at = low k c (first_part cs head k c (subst (λ (xs : List Cell). slice_get xs k ≡ Some c) is at))
 
+-- ---- layers that are as deep as their trees
+
+less_or : (a b : ℕ) → (a < b) ⊎ (b ≤ a)
+less_or a zero = inr (omega arith)
+less_or zero (suc b) = inl (omega arith)
+less_or (suc a) (suc b) = ⊎_elim (λ (lt : a < b). inl (omega (arith, lt))) (λ (le : b ≤ a). inr (omega (arith, le))) (less_or a b)
+
+pub exact_more : (cs new : List Cell) (c : Cell) (exact before now : ℕ) → new ≡ cs ++ c ∷ [] → AreExactTo exact cs → before ≡ length cs → (now ≤ before → now ≤ exact) → (before < now → before ≤ exact) → (before < now → c.depth ≡ tree_depth c.node) → AreExactTo now new
+exact_more cs new c exact before now is all count kept old one k d low at =
+    ⊎_elim (λ w. all k d (within w.0) w.1) (λ w. subst (λ (x : Cell). x.depth ≡ tree_depth x.node) w.1 (one (omega (arith, w.0, count, low))))
+    (push_cases cs c k d (subst (λ (xs : List Cell). slice_get xs k ≡ Some d) is at))
+  where
+    within : k < length cs → k < exact
+    within there = ⊎_elim (λ (more : before < now). let le = old more in omega (arith, there, count, le)) (λ (le : now ≤ before). let far = kept le in omega (arith, low, far)) (less_or before now)
+
+pub exact_first : (cs new : List Cell) (head exact : ℕ) → new ≡ take head cs → AreExactTo exact cs → AreExactTo exact new
+exact_first cs new head exact is all k c low at = all k c low (first_part cs head k c (subst (λ (xs : List Cell). slice_get xs k ≡ Some c) is at))
+
+pub count_more : (cs new : List Cell) (c : Cell) (before count : ℕ) → new ≡ cs ++ c ∷ [] → before ≡ length cs → count ≡ length new → count ≡ before + 1
+count_more cs new c before count is a b = let e : length new ≡ length (cs ++ c ∷ []) = ap (λ (xs : List Cell). length xs) is in omega (arith, e, a, b, length-append cs (c ∷ []))
+
 is_there : (cs : List Cell) (k : ℕ) → slice_get cs k ≡ None → k < length cs → ⊥
 is_there [] k e low = omega (arith, low)
 is_there (c ∷ cs) zero e low = let f : Some c ≡ None = e in cc
@@ -127,6 +148,19 @@ stack_shallow cs deepest lie low (suc n) (suc k) less there = by (slice_get cs (
         let r = rest c.below (omega (arith, below, less)) (omega (arith, below, there)) in
         let one = low (suc k - 1) c e in
         rw s (omega (arith, r, one))
+    by None e rest = absurd (is_there cs (suc k - 1) e (omega (arith, there)))
+
+-- the layers of the stacks of cells that are so
+stack_exact : (cs : List Cell) (exact : ℕ) → LieAbove cs → AreExactTo exact cs → (n head : ℕ) → head < n → head ≤ length cs → head ≤ exact → AreExact (stack_at (stacks_of cs) head)
+stack_exact cs exact lie all zero head less there low = absurd (omega (arith, less))
+stack_exact cs exact lie all (suc n) zero less there low = subst AreExact (sym (stack_of_none cs)) tt
+stack_exact cs exact lie all (suc n) (suc k) less there low = by (slice_get cs (suc k - 1)) refl (stack_exact cs exact lie all n)
+  where
+    by : (o : Option Cell) → slice_get cs (suc k - 1) ≡ o → ((head : ℕ) → head < n → head ≤ length cs → head ≤ exact → AreExact (stack_at (stacks_of cs) head)) → AreExact (stack_at (stacks_of cs) (suc k))
+    by (Some c) e rest =
+        let below = lie (suc k - 1) c e in
+        let s : stack_at (stacks_of cs) (suc k) ≡ layer_of c ∷ stack_at (stacks_of cs) c.below = stack_of_cell cs (suc k) c lie (omega arith) e in
+        subst AreExact (sym s) (all (suc k - 1) c (omega (arith, low)) e, rest c.below (omega (arith, below, less)) (omega (arith, below, there)) (omega (arith, below, low)))
     by None e rest = absurd (is_there cs (suc k - 1) e (omega (arith, there)))
 
 -- ---- the top cell
@@ -221,6 +255,9 @@ module _ (cs : List Cell) (ss : List (List Layer)) (view : stacks_of cs ≡ ss) 
       subst (λ (xs : List (List Layer)). maximum (depths_on (stack_at xs head)) ≤ deepest) view
       (stack_shallow cs deepest lie low (suc head) head (omega arith) (omega (arith, there, many)))
 
+  pub all_exact : (exact head : ℕ) → LieAbove cs → AreExactTo exact cs → head < length ss → head ≤ exact → AreExact (stack_at ss head)
+  all_exact exact head lie all there low = subst (λ (xs : List (List Layer)). AreExact (stack_at xs head)) view (stack_exact cs exact lie all (suc head) head (omega arith) (omega (arith, there, many)) low)
+
   -- ---- the top cell
 
   pub some_first : (mid : List Cell) (head : ℕ) → mid ≡ take head cs → head < length ss → 0 < length (stack_at ss head) → 0 < length mid
@@ -248,6 +285,9 @@ module _ (cs : List Cell) (ss : List (List Layer)) (view : stacks_of cs ≡ ss) 
 
     pub top_shallow : (deepest : ℕ) → NoneIsDeeper deepest cs → NoneIsDeeper deepest new
     top_shallow deepest low = shallow_first cs new (head - 1) deepest parts.2 low
+
+    pub top_exact : (exact : ℕ) → AreExactTo exact cs → AreExactTo exact new
+    top_exact exact all = exact_first cs new (head - 1) exact parts.2 all
 
 -- a stack among the first ones
 pub stack_within : (old : List (List Layer)) (n k : ℕ) → k < n → n ≤ length old → stack_at (take n old) k ≡ stack_at old k

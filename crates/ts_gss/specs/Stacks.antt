@@ -1,5 +1,5 @@
 -- Stacks as lists of layers, the topmost first.
-use Rattle.std.specs.Prelude.{ℕ, Bool, false, List, [], ◌∷◌, map, slice_get, Option, Some, None, unwrap_or}
+use Rattle.std.specs.Prelude.{◌≡◌, ℕ, Bool, false, List, [], ◌∷◌, map, slice_get, Option, Some, None, unwrap_or}
 use Rattle.spec_trees.specs.declared.tree.Tree.{Tree}
 use Rattle.spec_trees.specs.Trees.{is_extra_node, tree_depth}
 use Rattle.ts_gss.specs.declared.layer.Layer.{Layer}
@@ -38,6 +38,11 @@ state_on (l ∷ layers) = l.state
 abbrev pub depth_on : List Layer → Option ℕ
 depth_on [] = None
 depth_on (l ∷ layers) = Some l.depth
+
+-- each layer is as deep as its tree
+abbrev pub AreExact : List Layer → Type 0
+AreExact [] = Unit {0}
+AreExact (l ∷ layers) = (l.depth ≡ tree_depth l.tree) × AreExact layers
 
 -- the tree on top of a stack
 abbrev pub tree_on : List Layer → Option Tree

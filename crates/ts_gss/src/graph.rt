@@ -2,7 +2,7 @@
 //! with the node on top comes out.
 ghost use Rattle.std.specs.Prelude.{◌≡◌, ℕ, ◌<◌, ◌≤◌, ◌+◌, ◌++◌, ◌∷◌, [], ◌-◌, true, false, length, slice_get, take, Some, IfOk, IfErr};
 ghost use Rattle.spec_trees.specs.Trees.{maximum};
-ghost use Rattle.ts_gss.specs.Stacks.{stack_at, packed_layer, layer_with, state_on, depth_on, depths_on, tree_on, under_top, begins_with_extra, layer_of};
+ghost use Rattle.ts_gss.specs.Stacks.{stack_at, AreExact, packed_layer, layer_with, state_on, depth_on, depths_on, tree_on, under_top, begins_with_extra, layer_of};
 
 use std::alloc::{AllocError, Global};
 use std::marker::Model;
@@ -27,6 +27,8 @@ pub struct Graph {
     spare: Vec<Node>,
     /// No cell has a greater depth.
     deepest: u32,
+    /// The first so many cells are as deep as their nodes.
+    exact: usize,
 }
 
 impl Model for Graph {
@@ -39,11 +41,12 @@ impl Model for Graph {
 
     ghost coded = { Prim.hlevel (codes, contract.the_row.coded) };
 
-    ghost use Rattle.ts_gss.specs.Cells.{stacks_of, LieAbove, NoneIsDeeper};
+    ghost use Rattle.ts_gss.specs.Cells.{stacks_of, LieAbove, NoneIsDeeper, AreExactTo};
 
     ghost view = { λ a. stacks_of a.cells.items };
 
-    ghost invariant = { λ a. LieAbove a.cells.items × NoneIsDeeper a.deepest a.cells.items };
+    ghost invariant = { λ a. LieAbove a.cells.items × NoneIsDeeper a.deepest a.cells.items
+        × AreExactTo a.exact a.cells.items };
 }
 
 /// The cell of a stack that is not empty.
@@ -66,6 +69,23 @@ fn last_of(cells: &mut Vec<Cell>) -> Cell
     }
 }
 
+/// How many cells are as deep as their nodes, of so many and one more, and of those before.
+fn exact_with(exact: usize, before: usize, count: usize, own: bool) -> usize
+    requires { count ≡ before + 1 }
+    ensures low { result ≤ before + 1 }
+    ensures kept { result ≤ before → result ≤ exact }
+    ensures old { before < result → before ≤ exact }
+    ensures last { before < result → own ≡ true }
+{
+    if exact < before {
+        exact
+    } else if own {
+        count
+    } else {
+        before
+    }
+}
+
 impl Graph {
     /// The empty stack alone.
     pub fn new(alloc: Global) -> Graph
@@ -75,6 +95,7 @@ impl Graph {
             cells: Vec::new(alloc),
             spare: Vec::new(alloc),
             deepest: 0,
+            exact: 0,
         }
     }
 
@@ -86,8 +107,17 @@ impl Graph {
         self.deepest
     }
 
+    /// Whether each layer of a stack is as deep as its node. It may be so where this is not told.
+    pub fn is_exact(&self, head: usize) -> bool
+        requires { head < length self.now }
+        ensures { result ≡ true → AreExact (stack_at self.now head) }
+    {
+        let _ = &self.cells;
+        head <= self.exact
+    }
+
     /// Whether a stack is empty.
-    fn is_empty(&self, head: usize) -> bool
+    pub fn is_empty(&self, head: usize) -> bool
         requires { head < length self.now }
         ensures empty { result ≡ true → stack_at self.now head ≡ [] }
         ensures some { result ≡ false → 0 < length (stack_at self.now head) }
@@ -198,14 +228,18 @@ impl Graph {
             ≡ self.old ++ (packed_layer node state depth ∷ stack_at self.old below) ∷ []) }
         ensures kept { IfErr result (λ e. self.new ≡ self.old) }
     {
+        let own = depth == node.depth();
+        let before = self.cells.len();
         self.cells.push(Cell {
             node,
             below,
             depth,
             state,
         })?;
+        let count = self.cells.len();
         self.deepest = self.deepest.max(depth);
-        Ok(self.cells.len())
+        self.exact = exact_with(self.exact, before, count, own);
+        Ok(count)
     }
 
     /// Takes the top off a stack, and takes out all stacks that were put there after it.
