@@ -1,8 +1,8 @@
 -- What a reduction takes off a good stack.
-use Rattle.std.proofs.Common.{◌≡◌, ◌∙◌, sym, ap, refl, subst, ℕ, suc, ◌+◌, ◌^◌, ◌<◌, ◌≤◌, ◌↔◌, IsTrue, List, [], ◌∷◌, ◌++◌, length, reverse, arith}
+use Rattle.std.proofs.Common.{◌≡◌, ◌∙◌, sym, ap, refl, subst, ℕ, suc, ◌+◌, ◌^◌, ◌<◌, ◌≤◌, ◌↔◌, IsTrue, List, ◌++◌, length, reverse, arith}
 use Rattle.std.proofs.lemmas.List.{reverse-append, reverse-reverse}
 use Rattle.spec_trees.specs.declared.tree.Tree.{Tree}
-use Rattle.spec_trees.specs.Trees.{all_spans, greatest_depth}
+use Rattle.spec_trees.specs.Trees.{all_spans}
 use Rattle.spec_trees.specs.Made.{filling, BeginsFilled, EndBy, most_span}
 use Rattle.spec_runs.specs.Configurations.{AreExtras}
 use Rattle.ts_table.specs.declared.view.ParseTable.{ParseTable}
@@ -11,13 +11,13 @@ use Rattle.ts_gss.specs.Stacks.{trees_on}
 use Rattle.ts_gss.specs.Paths.{IsLifted, IsTakenOff}
 use Rattle.ts_steps.specs.Good.{IsGoodTree, AreGoodTrees}
 use Rattle.spec_forced.specs.Sound.{EachHasState}
-use Rattle.ts_steps.specs.LiveHeads.{HaveStates, IsGoodStack, IsGathered}
+use Rattle.ts_steps.specs.LiveHeads.{HaveStates, HaveDepths, IsGoodStack, IsGathered, AreLayersTaken}
 use Rattle.ts_steps.specs.Making.{IsSeenOf}
 use Rattle.ts_steps.specs.Reducing.{CoversMaking, IsGatheredBy}
 use Rattle.ts_steps.specs.declared.gathering.Gathered.{Gathered}
 use Rattle.ts_steps.specs.declared.making.Seen.{Seen}
-use Rattle.ts_steps.proofs.NodeLemmas.{all_spans-append, greatest_depth-append, end_by_wider, each_left, each_right, each_turned}
-use Rattle.ts_steps.proofs.StackLemmas.{end_by_split, spans_turned, extras_turned, filling_extras, states_drop}
+use Rattle.ts_steps.proofs.NodeLemmas.{all_spans-append, end_by_wider, each_left, each_right, each_turned}
+use Rattle.ts_steps.proofs.StackLemmas.{end_by_split, spans_turned, extras_turned, filling_extras, states_drop, depths_drop}
 
 -- ---- what was examined
 
@@ -102,6 +102,7 @@ module _ (t : ParseTable) (size place count : ℕ) (stack under below : List Lay
         good_extras = subst (λ (x : List Tree). AreGoodTrees t.grammar x) (reverse-reverse extras) (each_turned (IsGoodTree t.grammar) (reverse extras) front);
         good_children = subst (λ (x : List Tree). AreGoodTrees t.grammar x) (reverse-reverse children) (each_turned (IsGoodTree t.grammar) (reverse children) own);
         base = record {
+          depths = subst (λ (x : List Layer). HaveDepths x) (sym k.rest) (depths_drop (length children) under (subst (λ (x : List Layer). HaveDepths x) (sym l.rest) (depths_drop (length lifted) stack s.depths)));
           states = subst (λ (x : List Layer). HaveStates t x) (sym k.rest) (states_drop t (length children) under (subst (λ (x : List Layer). HaveStates t x) (sym l.rest) (states_drop t (length lifted) stack s.states)));
           good = low;
           spans = refl;
@@ -149,8 +150,8 @@ module _ (t : ParseTable) (size place count : ℕ) (stack under below : List Lay
   pub all_gathered : (ahead : ℕ) (r : Gathered) → Parts t size stack place count extras children below → place + ahead ≤ suc size → 0 < ahead → r.extras.items ≡ extras → r.children.items ≡ children
       → EndBy r.extent 0 children → EndBy r.extent (all_spans children) extras → all_spans children + (all_spans extras + ahead) ≤ r.extent
       → ((start limit : ℕ) → start + (all_spans children + (all_spans extras + ahead)) ≤ limit → EndBy limit start children → EndBy limit (start + all_spans children) extras → start + r.extent ≤ limit)
-      → IsTrue r.stated ↔ (EachHasState children × EachHasState extras) → r.deepest ≡ greatest_depth children → IsGatheredBy t size stack place count ahead r below
-  all_gathered ahead r p room some es cs covers lifted past most stated depth =
+      → IsTrue r.stated ↔ (EachHasState children × EachHasState extras) → AreLayersTaken stack extras children r.first r.others below → IsGatheredBy t size stack place count ahead r below
+  all_gathered ahead r p room some es cs covers lifted past most stated layers =
       let g : IsGathered t size stack place count extras children r.extent below = gathered r.extent ahead p room covers (omega (arith, past, some)) most in
       let k : CoversMaking r.extent ahead children extras = record {
         inner = covers;
@@ -162,21 +163,8 @@ module _ (t : ParseTable) (size place count : ℕ) (stack under below : List Lay
         gathered = subst (λ (l : List Tree). IsGathered t size stack place count l r.children.items r.extent below) (sym es) (subst (λ (l : List Tree). IsGathered t size stack place count extras l r.extent below) (sym cs) g);
         covers = subst (λ (l : List Tree). CoversMaking r.extent ahead r.children.items l) (sym es) (subst (λ (l : List Tree). CoversMaking r.extent ahead l extras) (sym cs) k);
         stated = subst (λ (l : List Tree). IsTrue r.stated ↔ (EachHasState r.children.items × EachHasState l)) (sym es) (subst (λ (l : List Tree). IsTrue r.stated ↔ (EachHasState l × EachHasState extras)) (sym cs) stated);
-        depth = subst (λ (l : List Tree). r.deepest ≡ greatest_depth l) (sym cs) depth;
+        layers = subst (λ (l : List Tree). AreLayersTaken stack l r.children.items r.first r.others below) (sym es) (subst (λ (l : List Tree). AreLayersTaken stack extras l r.first r.others below) (sym cs) layers);
       }
     where
       zero_first : (n : ℕ) → n ≡ 0 + n
       zero_first n = omega arith
-
--- ---- how deep the children are
-
-depth_turned : (ts : List Tree) → greatest_depth (reverse ts) ≡ greatest_depth ts
-depth_turned [] = refl
-depth_turned (t ∷ ts) = omega (arith, ap greatest_depth (reverse-append (t ∷ []) ts), greatest_depth-append (reverse ts) (t ∷ []), depth_turned ts)
-
--- they are no deeper than all that was on the stack
-pub no_deeper : (t : ParseTable) (size place count ahead bound : ℕ) (stack below : List Layer) (r : Gathered) → IsGatheredBy t size stack place count ahead r below → greatest_depth (trees_on stack) ≤ bound → greatest_depth r.children.items ≤ bound
-no_deeper t size place count ahead bound stack below r k low =
-    let extras : List Tree = r.extras.items in
-    let children : List Tree = r.children.items in
-    omega (arith, low, ap greatest_depth k.gathered.trees, greatest_depth-append (reverse extras) (reverse children ++ trees_on below), greatest_depth-append (reverse children) (trees_on below), depth_turned children)

@@ -16,6 +16,7 @@ use Rattle.spec_trees.specs.Trees.{children_of, state_of, bare}
 use Rattle.spec_trees.specs.Made.{as_extra, most_span}
 use Rattle.spec_trees.specs.Choice.{IsInForm}
 use Rattle.spec_runs.specs.Configurations.{Configuration, stack_symbols, token_tree, pushed, HasMove, NextIs, AreValidTokens, IsReduction}
+use Rattle.spec_packing.specs.Packing.{packed_with}
 use Rattle.spec_forced.specs.Forced.{IsOnlyMove, IsDecided}
 use Rattle.spec_forced.specs.Sound.{States, IsSound}
 use Rattle.ts_table.specs.declared.view.ParseTable.{ParseTable}
@@ -26,7 +27,7 @@ use Rattle.ts_steps.specs.declared.head.StackHead.{StackHead}
 use Rattle.ts_steps.specs.declared.found.FoundToken.{FoundToken}
 use Rattle.ts_steps.specs.MoveLaws.{Laws}
 use Rattle.ts_steps.specs.Good.{EachTree}
-use Rattle.ts_steps.specs.LiveHeads.{config_of, read_on, LiesAhead, IsReducedTo, IsRootOf}
+use Rattle.ts_steps.specs.LiveHeads.{config_of, packed_of, read_on, LiesAhead, IsReducedTo, IsRootOf}
 use Rattle.ts_steps.proofs.StackLemmas.{state_top, filling_bare}
 use Rattle.ts_steps.specs.declared.reparsed.Reparsed.TheVariants.{Accepted, Deep, Forks}
 use Rattle.ts_steps.specs.declared.reparsed.Going.TheVariants.{On, Reduced, Ended}
@@ -35,7 +36,7 @@ use Rattle.ts_steps.specs.Looking.{IsTokenAhead}
 use Rattle.ts_steps.specs.Laws.{SoundLaws, OnlyLaws}
 use Rattle.ts_steps.specs.Reparsing.{GoesTo, LeadsOn}
 use Rattle.ts_steps.proofs.TableLemmas.{move_by, two_moves, one_acts, one_move, no_move, shift_of, extra_token, valid_tokens}
-use Rattle.ts_steps.proofs.MoveLemmas.{can_move, shift_only, pass_only, reduce_only, reduce_deep, accept_only}
+use Rattle.ts_steps.proofs.MoveLemmas.{can_move, shift_only, pass_only, reduce_only, shift_steps, pass_steps, reduce_steps, pushed_exact, reduced_exact, reduce_deep, only_accepts, accept_only}
 
 -- the token lies ahead in the text
 pub lies_ahead : (t : ParseTable) (size : ℕ) (text : Bytes) (old : List (List Layer)) (h : StackHead) (f : FoundToken) → length text ≡ size → 0 < f.token.0 → IsTokenAhead t text old h f → LiesAhead size h.place f
@@ -107,25 +108,29 @@ module _ (laws : Laws) (t : ParseTable) (size : ℕ) (old : List (List Layer)) (
     move_ahead : (b : Action) → Acts (b ∷ []) → IsMoveAhead t text old h (record { found = f; only = true }) (move_by b)
     move_ahead b is = record { decided = a.decided; only = λ yes'. only_by b is }
 
-    pub goes_shift : (next : ℕ) → Acts (Shift next ∷ []) → config_of new k ≡ pushed (config_of old h) (token_tree f.token f.pad f.size)
+    pub goes_shift : (next : ℕ) → Acts (Shift next ∷ []) → config_of new k ≡ pushed (config_of old h) (token_tree f.token f.pad f.size) → packed_of new k ≡ packed_with (packed_of old h) (token_tree f.token f.pad f.size)
         → ((u : ParseTable) (n : ℕ) → IsOwnHead u n old h → LiesAhead n h.place f → IsToken u.grammar f.token.0 → IsStateOf u (f.token.0 ∷ read_on old h) next → IsOwnHead u n new k)
         → ((u : ParseTable) (states : States) (w : Bytes) → IsTable u → AreStatesOf u states → IsOwnHead u (length w) old h → IsMoveAhead u w old h (record { found = f; only = true }) shift → StandOnHead u states w old h → StandOnHead u states w new k)
         → GoesTo t text old new h (On k)
-    goes_shift next is config live stand = record {
+    goes_shift next is config layers live stand = record {
       own = live t (length text) mine (lies_ahead t (length text) text old h f refl (shift_token next is).0 a) (shift_token next is) (shift_of t (read_on old h) f.token.0 next (acts_by (Shift next) is));
       step = shift_only laws alone t text old new h k f a (only_by (Shift next) is) config;
+      layers = shift_steps laws alone t text old new h k f a (only_by (Shift next) is).stays layers;
+      exact = pushed_exact laws alone t text old new h k f a (token_tree f.token f.pad f.size) layers;
       stand = λ states are s. stand t states text table are mine (move_ahead (Shift next) is) s;
     }
 
-    pub goes_pass : Acts [] → config_of new k ≡ pushed (config_of old h) (as_extra (token_tree f.token f.pad f.size))
+    pub goes_pass : Acts [] → config_of new k ≡ pushed (config_of old h) (as_extra (token_tree f.token f.pad f.size)) → packed_of new k ≡ packed_with (packed_of old h) (as_extra (token_tree f.token f.pad f.size))
         → ((u : ParseTable) (n : ℕ) → IsOwnHead u n old h → LiesAhead n h.place f → IsToken u.grammar f.token.0 → IsOwnHead u n new k)
         → ((u : ParseTable) (states : States) (w : Bytes) → IsTable u → AreStatesOf u states → IsOwnHead u (length w) old h → IsExtraAhead u w old h f → StandOnHead u states w old h → StandOnHead u states w new k)
         → GoesTo t text old new h (On k)
-    goes_pass none config live stand =
+    goes_pass none config layers live stand =
         let e = pass_token none text a in
         let idle : HasMove t.grammar (read_on old h) f.token.0 → ⊥ = no_move laws t (read_on old h) (state_on (stack_at old h.top)) f.token.0 table state none in record {
           own = live t (length text) mine (lies_ahead t (length text) text old h f refl e.1.0 a) e.1;
           step = pass_only laws alone t text old new h k f a e.0 idle config;
+          layers = pass_steps laws alone t text old new h k f a e.0 idle layers;
+          exact = pushed_exact laws alone t text old new h k f a (as_extra (token_tree f.token f.pad f.size)) layers;
           stand = λ states are s. stand t states text table are mine (record { decided = a.decided; extra = e.0; idle = idle }) s;
         }
 
@@ -135,6 +140,8 @@ module _ (laws : Laws) (t : ParseTable) (size : ℕ) (old : List (List Layer)) (
     goes_reduce number is done live stand = record {
       own = subst (λ (n : ℕ). IsOwnHead t n new k) (sym long) live;
       step = reduce_only laws alone t text old new h k f a size number (only_by (Reduce number) is) done;
+      layers = reduce_steps laws alone t text old new h k f a size number (only_by (Reduce number) is) done;
+      exact = reduced_exact laws alone t text old new h k f a size number done;
       stand = λ states are s. stand states text long are (move_ahead (Reduce number) is) s;
     }
 
@@ -194,4 +201,4 @@ module _ (laws : Laws) (t : ParseTable) (size : ℕ) (old : List (List Layer)) (
     pub goes_accept : (u : Tree) → Acts (Accept ∷ []) → IsRootOf (config_of old h).stack (bare u) → IsInForm t.grammar u → EachTree (IsOwnWithin t.grammar) (children_of u) → state_of u ≡ None
         → ((states : States) (w : Bytes) → length w ≡ size → AreStatesOf t states → StandOnHead t states w old h → IsSound t.grammar states w u)
         → GoesTo t text old new h (Ended (Accepted u))
-    goes_accept u is root form each none sound = (accept_only laws alone t text old new h k f a u (only_by Accept is) root, form, each, none, (λ states are s. sound states text long are s))
+    goes_accept u is root form each none sound = (accept_only laws alone t text old new h k f a u (only_by Accept is) root, form, each, none, (λ states are s. sound states text long are s), only_accepts laws alone t text old new h k f a (only_by Accept is))

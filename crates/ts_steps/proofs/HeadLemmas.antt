@@ -11,6 +11,7 @@ use Rattle.spec_trees.specs.Made.{IsNode, leaf_of, as_extra, filling}
 use Rattle.spec_runs.specs.Configurations.{token_tree, pushed}
 use Rattle.spec_forced.specs.Forced.{Stands}
 use Rattle.spec_forced.specs.Sound.{States, IsStateAfter, AllSound, IsHonest, HasState, StandOnStack}
+use Rattle.spec_packing.specs.Packing.{PackedTree, PackedStack, packed_alone, packed_with}
 use Rattle.ts_table.specs.declared.view.ParseTable.{ParseTable}
 use Rattle.ts_table.specs.Tables.{IsTable, IsStateOf, goto_of}
 use Rattle.ts_gss.specs.declared.layer.Layer.{Layer}
@@ -19,7 +20,7 @@ use Rattle.ts_steps.specs.declared.head.StackHead.{StackHead}
 use Rattle.ts_steps.specs.declared.found.FoundToken.{FoundToken}
 use Rattle.ts_steps.specs.MoveLaws.{Laws}
 use Rattle.ts_steps.specs.Good.{IsGoodTree, EachTree}
-use Rattle.ts_steps.specs.LiveHeads.{config_of, HaveStates, IsGoodStack, read_on, LiesAhead}
+use Rattle.ts_steps.specs.LiveHeads.{config_of, packed_of, packed_tree, packed_own, packed_layers, HaveStates, IsGoodStack, read_on, LiesAhead}
 use Rattle.ts_steps.proofs.StackLemmas.{SaysLeaf, says_leaf, says_extra, leaf_good, extra_good, leaf_bare, Pushes, pushed_stack, pushed_there, pushed_good, same_config, state_top, span_bare}
 use Rattle.ts_steps.specs.declared.ahead.TokenAhead.{TokenAhead}
 use Rattle.ts_steps.specs.Laws.{SoundLaws}
@@ -104,6 +105,35 @@ push_config laws old new h u b state top place p is at =
     same_config (map bare (trees_on (stack_at new top))) (b ∷ map bare (trees_on (stack_at old h.top))) place (h.place + span_of b)
     (ap (λ (s : List Layer). map bare (trees_on s)) (pushed_stack old new h.top top u state p) ∙ ap (λ (x : Tree). x ∷ map bare (trees_on (stack_at old h.top))) is)
     (at ∙ ap (λ (n : ℕ). h.place + n) (sym span))
+
+-- the layer of a tree that stands for itself alone, by its bare tree
+layer_is : (laws : Laws) (u b : Tree) → bare u ≡ b → packed_own u ≡ packed_alone b
+layer_is laws u b is =
+    ap (λ (n : ℕ). packed_tree u n) (sym (laws.keeps u).depth) ∙ ap (λ (x : Tree). packed_alone x) is
+
+same_layers : (ls ms : List PackedTree) (p q : ℕ) → ls ≡ ms → p ≡ q → ◌≡◌ {A = PackedStack} (record { stack = ls; place = p }) (record { stack = ms; place = q })
+same_layers ls ms p q e f = ap {B = PackedStack} (λ (l : List PackedTree). record { stack = l; place = p }) e ∙ ap {B = PackedStack} (λ (n : ℕ). record { stack = ms; place = n }) f
+
+push_layers : (laws : Laws) (old new : List (List Layer)) (h : StackHead) (u b : Tree) (state top place : ℕ) → Pushes old new h.top top u state → bare u ≡ b → place ≡ h.place + span_of u
+    → packed_of new (record { top = top; place = place }) ≡ packed_with (packed_of old h) b
+push_layers laws old new h u b state top place p is at =
+    let span : span_of b ≡ span_of u = ap span_of (sym is) ∙ span_bare laws u in
+    same_layers (packed_layers (stack_at new top)) (packed_alone b ∷ packed_layers (stack_at old h.top)) place (h.place + span_of b)
+    (ap (λ (s : List Layer). packed_layers s) (pushed_stack old new h.top top u state p) ∙ ap (λ (x : PackedTree). x ∷ packed_layers (stack_at old h.top)) (layer_is laws u b is))
+    (at ∙ ap (λ (n : ℕ). h.place + n) (sym span))
+
+pub shift_layers : (laws : Laws) (old new : List (List Layer)) (h : StackHead) (f : FoundToken) (r : Option ℕ) (u : Tree) (state top : ℕ) → Pushes old new h.top top u state → u ≡ leaf_of f.token.0 f.pad f.size f.extent r
+    → packed_of new (record { top = top; place = h.place + (f.pad + f.size) }) ≡ packed_with (packed_of old h) (token_tree f.token f.pad f.size)
+shift_layers laws old new h f r u state top p is =
+    push_layers laws old new h u (token_tree f.token f.pad f.size) state top (h.place + (f.pad + f.size)) p (ap bare is ∙ leaf_bare f.token.0 f.pad f.size f.extent r)
+    (ap (λ (n : ℕ). h.place + n) (sym (says_leaf f.token.0 f.pad f.size f.extent r u is).span))
+
+pub pass_layers : (laws : Laws) (old new : List (List Layer)) (h : StackHead) (f : FoundToken) (r : Option ℕ) (u : Tree) (state top : ℕ) → Pushes old new h.top top u state → u ≡ as_extra (leaf_of f.token.0 f.pad f.size f.extent r)
+    → packed_of new (record { top = top; place = h.place + (f.pad + f.size) }) ≡ packed_with (packed_of old h) (as_extra (token_tree f.token f.pad f.size))
+pass_layers laws old new h f r u state top p is =
+    push_layers laws old new h u (as_extra (token_tree f.token f.pad f.size)) state top (h.place + (f.pad + f.size)) p
+    (ap bare is ∙ laws.extra (leaf_of f.token.0 f.pad f.size f.extent r) ∙ ap as_extra (leaf_bare f.token.0 f.pad f.size f.extent r))
+    (ap (λ (n : ℕ). h.place + n) (sym (says_extra f.token.0 f.pad f.size f.extent r u is).span))
 
 pub shift_config : (laws : Laws) (old new : List (List Layer)) (h : StackHead) (f : FoundToken) (r : Option ℕ) (u : Tree) (state top : ℕ) → Pushes old new h.top top u state → u ≡ leaf_of f.token.0 f.pad f.size f.extent r
     → config_of new (record { top = top; place = h.place + (f.pad + f.size) }) ≡ pushed (config_of old h) (token_tree f.token f.pad f.size)

@@ -23,7 +23,7 @@ use Rattle.ts_node.proofs.ElementLemmas.{some_counted}
 use Rattle.ts_table.specs.declared.view.ParseTable.{ParseTable}
 use Rattle.ts_table.specs.Tables.{IsTable, IsStateOf}
 use Rattle.ts_gss.specs.declared.layer.Layer.{Layer}
-use Rattle.ts_gss.specs.Stacks.{layer_with, stack_at, state_on, tree_on, trees_on, under_top}
+use Rattle.ts_gss.specs.Stacks.{layer_with, stack_at, AreExact, state_on, tree_on, trees_on, under_top}
 use Rattle.ts_gss.specs.Paths.{IsLifted, IsTakenOff}
 use Rattle.ts_steps.specs.declared.head.StackHead.{StackHead}
 use Rattle.ts_steps.specs.declared.lengthening.ListEnd.{ListEnd}
@@ -36,7 +36,7 @@ use Rattle.ts_steps.specs.Heads.{AreStatesOf, IsOwnWithin, IsMadeNode, IsOwnHead
 use Rattle.ts_steps.specs.Reparsing.{IsOffered, IsLent}
 use Rattle.ts_steps.specs.Lengthening.{IsListOn, IsListEnd, HasRoom, IsLengthened}
 use Rattle.ts_steps.proofs.NodeLemmas.{all_spans-append, greatest_depth-append, each_append, each_right, own_forms, forms_each, forms_append, form_of_some, small_each, small_append, small_inside, few_enough, filling_fills, all_start, Says, good_over}
-use Rattle.ts_steps.proofs.StackLemmas.{turned, spans_turned, extras_turned, filling_extras, states_drop, state_top, good_push, same_config}
+use Rattle.ts_steps.proofs.StackLemmas.{turned, spans_turned, extras_turned, filling_extras, states_drop, exact_drop, state_top, good_push, same_config}
 use Rattle.ts_steps.proofs.GatherLemmas.{Parts, parts}
 use Rattle.ts_steps.proofs.OwnLemmas.{own_over, own_self, own_children, each_at}
 use Rattle.ts_steps.proofs.ReduceLemmas.{both_have, over_children}
@@ -336,6 +336,7 @@ module _ (t : ParseTable) (size : ℕ) (old : List (List Layer)) (h : StackHead)
         own = live;
         later = omega (arith, room.later, place_is);
         symbols = symbols;
+        exact = λ all. subst AreExact (sym put) (refl, (subst AreExact w.list.stack_is (subst AreExact (sym w.lifted.rest) (exact_drop (length w.extras) (stack_at old h.top) all))).1);
         stand = λ states text long are honest stand. (stands states text are honest stand, meets states text are honest stand);
       }
 

@@ -2,6 +2,7 @@ pub mod NodeLemmas
 pub mod StackLemmas
 pub mod MakingLemmas
 pub mod LineLemmas
+pub mod LayerLemmas
 pub mod GatherLemmas
 pub mod PutLemmas
 pub mod AcceptLemmas
@@ -16,6 +17,7 @@ pub mod RootLemmas
 pub mod LookLemmas
 pub mod WeightLemmas
 pub mod MoveLemmas
+pub mod ThroughLemmas
 pub mod LengthenLemmas
 pub mod ReparseLemmas
 pub mod GoLemmas

@@ -10,9 +10,6 @@ use Rattle.spec_trees.specs.Reducible.{HasSmallValue}
 use Rattle.ts_table.specs.declared.view.ParseTable.{ParseTable}
 use Rattle.ts_steps.specs.Lines.{IsLine, lengthens_by}
 use Rattle.ts_steps.specs.Good.{CanReduce}
-use Rattle.ts_steps.specs.MoveLaws.{Laws}
-use Rattle.ts_steps.specs.Making.{depth_when}
-use Rattle.ts_steps.proofs.MakingLemmas.{reduced_depth}
 use Rattle.ts_steps.proofs.PutLemmas.{number_within}
 use Rattle.ts_steps.specs.declared.lines.ProductionLine.{ProductionLine}
 use Rattle.ts_steps.specs.declared.setting.ParseSetting.{ParseSetting}
@@ -46,8 +43,3 @@ module _ (t : ParseTable) (size : ℕ) (s : ParseSetting) (set : IsParseSetting 
     made_is u is low =
         let own : u ≡ reduced t.grammar number extent state children = subst (λ (g : FlatGrammar). u ≡ reduced g number extent state children) set.productions is in
         (own, subst (λ (x : Tree). tree_depth x ≤ most_depth) own low)
-
-    pub made_deep : Laws → (l : ProductionLine) (p : Production) → CanReduce t.grammar number l.left.0 p extent children → IsLine t.grammar number l
-        → most_depth < depth_when l.lengthens children → most_depth < tree_depth (reduced t.grammar number extent state children)
-    made_deep laws l p can line deep =
-        subst (λ (n : ℕ). most_depth < n) (sym (reduced_depth laws t.grammar number l.left.0 p extent state l.lengthens children can line.lengthens)) deep

@@ -6,7 +6,7 @@ use Rattle.ts_core.specs.declared.flat.Production.{Production}
 use Rattle.spec_trees.specs.declared.tree.Tree.{Tree}
 use Rattle.spec_trees.specs.declared.tree.Tree.TheFolds.{fold-roll-Tree, fold_out-Tree}
 use Rattle.spec_trees.specs.Trees.{span_of, node_extent, state_of, all_spans, tree_depth, greatest_depth, depth_step, children_of, elements_of, total_of, all_totals}
-use Rattle.spec_trees.specs.Made.{EndBy, most_depth, Form, of_rule, of_first, of_next, form_of, reduced, made_by, value_of, node_over, element}
+use Rattle.spec_trees.specs.Made.{EndBy, Form, of_rule, of_first, of_next, form_of, reduced, made_by, value_of, node_over, element}
 use lib.IntN.{◌+ℤ◌}
 use Rattle.ts_steps.specs.MoveLaws.{Laws}
 use Rattle.ts_steps.specs.Lines.{lengthens_by}
@@ -36,12 +36,12 @@ end_by_later more end place (t ∷ ts) e =
 pub end_by_behind : (own end all : ℕ) (ts : List Tree) → EndBy end 0 ts → own + end ≤ all → EndBy all own ts
 end_by_behind own end all ts e less = end_by_wider (own + end) all (own + 0) own ts less (omega arith) (end_by_later own end 0 ts e)
 
-pub seen_none : (behind : ℕ) → IsSeenOf [] behind (record { extent = behind; stated = true; deepest = 0 })
-seen_none behind = record { covers = tt; past = omega arith; most = λ start limit sum all. omega (arith, sum); stated = ((λ h. tt), (λ all. refl)); depth = refl }
+pub seen_none : (behind : ℕ) → IsSeenOf [] behind (record { extent = behind; stated = true })
+seen_none behind = record { covers = tt; past = omega arith; most = λ start limit sum all. omega (arith, sum); stated = ((λ h. tt), (λ all. refl)) }
 
-seen_before : (t : Tree) (ts : List Tree) (behind : ℕ) (old new : Seen) → new.extent ≡ max (span_of t + old.extent) (node_extent t) → new.stated ≡ (old.stated && is_some (state_of t)) → new.deepest ≡ max (tree_depth t) old.deepest
+seen_before : (t : Tree) (ts : List Tree) (behind : ℕ) (old new : Seen) → new.extent ≡ max (span_of t + old.extent) (node_extent t) → new.stated ≡ (old.stated && is_some (state_of t))
     → IsSeenOf ts behind old → IsSeenOf (t ∷ ts) behind new
-seen_before t ts behind old new extent stated depth k = record {
+seen_before t ts behind old new extent stated k = record {
   covers = (omega (arith, extent), end_by_wider new.extent new.extent (span_of t) (0 + span_of t) ts (omega arith) (omega arith) (end_by_behind (span_of t) old.extent new.extent ts k.covers (omega (arith, extent))));
   past = omega (arith, extent, k.past);
   most = λ start limit sum all. let m = k.most (start + span_of t) limit (omega (arith, sum)) all.1 in let own = all.0 in omega (arith, extent, m, own);
@@ -49,7 +49,6 @@ seen_before t ts behind old new extent stated depth k = record {
     (λ h. let both = both_true old.stated (is_some (state_of t)) (sym stated ∙ h) in (has_one (state_of t) both.1, k.stated.0 both.0)),
     (λ all. stated ∙ and_true old.stated (is_some (state_of t)) (k.stated.1 all.1) (some_of (state_of t) all.0)),
   );
-  depth = omega (arith, depth, k.depth);
 }
   where
     both_true : (p q : Bool) → (p && q) ≡ true → (p ≡ true) × (q ≡ true)
@@ -67,11 +66,11 @@ seen_before t ts behind old new extent stated depth k = record {
     some_of : (o : Option ℕ) → (n : ℕ) × (o ≡ Some n) → is_some o ≡ true
     some_of o w = ap is_some w.1
 
-pub seen_more : (ts : List Tree) (left i behind : ℕ) (t : Tree) (old new : Seen) → left ≡ i + 1 → i < length ts → t ≡ get_or ts i t → new.extent ≡ max (span_of t + old.extent) (node_extent t) → new.stated ≡ (old.stated && is_some (state_of t)) → new.deepest ≡ max (tree_depth t) old.deepest
+pub seen_more : (ts : List Tree) (left i behind : ℕ) (t : Tree) (old new : Seen) → left ≡ i + 1 → i < length ts → t ≡ get_or ts i t → new.extent ≡ max (span_of t + old.extent) (node_extent t) → new.stated ≡ (old.stated && is_some (state_of t))
     → IsSeenOf (drop left ts) behind old → IsSeenOf (drop i ts) behind new
-seen_more ts left i behind t old new left_is low is extent stated depth k =
+seen_more ts left i behind t old new left_is low is extent stated k =
     subst (λ (l : List Tree). IsSeenOf l behind new) (sym (dropped ts i t low is))
-    (seen_before t (drop (i + 1) ts) behind old new extent stated depth (subst (λ (n : ℕ). IsSeenOf (drop n ts) behind old) left_is k))
+    (seen_before t (drop (i + 1) ts) behind old new extent stated (subst (λ (n : ℕ). IsSeenOf (drop n ts) behind old) left_is k))
 
 -- there is room for what was examined for a tree and behind it
 pub seen_fits : (ts : List Tree) (left i behind start limit : ℕ) (t : Tree) (s : Seen) → left ≡ i + 1 → i < length ts → t ≡ get_or ts i t → EndBy limit start ts → start + (all_spans ts + behind) ≤ limit → IsSeenOf (drop left ts) behind s → span_of t + s.extent ≤ limit
@@ -86,12 +85,6 @@ seen_fits ts left i behind start limit t s left_is low is all sum k =
     omega (arith, m)
 
 -- ---- how deep the node is
-
--- a node is too deep over children of which some is nearly so
-pub deep_some : (lengthens : Bool) (ts : List Tree) → most_depth < depth_when lengthens ts → most_depth ≤ greatest_depth ts
-deep_some false ts h = omega (arith, h)
-deep_some true [] h = absurd (omega (arith, h))
-deep_some true (t ∷ ts) h = omega (arith, h)
 
 over_depth : (symbol : ℕ) (production : _) (dynamic : _) (extent : ℕ) (state : _) (es : _) (ks : List Tree) → tree_depth (node_over symbol production dynamic extent state es ks) ≡ 1 + greatest_depth ks
 over_depth symbol production dynamic extent state es ks = fold-roll-Tree ℕ depth_step (over_layer symbol production dynamic extent state es ks)

@@ -10,13 +10,14 @@ use Rattle.spec_lexing.specs.Lexing.{Found, token, absent}
 use Rattle.spec_tables.specs.Actions.{Move, Act, shift, reduce, accept}
 use Rattle.spec_trees.specs.declared.tree.Tree.{Tree}
 use Rattle.spec_trees.specs.Trees.{is_extra_node, tree_depth, bare}
-use Rattle.spec_trees.specs.Made.{as_extra, accepted, most_depth}
+use Rattle.spec_trees.specs.Made.{as_extra, accepted}
 use Rattle.spec_trees.specs.Choice.{code_of, ComesBefore, Better}
-use Rattle.spec_runs.specs.Configurations.{Configuration, stack_symbols, token_tree, pushed, HasMove, NextIs, AreExtras, IsReduction}
+use Rattle.spec_runs.specs.Configurations.{Configuration, stack_symbols, token_tree, pushed, HasMove, NextIs, AreExtras}
 use Rattle.spec_runs.specs.Runs.{CanMove, StepsOn, shift_token, pass_extra, reduce_trees, Run, run_here, run_on, ComesTooDeep, AcceptsTree, StopsAt}
-use Rattle.spec_runs.specs.Outcomes.{deep_outcome, tree_outcome, stuck_outcome}
+use Rattle.spec_runs.specs.Outcomes.{tree_outcome, stuck_outcome}
 use Rattle.spec_forced.specs.Forced.{IsDecided, IsOnlyMove}
 use Rattle.spec_forced.specs.OnlyRuns.{IsOnlyStep, GoesTooDeep, GoesToTree, FreshFrom}
+use Rattle.spec_packing.specs.Packing.{PackedStack, packed_trees, own_config, packed_with, PackedStepsOn, shift_packed, pass_packed, reduce_packed, PackedIsTooDeep}
 use Rattle.ts_table.specs.declared.view.ParseTable.{ParseTable}
 use Rattle.ts_gss.specs.declared.layer.Layer.{Layer}
 use Rattle.ts_gss.specs.Stacks.{stack_at, trees_on}
@@ -24,7 +25,9 @@ use Rattle.ts_steps.specs.declared.head.StackHead.{StackHead}
 use Rattle.ts_steps.specs.declared.found.FoundToken.{FoundToken}
 use Rattle.ts_steps.specs.MoveLaws.{Laws}
 use Rattle.ts_steps.specs.Laws.{OnlyLaws}
-use Rattle.ts_steps.specs.LiveHeads.{config_of, read_on, IsReducedTo, IsRootOf}
+use Rattle.ts_steps.specs.LiveHeads.{config_of, packed_of, read_on, AreAlone, IsReducedTo, IsRootOf}
+use Rattle.ts_steps.specs.Reparsing.{IsOnlyAccept}
+use Rattle.ts_steps.proofs.LayerLemmas.{layers_trees, alone_append, alone_left, alone_right}
 use Rattle.ts_steps.proofs.StackLemmas.{filling_bare, extras_turned}
 use Rattle.ts_steps.specs.Looking.{IsTokenAhead}
 
@@ -58,15 +61,15 @@ IsAccept shift = ⊥
 IsAccept (reduce n) = ⊥
 IsAccept accept = Unit {0}
 
-shift_no : shift ≡ accept → ⊥
+pub shift_no : shift ≡ accept → ⊥
 unfolding IsAccept
 shift_no e = subst IsAccept (sym e) tt
 
-reduce_no : (n : ℕ) → reduce n ≡ accept → ⊥
+pub reduce_no : (n : ℕ) → reduce n ≡ accept → ⊥
 unfolding IsAccept
 reduce_no n e = subst IsAccept (sym e) tt
 
-found_no : (s : Symbol) (pad size n : ℕ) → token s pad size ≡ absent n → ⊥
+pub found_no : (s : Symbol) (pad size n : ℕ) → token s pad size ≡ absent n → ⊥
 unfolding IsFound
 found_no s pad size n e = subst IsFound e tt
 
@@ -74,7 +77,7 @@ same_stop : (n m : ℕ) → absent n ≡ absent m → n ≡ m
 unfolding stop_in
 same_stop n m e = ap stop_in e
 
-same_symbol : (s r : Symbol) (pad size p z : ℕ) → token r p z ≡ token s pad size → r.0 ≡ s.0
+pub same_symbol : (s r : Symbol) (pad size p z : ℕ) → token r p z ≡ token s pad size → r.0 ≡ s.0
 unfolding symbol_in
 same_symbol s r pad size p z e = ap symbol_in e
 
@@ -194,22 +197,6 @@ module _ (laws : Laws) (g : FlatGrammar) (text : Bytes) (c : Configuration) (s :
           better_strict (bare u) (subst (λ (x : Tree). Better x (bare u)) same better);
     }
 
-  -- ---- a node that is too deep
-
-  pub deep_now : (number : ℕ) (node : Tree) (after : List Tree) → Act g (stack_symbols c.stack) s.0 (reduce number) → IsReduction g number c.stack node after → most_depth < tree_depth node → FreshFrom g text c deep_outcome
-  deep_now number node after act r deep = (
-    c,
-    run_here c,
-    record {
-      number = number;
-      move = record { symbol = s; pad = pad; size = size; next = next; stays = act };
-      node = node;
-      after = after;
-      reduction = r;
-      deep = deep;
-    },
-  )
-
 -- ---- the steps of a head
 
 module _ (laws : Laws) (alone : OnlyLaws) (t : ParseTable) (text : Bytes) (old new : List (List Layer)) (h k : StackHead) (f : FoundToken) (ahead : IsTokenAhead t text old h f) where
@@ -243,9 +230,78 @@ module _ (laws : Laws) (alone : OnlyLaws) (t : ParseTable) (text : Bytes) (old n
       subst (λ (x : Configuration). IsOnlyStep t.grammar text (config_of old h) x) (sym r.done.2)
       (alone.reduced t.grammar text (config_of old h) f.token f.pad f.size number r.node r.after next (only_bare laws t old h f.token.0 (reduce number) only) r.reduction r.done.0)
 
-  pub reduce_deep : (size number : ℕ) → IsOnlyMove t.grammar (read_on old h) f.token.0 (reduce number) → IsReducedTo t size number old new h None → FreshFrom t.grammar text (config_of old h) deep_outcome
-  reduce_deep size number only r =
-      deep_now laws t.grammar text (config_of old h) f.token f.pad f.size next number r.node r.after (only_bare laws t old h f.token.0 (reduce number) only).stays r.reduction r.done
+  -- ---- the same steps of the layers
+
+  own_is : own_config (packed_of old h) ≡ config_of old h
+  own_is = ap {B = Configuration} (λ (ts : List Tree). record { stack = ts; place = h.place }) (layers_trees (stack_at old h.top))
+
+  layers_move : (move : Move) → Act t.grammar (read_on old h) f.token.0 move → CanMove t.grammar text (own_config (packed_of old h)) move
+  layers_move move act = subst (λ (x : Configuration). CanMove t.grammar text x move) (sym own_is) (can_move move act)
+
+  layers_next : NextIs t.grammar text (own_config (packed_of old h)) (token f.token f.pad f.size)
+  layers_next = subst (λ (x : Configuration). NextIs t.grammar text x (token f.token f.pad f.size)) (sym own_is) next
+
+  layers_read : stack_symbols (packed_trees (packed_of old h).stack) ≡ read_on old h
+  layers_read = ap stack_symbols (layers_trees (stack_at old h.top)) ∙ filling_bare laws (trees_on (stack_at old h.top))
+
+  pub shift_steps : Act t.grammar (read_on old h) f.token.0 shift → packed_of new k ≡ packed_with (packed_of old h) (token_tree f.token f.pad f.size) → PackedStepsOn t.grammar text (packed_of old h) (packed_of new k)
+  shift_steps act is =
+      subst (λ (n : PackedStack). PackedStepsOn t.grammar text (packed_of old h) n) (sym is)
+      (shift_packed f.token f.pad f.size layers_next (subst (λ (read : List ℕ). Act t.grammar read f.token.0 shift) (sym layers_read) act))
+
+  pub pass_steps : is_extra t.grammar f.token.0 ≡ true → (HasMove t.grammar (read_on old h) f.token.0 → ⊥) → packed_of new k ≡ packed_with (packed_of old h) (as_extra (token_tree f.token f.pad f.size)) → PackedStepsOn t.grammar text (packed_of old h) (packed_of new k)
+  pass_steps extra idle is =
+      subst (λ (n : PackedStack). PackedStepsOn t.grammar text (packed_of old h) n) (sym is)
+      (pass_packed f.token f.pad f.size layers_next extra (λ m. idle (subst (λ (read : List ℕ). HasMove t.grammar read f.token.0) layers_read m)))
+
+  pub reduce_steps : (size number : ℕ) → IsOnlyMove t.grammar (read_on old h) f.token.0 (reduce number) → IsReducedTo t size number old new h (Some k) → PackedStepsOn t.grammar text (packed_of old h) (packed_of new k)
+  reduce_steps size number only r =
+      subst (λ (n : PackedStack). PackedStepsOn t.grammar text (packed_of old h) n) (sym r.done.4)
+      (reduce_packed number r.layer r.layers (layers_move (reduce number) only.stays) r.packed r.done.3)
+
+  pub pushed_exact : (tree : Tree) → packed_of new k ≡ packed_with (packed_of old h) tree → AreAlone (packed_of old h).stack → AreAlone (packed_of new k).stack
+  pushed_exact tree is all = subst (λ (n : PackedStack). AreAlone n.stack) (sym is) (refl, all)
+
+  pub reduced_exact : (size number : ℕ) → IsReducedTo t size number old new h (Some k) → AreAlone (packed_of old h).stack → AreAlone (packed_of new k).stack
+  reduced_exact size number r all =
+      let p = r.packed in
+      let parts : AreAlone (p.lifted ++ (reverse p.children ++ p.below)) = subst AreAlone p.stack_is all in
+      let low = alone_right (reverse p.children) p.below (alone_right p.lifted (reverse p.children ++ p.below) parts) in
+      let one : r.layer.depth ≡ tree_depth r.layer.tree = r.exact all ∙ ap tree_depth (sym r.same) in
+      subst (λ (n : PackedStack). AreAlone n.stack) (sym r.done.4)
+      (subst AreAlone (sym p.after_is) (alone_append p.lifted (r.layer ∷ p.below) (alone_left p.lifted (reverse p.children ++ p.below) parts) (one, low)))
+
+  pub reduce_deep : (size number : ℕ) → IsOnlyMove t.grammar (read_on old h) f.token.0 (reduce number) → IsReducedTo t size number old new h None
+      → PackedIsTooDeep t.grammar text (packed_of old h) × (AreAlone (packed_of old h).stack → ComesTooDeep t.grammar text (config_of old h))
+  reduce_deep size number only r = (
+    record {
+      number = number;
+      move = layers_move (reduce number) only.stays;
+      node = r.layer;
+      after = r.layers;
+      reduction = r.packed;
+      deep = r.done;
+    },
+    λ all. record {
+      number = number;
+      move = can_move (reduce number) only.stays;
+      node = r.node;
+      after = r.after;
+      reduction = r.reduction;
+      deep = (let e = r.exact all in let d = r.done in omega (arith, e, d));
+    },
+  )
+
+  -- a move that is the only one on the token is the only one that can be done
+  pub only_accepts : IsOnlyMove t.grammar (read_on old h) f.token.0 accept → IsOnlyAccept t.grammar text (config_of old h)
+  only_accepts only = record {
+    here = can_move accept only.stays;
+    only = λ move m.
+        let same : token m.symbol m.pad m.size ≡ token f.token f.pad f.size = laws.one_sight t.grammar text (config_of old h) (token m.symbol m.pad m.size) (token f.token f.pad f.size) m.next next in
+        let on : m.symbol.0 ≡ f.token.0 = same_symbol f.token m.symbol f.pad f.size m.pad m.size same in
+        let stays : Act t.grammar (stack_symbols (config_of old h).stack) f.token.0 move = subst (λ (n : ℕ). Act t.grammar (stack_symbols (config_of old h).stack) n move) on m.stays in
+        only.only move (subst (λ (read : List ℕ). Act t.grammar read f.token.0 move) (filling_bare laws (trees_on (stack_at old h.top))) stays);
+  }
 
   pub accept_only : (u : Tree) → IsOnlyMove t.grammar (read_on old h) f.token.0 accept → IsRootOf (config_of old h).stack (bare u) → FreshFrom t.grammar text (config_of old h) (tree_outcome u)
   accept_only u only root = accepted_here laws t.grammar text (config_of old h) f.token f.pad f.size next (only_bare laws t old h f.token.0 accept only) u root

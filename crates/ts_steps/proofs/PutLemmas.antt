@@ -1,5 +1,5 @@
 -- What a reduction takes off a live stack can be reduced, and its node can be put on the stack below.
-use Rattle.std.proofs.Common.{◌≡◌, ◌∙◌, sym, ap, refl, subst, ℕ, suc, ◌+◌, ◌<◌, ◌≤◌, List, [], ◌∷◌, ◌++◌, length, length-append, reverse, Option, Some, arith}
+use Rattle.std.proofs.Common.{◌≡◌, ◌∙◌, sym, ap, refl, subst, ℕ, suc, ◌+◌, ◌<◌, ◌≤◌, true, false, List, [], ◌∷◌, ◌++◌, length, length-append, reverse, Option, Some, arith}
 use Rattle.std.proofs.lemmas.List.{length-map, length-reverse, reverse-reverse}
 use Rattle.std.proofs.lemmas.Option.{slice_get_within}
 use Rattle.ts_core.specs.declared.flat.FlatGrammar.{FlatGrammar}
@@ -23,7 +23,7 @@ use Rattle.ts_steps.specs.Lines.{IsLine}
 use Rattle.ts_steps.specs.Good.{CanReduce}
 use Rattle.ts_steps.specs.LiveHeads.{IsGoodStack, read_on, CanLay, CanPut, IsGathered}
 use Rattle.ts_steps.proofs.NodeLemmas.{filling_fills, reduced_good}
-use Rattle.ts_steps.proofs.StackLemmas.{extras_turned, filling_extras, filling_append, filling_turned, Pushes, pushed_stack, pushed_good}
+use Rattle.ts_steps.proofs.StackLemmas.{extras_turned, filling_extras, filling_append, filling_turned, PushesPacked, packed_stack, packed_good}
 
 -- ---- one production
 
@@ -112,12 +112,14 @@ module _ (laws : Laws) (t : ParseTable) (size number token : ℕ) (old : List (L
     }
 
     -- the node can be put on the stack below
-    pub can_put : (state : Option ℕ) → IsTable t → size ≤ most_span → tree_depth (reduced t.grammar number extent state children) ≤ most_depth
-        → CanPut t size (all_spans (trees_on below)) l.left.0 (reduced t.grammar number extent state children) extras
-    can_put state table short shallow =
+    pub can_put : (state : Option ℕ) (depth : ℕ) → IsTable t → size ≤ most_span → tree_depth (reduced t.grammar number extent state children) ≤ depth → depth ≤ most_depth
+        → CanPut t size (all_spans (trees_on below)) l.left.0 (reduced t.grammar number extent state children) depth extras
+    can_put state depth table short less low =
+        let shallow : tree_depth (reduced t.grammar number extent state children) ≤ most_depth = omega (arith, less, low) in
         let good = reduced_good laws t.grammar number l.left.0 line.production extent state children (can_reduce table short) shallow in
         let says = good.1 in
         record {
+          deep = record { own = less; shallow = low; flat = λ extra. absurd (let h : true ≡ false = sym extra ∙ says.extra in cc) };
           symbol = says.symbol;
           fills = says.extra;
           good = good.0;
@@ -142,14 +144,14 @@ stands_still t left old new same w = (
 -- ---- laying extras
 
 -- the node on the stack below, with its state
-pub put_base : (t : ParseTable) (size place : ℕ) (old mid : List (List Layer)) (below base : ℕ) (left : ℕ) (node : Tree) (extras : List Tree) (state : ℕ) → Pushes old mid below base node state → IsGoodStack t size (stack_at old below) place
-    → CanPut t size place left node extras → IsStateOf t (left ∷ filling (trees_on (stack_at old below))) state → CanLay t size (place + span_of node) (stack_at mid base) state extras
-put_base t size place old mid below base left node extras state p b can st =
+pub put_base : (t : ParseTable) (size place : ℕ) (old mid : List (List Layer)) (below base : ℕ) (left : ℕ) (node : Tree) (depth : ℕ) (extras : List Tree) (state : ℕ) → PushesPacked old mid below base node state depth → IsGoodStack t size (stack_at old below) place
+    → CanPut t size place left node depth extras → IsStateOf t (left ∷ filling (trees_on (stack_at old below))) state → CanLay t size (place + span_of node) (stack_at mid base) state extras
+put_base t size place old mid below base left node depth extras state p b can st =
     let names : filling (node ∷ trees_on (stack_at old below)) ≡ left ∷ filling (trees_on (stack_at old below)) = filling_fills node (trees_on (stack_at old below)) can.fills ∙ ap (λ (n : ℕ). n ∷ filling (trees_on (stack_at old below))) can.symbol in
     let here : IsStateOf t (filling (node ∷ trees_on (stack_at old below))) state = subst (λ (l : List ℕ). IsStateOf t l state) (sym names) st in
     record {
-      base = pushed_good t size place old mid below base node state p b here can.good (omega (arith, can.within)) can.reach;
-      state_is = subst (λ (s : List Layer). IsStateOf t (filling (trees_on s)) state) (sym (pushed_stack old mid below base node state p)) here;
+      base = packed_good old mid below base node state depth p t size place b here can.good can.deep (omega (arith, can.within)) can.reach;
+      state_is = subst (λ (s : List Layer). IsStateOf t (filling (trees_on s)) state) (sym (packed_stack old mid below base node state depth p)) here;
       all_extras = can.all_extras;
       good = can.good_extras;
       reach = can.reach_extras;

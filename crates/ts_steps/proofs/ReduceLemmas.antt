@@ -14,7 +14,8 @@ use Rattle.spec_trees.specs.declared.tree.Tree.TheOpen.{Tree-F}
 use Rattle.spec_trees.specs.declared.tree.Tree.TheViews.{out-roll-Tree}
 use Rattle.spec_trees.specs.Trees.{elements_of, children_of, state_of, span_of, all_spans, total_of, all_totals, tree_depth, bare}
 use Rattle.spec_trees.specs.Made.{Form, of_rule, of_first, of_next, form_of, value_of, made_by, node_over, element, reduced, filling, BeginsFilled, Lengthens, EndBy, most_span, most_depth}
-use Rattle.spec_runs.specs.Configurations.{IsReduction, AreValidTokens, stack_symbols}
+use Rattle.spec_runs.specs.Configurations.{IsReduction, AreExtras, AreValidTokens, stack_symbols}
+use Rattle.spec_packing.specs.Packing.{PackedTree, PackedStack, packed_trees, packed_depths, IsPackedReduction}
 use Rattle.spec_forced.specs.Forced.{IsDecided, IsOnlyMove, StandInTurn, MakesNode}
 use Rattle.spec_forced.specs.Sound.{States, IsStateAfter, EachHasState, IsWholeSoFar, StandOnStack}
 use Rattle.spec_trees.specs.Reducible.{HasSmallValue}
@@ -22,15 +23,18 @@ use Rattle.ts_table.specs.declared.view.ParseTable.{ParseTable}
 use Rattle.ts_table.specs.Tables.{IsTable, IsStateOf, by_goto}
 use Rattle.ts_gss.specs.declared.layer.Layer.{Layer}
 use Rattle.ts_gss.specs.Stacks.{stack_at, trees_on, state_on}
+use Rattle.ts_gss.specs.Paths.{AreDepthsOf}
 use Rattle.ts_steps.specs.declared.head.StackHead.{StackHead}
 use Rattle.ts_steps.specs.declared.lines.ProductionLine.{ProductionLine}
 use Rattle.ts_steps.specs.MoveLaws.{Laws}
 use Rattle.ts_steps.specs.Lines.{IsLine}
 use Rattle.ts_steps.specs.Good.{CanReduce, EachTree, AreGoodTrees}
-use Rattle.ts_steps.specs.LiveHeads.{config_of, IsGoodStack, IsLiveHead, read_on, CanPut, IsGathered, IsReducedTo}
+use Rattle.ts_steps.specs.Making.{depth_by}
+use Rattle.ts_steps.specs.LiveHeads.{config_of, packed_of, packed_tree, packed_own, packed_layers, IsGoodStack, IsLiveHead, read_on, CanPut, IsGathered, AreLayersTaken, AreAlone, IsReducedTo}
 use Rattle.ts_steps.proofs.NodeLemmas.{reduced_shape, reduced_good, reduced_is, fits, over_layer, each_append, each_left, each_right, each_turned, end_by_both, end_by_wider}
 use Rattle.ts_steps.proofs.StackLemmas.{turned_bare, extras_turned, filling_extras, filling_append, filling_bare, extras_bare, begins_bare, same_config, state_top, spans_turned}
-use Rattle.ts_steps.proofs.MakingLemmas.{dropped}
+use Rattle.ts_steps.proofs.MakingLemmas.{dropped, reduced_depth}
+use Rattle.ts_steps.proofs.LayerLemmas.{map_turned, layers_trees, own_trees, over_depths, own_less, alone_left, alone_right, alone_back, depths_alone, bare_depths, own_exact}
 use Rattle.ts_steps.proofs.PutLemmas.{can_reduce, can_put, stands}
 use Rattle.ts_steps.specs.declared.ahead.TokenAhead.{TokenAhead}
 use Rattle.ts_steps.specs.Laws.{SoundLaws}
@@ -132,8 +136,12 @@ module _ (laws : Laws) (g : FlatGrammar) (number left : ℕ) (p : Production) (e
 
 -- ---- the stack after it
 
+same_layers : (ls ms : List PackedTree) (place : ℕ) → ls ≡ ms → ◌≡◌ {A = PackedStack} (record { stack = ls; place = place }) (record { stack = ms; place = place })
+same_layers ls ms place e = ap {B = PackedStack} (λ (l : List PackedTree). record { stack = l; place = place }) e
+
 module _ (laws : Laws) (t : ParseTable) (size number on : ℕ) (old : List (List Layer)) (h : StackHead) (l : ProductionLine) (stays : Act t.grammar (read_on old h) on (reduce number)) (line : IsLine t.grammar number l) (small : HasSmallValue t.grammar number)
-    (extras children : List Tree) (extent : ℕ) (below : List Layer) (gat : IsGathered t size (stack_at old h.top) h.place l.steps extras children extent below) (table : IsTable t) (short : size ≤ most_span) where
+    (extras children : List Tree) (extent : ℕ) (below : List Layer) (gat : IsGathered t size (stack_at old h.top) h.place l.steps extras children extent below) (table : IsTable t) (short : size ≤ most_span)
+    (first others : ℕ) (layers : AreLayersTaken (stack_at old h.top) extras children first others below) where
   abbrev g : FlatGrammar
   g = t.grammar
 
@@ -165,19 +173,75 @@ module _ (laws : Laws) (t : ParseTable) (size number on : ℕ) (old : List (List
       after_is = refl;
     }
 
-    -- the node is too deep
-    pub done_none : (new : List (List Layer)) → most_depth < tree_depth node → IsReducedTo t size number old new h None
-    done_none new deep = record { node = bare node; after = after; reduction = reduction; done = subst (λ (n : ℕ). most_depth < n) (sym (laws.keeps node).depth) deep }
+    -- ---- the layers
 
-    module _ (u : Tree) (u_is : u ≡ node) (shallow : tree_depth node ≤ most_depth) where
+    abbrev over : ℕ
+    over = depth_by l.lengthens first others
+
+    abbrev layer : PackedTree
+    layer = packed_tree node over
+
+    abbrev front : List PackedTree
+    front = map packed_own (reverse extras)
+
+    abbrev left : List PackedTree
+    left = front ++ layer ∷ packed_layers below
+
+    low_trees : packed_trees (reverse layers.taken ++ packed_layers below) ≡ map bare (reverse children ++ trees_on below)
+    low_trees =
+        map-append (λ (x : PackedTree). x.tree) (reverse layers.taken) (packed_layers below)
+        ∙ ap (λ (ts : List Tree). ts ++ packed_trees (packed_layers below)) (map_turned (λ (x : PackedTree). x.tree) layers.taken ∙ ap (λ (ts : List Tree). reverse ts) layers.trees ∙ sym (turned_bare children))
+        ∙ ap (λ (ts : List Tree). map bare (reverse children) ++ ts) (layers_trees below)
+        ∙ sym (map-append bare (reverse children) (trees_on below))
+
+    packed : IsPackedReduction g number (packed_of old h).stack layer left
+    packed = record {
+      left = l.left.0;
+      production = line.production;
+      at = line.at;
+      lifted = front;
+      children = layers.taken;
+      below = packed_layers below;
+      stack_is = layers.layers;
+      extras = subst AreExtras (sym (own_trees (reverse extras))) (extras_bare laws (reverse extras) (extras_turned extras gat.all_extras));
+      all_lifted = subst BeginsFilled (sym low_trees) (begins_bare laws (reverse children ++ trees_on below) gat.no_more);
+      count = ap (λ (ts : List Tree). length (filling ts)) layers.trees ∙ ap (λ (x : List ℕ). length x) (filling_bare laws children) ∙ gat.filled ∙ line.steps;
+      first_fills = subst BeginsFilled (sym layers.trees) (begins_bare laws children gat.begins);
+      tree_is = laws.reduced_bare g number extent s children ∙ ap (λ (ts : List Tree). bare (reduced g number 0 None ts)) (sym layers.trees);
+      depth_is = ap (λ (b : Bool). depth_by b first others) (sym line.lengthens) ∙ sym (over_depths (form_of g l.left.0 number) (packed_depths layers.taken) first others layers.depths);
+      after_is = refl;
+    }
+
+    -- the layer is as deep as its tree where all are on the stack
+    exact_layer : AreAlone (packed_of old h).stack → over ≡ tree_depth (bare node)
+    exact_layer all =
+        let low = alone_right front (reverse layers.taken ++ packed_layers below) (subst AreAlone layers.layers all) in
+        let taken = alone_back layers.taken (alone_left (reverse layers.taken) (packed_layers below) low) in
+        let depths : packed_depths layers.taken ≡ map tree_depth children =
+        depths_alone layers.taken taken ∙ ap (λ (ts : List Tree). map tree_depth ts) layers.trees ∙ bare_depths laws.keeps children in
+        own_exact l.lengthens children first others (subst (λ (ds : List ℕ). AreDepthsOf ds first others) depths layers.depths)
+        ∙ sym (reduced_depth laws g number l.left.0 line.production extent s l.lengthens children can line.lengthens) ∙ sym (laws.keeps node).depth
+
+    -- the layer is too deep
+    pub done_none : (new : List (List Layer)) → most_depth < over → IsReducedTo t size number old new h None
+    done_none new deep = record { node = bare node; after = after; reduction = reduction; layer = layer; layers = left; packed = packed; same = refl; exact = exact_layer; done = deep }
+
+    -- the node is no deeper than its layer
+    pub within_layer : tree_depth node ≤ over
+    within_layer = omega (arith, reduced_depth laws g number l.left.0 line.production extent s l.lengthens children can line.lengthens, own_less l.lengthens children (packed_depths layers.taken) first others layers.covers layers.depths)
+
+    module _ (u : Tree) (u_is : u ≡ node) (fits : over ≤ most_depth) where
+      shallow : tree_depth node ≤ most_depth
+      shallow = omega (arith, within_layer, fits)
+
       -- the node can be put on the stack below
-      put_can : CanPut t size (all_spans (trees_on below)) l.left.0 u extras
+      put_can : CanPut t size (all_spans (trees_on below)) l.left.0 u over extras
       put_can =
-          subst (λ (x : Tree). CanPut t size (all_spans (trees_on below)) l.left.0 x extras) (sym u_is)
-          (can_put laws t size number on old h l stays line small extras children extent below gat s table short shallow)
+          subst (λ (x : Tree). CanPut t size (all_spans (trees_on below)) l.left.0 x over extras) (sym u_is)
+          (can_put laws t size number on old h l stays line small extras children extent below gat s over table short within_layer fits)
 
       module _ (new : List (List Layer)) (top : ℕ) (there : top < length new) (trees : trees_on (stack_at new top) ≡ reverse extras ++ u ∷ trees_on below)
-          (good : (place : ℕ) → IsGoodStack t size below place → CanPut t size place l.left.0 u extras → IsGoodStack t size (stack_at new top) (place + (span_of u + all_spans extras))) where
+          (good : (place : ℕ) → IsGoodStack t size below place → CanPut t size place l.left.0 u over extras → IsGoodStack t size (stack_at new top) (place + (span_of u + all_spans extras))) where
         span_is : span_of u ≡ all_spans children
         span_is = ap span_of u_is ∙ (reduced_good laws g number l.left.0 line.production extent s children can shallow).1.span
 
@@ -187,8 +251,8 @@ module _ (laws : Laws) (t : ParseTable) (size number on : ℕ) (old : List (List
             record { there = there; stack = subst (λ (n : ℕ). IsGoodStack t size (stack_at new top) n) place (good (all_spans (trees_on below)) gat.base put_can) }
 
         -- the node was put there
-        pub done_some : IsReducedTo t size number old new h (Some (record { top = top; place = h.place }))
-        done_some =
+        pub done_some : packed_layers (stack_at new top) ≡ front ++ packed_tree u over ∷ packed_layers below → IsReducedTo t size number old new h (Some (record { top = top; place = h.place }))
+        done_some lies =
             let stack : map bare (trees_on (stack_at new top)) ≡ after =
             ap (λ (l : List Tree). map bare l) trees ∙ map-append bare (reverse extras) (u ∷ trees_on below)
             ∙ ap (λ (x : Tree). map bare (reverse extras) ++ bare x ∷ map bare (trees_on below)) u_is in
@@ -196,10 +260,17 @@ module _ (laws : Laws) (t : ParseTable) (size number on : ℕ) (old : List (List
               node = bare node;
               after = after;
               reduction = reduction;
+              layer = layer;
+              layers = left;
+              packed = packed;
+              same = refl;
+              exact = exact_layer;
               done = (
                 subst (λ (n : ℕ). n ≤ most_depth) (sym (laws.keeps node).depth) shallow,
                 live,
                 same_config (map bare (trees_on (stack_at new top))) after h.place h.place stack refl,
+                fits,
+                same_layers (packed_layers (stack_at new top)) left h.place (lies ∙ ap (λ (x : Tree). front ++ packed_tree x over ∷ packed_layers below) u_is),
               );
             }
 

@@ -11,7 +11,7 @@ use Rattle.spec_trees.specs.Trees.{node_extent, span_of, bare}
 use Rattle.spec_trees.specs.Made.{filling}
 use Rattle.spec_runs.specs.Configurations.{Configuration, stack_symbols, pushed, AreValidTokens}
 use Rattle.spec_runs.specs.Runs.{StepsOn, shift_token, pass_extra, reduce_trees}
-use Rattle.spec_runs.specs.Outcomes.{FreshOutcome, deep_outcome, tree_outcome, stuck_outcome}
+use Rattle.spec_runs.specs.Outcomes.{FreshOutcome, tree_outcome, stuck_outcome}
 use Rattle.spec_forced.specs.Forced.{Stands}
 use Rattle.spec_forced.specs.OnlyRuns.{IsOnlyStep, OnlyRun, Meet, IsFork, EndAlike, FreshFrom}
 use Rattle.spec_forced.specs.Sound.{States, IsHonest, IsHonestStretch}
@@ -98,8 +98,8 @@ module _ (fresh : (g : FlatGrammar) (text : Bytes) (c d : Configuration) → End
 
   pub ends_result : (r : Reparsed) → EndsFrom t text old new h r → IsResult t states text first new start r
   ends_result (Accepted u) e = (from_start (tree_outcome u) e.0, e.4 states are s.stand)
-  ends_result (Stuck place) e = from_start (stuck_outcome place) e
-  ends_result Deep e = from_start deep_outcome e
+  ends_result (Stuck place) e = from_start (stuck_outcome place) e.0
+  ends_result Deep e = tt
   ends_result (Forks k) e =
       let same : config_of old h ≡ config_of new k = ap (config_of old) (sym e.0) ∙ ap (λ (x : List (List Layer)). config_of x k) (sym e.1) in (
         subst (λ (x : Configuration). OnlyRun t.grammar text (config_of first start) x) same (fork t.grammar text (config_of first start) (config_of old h) s.meet e.2),
@@ -194,3 +194,11 @@ none_known P f e = absurd (let q : ◌≡◌ {A = Option FoundToken} None (Some 
 -- what is seen stays so where the stacks stay
 pub sees_kept : (t : ParseTable) (text : Bytes) (old mid : List (List Layer)) (h : StackHead) (l : Lexed) → mid ≡ old → SeesAhead t text old h l → SeesAhead t text mid h l
 sees_kept t text old mid h l kept sees = subst (λ (s : List (List Layer)). SeesAhead t text s h l) (sym kept) sees
+
+-- what is so wherever there is some stack
+pub some_has : (P : Type 0) (o : Option StackHead) → P → IfSome o (λ k. P)
+some_has P None p = tt
+some_has P (Some k) p = p
+
+pub has_some : (P : Type 0) (o : Option StackHead) (k : StackHead) → o ≡ Some k → IfSome o (λ q. P) → P
+has_some P o k some p = subst (λ (x : Option StackHead). IfSome x (λ q. P)) some p

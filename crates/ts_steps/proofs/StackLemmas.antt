@@ -18,10 +18,10 @@ use Rattle.spec_runs.specs.Configurations.{AreExtras, Configuration}
 use Rattle.ts_table.specs.declared.view.ParseTable.{ParseTable}
 use Rattle.ts_table.specs.Tables.{IsStateOf, at_first}
 use Rattle.ts_gss.specs.declared.layer.Layer.{Layer}
-use Rattle.ts_gss.specs.Stacks.{layer_with, stack_at, trees_on, state_on}
+use Rattle.ts_gss.specs.Stacks.{packed_layer, layer_with, stack_at, trees_on, state_on, AreExact}
 use Rattle.ts_steps.specs.MoveLaws.{Laws}
 use Rattle.ts_steps.specs.Good.{IsGoodTree}
-use Rattle.ts_steps.specs.LiveHeads.{HaveStates, IsGoodStack, GainsStacks, CanLay}
+use Rattle.ts_steps.specs.LiveHeads.{HaveStates, HasDepth, HaveDepths, IsGoodStack, GainsStacks, CanLay}
 use Rattle.ts_steps.proofs.NodeLemmas.{filling_extra, all_spans-append, end_by_wider, end_by_both}
 
 -- ---- stacks by their heads
@@ -113,6 +113,16 @@ states_drop t zero layers s = s
 states_drop t (suc n) [] s = s
 states_drop t (suc n) (l ∷ layers) s = states_drop t n layers s.1
 
+pub exact_drop : (n : ℕ) (layers : List Layer) → AreExact layers → AreExact (drop n layers)
+exact_drop zero layers e = e
+exact_drop (suc n) [] e = tt
+exact_drop (suc n) (l ∷ layers) e = exact_drop n layers e.1
+
+pub depths_drop : (n : ℕ) (layers : List Layer) → HaveDepths layers → HaveDepths (drop n layers)
+depths_drop zero layers d = d
+depths_drop (suc n) [] d = d
+depths_drop (suc n) (l ∷ layers) d = depths_drop n layers d.1
+
 -- the state on top is that of the symbols
 pub state_top : (t : ParseTable) (layers : List Layer) → HaveStates t layers → IsStateOf t (filling (trees_on layers)) (state_on layers)
 state_top t [] s = at_first
@@ -120,16 +130,25 @@ state_top t (l ∷ layers) s = s.0
 
 -- ---- one more tree
 
-pub good_push : (t : ParseTable) (size : ℕ) (layers : List Layer) (place : ℕ) (tree : Tree) (state : ℕ) → IsGoodStack t size layers place → IsStateOf t (filling (tree ∷ trees_on layers)) state → IsGoodTree t.grammar tree
-    → place + span_of tree ≤ size → place + node_extent tree ≤ suc size → IsGoodStack t size (layer_with tree state ∷ layers) (place + span_of tree)
-good_push t size layers place tree state b st good within reach = record {
+pub packed_push : (t : ParseTable) (size : ℕ) (layers : List Layer) (place : ℕ) (tree : Tree) (state depth : ℕ) → IsGoodStack t size layers place → IsStateOf t (filling (tree ∷ trees_on layers)) state → IsGoodTree t.grammar tree → HasDepth tree depth
+    → place + span_of tree ≤ size → place + node_extent tree ≤ suc size → IsGoodStack t size (packed_layer tree state depth ∷ layers) (place + span_of tree)
+packed_push t size layers place tree state depth b st good deep within reach = record {
   states = (st, b.states);
+  depths = (deep, b.depths);
   good = (good, b.good);
   spans = omega (arith, b.spans);
   reach = subst (λ (l : List Tree). EndBy (suc size) 0 l) (sym (turned tree (trees_on layers)))
       (end_by_both (suc size) 0 (reverse (trees_on layers)) (tree ∷ []) b.reach ((omega (arith, reach, b.spans, spans_turned (trees_on layers))), tt));
   within = within;
 }
+
+-- a tree that stands for itself alone
+pub own_depth : (g : FlatGrammar) (tree : Tree) → IsGoodTree g tree → HasDepth tree (tree_depth tree)
+own_depth g tree good = record { own = omega arith; shallow = good.node.sized.shallow; flat = λ extra. refl }
+
+pub good_push : (t : ParseTable) (size : ℕ) (layers : List Layer) (place : ℕ) (tree : Tree) (state : ℕ) → IsGoodStack t size layers place → IsStateOf t (filling (tree ∷ trees_on layers)) state → IsGoodTree t.grammar tree
+    → place + span_of tree ≤ size → place + node_extent tree ≤ suc size → IsGoodStack t size (layer_with tree state ∷ layers) (place + span_of tree)
+good_push t size layers place tree state b st good within reach = packed_push t size layers place tree state (tree_depth tree) b st good (own_depth t.grammar tree good) within reach
 
 -- ---- leaves
 
@@ -231,25 +250,45 @@ module _ (token pad size extent : ℕ) (state : Option ℕ) where
 
 -- ---- a token on a live stack
 
-pub record Pushes (old new : List (List Layer)) (below top : ℕ) (tree : Tree) (state : ℕ) : Type 0 where
+pub record PushesPacked (old new : List (List Layer)) (below top : ℕ) (tree : Tree) (state depth : ℕ) : Type 0 where
   pub top_is : top ≡ length old
-  pub new_is : new ≡ old ++ (layer_with tree state ∷ stack_at old below) ∷ []
+  pub new_is : new ≡ old ++ (packed_layer tree state depth ∷ stack_at old below) ∷ []
+
+abbrev pub Pushes : (old new : List (List Layer)) (below top : ℕ) (tree : Tree) (state : ℕ) → Type 0
+Pushes old new below top tree state = PushesPacked old new below top tree state (tree_depth tree)
+
+module _ (old new : List (List Layer)) (below top : ℕ) (tree : Tree) (state depth : ℕ) (p : PushesPacked old new below top tree state depth) where
+  abbrev one : List Layer
+  one = packed_layer tree state depth ∷ stack_at old below
+
+  pub packed_grow : GainsStacks old new
+  packed_grow = (one ∷ [], p.new_is)
+
+  pub packed_stack : stack_at new top ≡ packed_layer tree state depth ∷ stack_at old below
+  packed_stack = ap (λ (n : ℕ). stack_at new n) p.top_is ∙ ap (λ (ss : List (List Layer)). stack_at ss (length old)) p.new_is ∙ stack_new old one
+
+  pub packed_there : top < length new
+  packed_there = omega (arith, p.top_is, ap (λ (l : List (List Layer)). length l) p.new_is, length-append old (one ∷ []))
+
+  pub packed_good : (t : ParseTable) (size place : ℕ) → IsGoodStack t size (stack_at old below) place → IsStateOf t (filling (tree ∷ trees_on (stack_at old below))) state → IsGoodTree t.grammar tree → HasDepth tree depth
+      → place + span_of tree ≤ size → place + node_extent tree ≤ suc size → IsGoodStack t size (stack_at new top) (place + span_of tree)
+  packed_good t size place b st good deep within reach =
+      subst (λ (s : List Layer). IsGoodStack t size s (place + span_of tree)) (sym packed_stack)
+      (packed_push t size (stack_at old below) place tree state depth b st good deep within reach)
 
 pub pushes_grow : (old new : List (List Layer)) (below top : ℕ) (tree : Tree) (state : ℕ) → Pushes old new below top tree state → GainsStacks old new
-pushes_grow old new below top tree state p = ((layer_with tree state ∷ stack_at old below) ∷ [], p.new_is)
+pushes_grow old new below top tree state p = packed_grow old new below top tree state (tree_depth tree) p
 
 pub pushed_stack : (old new : List (List Layer)) (below top : ℕ) (tree : Tree) (state : ℕ) → Pushes old new below top tree state → stack_at new top ≡ layer_with tree state ∷ stack_at old below
-pushed_stack old new below top tree state p =
-    ap (λ (n : ℕ). stack_at new n) p.top_is ∙ ap (λ (ss : List (List Layer)). stack_at ss (length old)) p.new_is ∙ stack_new old (layer_with tree state ∷ stack_at old below)
+pushed_stack old new below top tree state p = packed_stack old new below top tree state (tree_depth tree) p
 
 pub pushed_there : (old new : List (List Layer)) (below top : ℕ) (tree : Tree) (state : ℕ) → Pushes old new below top tree state → top < length new
-pushed_there old new below top tree state p = omega (arith, p.top_is, ap (λ (l : List (List Layer)). length l) p.new_is, length-append old ((layer_with tree state ∷ stack_at old below) ∷ []))
+pushed_there old new below top tree state p = packed_there old new below top tree state (tree_depth tree) p
 
 pub pushed_good : (t : ParseTable) (size place : ℕ) (old new : List (List Layer)) (below top : ℕ) (tree : Tree) (state : ℕ) → Pushes old new below top tree state → IsGoodStack t size (stack_at old below) place
     → IsStateOf t (filling (tree ∷ trees_on (stack_at old below))) state → IsGoodTree t.grammar tree → place + span_of tree ≤ size → place + node_extent tree ≤ suc size → IsGoodStack t size (stack_at new top) (place + span_of tree)
 pushed_good t size place old new below top tree state p b st good within reach =
-    subst (λ (s : List Layer). IsGoodStack t size s (place + span_of tree)) (sym (pushed_stack old new below top tree state p))
-    (good_push t size (stack_at old below) place tree state b st good within reach)
+    packed_good old new below top tree state (tree_depth tree) p t size place b st good (own_depth t.grammar tree good) within reach
 
 pub same_config : (s s' : List Tree) (p p' : ℕ) → s ≡ s' → p ≡ p' → ◌≡◌ {A = Configuration} (record { stack = s; place = p }) (record { stack = s'; place = p' })
 same_config s s' p p' a b = ap {B = Configuration} (λ (x : List Tree). record { stack = x; place = p }) a ∙ ap {B = Configuration} (λ (n : ℕ). record { stack = s'; place = n }) b
@@ -290,6 +329,19 @@ laid_more t size all old new below top x xs ys state p is l =
 
 pub laid_ends : (t : ParseTable) (size all : ℕ) (stack : List Layer) (state : ℕ) (xs : List Tree) → xs ≡ [] → Laid t size all stack state xs → IsGoodStack t size stack all
 laid_ends t size all stack state xs none l = subst (λ (n : ℕ). IsGoodStack t size stack n) (omega (arith, l.sum, ap all_spans none)) l.can.base
+
+-- what is read of the layers
+module _ {X : Type 0} (f : Layer → X) (h : Tree → X) (alike : (x : Tree) (state : ℕ) → f (layer_with x state) ≡ h x) where
+  pub mapped_more : (old new : List (List Layer)) (below top : ℕ) (x : Tree) (xs ys : List Tree) (whole : List X) (state : ℕ) → Pushes old new below top x state → xs ≡ x ∷ ys → whole ≡ map h (reverse xs) ++ map f (stack_at old below)
+      → whole ≡ map h (reverse ys) ++ map f (stack_at new top)
+  mapped_more old new below top x xs ys whole state p is before =
+      before
+      ∙ ap (λ (l : List Tree). map h (reverse l) ++ map f (stack_at old below)) is
+      ∙ ap (λ (l : List Tree). map h l ++ map f (stack_at old below)) (turned x ys)
+      ∙ ap (λ (l : List X). l ++ map f (stack_at old below)) (map-append h (reverse ys) (x ∷ []))
+      ∙ append_assoc (map h (reverse ys)) (h x ∷ []) (map f (stack_at old below))
+      ∙ ap (λ (y : X). map h (reverse ys) ++ y ∷ map f (stack_at old below)) (sym (alike x state))
+      ∙ ap (λ (s : List Layer). map h (reverse ys) ++ map f s) (sym (pushed_stack old new below top x state p))
 
 pub trees_more : (old new : List (List Layer)) (below top : ℕ) (x : Tree) (xs ys whole : List Tree) (state : ℕ) → Pushes old new below top x state → xs ≡ x ∷ ys → whole ≡ reverse xs ++ trees_on (stack_at old below) → whole ≡ reverse ys ++ trees_on (stack_at new top)
 trees_more old new below top x xs ys whole state p is before =

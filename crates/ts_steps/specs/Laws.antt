@@ -14,7 +14,12 @@ use Rattle.spec_trees.specs.declared.tree.Tree.{Tree}
 use Rattle.spec_trees.specs.declared.tree.Stretch.{Stretch}
 use Rattle.spec_trees.specs.Trees.{is_settled, state_of, node_extent, elements_of, children_of, span_of, all_spans, tree_depth, bare}
 use Rattle.spec_trees.specs.Made.{IsNode, leaf_of, as_extra, reduced, accepted, lengthened, children_count, reach_of, step_symbols, most_depth}
+use Rattle.spec_trees.specs.Choice.{Better}
 use Rattle.spec_runs.specs.Configurations.{Configuration, stack_symbols, pushed, token_tree, HasMove, NextIs, IsReduction, AreValidTokens, AreExtras}
+use Rattle.spec_runs.specs.Runs.{StepsOn, Run, IsReached, ComesTooDeep, AcceptsTree, StopsAt}
+use Rattle.spec_runs.specs.Outcomes.{SomeIsTooDeep}
+use Rattle.spec_packing.specs.Packing.{PackedTree, PackedStack, own_config, stack_alone, Packs, WasMet, GoesThrough, IsPackedReduction, PackedStepsOn, PackedIsTooDeep}
+use Rattle.spec_packing.specs.Serving.{ServesConfiguration, ComesToServe}
 use Rattle.spec_forced.specs.Forced.{IsOnlyMove, IsDecided, Stands, StandInTurn, MakesNode}
 use Rattle.spec_forced.specs.Behind.{IsOfSymbol}
 use Rattle.spec_forced.specs.OnlyRuns.{IsOnlyStep, Meet}
@@ -123,3 +128,43 @@ pub record OnlyLaws : Type 0 where
       → IsOnlyMove g (stack_symbols c.stack) s.0 (reduce number)
       → IsReduction g number c.stack node after → tree_depth node ≤ most_depth
       → IsOnlyStep g text c (record { stack = after; place = c.place })
+
+-- For proofs alone: laws of readings that stand for others, and of layers that stand for readings.
+pub record PackLaws : Type 0 where
+  pub no_better : (t u v : Tree) → (Better u t → ⊥) → (Better v u → ⊥) → Better v t → ⊥
+  pub deep_served : (g : FlatGrammar) → Fit g → (text : Bytes) (c d : Configuration)
+      → IsReached g text c → IsReached g text d → ServesConfiguration d c
+      → ComesTooDeep g text c → ComesTooDeep g text d
+  pub stops_served : (g : FlatGrammar) (text : Bytes) (c d : Configuration) (place : ℕ)
+      → ServesConfiguration d c → StopsAt g text c place → StopsAt g text d place
+  pub accepts_served : (g : FlatGrammar) → Fit g → (text : Bytes) (c d : Configuration) (u : Tree)
+      → IsReached g text c → IsReached g text d → ServesConfiguration d c
+      → AcceptsTree g text c u → (t : Tree) × AcceptsTree g text d t × (Better u t → ⊥)
+  pub run_served : (g : FlatGrammar) → Fit g → (text : Bytes) (c d e : Configuration)
+      → IsReached g text c → IsReached g text d → ServesConfiguration d c → Run g text c e
+      → ComesToServe g text d e
+  pub own : (g : FlatGrammar) → Fit g → (text : Bytes) (c : Configuration) → IsReached g text c
+      → WasMet g text (stack_alone c) × Packs (stack_alone c) c
+  pub met : (g : FlatGrammar) → Fit g → (text : Bytes) (k n : PackedStack) → WasMet g text k
+      → PackedStepsOn g text k n → WasMet g text n
+  pub too_deep : (g : FlatGrammar) → Fit g → (text : Bytes) (k : PackedStack) → WasMet g text k
+      → PackedIsTooDeep g text k → SomeIsTooDeep g text
+  pub on : (g : FlatGrammar) → Fit g → (text : Bytes) (k : PackedStack) (d : Configuration)
+      → WasMet g text k → GoesThrough g text k d
+      → Packs k d ⊎ (PackedIsTooDeep g text k
+      ⊎ ((n : PackedStack) × PackedStepsOn g text k n × GoesThrough g text n d))
+  pub deep : (g : FlatGrammar) → Fit g → (text : Bytes) (k : PackedStack) (c : Configuration)
+      → WasMet g text k → IsReached g text c → Packs k c → ComesTooDeep g text c
+      → PackedIsTooDeep g text k
+  pub stops : (g : FlatGrammar) → Fit g → (text : Bytes) (k : PackedStack) (c : Configuration)
+      (place : ℕ) → Packs k c → StopsAt g text c place → StopsAt g text (own_config k) place
+  pub accepts : (g : FlatGrammar) → Fit g → (text : Bytes) (k : PackedStack) (c : Configuration)
+      (u : Tree) → WasMet g text k → IsReached g text c → Packs k c → AcceptsTree g text c u
+      → (t : Tree) × AcceptsTree g text (own_config k) t × (Better u t → ⊥)
+  pub once : (g : FlatGrammar) (number : ℕ) (stack : List PackedTree) (n m : PackedTree)
+      (after other : List PackedTree)
+      → IsPackedReduction g number stack n after → IsPackedReduction g number stack m other
+      → (n ≡ m) × (after ≡ other)
+  pub steps : (g : FlatGrammar) → Fit g → (text : Bytes) (c : Configuration) → IsReached g text c
+      → (d : Configuration) → StepsOn g text c d
+      → PackedStepsOn g text (stack_alone c) (stack_alone d)

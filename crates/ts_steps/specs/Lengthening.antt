@@ -10,7 +10,7 @@ use Rattle.spec_forced.specs.OnlyRuns.{Meet}
 use Rattle.spec_forced.specs.Sound.{States, EachHasState, IsHonestStretch}
 use Rattle.ts_table.specs.declared.view.ParseTable.{ParseTable}
 use Rattle.ts_gss.specs.declared.layer.Layer.{Layer}
-use Rattle.ts_gss.specs.Stacks.{stack_at, state_on}
+use Rattle.ts_gss.specs.Stacks.{stack_at, state_on, AreExact}
 use Rattle.ts_gss.specs.Paths.{IsLifted}
 use Rattle.ts_steps.specs.declared.head.StackHead.{StackHead}
 use Rattle.ts_steps.specs.declared.lengthening.ListEnd.{ListEnd}
@@ -54,6 +54,7 @@ pub record IsLengthened (t : ParseTable) (size : ℕ) (old new : List (List Laye
   pub own : IsOwnHead t size new k
   pub later : h.place < k.place
   pub symbols : read_on new k ≡ read_on old h
+  pub exact : AreExact (stack_at old h.top) → AreExact (stack_at new k.top)
   pub stand : (states : States) (text : Bytes) → length text ≡ size → AreStatesOf t states
       → IsHonestStretch t.grammar states text e.place e.state e.symbol.0 s
       → StandOnHead t states text old h

@@ -3,14 +3,14 @@ use Rattle.std.specs.Prelude.{◌≡◌, ℕ, ◌+◌, ◌<◌, ◌≤◌, ◌�
 use Rattle.ts_core.specs.declared.flat.Production.{Production}
 use Rattle.spec_grammar.specs.Symbols.{production_at}
 use Rattle.spec_trees.specs.declared.tree.Tree.{Tree}
-use Rattle.spec_trees.specs.Trees.{all_spans, greatest_depth}
+use Rattle.spec_trees.specs.Trees.{all_spans}
 use Rattle.spec_trees.specs.Made.{EndBy, BeginsFilled, filling, reduced}
 use Rattle.spec_runs.specs.Configurations.{AreExtras}
 use Rattle.spec_forced.specs.Sound.{EachHasState}
 use Rattle.ts_table.specs.declared.view.ParseTable.{ParseTable}
 use Rattle.ts_table.specs.Tables.{IsStateOf}
 use Rattle.ts_gss.specs.declared.layer.Layer.{Layer}
-use Rattle.ts_steps.specs.LiveHeads.{IsGathered}
+use Rattle.ts_steps.specs.LiveHeads.{IsGathered, AreLayersTaken}
 use Rattle.ts_steps.specs.declared.ahead.TokenAhead.{TokenAhead}
 use Rattle.ts_steps.specs.declared.gathering.Gathered.{Gathered}
 use Rattle.ts_steps.specs.Heads.{state_where}
@@ -66,4 +66,4 @@ pub record IsGatheredBy (t : ParseTable) (size : ℕ) (stack : List Layer) (plac
   pub gathered : IsGathered t size stack place count r.extras.items r.children.items r.extent below
   pub covers : CoversMaking r.extent ahead r.children.items r.extras.items
   pub stated : IsTrue r.stated ↔ (EachHasState r.children.items × EachHasState r.extras.items)
-  pub depth : r.deepest ≡ greatest_depth r.children.items
+  pub layers : AreLayersTaken stack r.extras.items r.children.items r.first r.others below

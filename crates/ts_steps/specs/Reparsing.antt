@@ -1,21 +1,24 @@
 -- What a parse over one stack comes to.
-use Rattle.std.specs.Prelude.{◌≡◌, ℕ, ◌<◌, ◌≤◌, true, List, length, None, All}
+use Rattle.std.specs.Prelude.{◌≡◌, ℕ, ◌<◌, ◌≤◌, ◌⊎◌, true, List, length, None, All}
 use Rattle.ts_base.specs.Bytes.{Bytes}
 use Rattle.ts_core.specs.declared.flat.FlatGrammar.{FlatGrammar}
+use Rattle.spec_tables.specs.Actions.{Move, accept}
 use Rattle.spec_trees.specs.declared.tree.Tree.{Tree}
 use Rattle.spec_trees.specs.declared.tree.Stretch.{Stretch}
-use Rattle.spec_trees.specs.Trees.{children_of, is_settled, state_of, span_of, all_spans}
+use Rattle.spec_trees.specs.Trees.{children_of, is_settled, state_of, span_of, all_spans, bare}
 use Rattle.spec_trees.specs.Choice.{IsInForm}
 use Rattle.spec_runs.specs.Configurations.{Configuration, HasMove}
-use Rattle.spec_runs.specs.Outcomes.{deep_outcome, tree_outcome, stuck_outcome}
-use Rattle.spec_forced.specs.OnlyRuns.{IsOnlyStep, OnlyRun, Meet, IsFork, FreshFrom}
+use Rattle.spec_runs.specs.Runs.{CanMove, Run, ComesTooDeep, AcceptsTree, StopsAt}
+use Rattle.spec_runs.specs.Outcomes.{FreshOutcome, SomeIsTooDeep, tree_outcome, stuck_outcome}
+use Rattle.spec_packing.specs.Packing.{PackedStack, own_config, WasMet, GoesThrough, PackedStepsOn, PackedIsTooDeep}
+use Rattle.spec_forced.specs.OnlyRuns.{IsOnlyStep, OnlyRun, Meet, IsFork, FreshBy, FreshFrom}
 use Rattle.spec_forced.specs.Sound.{States, IsSound, IsHonest, IsHonestStretch}
 use Rattle.ts_table.specs.declared.view.ParseTable.{ParseTable}
 use Rattle.ts_gss.specs.declared.layer.Layer.{Layer}
 use Rattle.ts_gss.specs.Stacks.{stack_at, state_on}
 use Rattle.ts_steps.specs.declared.head.StackHead.{StackHead}
 use Rattle.ts_steps.specs.Good.{EachTree}
-use Rattle.ts_steps.specs.LiveHeads.{config_of, read_on}
+use Rattle.ts_steps.specs.LiveHeads.{config_of, packed_of, read_on, AreAlone}
 use Rattle.ts_steps.specs.declared.reparsed.Reparsed.{Reparsed}
 use Rattle.ts_steps.specs.declared.reparsed.Reparsed.TheVariants.{Accepted, Stuck, Deep, Forks}
 use Rattle.ts_steps.specs.declared.reparsed.Going.{Going}
@@ -80,17 +83,51 @@ IsOwnResult t (Stuck place) = Unit {0}
 IsOwnResult t Deep = Unit {0}
 IsOwnResult t (Forks k) = Unit {0}
 
--- What all runs from the stack of the head come to, with a tree that is sound. Where several moves
--- stay, they all lead to that stack by one way, and its trees stand.
+-- What all runs from the trees on the stack of the head come to, with a tree that is sound. Where
+-- several moves stay, they all lead to that stack by one way, and its trees stand. That a node would
+-- be too deep is said of its layers alone.
 abbrev pub IsResult : ParseTable → States → Bytes → List (List Layer) → List (List Layer)
     → StackHead → Reparsed → Type 0
 IsResult t states text old new h (Accepted u) =
     FreshFrom t.grammar text (config_of old h) (tree_outcome u) × IsSound t.grammar states text u
 IsResult t states text old new h (Stuck place) =
     FreshFrom t.grammar text (config_of old h) (stuck_outcome place)
-IsResult t states text old new h Deep = FreshFrom t.grammar text (config_of old h) deep_outcome
+IsResult t states text old new h Deep = Unit {0}
 IsResult t states text old new h (Forks k) =
     OnlyRun t.grammar text (config_of old h) (config_of new k) × StandOnHead t states text new k
+
+-- what all runs come to that go through what the layers stand for
+abbrev pub FreshThrough : FlatGrammar → Bytes → PackedStack → FreshOutcome → Type 0
+FreshThrough g text k =
+    FreshBy ((d : Configuration) × GoesThrough g text k d × ComesTooDeep g text d)
+    (λ u. (d : Configuration) × GoesThrough g text k d × AcceptsTree g text d u)
+    (λ q. (d : Configuration) × GoesThrough g text k d × StopsAt g text d q)
+
+-- no run ends at the configuration
+pub record IsNoEnd (g : FlatGrammar) (text : Bytes) (d : Configuration) : Type 0 where
+  pub unaccepted : (u : Tree) → AcceptsTree g text d u → ⊥
+  pub unstuck : (q : ℕ) → StopsAt g text d q → ⊥
+  pub shallow : ComesTooDeep g text d → ⊥
+
+-- The new layers were met, a run leads to their own trees from those of the old ones, and each run that goes through what the old ones stand for goes through
+-- what the new ones stand for, or does not end where it is.
+pub record LeadThrough (g : FlatGrammar) (text : Bytes) (k n : PackedStack) : Type 0 where
+  pub met : WasMet g text n
+  pub run : Run g text (own_config k) (own_config n)
+  pub on : (d : Configuration) → GoesThrough g text k d
+      → IsNoEnd g text d ⊎ GoesThrough g text n d
+
+-- What all runs come to that go through what the layers of the head's stack stand for, if they were
+-- met. Where several moves stay, they go through what the new layers stand for.
+abbrev pub ComesByLayers : ParseTable → Bytes → List (List Layer) → List (List Layer) → StackHead
+    → Reparsed → Type 0
+ComesByLayers t text old new h (Accepted u) =
+    FreshThrough t.grammar text (packed_of old h) (tree_outcome u)
+ComesByLayers t text old new h (Stuck place) =
+    FreshThrough t.grammar text (packed_of old h) (stuck_outcome place)
+ComesByLayers t text old new h Deep = SomeIsTooDeep t.grammar text
+ComesByLayers t text old new h (Forks k) =
+    LeadThrough t.grammar text (packed_of old h) (packed_of new k)
 
 -- ---- under way. It serves private clauses and proofs alone.
 
@@ -103,6 +140,11 @@ pub record IsTakenFrom (t : ParseTable) (size : ℕ) (old new : List (List Layer
       → IsHonest t.grammar states text h.place (state_on (stack_at old h.top)) node
       → StandOnHead t states text old h → StandOnHead t states text new k
 
+-- to accept is the only move that can be done there
+pub record IsOnlyAccept (g : FlatGrammar) (text : Bytes) (c : Configuration) : Type 0 where
+  pub here : CanMove g text c accept
+  pub only : (move : Move) → CanMove g text c move → move ≡ accept
+
 -- What the end of a parse at a stack comes to. Where several moves stay, all stacks do.
 abbrev pub EndsFrom : ParseTable → Bytes → List (List Layer) → List (List Layer) → StackHead
     → Reparsed → Type 0
@@ -111,9 +153,12 @@ EndsFrom t text old new h (Accepted u) =
     × EachTree (IsOwnWithin t.grammar) (children_of u) × (state_of u ≡ None)
     × ((states : States) → AreStatesOf t states → StandOnHead t states text old h
     → IsSound t.grammar states text u)
+    × IsOnlyAccept t.grammar text (config_of old h)
 EndsFrom t text old new h (Stuck place) =
     FreshFrom t.grammar text (config_of old h) (stuck_outcome place)
-EndsFrom t text old new h Deep = FreshFrom t.grammar text (config_of old h) deep_outcome
+    × StopsAt t.grammar text (config_of old h) place
+EndsFrom t text old new h Deep = PackedIsTooDeep t.grammar text (packed_of old h)
+    × (AreAlone (packed_of old h).stack → ComesTooDeep t.grammar text (config_of old h))
 EndsFrom t text old new h (Forks k) =
     (k ≡ h) × (new ≡ old) × IsFork t.grammar text (config_of old h)
 
@@ -122,6 +167,8 @@ pub record LeadsOn (t : ParseTable) (text : Bytes) (old new : List (List Layer))
     : Type 0 where
   pub own : IsOwnHead t (length text) new k
   pub step : IsOnlyStep t.grammar text (config_of old h) (config_of new k)
+  pub layers : PackedStepsOn t.grammar text (packed_of old h) (packed_of new k)
+  pub exact : AreAlone (packed_of old h).stack → AreAlone (packed_of new k).stack
   pub stand : (states : States) → AreStatesOf t states → StandOnHead t states text old h
       → StandOnHead t states text new k
 

@@ -1,7 +1,7 @@
 //! What a reduction takes off a stack: the head and a number of steps go in; the extras on top, the
 //! children, and how many bytes were examined for them come out.
-ghost use Rattle.std.specs.Prelude.{◌≡◌, ℕ, ◌+◌, ◌<◌, ◌≤◌, ◌↔◌, ◌^◌, false, suc, length, IfOk, IsTrue};
-ghost use Rattle.spec_trees.specs.Trees.{all_spans, greatest_depth};
+ghost use Rattle.std.specs.Prelude.{◌≡◌, ℕ, ◌+◌, ◌<◌, ◌≤◌, ◌↔◌, ◌^◌, max, false, suc, length, IfOk, IsTrue};
+ghost use Rattle.spec_trees.specs.Trees.{all_spans};
 ghost use Rattle.spec_trees.specs.Made.{EndBy, most_depth, most_span};
 ghost use Rattle.spec_forced.specs.Sound.{EachHasState};
 ghost use Rattle.ts_table.specs.declared.view.ParseTable.{ParseTable};
@@ -16,15 +16,16 @@ use ts_gss::{Graph, Lifted, Taken};
 use ts_node::Node;
 
 /// What a reduction takes off a stack: the extras on top, the lowest first; the children; how many
-/// bytes were examined for both, and for the token ahead; whether they all have states; how deep
-/// the deepest child is; and the stack below.
+/// bytes were examined for both, and for the token ahead; whether they all have states; the depth
+/// of the first child's layer, and the greatest of the others'; and the stack below.
 #[derive(Drop)]
 pub(crate) struct Gathered {
     pub extras: Vec<Node>,
     pub children: Vec<Node>,
     pub extent: u32,
     pub stated: bool,
-    pub deepest: u32,
+    pub first: u32,
+    pub others: u32,
     pub below: usize,
 }
 
@@ -38,7 +39,8 @@ fn with_seen(extras: Vec<Node>, taken: Taken, ahead: u32) -> Gathered
     ensures extras { result.extras.items ≡ extras.items }
     ensures children { result.children.items ≡ taken.nodes.items }
     ensures below { result.below ≡ taken.below }
-    ensures depth { result.deepest ≡ greatest_depth taken.nodes.items }
+    ensures first { result.first ≡ taken.first }
+    ensures others { result.others ≡ taken.others }
     ensures stated { IsTrue result.stated
         ↔ (EachHasState taken.nodes.items × EachHasState extras.items) }
     ensures covers { EndBy result.extent 0 taken.nodes.items }
@@ -51,7 +53,12 @@ fn with_seen(extras: Vec<Node>, taken: Taken, ahead: u32) -> Gathered
         → EndBy limit (start + all_spans taken.nodes.items) extras.items
         → start + result.extent ≤ limit }
 {
-    let Taken { nodes, below } = taken;
+    let Taken {
+        nodes,
+        first,
+        others,
+        below,
+    } = taken;
     let behind = seen_over(extras.as_slice(), ahead);
     let own = seen_over(nodes.as_slice(), behind.extent);
     Gathered {
@@ -59,7 +66,8 @@ fn with_seen(extras: Vec<Node>, taken: Taken, ahead: u32) -> Gathered
         children: nodes,
         extent: own.extent,
         stated: own.stated && behind.stated,
-        deepest: own.deepest,
+        first,
+        others,
         below,
     }
 }
@@ -114,7 +122,7 @@ fn gather_off(
     Ok(with_seen(extras, taken, ahead))
 }
 
-/// Takes the extras and so many trees off a stack. Where it is alone, and no tree on it can be so
+/// Takes the extras and so many trees off a stack. Where it is alone, and no layer of it can be so
 /// deep that their node is too deep, they are moved off it. Else all stacks stay as they are.
 pub(crate) fn gather_for(
     alloc: Global,
@@ -132,7 +140,7 @@ pub(crate) fn gather_for(
     ensures stack { IfOk result (λ r. stack_at graph.new r.below ≡ stack_at graph.old r.below) }
     ensures kept { alone ≡ false → graph.new ≡ graph.old }
     ensures deep { IfOk result
-        (λ r. most_depth ≤ greatest_depth r.children.items → graph.new ≡ graph.old) }
+        (λ r. most_depth ≤ max r.first r.others → graph.new ≡ graph.old) }
     ensures gathered { IfOk result (λ r. (t : ParseTable) (size : ℕ)
         → IsLiveHead t size graph.old head → head.place + ahead ≤ suc size
         → IsGatheredBy t size (stack_at graph.old head.top) head.place count ahead r

@@ -11,7 +11,7 @@ ghost use Rattle.ts_table.specs.declared.view.ParseTable.{ParseTable};
 ghost use Rattle.ts_table.specs.Tables.{IsTable, IsStateOf};
 ghost use Rattle.ts_lexer.specs.States.{AreValid};
 ghost use Rattle.ts_steps.specs.MoveLaws.{Laws};
-ghost use Rattle.ts_steps.specs.Laws.{LengthLaws, OnlyLaws, SoundLaws};
+ghost use Rattle.ts_steps.specs.Laws.{LengthLaws, OnlyLaws, PackLaws, SoundLaws};
 ghost use Rattle.ts_steps.specs.Heads.{AreStatesOf};
 ghost use Rattle.ts_steps.specs.Weights.{config_weight};
 
@@ -20,6 +20,10 @@ use spec_forced::{
     stacks_stay_sound, states_tell,
 };
 use spec_lexing::{beginnings, fewer_tokens, one_answer, token_within};
+use spec_packing::{
+    ends_are_served, no_better_through, one_packed_reduction, packed_stacks_end,
+    packed_stacks_follow, readings_stand_alone, runs_are_served,
+};
 use spec_reuse::{no_new_tokens, some_move_stays};
 use spec_runs::{
     bare_trees, empty_rules_are_unused, moves_have_their_place, one_reduction, one_sight,
@@ -57,6 +61,19 @@ pub(crate) fn length_laws_hold()
 {
     honest_stretches_lengthen();
     lengthened_is_node();
+}
+
+/// The laws of readings for which layers stand hold.
+pub(crate) fn pack_laws_hold()
+    ensures { PackLaws }
+{
+    no_better_through();
+    ends_are_served();
+    runs_are_served();
+    packed_stacks_follow();
+    packed_stacks_end();
+    one_packed_reduction();
+    readings_stand_alone();
 }
 
 /// The laws of nodes that stand hold.

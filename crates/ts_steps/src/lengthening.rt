@@ -7,7 +7,7 @@ ghost use Rattle.spec_trees.specs.Trees.{all_spans, elements_of, span_of};
 ghost use Rattle.spec_trees.specs.Made.{most_span, IsNode};
 ghost use Rattle.ts_node.specs.Standing.{IsPartOf};
 ghost use Rattle.ts_table.specs.declared.view.ParseTable.{ParseTable};
-ghost use Rattle.ts_gss.specs.Stacks.{stack_at, state_on, layer_with, under_top};
+ghost use Rattle.ts_gss.specs.Stacks.{stack_at, state_on, layer_with, under_top, AreExact};
 ghost use Rattle.ts_offer.specs.Answers.{stretch_of};
 ghost use Rattle.ts_steps.specs.LiveHeads.{IsLiveHead};
 ghost use Rattle.ts_steps.specs.Heads.{IsOwnHead};
@@ -169,7 +169,8 @@ fn cut_out(alloc: Global, elements: Elements<'_>) -> Result<Section, AllocError>
 }
 
 /// Takes over at once the elements that are offered behind the repetition on top of a stack, or
-/// below the extras there. None where no repetition is there, or nothing that can be taken.
+/// below the extras there. None where no repetition is there, or nothing that can be taken, or where
+/// a layer stands for deeper trees than its own.
 pub(crate) fn take_elements<'t, O: Offers<'t>>(
     alloc: Global,
     table: &Table,
@@ -192,7 +193,12 @@ pub(crate) fn take_elements<'t, O: Offers<'t>>(
     ensures taken { IfOk result (λ o. IfSome o (λ k. (e : AnyEnd) × (s : Stretch)
         × O.lends offers.old e.place e.state e.symbol.0 s
         × IsLengthened table.now size graph.old graph.new head e s k)) }
+    ensures exact { IfOk result (λ o. IfSome o
+        (λ k. AreExact (stack_at graph.old head.top))) }
 {
+    if !graph.is_exact(head.top) {
+        return Ok(None);
+    }
     match list_end(alloc, graph, head)? {
         None => Ok(None),
         Some(end) => match offers.elements_at(end.place, end.state, end.symbol) {

@@ -1,13 +1,13 @@
-//! Nodes of reductions: the children of a reduction go in; how deep its node is, how many bytes
-//! were examined for it, and the node itself come out.
-ghost use Rattle.std.specs.Prelude.{◌≡◌, ℕ, ◌+◌, ◌<◌, ◌≤◌, ◌^◌, ◌↔◌, ◌&&◌, max, true, length, IfOk, IsTrue};
+//! Nodes of reductions: the children of a reduction, or their depths, go in; how deep its node is,
+//! how many bytes were examined for it, and the node itself come out.
+ghost use Rattle.std.specs.Prelude.{◌≡◌, ℕ, ◌+◌, ◌<◌, ◌≤◌, ◌^◌, ◌↔◌, ◌&&◌, max, IfOk, IsTrue, MatchOption};
 ghost use Rattle.ts_core.specs.declared.flat.Production.{Production};
-ghost use Rattle.spec_trees.specs.Trees.{all_spans, greatest_depth, tree_depth};
+ghost use Rattle.spec_trees.specs.Trees.{all_spans, tree_depth};
 ghost use Rattle.spec_trees.specs.Made.{EndBy, form_of, most_depth, reduced};
 ghost use Rattle.spec_forced.specs.Sound.{EachHasState};
 ghost use Rattle.ts_steps.specs.Lines.{lengthens_by};
 ghost use Rattle.ts_steps.specs.Good.{CanReduce};
-ghost use Rattle.ts_steps.specs.Making.{depth_when, IsSeenOf};
+ghost use Rattle.ts_steps.specs.Making.{depth_by, depth_when, IsSeenOf};
 
 use crate::laws::laws_hold;
 use crate::setting::ParseSetting;
@@ -17,30 +17,21 @@ use ts_node::{Node, Outline, reduce as reduced_node};
 /// The greatest depth of a node.
 pub(crate) const MOST_DEPTH: u32 = 1000;
 
-/// How deep the deepest of some nodes is, 0 where there is none.
-fn deepest(nodes: &[Node]) -> u32
-    ensures depth { result ≡ greatest_depth nodes.now }
-    ensures shallow { result ≤ most_depth }
+/// How deep the node is over a first child and others of these depths. A repetition that is
+/// lengthened gives its children to the new one. None where it is deeper than a node may be.
+pub(crate) fn depth_over(first: u32, others: u32, lengthens: bool) -> Option<u32>
+    ensures { MatchOption result (most_depth < depth_by lengthens first others)
+        (λ depth. (depth ≡ depth_by lengthens first others) × (depth ≤ most_depth)) }
 {
-    let mut depth = 0;
-    for node in nodes {
-        let _ = node.nodes();
-        depth = node.depth().max(depth);
-    }
-    depth
-}
-
-/// How deep the node over these children is. A repetition that is lengthened gives its children to
-/// the new one.
-fn depth_over(children: &[Node], lengthens: bool) -> u32
-    requires { lengthens ≡ true → 0 < length children.now }
-    ensures { result ≡ depth_when lengthens children.now }
-{
-    if lengthens {
-        let (before, more) = children.split_at(1);
-        deepest(before).max(1 + deepest(more))
+    let depth = if lengthens {
+        first.max(others.saturating_add(1))
     } else {
-        1 + deepest(children)
+        first.max(others).saturating_add(1)
+    };
+    if depth > MOST_DEPTH {
+        None
+    } else {
+        Some(depth)
     }
 }
 
@@ -57,12 +48,11 @@ pub(crate) fn spans(nodes: &[Node]) -> u32
 }
 
 /// What is known of nodes one after another: how far the text was looked at from the first of them
-/// on, whether they all have states, and how deep the deepest is.
+/// on, and whether they all have states.
 #[derive(Clone, Copy)]
 pub(crate) struct Seen {
     pub extent: u32,
     pub stated: bool,
-    pub deepest: u32,
 }
 
 /// What is known of a node and of those behind it.
@@ -71,12 +61,10 @@ fn with_those_behind(node: Outline, behind: Seen) -> Seen
     requires { node.span + behind.extent < 2 ^ 32 }
     ensures extent { result.extent ≡ max (node.span + behind.extent) node.extent }
     ensures stated { result.stated ≡ (behind.stated && node.stated) }
-    ensures depth { result.deepest ≡ max node.depth behind.deepest }
 {
     Seen {
         extent: (node.span + behind.extent).max(node.extent),
         stated: behind.stated && node.stated,
-        deepest: node.depth.max(behind.deepest),
     }
 }
 
@@ -91,7 +79,6 @@ pub(crate) fn seen_over(nodes: &[Node], behind: u32) -> Seen
     let mut seen = Seen {
         extent: behind,
         stated: true,
-        deepest: 0,
     };
     let mut left = nodes.len();
     while left > 0 {
@@ -111,20 +98,6 @@ pub(crate) fn have_states(nodes: &[Node]) -> bool
         }
     }
     true
-}
-
-/// Whether the node over these children, of which the deepest is so deep, would be deeper than a
-/// node may be.
-pub(crate) fn is_too_deep(children: &[Node], deepest: u32, lengthens: bool) -> bool
-    requires some { lengthens ≡ true → 0 < length children.now }
-    requires depth { deepest ≡ greatest_depth children.now }
-    ensures { IsTrue result ↔ (most_depth < depth_when lengthens children.now) }
-{
-    if deepest < MOST_DEPTH {
-        false
-    } else {
-        depth_over(children, lengthens) > MOST_DEPTH
-    }
 }
 
 /// The node of a reduction, which is not too deep. The children are taken out of their vector.

@@ -1,6 +1,6 @@
 //! Reductions of a stack: the number of a production goes in, and the head of the new stack comes
 //! out, or that the node is too deep.
-ghost use Rattle.std.specs.Prelude.{◌≡◌, ℕ, ◌+◌, ◌<◌, ◌≤◌, ◌∷◌, ◌++◌, ◌↔◌, suc, false, true, List, length, reverse, IfOk, IfSome, IsTrue, None, OnOk};
+ghost use Rattle.std.specs.Prelude.{◌≡◌, ℕ, ◌+◌, ◌<◌, ◌≤◌, ◌∷◌, ◌++◌, ◌↔◌, suc, false, true, List, length, map, reverse, IfOk, IfSome, IsTrue, None, OnOk};
 ghost use Rattle.ts_base.specs.Bytes.{Bytes};
 ghost use Rattle.spec_tables.specs.Actions.{Act, reduce as reducing_by};
 ghost use Rattle.spec_trees.specs.Trees.{all_spans, span_of};
@@ -10,7 +10,7 @@ ghost use Rattle.spec_forced.specs.Sound.{States};
 ghost use Rattle.ts_table.specs.declared.view.ParseTable.{ParseTable};
 ghost use Rattle.ts_table.specs.Tables.{IsStateOf};
 ghost use Rattle.ts_gss.specs.Stacks.{stack_at, trees_on};
-ghost use Rattle.ts_steps.specs.LiveHeads.{IsGoodStack, read_on, GainsStacks, CanLay, CanPut, IsReducedTo};
+ghost use Rattle.ts_steps.specs.LiveHeads.{packed_tree, packed_own, packed_layers, IsGoodStack, read_on, GainsStacks, CanLay, CanPut, IsReducedTo};
 ghost use Rattle.ts_steps.specs.Settings.{IsParseSetting};
 ghost use Rattle.ts_steps.specs.Heads.{AreStatesOf, IsOwnHead, StandOnHead, IsMoveAhead};
 ghost use Rattle.ts_steps.specs.Reducing.{IsNodePut};
@@ -19,7 +19,7 @@ use crate::ahead::TokenAhead;
 use crate::gathering::{Gathered, gather_for};
 use crate::head::StackHead;
 use crate::laws::{laws_hold, sound_laws_hold};
-use crate::making::{is_too_deep, node_of};
+use crate::making::{depth_over, node_of};
 use crate::setting::ParseSetting;
 use crate::shifting::state_below;
 use std::alloc::{AllocError, Global};
@@ -35,6 +35,8 @@ fn lay(graph: &mut Graph, below: usize, extras: &[Node], state: u16) -> Result<u
     ensures grows { OnOk result (GainsStacks graph.old graph.new) }
     ensures trees { IfOk result (λ top. trees_on (stack_at graph.new top)
         ≡ reverse extras.now ++ trees_on (stack_at graph.old below)) }
+    ensures layers { IfOk result (λ top. packed_layers (stack_at graph.new top)
+        ≡ map packed_own (reverse extras.now) ++ packed_layers (stack_at graph.old below)) }
     ensures good { IfOk result (λ top. (t : ParseTable) (size place : ℕ)
         → CanLay t size place (stack_at graph.old below) state extras.now
         → IsGoodStack t size (stack_at graph.new top) (place + all_spans extras.now)) }
@@ -59,13 +61,15 @@ fn next_state(table: &Table, state: u16, symbol: Symbol) -> u16
     }
 }
 
-/// Puts the node of a reduction on the stack below, and the extras behind it.
+/// Puts the node of a reduction on the stack below, with the greatest depth of those for which it
+/// stands, and the extras behind it.
 fn put(
     table: &Table,
     graph: &mut Graph,
     below: usize,
     left: Symbol,
     node: Node,
+    depth: u32,
     extras: &[Node],
 ) -> Result<usize, AllocError>
     requires below { below < length graph.old }
@@ -76,14 +80,17 @@ fn put(
     ensures grows { OnOk result (GainsStacks graph.old graph.new) }
     ensures trees { IfOk result (λ top. trees_on (stack_at graph.new top)
         ≡ reverse extras.now ++ node ∷ trees_on (stack_at graph.old below)) }
+    ensures layers { IfOk result (λ top. packed_layers (stack_at graph.new top)
+        ≡ map packed_own (reverse extras.now)
+        ++ packed_tree node depth ∷ packed_layers (stack_at graph.old below)) }
     ensures good { IfOk result (λ top. (size place : ℕ)
         → IsGoodStack table.now size (stack_at graph.old below) place
-        → CanPut table.now size place left.0 node extras.now
+        → CanPut table.now size place left.0 node depth extras.now
         → IsGoodStack table.now size (stack_at graph.new top)
         (place + (span_of node + all_spans extras.now))) }
 {
     let state = next_state(table, graph.state(below), left);
-    let base = graph.push(below, node, state)?;
+    let base = graph.push_packed(below, node, state, depth)?;
     let top = lay(graph, base, extras, state)?;
     Ok(top)
 }
@@ -155,28 +162,32 @@ pub fn reduce(
         mut children,
         extent,
         stated,
-        deepest,
+        first,
+        others,
         below,
     } = gather_for(alloc, graph, head, line.steps, ahead.found.extent, alone)?;
     let only = is_without_choice(ahead.only, stated, line.steps);
     let state = state_below(graph, below, only);
-    if is_too_deep(children.as_slice(), deepest, line.lengthens) {
-        return Ok(None);
+    match depth_over(first, others, line.lengthens) {
+        None => Ok(None),
+        Some(depth) => {
+            cut_alone(graph, below, alone);
+            let node = node_of(
+                alloc,
+                setting,
+                number,
+                line.lengthens,
+                &mut children,
+                extent,
+                state,
+            )?;
+            graph.keep(children);
+            let behind = extras.as_slice();
+            let top = put(table, graph, below, line.left, node, depth, behind)?;
+            Ok(Some(StackHead {
+                top,
+                place: head.place,
+            }))
+        }
     }
-    cut_alone(graph, below, alone);
-    let node = node_of(
-        alloc,
-        setting,
-        number,
-        line.lengthens,
-        &mut children,
-        extent,
-        state,
-    )?;
-    graph.keep(children);
-    let top = put(table, graph, below, line.left, node, extras.as_slice())?;
-    Ok(Some(StackHead {
-        top,
-        place: head.place,
-    }))
 }

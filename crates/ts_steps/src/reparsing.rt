@@ -6,19 +6,20 @@ ghost use Rattle.spec_trees.specs.declared.tree.Tree.{Tree};
 ghost use Rattle.spec_trees.specs.declared.tree.Stretch.{Stretch};
 ghost use Rattle.spec_trees.specs.Made.{most_span};
 ghost use Rattle.spec_forced.specs.Sound.{States};
+ghost use Rattle.spec_packing.specs.Packing.{WasMet};
 ghost use Rattle.spec_runs.specs.Configurations.{HasMove};
-ghost use Rattle.ts_gss.specs.Stacks.{stack_at, state_on};
+ghost use Rattle.ts_gss.specs.Stacks.{stack_at, state_on, AreExact};
 ghost use Rattle.ts_steps.specs.declared.found.FoundToken.{FoundToken as AnyFound};
-ghost use Rattle.ts_steps.specs.LiveHeads.{read_on};
+ghost use Rattle.ts_steps.specs.LiveHeads.{packed_of, read_on};
 ghost use Rattle.ts_table.specs.Tables.{actions_of};
 ghost use Rattle.ts_steps.specs.Settings.{IsParseSetting};
 ghost use Rattle.ts_steps.specs.Heads.{AreStatesOf, IsOwnHead, StandOnHead};
 ghost use Rattle.ts_steps.specs.Looking.{IsTokenAhead, SeesAhead};
-ghost use Rattle.ts_steps.specs.Reparsing.{AreHonest, AreHonestlyLent, IsLent, IsOffered, OnFork, IsForkFrom, IsOwnResult, IsResult, IsTakenFrom};
+ghost use Rattle.ts_steps.specs.Reparsing.{AreHonest, AreHonestlyLent, IsLent, IsOffered, OnFork, IsForkFrom, IsOwnResult, IsResult, ComesByLayers, IsTakenFrom};
 
 use crate::found::FoundToken;
 use crate::head::StackHead;
-use crate::laws::{laws_hold, sound_laws_hold};
+use crate::laws::{laws_hold, pack_laws_hold, sound_laws_hold};
 use crate::lengthening::take_elements;
 use crate::looking::look;
 use crate::moving::go_on;
@@ -57,7 +58,8 @@ fn is_reduction(action: Action) -> bool {
 
 /// Takes the node over that is offered where the stack stands, if there is one that can be taken.
 /// It is asked for only where a token would be stepped over: so no place is asked for twice, and no
-/// node is looked for whose state comes after the reductions that are still to be done.
+/// node is looked for whose state comes after the reductions that are still to be done. Nothing is
+/// taken over where a layer stands for deeper trees than its own.
 fn take<'t, O: Offers<'t>>(
     table: &Table,
     offers: &mut O,
@@ -80,7 +82,12 @@ fn take<'t, O: Offers<'t>>(
     ensures taken { IfOk result (λ o. IfSome o (λ k. (node : Tree)
         × O.gives offers.old head.place (state_on (stack_at graph.old head.top)) node
         × IsTakenFrom table.now size graph.old graph.new head node k)) }
+    ensures exact { IfOk result (λ o. IfSome o
+        (λ k. AreExact (stack_at graph.old head.top))) }
 {
+    if !graph.is_exact(head.top) {
+        return Ok(None);
+    }
     if !steps_over(table, graph, head, lexed) {
         return Ok(None);
     }
@@ -153,7 +160,8 @@ fn seen_again(
 /// honest, this is what all runs from that stack come to, and the tree is sound. Where several
 /// moves stay on a token it stops, and tells the stack to which these runs lead. Each place is
 /// asked for a node once at most, and of a node that is taken over the first token alone is lexed;
-/// of elements that are taken over no token is.
+/// of elements that are taken over no token is. So it is of all readings for which the layers of the
+/// stack stand; where one of these stands for deeper trees than its own, nothing is taken over.
 ///
 /// # Errors
 ///
@@ -190,9 +198,16 @@ pub fn reparse<'t, L: Tokens, O: Offers<'t>>(
         → AreHonestlyLent table.now.grammar states (L.Text.bytes text.now) (O.lends offers.old)
         → StandOnHead table.now states (L.Text.bytes text.now) graph.old start
         → IsResult table.now states (L.Text.bytes text.now) graph.old graph.new start r) }
+    ensures layers { IfOk result (λ r. (states : States) → AreStatesOf table.now states
+        → AreHonest table.now.grammar states (L.Text.bytes text.now) (O.gives offers.old)
+        → AreHonestlyLent table.now.grammar states (L.Text.bytes text.now) (O.lends offers.old)
+        → StandOnHead table.now states (L.Text.bytes text.now) graph.old start
+        → WasMet table.now.grammar (L.Text.bytes text.now) (packed_of graph.old start)
+        → ComesByLayers table.now (L.Text.bytes text.now) graph.old graph.new start r) }
 {
     laws_hold();
     sound_laws_hold();
+    pack_laws_hold();
     only_runs_are_one_way();
     only_runs_meet();
     pushed_whole();

@@ -5,11 +5,12 @@ ghost use Rattle.spec_tables.specs.Actions.{shift as shifting};
 ghost use Rattle.spec_tables.specs.Items.{IsToken};
 ghost use Rattle.spec_trees.specs.Made.{leaf_of, most_span, as_extra};
 ghost use Rattle.spec_runs.specs.Configurations.{pushed, token_tree};
+ghost use Rattle.spec_packing.specs.Packing.{packed_with};
 ghost use Rattle.spec_forced.specs.Sound.{States};
 ghost use Rattle.ts_table.specs.declared.view.ParseTable.{ParseTable};
 ghost use Rattle.ts_table.specs.Tables.{IsTable, IsStateOf};
 ghost use Rattle.ts_gss.specs.Stacks.{stack_at, state_on};
-ghost use Rattle.ts_steps.specs.LiveHeads.{config_of, read_on, GainsStacks, LiesAhead};
+ghost use Rattle.ts_steps.specs.LiveHeads.{config_of, packed_of, read_on, GainsStacks, LiesAhead};
 ghost use Rattle.ts_steps.specs.Heads.{AreStatesOf, state_where, IsOwnHead, StandOnHead, IsPutOn, IsMoveAhead, IsExtraAhead};
 
 use crate::ahead::TokenAhead;
@@ -48,6 +49,9 @@ pub fn shift(
         (state_where ahead.only (state_on (stack_at graph.old head.top)))) state) }
     ensures config { IfOk result (λ h. config_of graph.new h ≡ pushed (config_of graph.old head)
         (token_tree ahead.found.token ahead.found.pad ahead.found.size)) }
+    ensures layers { IfOk result (λ h. packed_of graph.new h
+        ≡ packed_with (packed_of graph.old head)
+        (token_tree ahead.found.token ahead.found.pad ahead.found.size)) }
     ensures live { IfOk result (λ h. (t : ParseTable) (size : ℕ) → IsOwnHead t size graph.old head
         → LiesAhead size head.place ahead.found → IsToken t.grammar ahead.found.token.0
         → IsStateOf t (ahead.found.token.0 ∷ read_on graph.old head) state
@@ -85,6 +89,9 @@ pub fn pass(graph: &mut Graph, head: StackHead, found: FoundToken) -> Result<Sta
         (Some (state_on (stack_at graph.old head.top)))))
         (state_on (stack_at graph.old head.top))) }
     ensures config { IfOk result (λ h. config_of graph.new h ≡ pushed (config_of graph.old head)
+        (as_extra (token_tree found.token found.pad found.size))) }
+    ensures layers { IfOk result (λ h. packed_of graph.new h
+        ≡ packed_with (packed_of graph.old head)
         (as_extra (token_tree found.token found.pad found.size))) }
     ensures live { IfOk result (λ h. (t : ParseTable) (size : ℕ) → IsOwnHead t size graph.old head
         → LiesAhead size head.place found → IsToken t.grammar found.token.0

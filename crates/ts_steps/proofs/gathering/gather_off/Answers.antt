@@ -1,6 +1,8 @@
 use Rattle.std.proofs.Common.{sym, subst, ℕ, ◌≤◌, List, length}
 use Rattle.ts_gss.specs.Stacks.{stack_at}
+use Rattle.ts_gss.specs.Paths.{depths_of, AreDepthsOf}
 use Rattle.ts_steps.specs.Reducing.{IsGatheredBy}
+use Rattle.ts_steps.proofs.LayerLemmas.{layers_taken}
 use Rattle.ts_steps.proofs.GatherLemmas.{under_symbols, parts, all_gathered, room_for}
 use Rattle.ts_steps.proofs.gathering.gather_off.Goals as goal
 
@@ -31,5 +33,9 @@ returns-clause-gathered c t size live room =
     let children = c.in_ok-taken.taken.nodes.items in
     let p = parts t size c.args.head.place c.args.count stack under below lifted extras children live.stack c.in_ok-extras.ensures.extras c.in_ok-taken.ensures.nodes c.reverse.ensures.items in
     let r = c.with_seen.ensures in
+    let depths : AreDepthsOf (depths_of (length children) under) c.with_seen.result.first c.with_seen.result.others =
+    subst (λ (n : ℕ). AreDepthsOf (depths_of (length children) under) n c.with_seen.result.others) (sym r.first)
+    (subst (λ (n : ℕ). AreDepthsOf (depths_of (length children) under) c.in_ok-taken.taken.first n) (sym r.others) c.in_ok-taken.ensures.depths) in
+    let layers = layers_taken stack under below lifted extras children c.args.count c.with_seen.result.first c.with_seen.result.others live.stack.depths c.in_ok-extras.ensures.extras c.in_ok-taken.ensures.nodes c.reverse.ensures.items depths in
     subst (λ (n : ℕ). IsGatheredBy t size stack c.args.head.place c.args.count c.args.ahead c.with_seen.result (stack_at c.args.graph.now n)) (sym r.below)
-    (all_gathered t size c.args.head.place c.args.count stack under below lifted extras children c.args.ahead c.with_seen.result p room c.requires.some r.extras r.children r.covers r.lifted r.past r.most r.stated r.depth)
+    (all_gathered t size c.args.head.place c.args.count stack under below lifted extras children c.args.ahead c.with_seen.result p room c.requires.some r.extras r.children r.covers r.lifted r.past r.most r.stated layers)

@@ -8,7 +8,7 @@ use Rattle.ts_steps.proofs.making.seen_over.Goals as goal
 pub loop-left-init : goal.loop-left-init
 loop-left-init c = record {
   within = omega arith;
-  seen = subst (λ (l : List Tree). IsSeenOf l c.args.behind (record { extent = c.args.behind; stated = true; deepest = 0 })) (sym (drop_all (length c.args.nodes.now) c.args.nodes.now (omega arith))) (seen_none c.args.behind);
+  seen = subst (λ (l : List Tree). IsSeenOf l c.args.behind (record { extent = c.args.behind; stated = true })) (sym (drop_all (length c.args.nodes.now) c.args.nodes.now (omega arith))) (seen_none c.args.behind);
 }
 
 pub with_those_behind-seen-requires : goal.with_those_behind-seen-requires
@@ -31,5 +31,5 @@ loop-left-preserved c =
     record {
       within = omega arith;
       seen = seen_more c.args.nodes.now left (left - 1) c.args.behind t c.loop-left.seen c.with_those_behind-seen.result (omega arith) (omega arith) c.index-nodes-left.is
-          (omega (arith, new.extent, o.span, o.extent)) (new.stated ∙ ap (λ (b : Bool). c.loop-left.seen.stated && b) o.stated) (omega (arith, new.depth, o.depth)) c.loop-left.invariant.seen;
+          (omega (arith, new.extent, o.span, o.extent)) (new.stated ∙ ap (λ (b : Bool). c.loop-left.seen.stated && b) o.stated) c.loop-left.invariant.seen;
     }

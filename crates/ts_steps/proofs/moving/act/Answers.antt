@@ -18,7 +18,7 @@ accept-requires-clause-stays c =
 pub returns-in_ok-next-in-Shift : goal.returns-in_ok-next-in-Shift
 returns-in_ok-next-in-Shift c text long ahead =
     goes_shift c.laws_hold.ensures c.args.table.now c.args.setting.now.size c.args.graph.now c.args.head c.args.found c.stands.ensures c.requires.live c.only_laws_hold.ensures c.shift.new.graph c.in_ok-next-in-Shift.next text long ahead c.in-Shift.state
-    (c.requires.only ∙ ap (λ (a : Action). a ∷ []) c.in-Shift.is) c.in_ok-next-in-Shift.ensures.config c.in_ok-next-in-Shift.ensures.live c.in_ok-next-in-Shift.ensures.stand
+    (c.requires.only ∙ ap (λ (a : Action). a ∷ []) c.in-Shift.is) c.in_ok-next-in-Shift.ensures.config c.in_ok-next-in-Shift.ensures.layers c.in_ok-next-in-Shift.ensures.live c.in_ok-next-in-Shift.ensures.stand
 
 pub returns-in_ok-root-in-Accept : goal.returns-in_ok-root-in-Accept
 returns-in_ok-root-in-Accept c text long ahead =

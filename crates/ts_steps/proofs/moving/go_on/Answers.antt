@@ -7,5 +7,5 @@ use Rattle.ts_steps.proofs.moving.go_on.Goals as goal
 
 pub returns-in-Absent : goal.returns-in-Absent
 returns-in-Absent c text long sees =
-    stuck_here c.laws_hold.ensures c.args.table.now.grammar text (config_of c.args.graph.now c.args.head) c.in-Absent.place
-    (subst (λ (l : Lexed). SeesAhead c.args.table.now text c.args.graph.now c.args.head l) c.in-Absent.is sees)
+    let stop = subst (λ (l : Lexed). SeesAhead c.args.table.now text c.args.graph.now c.args.head l) c.in-Absent.is sees in
+    (stuck_here c.laws_hold.ensures c.args.table.now.grammar text (config_of c.args.graph.now c.args.head) c.in-Absent.place stop, stop)

@@ -1,12 +1,14 @@
 use Rattle.std.proofs.Common.{ℕ, ◌≤◌, sym, refl, subst, length, arith}
 use Rattle.spec_trees.specs.Made.{most_span}
-use Rattle.ts_gss.specs.Stacks.{stack_at, state_on}
+use Rattle.ts_gss.specs.Stacks.{stack_at, state_on, AreExact}
 use Rattle.ts_steps.specs.declared.found.FoundToken.{FoundToken}
-use Rattle.ts_steps.specs.LiveHeads.{config_of}
+use Rattle.ts_steps.specs.LiveHeads.{config_of, packed_of}
 use Rattle.ts_steps.specs.Heads.{IsOwnHead}
 use Rattle.ts_steps.specs.Looking.{IsTokenAhead}
-use Rattle.ts_steps.specs.Reparsing.{IsForkFrom}
-use Rattle.ts_steps.proofs.ReparseLemmas.{stands_on, stands_taken, ends_result, ends_fork, step_falls, taken_falls, taken_place, step_place, taken_some, goes_on, goes_reduced_on, goes_kept, ends_at, none_known, sees_kept, lengthened_some, lengthened_falls, stands_lengthened}
+use Rattle.ts_steps.specs.Reparsing.{IsForkFrom, StandsFor}
+use Rattle.ts_steps.proofs.ReparseLemmas.{stands_on, stands_taken, ends_result, ends_fork, step_falls, taken_falls, taken_place, step_place, taken_some, goes_on, goes_reduced_on, goes_kept, ends_at, none_known, sees_kept, lengthened_some, lengthened_falls, stands_lengthened, has_some}
+use Rattle.ts_steps.proofs.LayerLemmas.{exact_alone}
+use Rattle.ts_steps.proofs.ThroughLemmas.{gone_none, gone_on, gone_over, gone_result}
 use Rattle.ts_steps.proofs.reparsing.reparse.Goals as goal
 
 pub loop-next-smaller-in-Some : goal.loop-next-smaller-in-Some
@@ -38,6 +40,15 @@ loop-next-preserved-in-Some g c =
           stands_taken c.laws_hold.ensures c.sound_laws_hold.ensures c.pushed_whole.ensures.meet c.only_runs_meet.ensures.joined c.args.table.now states text (config_of c.args.graph.now c.args.start) c.loop-next.graph c.take.new.graph h c.in-Some.next w.0 c.stands.ensures are
           c.loop-next.invariant.live (c.loop-next.invariant.stands states are honest lent first) w.2
           (honest h.place state w.0 (c.loop-next.invariant.gives h.place state w.0 w.1));
+      layers = λ states are honest lent first met.
+          let graph = c.loop-next.graph in
+          let before = has_some (AreExact (stack_at graph h.top)) c.in_ok-next.field-0 c.in-Some.next c.in-Some.is c.in_ok-next.ensures.exact in
+          let after : AreExact (stack_at c.take.new.graph c.in-Some.next.top) = subst AreExact (sym w.2.taken.put) (refl, before) in
+          let here : StandsFor c.args.table.now states text (config_of graph h) graph h = record { meet = c.only_runs_meet.ensures.same c.args.table.now.grammar text (config_of graph h); stand = (c.loop-next.invariant.stands states are honest lent first).stand } in
+          let now = stands_taken c.laws_hold.ensures c.sound_laws_hold.ensures c.pushed_whole.ensures.meet c.only_runs_meet.ensures.joined c.args.table.now states text (config_of graph h) graph c.take.new.graph h c.in-Some.next w.0 c.stands.ensures are
+          c.loop-next.invariant.live here w.2 (honest h.place state w.0 (c.loop-next.invariant.gives h.place state w.0 w.1)) in
+          gone_over c.laws_hold.ensures c.pack_laws_hold.ensures c.args.table.now c.stands.ensures.fit text (c.only_runs_meet.ensures.joined c.args.table.now.grammar text) (packed_of c.args.graph.now c.args.start) graph c.take.new.graph h c.in-Some.next (c.loop-next.invariant.layers states are honest lent first met)
+          (exact_alone c.laws_hold.ensures.keeps (stack_at graph h.top) before) (exact_alone c.laws_hold.ensures.keeps (stack_at c.take.new.graph c.in-Some.next.top) after) now.meet;
       known = none_known (IsTokenAhead c.args.table.now text c.take.new.graph c.in-Some.next);
     }
 
@@ -66,6 +77,8 @@ loop-next-preserved-in-On g c =
       later = (let before = c.loop-next.invariant.later in omega (arith, before, far));
       weight = (let fall = step_falls c.laws_hold.ensures c.args.table.now c.stands.ensures.fit (c.unit_ranks.ensures c.args.table.now.grammar c.stands.ensures.fit) text c.loop-next.graph c.go_on.new.graph h c.in-On.next c.loop-next.invariant.live go.step in let most = c.loop-next.invariant.weight in omega (arith, fall, most));
       stands = λ states are honest lent first. stands_on c.only_runs_meet.ensures.joined c.only_runs_meet.ensures.step c.args.table.now states text (config_of c.args.graph.now c.args.start) c.loop-next.graph c.go_on.new.graph h c.in-On.next (c.loop-next.invariant.stands states are honest lent first) go.step (go.stand states are);
+      layers = λ states are honest lent first met.
+          gone_on c.laws_hold.ensures c.pack_laws_hold.ensures c.args.table.now c.stands.ensures.fit text (c.only_runs_meet.ensures.joined c.args.table.now.grammar text) (packed_of c.args.graph.now c.args.start) c.loop-next.graph c.go_on.new.graph h c.in-On.next (c.loop-next.invariant.layers states are honest lent first met) (c.only_runs_meet.ensures.step c.args.table.now.grammar text) go;
       known = none_known (IsTokenAhead c.args.table.now text c.go_on.new.graph c.in-On.next);
     }
 
@@ -136,6 +149,17 @@ loop-next-preserved-in-Some-2 g c =
           let before = stands_on c.only_runs_meet.ensures.joined c.only_runs_meet.ensures.step c.args.table.now states text (config_of c.args.graph.now c.args.start) c.loop-next.graph c.go_on.new.graph h c.in-Reduced.next (c.loop-next.invariant.stands states are honest lent first) led.0.step (led.0.stand states are) in
           stands_lengthened c.only_runs_meet.ensures.joined c.args.table.now states text (config_of c.args.graph.now c.args.start) c.go_on.new.graph c.take_elements.new.graph c.in-Reduced.next c.in-Some-2.longer w.0 w.1 are before w.3
           (lent w.0.place w.0.state w.0.symbol.0 w.1 (c.loop-next.invariant.lends w.0.place w.0.state w.0.symbol.0 w.1 (c.in_ok-next.ensures.lends w.0.place w.0.state w.0.symbol.0 w.1 w.2)));
+      layers = λ states are honest lent first met.
+          let mid = c.go_on.new.graph in
+          let n = c.in-Reduced.next in
+          let led_on = gone_on c.laws_hold.ensures c.pack_laws_hold.ensures c.args.table.now c.stands.ensures.fit text (c.only_runs_meet.ensures.joined c.args.table.now.grammar text) (packed_of c.args.graph.now c.args.start) c.loop-next.graph mid h n (c.loop-next.invariant.layers states are honest lent first met) (c.only_runs_meet.ensures.step c.args.table.now.grammar text) led.0 in
+          let before = has_some (AreExact (stack_at mid n.top)) c.in_ok-longer-in-Reduced.field-0 c.in-Some-2.longer c.in-Some-2.is c.in_ok-longer-in-Reduced.ensures.exact in
+          let after = w.3.exact before in
+          let here : StandsFor c.args.table.now states text (config_of mid n) mid n = record { meet = c.only_runs_meet.ensures.same c.args.table.now.grammar text (config_of mid n); stand = led.0.stand states are (c.loop-next.invariant.stands states are honest lent first).stand } in
+          let now = stands_lengthened c.only_runs_meet.ensures.joined c.args.table.now states text (config_of mid n) mid c.take_elements.new.graph n c.in-Some-2.longer w.0 w.1 are here w.3
+          (lent w.0.place w.0.state w.0.symbol.0 w.1 (c.loop-next.invariant.lends w.0.place w.0.state w.0.symbol.0 w.1 (c.in_ok-next.ensures.lends w.0.place w.0.state w.0.symbol.0 w.1 w.2))) in
+          gone_over c.laws_hold.ensures c.pack_laws_hold.ensures c.args.table.now c.stands.ensures.fit text (c.only_runs_meet.ensures.joined c.args.table.now.grammar text) (packed_of c.args.graph.now c.args.start) mid c.take_elements.new.graph n c.in-Some-2.longer led_on (exact_alone c.laws_hold.ensures.keeps (stack_at mid n.top) before)
+          (exact_alone c.laws_hold.ensures.keeps (stack_at c.take_elements.new.graph c.in-Some-2.longer.top) after) now.meet;
       known = none_known (IsTokenAhead c.args.table.now text c.take_elements.new.graph c.in-Some-2.longer);
     }
 
@@ -165,6 +189,8 @@ loop-next-preserved g c =
       later = (let before = c.loop-next.invariant.later in let far = step_place c.args.table.now text c.loop-next.graph c.take_elements.new.graph h c.in-Reduced.next go.0.step in omega (arith, before, far));
       weight = (let fall = step_falls c.laws_hold.ensures c.args.table.now c.stands.ensures.fit (c.unit_ranks.ensures c.args.table.now.grammar c.stands.ensures.fit) text c.loop-next.graph c.take_elements.new.graph h c.in-Reduced.next c.loop-next.invariant.live go.0.step in let most = c.loop-next.invariant.weight in omega (arith, fall, most));
       stands = λ states are honest lent first. stands_on c.only_runs_meet.ensures.joined c.only_runs_meet.ensures.step c.args.table.now states text (config_of c.args.graph.now c.args.start) c.loop-next.graph c.take_elements.new.graph h c.in-Reduced.next (c.loop-next.invariant.stands states are honest lent first) go.0.step (go.0.stand states are);
+      layers = λ states are honest lent first met.
+          gone_on c.laws_hold.ensures c.pack_laws_hold.ensures c.args.table.now c.stands.ensures.fit text (c.only_runs_meet.ensures.joined c.args.table.now.grammar text) (packed_of c.args.graph.now c.args.start) c.loop-next.graph c.take_elements.new.graph h c.in-Reduced.next (c.loop-next.invariant.layers states are honest lent first met) (c.only_runs_meet.ensures.step c.args.table.now.grammar text) go.0;
       known = λ f e.
           let r = c.seen_again-ahead.ensures f e in
           subst (λ (x : FoundToken). IsTokenAhead c.args.table.now text c.take_elements.new.graph c.in-Reduced.next x) (sym r.0) (go.1 r.1);
@@ -180,6 +206,7 @@ loop-next-init g c = record {
   later = omega arith;
   weight = omega arith;
   stands = λ states are honest lent first. record { meet = c.only_runs_meet.ensures.same c.args.table.now.grammar (g.L.Text.Content.bytes c.args.text.now) (config_of c.args.graph.now c.args.start); stand = first };
+  layers = λ states are honest lent first met. gone_none c.pack_laws_hold.ensures c.args.table.now.grammar c.stands.ensures.fit (g.L.Text.Content.bytes c.args.text.now) c.args.graph.now c.args.start met;
   known = none_known (IsTokenAhead c.args.table.now (g.L.Text.Content.bytes c.args.text.now) c.args.graph.now c.args.start);
 }
 
@@ -205,5 +232,14 @@ returns-in-Ended-clause-least g c =
     let text = g.L.Text.Content.bytes c.args.text.now in
     let long = sym (c.requires.setting.size_is) in
     ends_fork c.args.table.now text (λ stacks k. g.O.Offers.least c.take.new.offers ≤ k.place) c.loop-next.graph c.go_on.new.graph c.loop-next.head c.in-Ended.result (λ several. c.in_ok-next.ensures.least)
+    (ends_at c.args.table.now text c.loop-next.graph c.take.new.graph c.go_on.new.graph c.loop-next.head c.in-Ended.result c.in_ok-next-in-None.field-0 (c.in_ok-next.ensures.kept c.in-None.is) c.in-Ended.is
+    (c.in_ok-next-in-None.ensures text long (sees_kept c.args.table.now text c.loop-next.graph c.take.new.graph c.loop-next.head c.look_once-lexed.result (c.in_ok-next.ensures.kept c.in-None.is) c.look_once-lexed.ensures.sees)))
+
+pub returns-in-Ended-clause-layers : goal.returns-in-Ended-clause-layers
+returns-in-Ended-clause-layers g c states are honest lent first met =
+    let text = g.L.Text.Content.bytes c.args.text.now in
+    let long = sym (c.requires.setting.size_is) in
+    gone_result c.laws_hold.ensures c.pack_laws_hold.ensures c.args.table.now c.stands.ensures.fit text (c.only_runs_are_one_way.ensures.fresh c.args.table.now.grammar text) (c.only_runs_meet.ensures.ends c.args.table.now.grammar text) (c.only_runs_meet.ensures.fork c.args.table.now.grammar text) c.args.graph.now c.loop-next.graph c.go_on.new.graph c.args.start c.loop-next.head met
+    (c.loop-next.invariant.layers states are honest lent first met) c.in-Ended.result
     (ends_at c.args.table.now text c.loop-next.graph c.take.new.graph c.go_on.new.graph c.loop-next.head c.in-Ended.result c.in_ok-next-in-None.field-0 (c.in_ok-next.ensures.kept c.in-None.is) c.in-Ended.is
     (c.in_ok-next-in-None.ensures text long (sees_kept c.args.table.now text c.loop-next.graph c.take.new.graph c.loop-next.head c.look_once-lexed.result (c.in_ok-next.ensures.kept c.in-None.is) c.look_once-lexed.ensures.sees)))

@@ -3,7 +3,7 @@ use Rattle.spec_trees.specs.declared.tree.Tree.{Tree}
 use Rattle.spec_trees.specs.Made.{leaf_of, as_extra}
 use Rattle.ts_gss.specs.Stacks.{stack_at, layer_with}
 use Rattle.ts_steps.proofs.StackLemmas.{pushes_grow, pushed_stack}
-use Rattle.ts_steps.proofs.HeadLemmas.{pass_own, pass_config, pass_stands}
+use Rattle.ts_steps.proofs.HeadLemmas.{pass_own, pass_config, pass_layers, pass_stands}
 use Rattle.ts_steps.proofs.shifting.pass.Goals as goal
 
 pub leaf-leaf-requires-clause-past : goal.leaf-leaf-requires-clause-past
@@ -39,6 +39,11 @@ returns-clause-put c =
 pub returns-clause-config : goal.returns-clause-config
 returns-clause-config c =
     pass_config c.laws_hold.ensures c.args.graph.now c.push.new.self c.args.head c.args.found (Some c.state-state.result) c.as_extra-node.result c.state-state.result c.in_ok-top.top
+    (record { top_is = c.in_ok-top.ensures.head; new_is = c.in_ok-top.ensures.pushed }) (c.as_extra-node.ensures ∙ ap as_extra c.leaf-leaf.ensures.node)
+
+pub returns-clause-layers : goal.returns-clause-layers
+returns-clause-layers c =
+    pass_layers c.laws_hold.ensures c.args.graph.now c.push.new.self c.args.head c.args.found (Some c.state-state.result) c.as_extra-node.result c.state-state.result c.in_ok-top.top
     (record { top_is = c.in_ok-top.ensures.head; new_is = c.in_ok-top.ensures.pushed }) (c.as_extra-node.ensures ∙ ap as_extra c.leaf-leaf.ensures.node)
 
 pub returns-clause-live : goal.returns-clause-live

@@ -3,7 +3,7 @@ use Rattle.spec_trees.specs.declared.tree.Tree.{Tree}
 use Rattle.spec_trees.specs.Made.{leaf_of}
 use Rattle.ts_gss.specs.Stacks.{stack_at, state_on, layer_with}
 use Rattle.ts_steps.proofs.StackLemmas.{pushes_grow, pushed_stack}
-use Rattle.ts_steps.proofs.HeadLemmas.{shift_own, shift_config, shift_stands}
+use Rattle.ts_steps.proofs.HeadLemmas.{shift_own, shift_config, shift_layers, shift_stands}
 use Rattle.ts_steps.proofs.shifting.shift.Goals as goal
 
 pub leaf-node-requires-clause-past : goal.leaf-node-requires-clause-past
@@ -37,6 +37,11 @@ returns-clause-put c =
 pub returns-clause-config : goal.returns-clause-config
 returns-clause-config c =
     shift_config c.laws_hold.ensures c.args.graph.now c.push.new.self c.args.head c.args.ahead.found c.state_below-below.result c.leaf-node.result c.args.state c.in_ok-top.top (record { top_is = c.in_ok-top.ensures.head; new_is = c.in_ok-top.ensures.pushed })
+    c.leaf-node.ensures.node
+
+pub returns-clause-layers : goal.returns-clause-layers
+returns-clause-layers c =
+    shift_layers c.laws_hold.ensures c.args.graph.now c.push.new.self c.args.head c.args.ahead.found c.state_below-below.result c.leaf-node.result c.args.state c.in_ok-top.top (record { top_is = c.in_ok-top.ensures.head; new_is = c.in_ok-top.ensures.pushed })
     c.leaf-node.ensures.node
 
 pub returns-clause-live : goal.returns-clause-live
