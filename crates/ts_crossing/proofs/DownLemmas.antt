@@ -26,7 +26,7 @@ module _ (links : List Link) (h : ℕ) where
 
     -- where the link is not alone, none is the only one
     pub none_alone : (IsAlone links link → ⊥) → (k : ℕ) → IsOnlyDown links h k → ⊥
-    none_alone not k only = not (λ l at. (by (links_down (take link links) l.above) refl (above l at), exact l at))
+    none_alone not k only = not (λ l at. by (links_down (take link links) l.above) refl (above l at))
       where
         same : link ≡ k
         same = only.only link found.0 found.1 found.2
@@ -36,9 +36,6 @@ module _ (links : List Link) (h : ℕ) where
 
         above : (l : Link) → slice_get links link ≡ Some l → l.above ≡ h
         above l at = ap (λ (x : Link). x.above) (is_link l at) ∙ only.above
-
-        exact : (l : Link) → slice_get links link ≡ Some l → l.depth ≡ tree_depth l.tree
-        exact l at = subst (λ (x : Link). x.depth ≡ tree_depth x.tree) (sym (is_link l at)) only.exact
 
         by : {a : ℕ} (ks : List ℕ) → links_down (take link links) a ≡ ks → a ≡ h → links_down (take link links) a ≡ []
         by [] e up = e
@@ -58,11 +55,10 @@ module _ (links : List Link) (h : ℕ) where
       at = found.1;
       above = found.2;
       only = λ j other at above. by j (subst (λ (xs : List ℕ). Has xs j) (sym first) (down_is links h j other at above));
-      exact = (alone found.0 found.1).1;
     }
       where
         none : links_down (take link links) h ≡ []
-        none = subst (λ (n : ℕ). links_down (take link links) n ≡ []) found.2 (alone found.0 found.1).0
+        none = subst (λ (n : ℕ). links_down (take link links) n ≡ []) found.2 (alone found.0 found.1)
 
         by : (j : ℕ) → Has (links_from links h (Some link)) j → j ≡ link
         by j (inl e) = sym e
@@ -71,24 +67,17 @@ module _ (links : List Link) (h : ℕ) where
 -- ---- whether a link is alone
 
 module _ (links : List Link) (link : ℕ) where
-  pub own_depth : (node : Tree) (own : ℕ) → own ≡ tree_depth node → ((l : Link) → slice_get links link ≡ Some l → node ≡ l.tree) → (l : Link) → slice_get links link ≡ Some l → own ≡ tree_depth l.tree
-  own_depth node own is tree l at = is ∙ ap tree_depth (tree l at)
-
   pub next_is : (next known : Option ℕ) → next ≡ known → ((l : Link) → slice_get links link ≡ Some l → links_from links l.above next ≡ links_down (take link links) l.above) → (l : Link) → slice_get links link ≡ Some l → links_from links l.above known ≡ links_down (take link links) l.above
   next_is next known is goes l at = subst (λ (o : Option ℕ). links_from links l.above o ≡ links_down (take link links) l.above) is (goes l at)
 
   pub not_alone : link < length links → (other : ℕ) → ((l : Link) → slice_get links link ≡ Some l → links_from links l.above (Some other) ≡ links_down (take link links) l.above) → IsAlone links link → ⊥
   not_alone low other goes alone =
       let r = read_at links link low in
-      let e : other ∷ links_down (take other links) r.0.above ≡ [] = goes r.0 r.1 ∙ (alone r.0 r.1).0 in
+      let e : other ∷ links_down (take other links) r.0.above ≡ [] = goes r.0 r.1 ∙ alone r.0 r.1 in
       cc
 
-  pub not_exact : link < length links → (greatest own : ℕ) → ((l : Link) → slice_get links link ≡ Some l → greatest ≡ l.depth) → ((l : Link) → slice_get links link ≡ Some l → own ≡ tree_depth l.tree) → (greatest ≡ own → ⊥) → IsAlone links link → ⊥
-  not_exact low greatest own first second differ alone = let r = read_at links link low in differ (first r.0 r.1 ∙ (alone r.0 r.1).1 ∙ sym (second r.0 r.1))
-
-  pub is_alone : (greatest own : ℕ) → ((l : Link) → slice_get links link ≡ Some l → greatest ≡ l.depth) → ((l : Link) → slice_get links link ≡ Some l → own ≡ tree_depth l.tree)
-      → ((l : Link) → slice_get links link ≡ Some l → links_from links l.above None ≡ links_down (take link links) l.above) → greatest ≡ own → IsAlone links link
-  is_alone greatest own first second goes same = λ l at. (sym (goes l at), sym (first l at) ∙ same ∙ second l at)
+  pub is_alone : ((l : Link) → slice_get links link ≡ Some l → links_from links l.above None ≡ links_down (take link links) l.above) → IsAlone links link
+  is_alone goes = λ l at. sym (goes l at)
 
 -- ---- a token on top
 

@@ -3,6 +3,7 @@ use Rattle.std.proofs.Common.{◌≡◌, ◌∙◌, sym, ap, refl, subst, ℕ, z
 use Rattle.std.specs.Option.{option_map_or}
 use Rattle.std.proofs.lemmas.List.{reverse-append, drop_all}
 use Rattle.ts_base.specs.Bytes.{Bytes}
+use Rattle.ts_core.specs.declared.flat.FlatGrammar.{FlatGrammar}
 use Rattle.spec_trees.specs.declared.tree.Tree.{Tree}
 use Rattle.spec_trees.specs.Trees.{node_extent, all_spans, bare}
 use Rattle.spec_trees.specs.Inside.{itself}
@@ -15,18 +16,20 @@ use Rattle.spec_graph.specs.declared.graph.Link.{Link}
 use Rattle.spec_graph.specs.States.{LeadsTo}
 use Rattle.spec_graph.specs.Laying.{Parsing}
 use Rattle.spec_graph.specs.Links.{IsAt, IsWay, way_trees, IsLinked}
-use Rattle.spec_crossing.specs.Leaving.{way_config}
+use Rattle.spec_runs.specs.Runs.{IsReached}
+use Rattle.spec_packing.specs.Packing.{PackedTree, PackedStack, packed_trees, own_config, packed_alone, stack_alone}
+use Rattle.spec_crossing.specs.Leaving.{packed_link, way_stack}
 use Rattle.ts_table.specs.declared.view.ParseTable.{ParseTable}
 use Rattle.ts_table.specs.Tables.{goto_of, IsTable, IsStateOf}
 use Rattle.ts_gss.specs.declared.layer.Layer.{Layer}
-use Rattle.ts_gss.specs.Stacks.{layer_with, stack_at, trees_on}
+use Rattle.ts_gss.specs.Stacks.{packed_layer, stack_at, trees_on}
 use Rattle.ts_graph.specs.declared.view.GraphView.{GraphView}
 use Rattle.ts_graph.specs.Down.{HoldsEachOnce, place_at}
 use Rattle.ts_graph.specs.Ways.{AreAt}
 use Rattle.ts_reductions.specs.SoundLinks.{bare_link, bare_links}
 use Rattle.ts_steps.specs.declared.head.StackHead.{StackHead}
 use Rattle.ts_steps.specs.Good.{EachTree, AreGoodTrees}
-use Rattle.ts_steps.specs.LiveHeads.{config_of, HaveStates, IsGoodStack}
+use Rattle.ts_steps.specs.LiveHeads.{packed_of, packed_tree, packed_layers, HaveStates, HaveDepths, IsGoodStack}
 use Rattle.ts_steps.specs.Heads.{AreStatesOf, IsOwnWithin, IsMadeNode, IsOwnHead, StandOnHead}
 use Rattle.ts_crossing.specs.Laws.{LeaveLaws}
 use Rattle.ts_reductions.specs.Sound.{Base, parsing_from, IsSoundBy}
@@ -40,14 +43,15 @@ use Rattle.ts_crossing.proofs.TableLemmas.{leads_state}
 
 -- ---- one tree after another
 
-pub top_pushed : (heads : List Head) (old new : List (List Layer)) (top below state : ℕ) (node : Tree) (l : Link) → top ≡ length old → new ≡ old ++ (layer_with node state ∷ stack_at old below) ∷ [] → node ≡ l.tree → state ≡ state_at heads l.above
-    → stack_at new top ≡ layer_with l.tree (state_at heads l.above) ∷ stack_at old below
-top_pushed heads old new top below state node l top_is new_is node_is state_is =
+pub top_pushed : (heads : List Head) (old new : List (List Layer)) (top below state depth : ℕ) (node : Tree) (l : Link) → top ≡ length old → new ≡ old ++ (packed_layer node state depth ∷ stack_at old below) ∷ [] → node ≡ l.tree → state ≡ state_at heads l.above → depth ≡ l.depth
+    → stack_at new top ≡ packed_layer l.tree (state_at heads l.above) l.depth ∷ stack_at old below
+top_pushed heads old new top below state depth node l top_is new_is node_is state_is depth_is =
     ap (λ (ss : List (List Layer)). stack_at ss top) new_is
-    ∙ ap (λ (n : ℕ). stack_at (old ++ (layer_with node state ∷ stack_at old below) ∷ []) n) top_is
-    ∙ stack_new old (layer_with node state ∷ stack_at old below)
-    ∙ ap (λ (t : Tree). layer_with t state ∷ stack_at old below) node_is
-    ∙ ap (λ (s : ℕ). layer_with l.tree s ∷ stack_at old below) state_is
+    ∙ ap (λ (n : ℕ). stack_at (old ++ (packed_layer node state depth ∷ stack_at old below) ∷ []) n) top_is
+    ∙ stack_new old (packed_layer node state depth ∷ stack_at old below)
+    ∙ ap (λ (t : Tree). packed_layer t state depth ∷ stack_at old below) node_is
+    ∙ ap (λ (s : ℕ). packed_layer l.tree s depth ∷ stack_at old below) state_is
+    ∙ ap (λ (d : ℕ). packed_layer l.tree (state_at heads l.above) d ∷ stack_at old below) depth_is
 
 pub top_there : (old new : List (List Layer)) (top : ℕ) (x : List Layer) → top ≡ length old → new ≡ old ++ x ∷ [] → top < length new
 top_there old new top x top_is new_is = let e = ap (λ (ss : List (List Layer)). length ss) new_is in let n = length-append old (x ∷ []) in omega (arith, top_is, e, n)
@@ -85,10 +89,10 @@ layers_first links heads numbers way at stacks is =
     let n = way_length links numbers way at in
     ap (λ (ss : List (List Layer)). stack_at ss 0) is ∙ ap (λ (w : List Link). layers_of heads w) (sym (drop_all (length numbers) way (omega (arith, n))))
 
-pub layers_next : (heads : List Head) (way : List Link) (i left : ℕ) (l : Link) (old new : List Layer) → drop i way ≡ l ∷ drop (suc i) way → left ≡ suc i → old ≡ layers_of heads (drop left way) → new ≡ layer_with l.tree (state_at heads l.above) ∷ old → new ≡ layers_of heads (drop i way)
+pub layers_next : (heads : List Head) (way : List Link) (i left : ℕ) (l : Link) (old new : List Layer) → drop i way ≡ l ∷ drop (suc i) way → left ≡ suc i → old ≡ layers_of heads (drop left way) → new ≡ packed_layer l.tree (state_at heads l.above) l.depth ∷ old → new ≡ layers_of heads (drop i way)
 layers_next heads way i left l old new cut is below top =
     top
-    ∙ ap (λ (ls : List Layer). layer_with l.tree (state_at heads l.above) ∷ ls) (below ∙ ap (λ (n : ℕ). layers_of heads (drop n way)) is)
+    ∙ ap (λ (ls : List Layer). packed_layer l.tree (state_at heads l.above) l.depth ∷ ls) (below ∙ ap (λ (n : ℕ). layers_of heads (drop n way)) is)
     ∙ ap (λ (w : List Link). layers_of heads w) (sym cut)
 
 pub layers_last : (heads : List Head) (way : List Link) (left : ℕ) (stack : List Layer) → left ≡ 0 → stack ≡ layers_of heads (drop left way) → stack ≡ layers_of heads way
@@ -99,6 +103,18 @@ layers_last heads way left stack z e = e ∙ ap (λ (n : ℕ). layers_of heads (
 layer_trees : (heads : List Head) (way : List Link) → map bare (trees_on (layers_of heads way)) ≡ way_trees (map bare_link way)
 layer_trees heads [] = refl
 layer_trees heads (l ∷ way) = ap (λ (ts : List Tree). bare l.tree ∷ ts) (layer_trees heads way)
+
+layers_are : (heads : List Head) (way : List Link) → packed_layers (layers_of heads way) ≡ map packed_link (map bare_link way)
+layers_are heads [] = refl
+layers_are heads (l ∷ way) = ap (λ (ls : List PackedTree). packed_tree l.tree l.depth ∷ ls) (layers_are heads way)
+
+-- what stands for itself alone is reached as it is
+alone_trees : (ts : List Tree) → packed_trees (map packed_alone ts) ≡ ts
+alone_trees [] = refl
+alone_trees (t ∷ ts) = ap (λ (us : List Tree). t ∷ us) (alone_trees ts)
+
+pub own_reached : (g : FlatGrammar) (text : Bytes) (c : Configuration) → IsReached g text (own_config (stack_alone c)) → IsReached g text c
+own_reached g text c reached = subst (λ (ts : List Tree). IsReached g text (record { stack = ts; place = c.place })) (alone_trees c.stack) reached
 
 module _ (laws : LeaveLaws) (t : ParseTable) (text : Bytes) (base : Base) (g : GraphView) (sound : IsSoundBy t text base g) where
   abbrev P : Parsing
@@ -134,6 +150,23 @@ module _ (laws : LeaveLaws) (t : ParseTable) (text : Bytes) (base : Base) (g : G
       let at = read_is l.above to (linked k l a.0).over (l ∷ way) up down in (
         subst (λ (n : ℕ). IsStateOf t (filling (trees (l ∷ way))) n) (state_of_head g.heads l.above at.head at.is) (leads_state t (filling (trees (l ∷ way))) at.head.state at.state),
         states_of numbers way l.below a.1 w.2,
+      )
+
+  depths_of : (numbers : List ℕ) (way : List Link) → AreAt g.links numbers way → HaveDepths (layers_of g.heads way)
+  depths_of numbers [] a = tt
+  depths_of [] (l ∷ way) a = absurd a
+  depths_of (k ∷ numbers) (l ∷ way) a =
+      let there = contained_at g.links k l a.0 in
+      let kept = laws.keeps l.tree in
+      let p = sound.laid.parsed in (
+        record {
+          own = let low = (linked k l a.0).shallow in let d = kept.depth in omega (arith, low, d);
+          shallow = (sound.laid.held l there).not_deep;
+          flat = λ extra.
+              laws.flat P p.fit p.states p.grounded g.heads bares sound.laid.graph (bare_link l) (bare_member g.links l there) (kept.extra ∙ extra)
+              ∙ kept.depth;
+        },
+        depths_of numbers way a.1,
       )
 
   reach_of : (numbers : List ℕ) (way : List Link) (h : ℕ) → AreAt g.links numbers way → IsWay bares h (map bare_link way) 0 → EndBy (suc (length text)) 0 (reverse (trees way))
@@ -224,13 +257,13 @@ module _ (laws : LeaveLaws) (t : ParseTable) (text : Bytes) (base : Base) (g : G
     pub head_at_place : IsAt P g.heads h reads.0 k.place
     head_at_place = subst (λ (n : ℕ). IsAt P g.heads h reads.0 n) (sym place_is) reads.1
 
-    pub config_is : config_of stacks k ≡ way_config (map bare_link s.way) k.place
-    config_is =
-        ap (λ (ls : List Layer). pair (map bare (trees_on ls)) k.place) left.stack
-        ∙ ap (λ (ts : List Tree). pair ts k.place) (layer_trees g.heads s.way)
+    pub layers_is : packed_of stacks k ≡ way_stack (map bare_link s.way) k.place
+    layers_is =
+        ap (λ (ls : List Layer). pair (packed_layers ls) k.place) left.stack
+        ∙ ap (λ (ls : List PackedTree). pair ls k.place) (layers_are g.heads s.way)
       where
-        pair : List Tree → ℕ → Configuration
-        pair ts place = record { stack = ts; place = place }
+        pair : List PackedTree → ℕ → PackedStack
+        pair ls place = record { stack = ls; place = place }
 
     pub left_own : AreOwn t.grammar g → IsOwnHead t (length text) stacks k
     left_own own = record {
@@ -239,6 +272,7 @@ module _ (laws : LeaveLaws) (t : ParseTable) (text : Bytes) (base : Base) (g : G
         stack = subst (λ (ls : List Layer). IsGoodStack t (length text) ls k.place) (sym left.stack)
             (record {
               states = states_of numbers s.way h s.at s.only.down;
+              depths = depths_of numbers s.way s.at;
               good = good_trees own numbers s.way s.at;
               spans = spans_are h k.place reads.0 s.way head_at_place s.only.down;
               reach = reach_of numbers s.way h s.at s.only.down;

@@ -22,7 +22,6 @@ use Rattle.ts_crossing.specs.Entering.{CanEnter, HaveBytes, IsUnder, AreDownTo, 
 use Rattle.ts_crossing.proofs.BareLemmas.{spans_append, extras_bare, begins_bare, span_bare, spans_bare, filling_bare}
 use Rattle.ts_crossing.proofs.PartLemmas.{end_by_split}
 use Rattle.ts_crossing.proofs.TableLemmas.{state_leads}
-use Rattle.ts_crossing.proofs.ForkLemmas.{fork_bytes}
 
 -- ---- stacks below others
 
@@ -105,7 +104,7 @@ module _ (laws : EnterLaws) (t : ParseTable) (text : Bytes) (stacks : List (List
   good = can.live.stack
 
   bytes : HaveBytes low
-  bytes = bytes_right is.extras low (subst (λ (ts : List Tree). HaveBytes ts) is.lifted.trees (fork_bytes laws t text stacks h can.fork good.good))
+  bytes = bytes_right is.extras low (subst (λ (ts : List Tree). HaveBytes ts) is.lifted.trees can.bytes)
 
   pub place_is : under.place ≡ all_spans low
   place_is =

@@ -10,7 +10,7 @@ use Rattle.spec_graph.specs.declared.graph.Head.{Head}
 use Rattle.spec_graph.specs.declared.graph.Link.{Link}
 use Rattle.spec_graph.specs.Laying.{Parsing}
 use Rattle.spec_graph.specs.Links.{IsWay}
-use Rattle.spec_crossing.specs.Leaving.{AreExact, IsOnlyWay, EndsWithToken}
+use Rattle.spec_crossing.specs.Leaving.{IsOneWay, EndsWithToken}
 use Rattle.ts_graph.specs.declared.view.GraphView.{GraphView}
 use Rattle.ts_graph.specs.Down.{HoldsEachOnce, place_at}
 use Rattle.ts_graph.specs.Ways.{AreAt}
@@ -29,14 +29,6 @@ way_more links h b c (x ∷ way) l is there above below = (is.0, is.1, way_more 
 pub way_join : (links : List Link) (h b c : ℕ) (way more : List Link) → IsWay links h way b → IsWay links b more c → IsWay links h (way ++ more) c
 way_join links h b c [] more is on = subst (λ (n : ℕ). IsWay links n more c) (sym is) on
 way_join links h b c (x ∷ way) more is on = (is.0, is.1, way_join links x.below b c way more is.2 on)
-
-exact_more : (way : List Link) (l : Link) → AreExact way → l.depth ≡ tree_depth l.tree → AreExact (way ++ l ∷ [])
-exact_more [] l e d = (d, tt)
-exact_more (x ∷ way) l e d = (e.0, exact_more way l e.1 d)
-
-exact_right : (xs ys : List Link) → AreExact (xs ++ ys) → AreExact ys
-exact_right [] ys e = e
-exact_right (x ∷ xs) ys e = exact_right xs ys e.1
 
 at_more : (links : List Link) (numbers : List ℕ) (way : List Link) (k : ℕ) (l : Link) → AreAt links numbers way → slice_get links k ≡ Some l → AreAt links (numbers ++ k ∷ []) (way ++ l ∷ [])
 at_more links [] [] k l a e = (e, tt)
@@ -88,11 +80,8 @@ module _ (keeps : (t : Tree) → KeepsAll t) (g : GraphView) (P : Parsing) (soun
       let k = at_contained g.links m.0 m.1 in
       record { number = k.0; link = m.0; at = k.1; is = m.2 }
 
-  exact_bare : (l : Link) → l.depth ≡ tree_depth l.tree → (bare_link l).depth ≡ tree_depth (bare_link l).tree
-  exact_bare l e = e ∙ sym (keeps l.tree).depth
-
   pub leads_first : (h : ℕ) → LeadsDown g.links h [] h
-  leads_first h = record { way = []; at = tt; down = refl; exact = tt; first = λ other is. (other, refl, is) }
+  leads_first h = record { way = []; at = tt; down = refl; first = λ other is. (other, refl, is) }
 
   module _ (h b : ℕ) (numbers : List ℕ) (leads : LeadsDown g.links h numbers b) where
     abbrev way : List Link
@@ -105,7 +94,6 @@ module _ (keeps : (t : Tree) → KeepsAll t) (g : GraphView) (P : Parsing) (soun
         at = at_more g.links numbers leads.way k only.link leads.at only.at;
         down = subst (λ (w : List Link). IsWay bares h w c) (sym all)
             (way_more bares h b c way (bare_link only.link) leads.down (bare_member g.links only.link (contained_at g.links k only.link only.at)) only.above below);
-        exact = subst (λ (w : List Link). AreExact w) (sym all) (exact_more way (bare_link only.link) leads.exact (exact_bare only.link only.exact));
         first = first;
       }
         where
@@ -130,7 +118,7 @@ module _ (keeps : (t : Tree) → KeepsAll t) (g : GraphView) (P : Parsing) (soun
           first other w = let f = leads.first other w in on f.0 other f.1 f.2
 
       -- where no link is the only one, no way is
-      pub leads_none : HoldsEachOnce g.heads g.links → ((k : ℕ) → IsOnlyDown g.links b k → ⊥) → (other : List Link) → IsOnlyWay bares h other → ⊥
+      pub leads_none : HoldsEachOnce g.heads g.links → ((k : ℕ) → IsOnlyDown g.links b k → ⊥) → (other : List Link) → IsOneWay bares h other → ⊥
       leads_none once none other only = let f = leads.first other only.down in by f.0 f.1 f.2
         where
           by : (rest : List Link) → other ≡ way ++ rest → IsWay bares b rest 0 → ⊥
@@ -138,9 +126,7 @@ module _ (keeps : (t : Tree) → KeepsAll t) (g : GraphView) (P : Parsing) (soun
           by (l ∷ rest) is w =
               let n = numbered l w.0 in
               let above : n.link.above ≡ b = ap (λ (x : Link). x.above) n.is ∙ w.1 in
-              let right : AreExact (l ∷ rest) = exact_right way (l ∷ rest) (subst (λ (v : List Link). AreExact v) is only.exact) in
-              let deep : n.link.depth ≡ tree_depth (bare n.link.tree) = subst (λ (x : Link). x.depth ≡ tree_depth x.tree) (sym n.is) right.0 in
-              none n.number (record { link = n.link; at = n.at; above = above; only = one n.number n.link n.at above n.is; exact = deep ∙ (keeps n.link.tree).depth })
+              none n.number (record { link = n.link; at = n.at; above = above; only = one n.number n.link n.at above n.is })
             where
               one : (k : ℕ) (m : Link) → slice_get g.links k ≡ Some m → m.above ≡ b → bare_link m ≡ l → (j : ℕ) (x : Link) → slice_get g.links j ≡ Some x → x.above ≡ b → j ≡ k
               one k m at up m_is j x xat xup =
@@ -153,11 +139,10 @@ module _ (keeps : (t : Tree) → KeepsAll t) (g : GraphView) (P : Parsing) (soun
                   let below : x.below ≡ m.below = ap (λ (y : Link). y.below) (same ∙ sym m_is) in
                   once.one_each j k b m.below (record { link = x; at = xat; above_is = xup; below_is = below }) (record { link = m; at = at; above_is = up; below_is = refl })
 
-    pub leads_all : b ≡ 0 → IsOnlyWay bares h way
+    pub leads_all : b ≡ 0 → IsOneWay bares h way
     leads_all z = record {
       down = subst (λ (n : ℕ). IsWay bares h way n) z leads.down;
       only = λ other w. let f = leads.first other w in by other f.0 f.1 f.2;
-      exact = leads.exact;
     }
       where
         by : (other rest : List Link) → other ≡ way ++ rest → IsWay bares b rest 0 → other ≡ way

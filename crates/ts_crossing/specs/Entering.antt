@@ -5,7 +5,6 @@ use Rattle.ts_base.specs.Bytes.{Bytes}
 use Rattle.spec_trees.specs.declared.tree.Tree.{Tree}
 use Rattle.spec_trees.specs.Trees.{span_of, all_spans, bare}
 use Rattle.spec_trees.specs.Made.{EndBy, most_span}
-use Rattle.spec_forced.specs.OnlyRuns.{IsFork}
 use Rattle.spec_forced.specs.Sound.{States, StandOnStack}
 use Rattle.spec_graph.specs.declared.graph.Head.{Head}
 use Rattle.spec_graph.specs.declared.graph.Link.{Link}
@@ -30,14 +29,19 @@ use Rattle.ts_steps.specs.LiveHeads.{config_of, HaveStates, IsLiveHead}
 use Rattle.ts_reductions.specs.Sound.{Base, base_at, parsing_from, IsSoundBy}
 use Rattle.ts_reductions.specs.Keeping.{AreOwn, StandOnGraph}
 
--- A live stack at which several moves stay. Its trees are such as moves make.
+-- each tree has bytes
+abbrev pub HaveBytes : List Tree → Type 0
+HaveBytes [] = Unit {0}
+HaveBytes (t ∷ ts) = (0 < span_of t) × HaveBytes ts
+
+-- A live stack. Its trees are such as moves make, and have bytes.
 pub record CanEnter (t : ParseTable) (text : Bytes) (stacks : List (List Layer)) (h : StackHead)
     : Type 0 where
   pub table : IsTable t
   pub short : length text ≤ most_span
   pub live : IsLiveHead t (length text) stacks h
   pub made : AreMadeTrees t.grammar (map bare (trees_on (stack_at stacks h.top)))
-  pub fork : IsFork t.grammar text (config_of stacks h)
+  pub bytes : HaveBytes (trees_on (stack_at stacks h.top))
 
 -- The graph stands for the stack but for the extras on top of it, which lie above the place: it is
 -- sound over what lies below, has all that stood there, and so is whole up to the first key of the
@@ -59,11 +63,6 @@ pub record IsEntered (t : ParseTable) (text : Bytes) (stacks : List (List Layer)
   pub top : (k : ℕ) × (state : ℕ) × (slice_get g.heads k ≡ Some (head_at state place))
 
 -- ---- under way. It serves private clauses and proofs alone.
-
--- each tree has bytes
-abbrev pub HaveBytes : List Tree → Type 0
-HaveBytes [] = Unit {0}
-HaveBytes (t ∷ ts) = (0 < span_of t) × HaveBytes ts
 
 -- the stack under the extras on top, and the place where it ends
 pub record IsUnder (stacks : List (List Layer)) (h under : StackHead) : Type 0 where

@@ -1,5 +1,5 @@
 -- The laws of other crates that the proofs here rest on.
-use Rattle.std.specs.Prelude.{◌≡◌, ℕ, false, List, [], ◌∷◌, ◌++◌, drop}
+use Rattle.std.specs.Prelude.{◌≡◌, ℕ, true, false, List, [], ◌∷◌, ◌++◌, drop}
 use Rattle.std.specs.List.{Contains}
 use Rattle.ts_base.specs.Bytes.{Bytes}
 use Rattle.ts_core.specs.declared.flat.FlatGrammar.{FlatGrammar}
@@ -7,7 +7,7 @@ use Rattle.ts_core.specs.declared.symbol.Symbol.{Symbol}
 use Rattle.spec_tables.specs.Actions.{Move, Act, accept}
 use Rattle.spec_tables.specs.Fit.{Fit}
 use Rattle.spec_trees.specs.declared.tree.Tree.{Tree}
-use Rattle.spec_trees.specs.Trees.{node_extent, elements_of, children_of, all_spans, bare}
+use Rattle.spec_trees.specs.Trees.{is_extra_node, node_extent, elements_of, children_of, all_spans, tree_depth, bare}
 use Rattle.spec_trees.specs.Inside.{IsNodeIn}
 use Rattle.spec_trees.specs.Made.{filling, AreCounted}
 use Rattle.spec_trees.specs.Choice.{code_of, IsInForm}
@@ -74,6 +74,10 @@ pub record LeaveLaws : Type 0 where
   pub made : (P : Parsing) → Fit P.grammar → AreStates P.grammar P.goto → IsGrounded P
       → (heads : List Head) (links : List Link) → IsGraph P heads links
       → (l : Link) → Contains links l → IsMadeTree P.grammar l.tree
+  pub flat : (P : Parsing) → Fit P.grammar → AreStates P.grammar P.goto → IsGrounded P
+      → (heads : List Head) (links : List Link) → IsGraph P heads links
+      → (l : Link) → Contains links l → is_extra_node l.tree ≡ true
+      → l.depth ≡ tree_depth l.tree
 
 -- For proofs alone: laws of trees such as moves make.
 pub record MadeLaws : Type 0 where

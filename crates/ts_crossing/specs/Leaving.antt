@@ -2,43 +2,44 @@
 use Rattle.std.specs.Prelude.{◌≡◌, ℕ, ◌<◌, false, List, [], ◌∷◌, ◌++◌, length, map, take, slice_get, Some}
 use Rattle.std.specs.Option.{option_map_or}
 use Rattle.spec_trees.specs.declared.tree.Tree.{Tree}
-use Rattle.spec_trees.specs.Trees.{is_extra_node, tree_depth}
+use Rattle.spec_trees.specs.Trees.{is_extra_node}
 use Rattle.spec_trees.specs.Made.{IsLeaf}
 use Rattle.spec_graph.specs.declared.graph.Head.{Head}
 use Rattle.spec_graph.specs.declared.graph.Link.{Link}
 use Rattle.spec_graph.specs.Links.{IsWay}
-use Rattle.spec_crossing.specs.Leaving.{AreExact, IsOnlyWay, EndsWithToken}
+use Rattle.spec_crossing.specs.Leaving.{IsOneWay, EndsWithToken}
 use Rattle.ts_gss.specs.declared.layer.Layer.{Layer}
-use Rattle.ts_gss.specs.Stacks.{layer_with, stack_at}
+use Rattle.ts_gss.specs.Stacks.{packed_layer, stack_at}
 use Rattle.ts_graph.specs.declared.view.GraphView.{GraphView}
 use Rattle.ts_graph.specs.Down.{links_down, place_at}
 use Rattle.ts_graph.specs.Ways.{AreAt}
 use Rattle.ts_reductions.specs.SoundLinks.{bare_link, bare_links}
 use Rattle.ts_steps.specs.declared.head.StackHead.{StackHead}
 
--- The links of these numbers are the only way down from a head, their trees are as deep as any for
--- which they stand, and the topmost is a token that was shifted.
+-- The links of these numbers are the only way down from a head, and the topmost is a token that was
+-- shifted.
 pub record IsStack (g : GraphView) (h : ℕ) (numbers : List ℕ) : Type 0 where
   pub way : List Link
   pub at : AreAt g.links numbers way
-  pub only : IsOnlyWay (bare_links g.links) h (map bare_link way)
+  pub only : IsOneWay (bare_links g.links) h (map bare_link way)
   pub token : EndsWithToken (map bare_link way)
 
 -- no way down from the head is such a one
 abbrev pub HasNoStack : GraphView → ℕ → Type 0
 HasNoStack g h =
-    (way : List Link) → IsOnlyWay (bare_links g.links) h way → EndsWithToken way → ⊥
+    (way : List Link) → IsOneWay (bare_links g.links) h way → EndsWithToken way → ⊥
 
 -- the state of the head of a number
 abbrev pub state_at : List Head → ℕ → ℕ
 state_at heads h = option_map_or (λ (head : Head). head.state) (slice_get heads h) 0
 
--- the trees of a way as layers of a stack, each with the state of the head above it
+-- the links of a way as layers of a stack, each with the state of the head above it
 abbrev pub layers_of : List Head → List Link → List Layer
 layers_of heads [] = []
-layers_of heads (l ∷ way) = layer_with l.tree (state_at heads l.above) ∷ layers_of heads way
+layers_of heads (l ∷ way) =
+    packed_layer l.tree (state_at heads l.above) l.depth ∷ layers_of heads way
 
--- the stack of the head has the trees of the way down from a head of the graph, and its place
+-- the stack of the head has the layers of the way down from a head of the graph, and its place
 pub record IsLeft (g : GraphView) (h : ℕ) (way : List Link) (stacks : List (List Layer))
     (k : StackHead) : Type 0 where
   pub there : k.top < length stacks
@@ -47,19 +48,17 @@ pub record IsLeft (g : GraphView) (h : ℕ) (way : List Link) (stacks : List (Li
 
 -- ---- under way. It serves private clauses and proofs alone.
 
--- no earlier link leads down from the same head as the link of this number, and its tree is as deep
--- as any for which it stands
+-- no earlier link leads down from the same head as the link of this number
 abbrev pub IsAlone : List Link → ℕ → Type 0
-IsAlone links k = (l : Link) → slice_get links k ≡ Some l
-    → (links_down (take k links) l.above ≡ []) × (l.depth ≡ tree_depth l.tree)
+IsAlone links k =
+    (l : Link) → slice_get links k ≡ Some l → links_down (take k links) l.above ≡ []
 
--- one link alone leads down from the head, and its tree is as deep as any for which it stands
+-- one link alone leads down from the head
 pub record IsOnlyDown (links : List Link) (h k : ℕ) : Type 0 where
   pub link : Link
   pub at : slice_get links k ≡ Some link
   pub above : link.above ≡ h
   pub only : (j : ℕ) (other : Link) → slice_get links j ≡ Some other → other.above ≡ h → j ≡ k
-  pub exact : link.depth ≡ tree_depth link.tree
 
 -- the tree is a token that was shifted
 pub record IsTokenTree (t : Tree) : Type 0 where
@@ -77,7 +76,6 @@ pub record LeadsDown (links : List Link) (h : ℕ) (numbers : List ℕ) (b : ℕ
   pub way : List Link
   pub at : AreAt links numbers way
   pub down : IsWay (bare_links links) h (map bare_link way) b
-  pub exact : AreExact (map bare_link way)
   pub first : (other : List Link) → IsWay (bare_links links) h other 0
       → (rest : List Link) × (other ≡ map bare_link way ++ rest)
       × IsWay (bare_links links) b rest 0

@@ -1,18 +1,17 @@
 //! The laws of other crates that the proofs here rest on, and what a parser may use of a stack that
 //! is left. No value goes in or out.
-ghost use Rattle.std.specs.Prelude.{ℕ, ◌<◌, ◌≤◌, ◌⊎◌, List, length, Option, None};
+ghost use Rattle.std.specs.Prelude.{ℕ, ◌<◌, ◌≤◌, List, [], ◌∷◌, length, Option, None};
 ghost use Rattle.ts_base.specs.Bytes.{Bytes};
 ghost use Rattle.spec_runs.specs.Configurations.{Configuration};
-ghost use Rattle.spec_runs.specs.Runs.{IsReached};
 ghost use Rattle.spec_trees.specs.Made.{most_span};
 ghost use Rattle.spec_forced.specs.OnlyRuns.{IsFork};
-ghost use Rattle.spec_packing.specs.Serving.{ComesToServe};
+ghost use Rattle.spec_packing.specs.Packing.{stack_alone};
 ghost use Rattle.spec_forced.specs.Sound.{States};
 ghost use Rattle.spec_graph.specs.States.{AreRanks};
 ghost use Rattle.spec_graph.specs.Laying.{IsBegun};
 ghost use Rattle.spec_graph.specs.Links.{IsWholeTo};
-ghost use Rattle.spec_crossing.specs.Leaving.{StandsAlone, EndsBefore};
-ghost use Rattle.spec_crossing.specs.Resting.{Rests, AccountsForGraph};
+ghost use Rattle.spec_crossing.specs.Leaving.{StandsAlone};
+ghost use Rattle.spec_crossing.specs.Resting.{PackedRests, AccountsForGraph};
 ghost use Rattle.ts_table.specs.declared.view.ParseTable.{ParseTable};
 ghost use Rattle.ts_table.specs.Tables.{IsTable};
 ghost use Rattle.ts_table.specs.Ranks.{unit_rank};
@@ -20,7 +19,7 @@ ghost use Rattle.ts_gss.specs.declared.layer.Layer.{Layer};
 ghost use Rattle.ts_graph.specs.declared.view.GraphView.{GraphView};
 ghost use Rattle.ts_reductions.specs.SoundLinks.{bare_links};
 ghost use Rattle.ts_steps.specs.declared.head.StackHead.{StackHead as AnyHead};
-ghost use Rattle.ts_steps.specs.LiveHeads.{config_of};
+ghost use Rattle.ts_steps.specs.LiveHeads.{config_of, packed_of};
 ghost use Rattle.ts_steps.specs.Heads.{AreStatesOf, IsOwnHead, StandOnHead};
 ghost use Rattle.ts_crossing.specs.Entering.{CanEnter};
 ghost use Rattle.ts_crossing.specs.Laws.{EnterLaws, LeaveLaws, MadeLaws};
@@ -29,8 +28,8 @@ ghost use Rattle.ts_reductions.specs.Keeping.{AreOwn, StandOnGraph};
 ghost use Rattle.ts_crossing.specs.Leaving.{IsStack, IsLeft};
 
 use spec_crossing::{
-    bare_trees_are_made, followed_graphs_rest, links_are_made, one_stack_goes_on,
-    trees_are_spelled, unused_symbols_end, ways_are_read,
+    bare_trees_are_made, extras_are_flat, followed_graphs_pack, links_are_made, trees_are_spelled,
+    unused_symbols_end, ways_are_read,
 };
 use spec_forced::{items_decide, states_tell};
 use spec_graph::{trees_replace, whole_to_the_next};
@@ -62,6 +61,7 @@ pub(crate) fn leave_laws_hold()
     states_are_named();
     ways_are_read();
     links_are_made();
+    extras_are_flat();
 }
 
 /// The laws of trees such as moves make hold.
@@ -72,42 +72,24 @@ fn made_laws_hold()
     bare_trees_are_made();
 }
 
-/// A stack that a parser made can be entered where several moves stay at it.
+/// A stack that a parser made can be entered where several moves stay at it, and so can the one of the
+/// start of a text.
 pub fn own_stacks_enter()
-    ensures { (t : ParseTable) (text : Bytes) (stacks : List (List Layer)) (h : AnyHead)
+    ensures fork { (t : ParseTable) (text : Bytes) (stacks : List (List Layer)) (h : AnyHead)
         → IsTable t → length text ≤ most_span → IsOwnHead t (length text) stacks h
         → IsFork t.grammar text (config_of stacks h) → CanEnter t text stacks h }
+    ensures start { (t : ParseTable) (text : Bytes) → IsTable t → length text ≤ most_span
+        → CanEnter t text ([] ∷ []) (record { top = 0; place = 0 }) }
 {
     enter_laws_hold();
     made_laws_hold();
 }
 
-/// A stack that is left in a graph is reached by a run, where a run came to the stack over which
-/// the graph is sound. All that runs come to from there ends in the graph before a place, or is
-/// served from the stack that is left, where its head stands alone at the place or past it; so where
-/// all runs rest at the first stack, and the ends before the place are accounted for, they rest at
-/// the one that is left. And a parser made it, if a parser made the trees of the graph; and its
-/// trees stand, if those of the graph do.
+/// Where all runs rest at the stack over which the graph is sound, which stands for itself alone, and
+/// the ends before a place are accounted for, they rest at the layers of the stack that is left, where
+/// its head stands alone at the place or past it. And a parser made it, if a parser made the trees of
+/// the graph; and its trees stand, if those of the graph do.
 pub fn left_stacks_go_on()
-    ensures reached { (t : ParseTable) (text : Bytes) (base : AnyBase) (g : GraphView) (h : ℕ)
-        (numbers : List ℕ) (stacks : List (List Layer)) (k : AnyHead)
-        → IsSoundBy t text base g → h < length g.heads
-        → (s : IsStack g h numbers) → IsLeft g h s.way stacks k
-        → (c : Configuration) → IsReached t.grammar text c
-        → IsBegun (parsing_from t text base) c → IsReached t.grammar text (config_of stacks k) }
-    ensures serves { (t : ParseTable) (text : Bytes) (base : AnyBase) (g : GraphView) (h : ℕ)
-        (numbers : List ℕ) (stacks : List (List Layer)) (k : AnyHead)
-        → IsSoundBy t text base g → h < length g.heads
-        → (s : IsStack g h numbers) → IsLeft g h s.way stacks k
-        → (c : Configuration) → IsReached t.grammar text c
-        → IsBegun (parsing_from t text base) c
-        → (most : ℕ) → AreRanks t.grammar (unit_rank t.grammar) most
-        → (n : ℕ) → IsWholeTo (parsing_from t text base) (unit_rank t.grammar) g.heads
-        (bare_links g.links) (record { look = n; begins = n; rank = most })
-        → c.place < n → StandsAlone g.heads n h
-        → (d : Configuration) → IsReached t.grammar text d → ComesToServe t.grammar text c d
-        → EndsBefore (parsing_from t text base) g.heads (bare_links g.links) n d
-        ⊎ ComesToServe t.grammar text (config_of stacks k) d }
     ensures rests { (t : ParseTable) (text : Bytes) (base : AnyBase) (g : GraphView) (h : ℕ)
         (numbers : List ℕ) (stacks : List (List Layer)) (k : AnyHead)
         → IsSoundBy t text base g → h < length g.heads
@@ -119,7 +101,8 @@ pub fn left_stacks_go_on()
         → c.place < n → StandsAlone g.heads n h → (before stuck : Option ℕ)
         → AccountsForGraph (parsing_from t text base) g.heads (bare_links g.links) n None before
         stuck
-        → Rests t.grammar text before c → Rests t.grammar text stuck (config_of stacks k) }
+        → PackedRests t.grammar text before (stack_alone c)
+        → PackedRests t.grammar text stuck (packed_of stacks k) }
     ensures own { (t : ParseTable) (text : Bytes) (base : AnyBase) (g : GraphView) (h : ℕ)
         (numbers : List ℕ) (stacks : List (List Layer)) (k : AnyHead)
         → IsSoundBy t text base g → h < length g.heads
@@ -133,6 +116,5 @@ pub fn left_stacks_go_on()
         → StandOnGraph t.grammar states text base g → StandOnHead t states text stacks k }
 {
     leave_laws_hold();
-    one_stack_goes_on();
-    followed_graphs_rest();
+    followed_graphs_pack();
 }

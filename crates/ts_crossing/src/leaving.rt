@@ -3,7 +3,7 @@
 ghost use Rattle.std.specs.Prelude.{◌≡◌, ◌<◌, ◌∷◌, ℕ, true, false, List, length, slice_get, Some, IfOk, MatchOption};
 ghost use Rattle.spec_graph.specs.declared.graph.Link.{Link};
 ghost use Rattle.spec_graph.specs.Laying.{Parsing};
-ghost use Rattle.ts_gss.specs.Stacks.{layer_with, stack_at};
+ghost use Rattle.ts_gss.specs.Stacks.{packed_layer, stack_at};
 ghost use Rattle.ts_graph.specs.Ways.{AreAt};
 ghost use Rattle.ts_reductions.specs.SoundLinks.{IsSoundFor};
 ghost use Rattle.ts_crossing.specs.Leaving.{IsStack, HasNoStack, state_at, IsLeft, IsAlone, IsOnlyDown, IsTokenTree, IsLastToken};
@@ -22,22 +22,19 @@ pub struct Left {
     pub head: StackHead,
 }
 
-/// Whether no earlier link leads down from the same head as this one, and its tree is as deep as
-/// any for which it stands.
+/// Whether no earlier link leads down from the same head as this one.
 fn is_alone(graph: &Graph, link: usize) -> bool
     requires { link < length graph.now.links }
     ensures yes { result ≡ true → IsAlone graph.now.links link }
     ensures no { result ≡ false → IsAlone graph.now.links link → ⊥ }
 {
-    let greatest = graph.link(link).depth;
-    let own = graph.node(link).depth();
     match graph.next_down(link) {
         Some(_) => false,
-        None => greatest == own,
+        None => true,
     }
 }
 
-/// The only link that leads down from a head, if its tree is as deep as any for which it stands.
+/// The only link that leads down from a head.
 fn only_down(graph: &Graph, head: usize) -> Option<usize>
     requires { head < length graph.now.heads }
     ensures { MatchOption result ((k : ℕ) → IsOnlyDown graph.now.links head k → ⊥)
@@ -85,8 +82,7 @@ fn last_token(graph: &Graph, head: usize) -> Option<usize>
     }
 }
 
-/// The links down from a head of which this is the first, if each is the only one from its head,
-/// and its tree is as deep as any for which it stands.
+/// The links down from a head of which this is the first, if each is the only one from its head.
 fn links_down(
     alloc: Global,
     graph: &Graph,
@@ -117,8 +113,7 @@ fn links_down(
 }
 
 /// The links down from a head to that of the empty stack, the topmost first, if there is one way
-/// alone, its trees are as deep as any for which its links stand, and the topmost is a token that
-/// was shifted: a parser may go on from the stack of these trees alone.
+/// alone, and the topmost is a token that was shifted: a parser may go on from their stack alone.
 ///
 /// # Errors
 ///
@@ -147,7 +142,8 @@ pub fn one_stack(
     }
 }
 
-/// Puts the tree of a link on a stack, with the state of the head above it.
+/// Puts the tree of a link on a stack, with the state of the head above it, and the greatest depth
+/// of the trees for which it stands.
 fn push_link(
     graph: &Graph,
     link: usize,
@@ -159,12 +155,14 @@ fn push_link(
     ensures there { IfOk result (λ top. top < length stacks.new) }
     ensures stack { IfOk result (λ top. (l : Link) → slice_get graph.now.links link ≡ Some l
         → stack_at stacks.new top
-        ≡ layer_with l.tree (state_at graph.now.heads l.above) ∷ stack_at stacks.old below) }
+        ≡ packed_layer l.tree (state_at graph.now.heads l.above) l.depth
+        ∷ stack_at stacks.old below) }
 {
     let _ = graph.count();
     let node = graph.node(link).try_clone()?;
+    let depth = graph.link(link).depth;
     let above = graph.head(graph.link(link).above);
-    let top = stacks.push(below, node, above.state)?;
+    let top = stacks.push_packed(below, node, above.state, depth)?;
     Ok(top)
 }
 

@@ -8,4 +8,5 @@ returns c = record {
   tells = c.states_tell.ensures.after;
   spans = c.ways_are_read.ensures.spans;
   made = c.links_are_made.ensures;
+  flat = c.extras_are_flat.ensures;
 }

@@ -1,37 +1,18 @@
-use Rattle.std.proofs.Common.{◌⊎◌, sym, subst, map}
-use Rattle.spec_runs.specs.Configurations.{Configuration}
-use Rattle.spec_runs.specs.Runs.{IsReached}
-use Rattle.spec_packing.specs.Serving.{ComesToServe}
-use Rattle.spec_crossing.specs.Leaving.{EndsBefore}
-use Rattle.spec_crossing.specs.Resting.{Rests}
+use Rattle.std.proofs.Common.{sym, subst, map}
+use Rattle.spec_packing.specs.Packing.{PackedStack}
+use Rattle.spec_crossing.specs.Resting.{PackedRests}
 use Rattle.ts_reductions.specs.SoundLinks.{bare_link, bare_links}
 use Rattle.ts_table.specs.Ranks.{unit_rank}
 use Rattle.ts_reductions.specs.Sound.{parsing_from}
-use Rattle.ts_crossing.proofs.LeftLemmas.{reads, head_at_place, config_is, left_own, left_stand}
+use Rattle.ts_crossing.proofs.LeftLemmas.{own_reached, reads, head_at_place, layers_is, left_own, left_stand}
 use Rattle.ts_crossing.proofs.laws.left_stacks_go_on.Goals as goal
-
-pub returns-clause-reached : goal.returns-clause-reached
-returns-clause-reached c t text base g h numbers stacks k sound there s left b reached begun =
-    let laws = c.leave_laws_hold.ensures in
-    let at = head_at_place laws t text base g sound h there numbers stacks k s left in
-    subst (λ (d : Configuration). IsReached t.grammar text d) (sym (config_is laws t text base g sound h there numbers stacks k s left))
-    (c.one_stack_goes_on.ensures.reached (parsing_from t text base) sound.laid.parsed.fit sound.laid.parsed.states b reached begun g.heads (bare_links g.links) sound.laid.graph h k.place (reads laws t text base g sound h there numbers stacks k s left).0 (map bare_link s.way) at s.only s.token)
-
-pub returns-clause-serves : goal.returns-clause-serves
-returns-clause-serves c t text base g h numbers stacks k sound there s left b reached begun most ranked n whole early alone d rd serves =
-    let laws = c.leave_laws_hold.ensures in
-    let at = head_at_place laws t text base g sound h there numbers stacks k s left in
-    subst (λ (e : Configuration). EndsBefore (parsing_from t text base) g.heads (bare_links g.links) n d ⊎ ComesToServe t.grammar text e d) (sym (config_is laws t text base g sound h there numbers stacks k s left))
-    (c.one_stack_goes_on.ensures.serves (parsing_from t text base) sound.laid.parsed.fit sound.laid.parsed.states b reached begun (unit_rank t.grammar) most ranked g.heads (bare_links g.links)
-    sound.laid.graph n whole early h k.place (reads laws t text base g sound h there numbers stacks k s left).0 (map bare_link s.way)
-    at alone s.only s.token d rd serves)
 
 pub returns-clause-rests : goal.returns-clause-rests
 returns-clause-rests c t text base g h numbers stacks k sound there s left b begun most ranked n whole early alone before stuck account r =
     let laws = c.leave_laws_hold.ensures in
     let at = head_at_place laws t text base g sound h there numbers stacks k s left in
-    subst (λ (d : Configuration). Rests t.grammar text stuck d) (sym (config_is laws t text base g sound h there numbers stacks k s left))
-    (c.followed_graphs_rest.ensures.leaves (parsing_from t text base) sound.laid.parsed.fit sound.laid.parsed.states b r.reached begun (unit_rank t.grammar) most ranked g.heads (bare_links g.links)
+    subst (λ (j : PackedStack). PackedRests t.grammar text stuck j) (sym (layers_is laws t text base g sound h there numbers stacks k s left))
+    (c.followed_graphs_pack.ensures.leaves (parsing_from t text base) sound.laid.parsed.fit sound.laid.parsed.states b (own_reached t.grammar text b r.met.reached) begun (unit_rank t.grammar) most ranked g.heads (bare_links g.links)
     sound.laid.graph n whole early before stuck account r h k.place (reads laws t text base g sound h there numbers stacks k s left).0 (map bare_link s.way)
     at alone s.only s.token)
 
