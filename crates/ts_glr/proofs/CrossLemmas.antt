@@ -6,30 +6,34 @@ use Rattle.std.specs.List.{Contains}
 use Rattle.std.proofs.lemmas.Option.{slice_get_within}
 use Rattle.ts_base.specs.Bytes.{Bytes}
 use Rattle.spec_grammar.specs.Symbols.{symbol_count}
+use Rattle.spec_tables.specs.Fit.{Fit}
 use Rattle.spec_trees.specs.declared.tree.Tree.{Tree}
-use Rattle.spec_trees.specs.Trees.{is_extra_node, span_of, all_spans, bare}
+use Rattle.spec_trees.specs.Trees.{is_extra_node, span_of, all_spans, bare, tree_depth}
 use Rattle.spec_trees.specs.Made.{filling}
+use Rattle.spec_runs.specs.BareTrees.{KeepsAll}
 use Rattle.spec_graph.specs.declared.graph.Head.{Head}
 use Rattle.spec_graph.specs.declared.graph.Link.{Link}
+use Rattle.spec_packing.specs.Packing.{PackedTree, PackedStack, packed_alone}
 use Rattle.spec_crossing.specs.Leaving.{StandsAlone}
-use Rattle.spec_crossing.specs.Resting.{IsPastStuck, AccountsForGraph}
+use Rattle.spec_crossing.specs.Resting.{IsPastStuck, AccountsForGraph, PackedRests}
 use Rattle.ts_table.specs.declared.view.ParseTable.{ParseTable}
 use Rattle.ts_table.specs.Tables.{IsTable}
 use Rattle.ts_table.specs.Ranks.{unit_rank}
 use Rattle.ts_gss.specs.declared.layer.Layer.{Layer}
-use Rattle.ts_gss.specs.Stacks.{stack_at, trees_on}
+use Rattle.ts_gss.specs.Stacks.{stack_at, trees_on, AreExact}
 use Rattle.ts_graph.specs.declared.view.GraphView.{GraphView}
 use Rattle.ts_graph.specs.Ways.{AreAt}
 use Rattle.ts_reductions.specs.declared.setting.Setting.{Setting}
 use Rattle.ts_reductions.specs.SoundLinks.{bare_links}
 use Rattle.ts_reductions.specs.Sound.{parsing_from, IsSoundBy}
 use Rattle.ts_steps.specs.declared.head.StackHead.{StackHead}
-use Rattle.ts_steps.specs.LiveHeads.{config_of}
+use Rattle.ts_steps.specs.LiveHeads.{config_of, packed_tree, packed_layers}
 use Rattle.ts_steps.specs.Heads.{IsOwnHead}
 use Rattle.ts_places.specs.Frontiers.{StandsFrom}
 use Rattle.ts_places.specs.Best.{CanChoose, IsBestOn}
 use Rattle.ts_crossing.specs.declared.leaving.Left.{Left}
 use Rattle.ts_crossing.specs.Leaving.{IsStack, HasNoStack, layers_of, IsLeft}
+use Rattle.ts_crossing.proofs.LeftLemmas.{own_reached}
 use Rattle.ts_crossing.proofs.BareLemmas.{filling_bare, filling_tree}
 use Rattle.ts_crossing.proofs.MemberLemmas.{first_contained, contained_at, place_is_at}
 use Rattle.ts_glr.specs.declared.outcome.Outcome.{Outcome}
@@ -39,10 +43,12 @@ use Rattle.ts_glr.specs.declared.crossing.Asked.TheVariants.{Leaves}
 use Rattle.ts_glr.specs.declared.crossing.Crossed.{Crossed}
 use Rattle.ts_glr.specs.declared.crossing.Crossed.TheVariants.{One, Told}
 use Rattle.ts_glr.specs.declared.spread.Spread.{Spread}
+use Rattle.ts_glr.specs.Laws.{PackingLaws}
 use Rattle.ts_glr.specs.CrossLaws.{LeftLaws, OverLaws}
 use Rattle.ts_glr.specs.Turns.{turn_weight}
 use Rattle.ts_glr.specs.Forks.{LeavesOne, EndsAll}
-use Rattle.ts_glr.specs.Spreading.{IsSpread, IsSpreadOut, IsSpreadDeep, IsLeftOf, AsksFor, Crosses}
+use Rattle.ts_glr.specs.Spreading.{IsSpread, IsSpreadOut, IsSpreadDeep, GoesBackTo, IsSpreadFor, IsLeftOf, AsksFor, Crosses}
+use Rattle.ts_glr.proofs.RestLemmas.{rests_start}
 use Rattle.ts_glr.proofs.TurnLemmas.{turn_far}
 
 -- ---- the height of a stack
@@ -88,8 +94,17 @@ waits_there t text s first h spread p head alone =
     let st = (p.can.are_open head).0 (subst (λ (xs : List ℕ). Contains xs head) (sym alone) (first_contained head [])) in
     slice_get_within spread.graph.heads head st.0 st.1
 
-module _ (laws : LeftLaws) (over : OverLaws) (t : ParseTable) (table : IsTable t) (ranks : (x : ℕ) → unit_rank t.grammar x < symbol_count t.grammar) (text : Bytes) (s : Setting) (first : List (List Layer)) (before stuck : Option ℕ) (h : StackHead)
-    (spread : Spread) (p : IsSpread t text s first h spread) (l : Left) (w : IsLeftOf spread h.place l) where
+module _ (laws : LeftLaws) (over : OverLaws) (t : ParseTable) (table : IsTable t) (ranks : (x : ℕ) → unit_rank t.grammar x < symbol_count t.grammar) (text : Bytes) (s : Setting) (stacks : List (List Layer)) (before stuck : Option ℕ) (start : StackHead)
+    (from : ℕ) (spread : Spread) (all : IsSpreadFor t text s stacks start from spread) (l : Left) (w : IsLeftOf spread from l) where
+  abbrev first : List (List Layer)
+  first = all.first
+
+  abbrev h : StackHead
+  h = all.head
+
+  p : IsSpread t text s first h spread
+  p = all.laid
+
   sound : IsSoundBy t text p.base spread.graph
   sound = p.can.whole.sound
 
@@ -105,8 +120,8 @@ module _ (laws : LeftLaws) (over : OverLaws) (t : ParseTable) (table : IsTable t
   place_is : l.head.place ≡ stands.0.place
   place_is = w.is.place ∙ place_is_at spread.graph.heads w.head stands.0 stands.1
 
-  far : h.place < l.head.place
-  far = let a = w.past in let b = stands.2 in omega (arith, a, b, place_is)
+  far : start.place < l.head.place
+  far = let a = w.past in let b = stands.2 in let q = all.past in omega (arith, a, b, place_is, q)
 
   own : IsOwnHead t (length text) l.stacks l.head
   own = laws.own t text p.base spread.graph w.head w.numbers l.stacks l.head sound there w.stack w.is p.own
@@ -121,56 +136,99 @@ module _ (laws : LeftLaws) (over : OverLaws) (t : ParseTable) (table : IsTable t
       let f : all_spans (trees_on (stack_at l.stacks l.head.top)) ≡ l.head.place = own.live.stack.spans in
       omega (arith, a, c, d, e, f)
 
-  lighter : turn_weight t.grammar (length text) (config_of l.stacks l.head) < turn_weight t.grammar (length text) (config_of first h)
-  lighter = turn_far t.grammar ranks (length text) (config_of first h) (config_of l.stacks l.head) far own.live.stack.within low
+  lighter : turn_weight t.grammar (length text) (config_of l.stacks l.head) < turn_weight t.grammar (length text) (config_of stacks start)
+  lighter = turn_far t.grammar ranks (length text) (config_of stacks start) (config_of l.stacks l.head) far own.live.stack.within low
 
   pub left_one : ((q : ℕ) → IsPastStuck before q → IsPastStuck stuck q) → ((q : ℕ) → IsPastStuck spread.ends.stuck q → IsPastStuck stuck q) → ((q : ℕ) → stuck ≡ Some q → (before ≡ Some q) ⊎ (spread.ends.stuck ≡ Some q))
-      → LeavesOne t text first l.stacks before stuck [] None h l.head
-  left_one one other from = record {
+      → LeavesOne t text stacks l.stacks before stuck [] None start l.head
+  left_one one other known = record {
     own = own;
     far = (let f = far in omega (arith, f));
     lighter = lighter;
     empty = refl;
     none = refl;
     rests = λ r.
-        let account = over.counted t text p.base spread.graph spread.place spread.ends None before stuck p.ends (over.nothing t text spread.graph spread.ends.accepting.items w.none) one other from in
-        let past : h.place < spread.place = w.past in
-        laws.rests t text p.base spread.graph w.head w.numbers l.stacks l.head sound there w.stack w.is (config_of first h) p.begun p.most p.can.whole.ranks spread.place p.can.whole.whole past alone before stuck account r;
-    stand = λ states are stand. laws.stand t text p.base spread.graph w.head w.numbers l.stacks l.head sound there w.stack w.is table states are (p.stand states are stand);
+        let account = over.counted t text p.base spread.graph spread.place spread.ends None before stuck p.ends (over.nothing t text spread.graph spread.ends.accepting.items w.none) one other known in
+        let past : h.place < spread.place = (let a = all.low in let b = w.past in omega (arith, a, b)) in
+        laws.rests t text p.base spread.graph w.head w.numbers l.stacks l.head sound there w.stack w.is (config_of first h) p.begun p.most p.can.whole.ranks spread.place p.can.whole.whole past alone before stuck account (all.back.rests before r);
+    stand = λ states are stand. laws.stand t text p.base spread.graph w.head w.numbers l.stacks l.head sound there w.stack w.is table states are (p.stand states are (all.back.stand states are stand));
   }
 
 -- ---- the outcome
 
-pub deep_ends : (over : OverLaws) (t : ParseTable) (text : Bytes) (first : List (List Layer)) (before : Option ℕ) (h : StackHead) (spread : Spread) → IsSpreadDeep t text first h spread → EndsAll t text first before h Deep
-deep_ends over t text first before h spread p = record {
+pub deep_ends : (over : OverLaws) (t : ParseTable) (text : Bytes) (stacks first : List (List Layer)) (before : Option ℕ) (start h : StackHead) (spread : Spread) → GoesBackTo t text stacks start first h → IsSpreadDeep t text first h spread → EndsAll t text stacks before start Deep
+deep_ends over t text stacks first before start h spread back p = record {
   form = tt;
   own = tt;
-  fresh = λ r. over.deep t text p.base spread.graph (config_of first h) p.deep r.reached p.begun;
+  fresh = λ r. over.deep t text p.base spread.graph (config_of first h) p.deep (own_reached t.grammar text (config_of first h) (back.rests before r).met.reached) p.begun;
   sound = λ states are stand. tt;
 }
 
-module _ (over : OverLaws) (t : ParseTable) (table : IsTable t) (text : Bytes) (first : List (List Layer)) (before stuck : Option ℕ) (h : StackHead) (within : h.place ≤ length text) (spread : Spread) (p : IsSpreadOut t text first h spread) (best : Option Tree) (is_best : IsBestOn t text spread.graph spread.ends.accepting.items best)
-    (one : (q : ℕ) → IsPastStuck before q → IsPastStuck stuck q) (other : (q : ℕ) → IsPastStuck spread.ends.stuck q → IsPastStuck stuck q) (from : (q : ℕ) → stuck ≡ Some q → (before ≡ Some q) ⊎ (spread.ends.stuck ≡ Some q)) where
+module _ (over : OverLaws) (t : ParseTable) (table : IsTable t) (text : Bytes) (stacks first : List (List Layer)) (before stuck : Option ℕ) (start h : StackHead) (back : GoesBackTo t text stacks start first h) (spread : Spread) (p : IsSpreadOut t text first h spread) (best : Option Tree)
+    (is_best : IsBestOn t text spread.graph spread.ends.accepting.items best) (one : (q : ℕ) → IsPastStuck before q → IsPastStuck stuck q) (other : (q : ℕ) → IsPastStuck spread.ends.stuck q → IsPastStuck stuck q) (from : (q : ℕ) → stuck ≡ Some q → (before ≡ Some q) ⊎ (spread.ends.stuck ≡ Some q)) where
   account : AccountsForGraph (parsing_from t text p.base) spread.graph.heads (bare_links spread.graph.links) (suc (length text)) best before stuck
   account = over.counted t text p.base spread.graph (suc (length text)) spread.ends best before stuck p.ends is_best one other from
 
-  pub tree_ends : (b : Tree) → best ≡ Some b → EndsAll t text first before h (Accepted b)
+  pub tree_ends : (b : Tree) → best ≡ Some b → EndsAll t text stacks before start (Accepted b)
   tree_ends b is =
       let root = is_best.root b is in
       record {
         form = is_best.form b is;
         own = over.root_own t text p.base spread.graph root.0 b p.whole.sound (p.ends.each root.0 root.1).0 root.2 p.own;
-        fresh = λ r. over.tree t text p.base p.most spread.graph (config_of first h) p.whole p.low p.begun within best before stuck account r b is;
-        sound = λ states are stand. over.root_sound t text p.base spread.graph root.0 b p.whole.sound (p.ends.each root.0 root.1).0 root.2 table states are p.own (p.stand states are stand);
+        fresh = λ r. over.tree t text p.base p.most spread.graph (config_of first h) p.whole p.low p.begun back.within best before stuck account (back.rests before r) b is;
+        sound = λ states are stand. over.root_sound t text p.base spread.graph root.0 b p.whole.sound (p.ends.each root.0 root.1).0 root.2 table states are p.own (p.stand states are (back.stand states are stand));
       }
 
-  pub stop_ends : (q : ℕ) → best ≡ None → stuck ≡ Some q → EndsAll t text first before h (Stuck q)
+  pub stop_ends : (q : ℕ) → best ≡ None → stuck ≡ Some q → EndsAll t text stacks before start (Stuck q)
   stop_ends q none is = record {
     form = tt;
     own = tt;
-    fresh = λ r. over.stop t text p.base p.most spread.graph (config_of first h) p.whole p.low p.begun within best before stuck account r q none is;
+    fresh = λ r. over.stop t text p.base p.most spread.graph (config_of first h) p.whole p.low p.begun back.within best before stuck account (back.rests before r) q none is;
     sound = λ states are stand. tt;
   }
+
+-- ---- the stack at which the graph begins
+
+exact_layers : (keeps : (t : Tree) → KeepsAll t) (layers : List Layer) → AreExact layers → packed_layers layers ≡ map packed_alone (map bare (trees_on layers))
+exact_layers keeps [] e = refl
+exact_layers keeps (l ∷ ls) e =
+    let own : l.depth ≡ tree_depth (bare l.tree) = e.0 ∙ sym (keeps l.tree).depth in
+    let first : packed_tree l.tree l.depth ≡ packed_alone (bare l.tree) = ap (λ (n : ℕ). packed_tree l.tree n) own in
+    ap (λ (x : PackedTree). x ∷ packed_layers ls) first ∙ ap (λ (xs : List PackedTree). packed_alone (bare l.tree) ∷ xs) (exact_layers keeps ls e.1)
+
+-- a stack whose layers stand for themselves alone
+pub from_exact : (keeps : (t : Tree) → KeepsAll t) (t : ParseTable) (text : Bytes) (s : Setting) (stacks : List (List Layer)) (start : StackHead) (spread : Spread) → AreExact (stack_at stacks start.top) → IsOwnHead t (length text) stacks start → IsSpread t text s stacks start spread
+    → IsSpreadFor t text s stacks start start.place spread
+from_exact keeps t text s stacks start spread exact own p = record {
+  first = stacks;
+  head = start;
+  back = record {
+    within = own.live.stack.within;
+    rests = λ stuck r.
+        subst (λ (k : PackedStack). PackedRests t.grammar text stuck k)
+        (ap {B = PackedStack} (λ (ls : List PackedTree). record { stack = ls; place = start.place }) (exact_layers keeps (stack_at stacks start.top) exact)) r;
+    stand = λ states are stand. stand;
+  };
+  low = omega arith;
+  past = omega arith;
+  laid = p;
+}
+
+-- the start of the text
+pub from_start : (packing : PackingLaws) (t : ParseTable) → Fit t.grammar → (text : Bytes) (s : Setting) (stacks first : List (List Layer)) (start : StackHead) (from : ℕ) (spread : Spread) → start.place ≤ from → first ≡ [] ∷ []
+    → IsSpread t text s first (record { top = 0; place = 0 }) spread → IsSpreadFor t text s stacks start from spread
+from_start packing t fit text s stacks first start from spread past is p = record {
+  first = first;
+  head = record { top = 0; place = 0 };
+  back = subst (λ (ss : List (List Layer)). GoesBackTo t text stacks start ss (record { top = 0; place = 0 })) (sym is) (record {
+    within = omega arith;
+    rests = λ stuck r. rests_start packing t.grammar fit text stuck r.stuck_from;
+    stand = λ states are stand. tt;
+  });
+  low = omega arith;
+  past = past;
+  laid = p;
+}
 
 pub can_choose : (t : ParseTable) (text : Bytes) (first : List (List Layer)) (h : StackHead) (spread : Spread) (size : ℕ) → IsSpreadOut t text first h spread → size ≡ length text → CanChoose t text spread.graph size spread.ends.accepting.items
 can_choose t text first h spread size p size_is = record {

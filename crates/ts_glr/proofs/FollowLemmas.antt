@@ -11,7 +11,7 @@ use Rattle.spec_tables.specs.Items.{IsToken}
 use Rattle.spec_trees.specs.declared.tree.Tree.{Tree}
 use Rattle.spec_trees.specs.Made.{as_extra, most_span}
 use Rattle.spec_runs.specs.Configurations.{stack_symbols, pushed, token_tree, HasMove, NextIs}
-use Rattle.spec_runs.specs.Runs.{ComesTooDeep}
+use Rattle.spec_packing.specs.Packing.{packed_with, PackedIsTooDeep}
 use Rattle.spec_forced.specs.Forced.{IsDecided}
 use Rattle.spec_forced.specs.Sound.{States}
 use Rattle.ts_table.specs.declared.view.ParseTable.{ParseTable}
@@ -21,12 +21,12 @@ use Rattle.ts_gss.specs.Stacks.{stack_at, state_on, trees_on}
 use Rattle.ts_steps.specs.declared.found.FoundToken.{FoundToken}
 use Rattle.ts_steps.specs.declared.head.StackHead.{StackHead}
 use Rattle.ts_steps.specs.MoveLaws.{Laws}
-use Rattle.ts_steps.specs.LiveHeads.{config_of, read_on, IsLiveHead, LiesAhead}
+use Rattle.ts_steps.specs.LiveHeads.{config_of, packed_of, read_on, IsLiveHead, LiesAhead}
 use Rattle.ts_steps.specs.Heads.{AreStatesOf, IsOwnHead, StandOnHead, IsExtraAhead}
 use Rattle.ts_steps.specs.Looking.{IsTokenAhead}
 use Rattle.ts_glr.specs.Steps.{SeesToken, IsTooDeep}
 use Rattle.ts_glr.specs.Search.{Acting, Spent}
-use Rattle.ts_glr.proofs.StackLemmas.{state_there, read_config}
+use Rattle.ts_glr.proofs.StackLemmas.{state_there, read_config, own_is}
 use Rattle.ts_glr.proofs.ActLemmas.{lies_ahead}
 use Rattle.ts_glr.proofs.SpentLemmas.{passes_extra, spent_pass, spent_acts, comes_too_deep}
 use Rattle.ts_glr.proofs.TableLemmas.{has_action, extra_token}
@@ -62,7 +62,7 @@ module _ (laws : Laws) (t : ParseTable) (table : IsTable t) (size : ℕ) (stacks
 
     module _ (none : length actions ≡ 0) where
       follow_extra : is_extra t.grammar f.token.0 ≡ true
-      follow_extra = passes_extra laws t text (config_of stacks h) f sees state table state_config actions exact_config none
+      follow_extra = passes_extra laws t text (config_of stacks h) (packed_of stacks h) (own_is stacks h) f sees state table state_config actions exact_config none
 
       follow_token : IsToken t.grammar f.token.0
       follow_token = extra_token t.grammar f.token table.fit follow_extra
@@ -78,21 +78,21 @@ module _ (laws : Laws) (t : ParseTable) (table : IsTable t) (size : ℕ) (stacks
           omega arith
 
       pub follow_passes : length text ≡ size → (new : List (List Layer)) (k : StackHead) (old live : List StackHead) (best : Option Tree) (stuck : Option ℕ) → live ≡ old ++ k ∷ [] → IsOwnHead t size stacks h
-          → config_of new k ≡ pushed (config_of stacks h) (as_extra (token_tree f.token f.pad f.size))
+          → config_of new k ≡ pushed (config_of stacks h) (as_extra (token_tree f.token f.pad f.size)) → packed_of new k ≡ packed_with (packed_of stacks h) (as_extra (token_tree f.token f.pad f.size))
           → ((u : ParseTable) (n : ℕ) → IsOwnHead u n stacks h → LiesAhead n h.place f → IsToken u.grammar f.token.0 → IsOwnHead u n new k)
           → ((u : ParseTable) (states : States) (w : Bytes) → IsTable u → AreStatesOf u states → IsOwnHead u (length w) stacks h → IsExtraAhead u w stacks h f → StandOnHead u states w stacks h → StandOnHead u states w new k)
-          → Spent t text (trees_on (stack_at stacks h.top)) new (most_actions t) (config_of stacks h) old live best best stuck stuck
-      follow_passes long new k old live best stuck live_is own config passes stands =
+          → Spent t text (trees_on (stack_at stacks h.top)) new (most_actions t) (config_of stacks h) (packed_of stacks h) old live best best stuck stuck
+      follow_passes long new k old live best stuck live_is own config layers passes stands =
           let mine : IsOwnHead t (length text) stacks h = subst (λ (n : ℕ). IsOwnHead t n stacks h) (sym long) own in
-          spent_pass laws t text (config_of stacks h) f sees state table state_config actions exact_config none (trees_on (stack_at stacks h.top)) new (most_actions t) k old live best stuck live_is
+          spent_pass laws t text (config_of stacks h) (packed_of stacks h) (own_is stacks h) f sees state table state_config actions exact_config none (trees_on (stack_at stacks h.top)) new (most_actions t) k old live best stuck live_is
           (passes t (length text) mine (lies_ahead t (length text) text stacks h f refl follow_token.0 ahead) follow_token)
           (λ states are s. stands t states text table are mine (record { decided = ahead.decided; extra = follow_extra; idle = passes_idle }) s)
-          config
+          config layers
 
     pub follow_acts : (new : List (List Layer)) (old live : List StackHead) (first best : Option Tree) (stuck : Option ℕ) → 0 < length actions → length actions ≤ most_actions t
-        → Acting t text (trees_on (stack_at stacks h.top)) new (config_of stacks h) f actions old live first best → Spent t text (trees_on (stack_at stacks h.top)) new (most_actions t) (config_of stacks h) old live first best stuck stuck
+        → Acting t text (trees_on (stack_at stacks h.top)) new (config_of stacks h) (packed_of stacks h) f actions old live first best → Spent t text (trees_on (stack_at stacks h.top)) new (most_actions t) (config_of stacks h) (packed_of stacks h) old live first best stuck stuck
     follow_acts new old live first best stuck some few acting =
-        spent_acts laws t text (config_of stacks h) f sees state table state_config actions exact_config some (trees_on (stack_at stacks h.top)) new old live first best acting (most_actions t) stuck few
+        spent_acts laws t text (config_of stacks h) (packed_of stacks h) (own_is stacks h) f sees state table state_config actions exact_config some (trees_on (stack_at stacks h.top)) new old live first best acting (most_actions t) stuck few
 
-    pub follow_deep : (a : Action) → Contains actions a → IsTooDeep t.grammar (config_of stacks h) a → ComesTooDeep t.grammar text (config_of stacks h)
-    follow_deep a w deep = comes_too_deep laws t.grammar text (config_of stacks h) f sees t a refl ((exact_config a).0 w) deep
+    pub follow_deep : (a : Action) → Contains actions a → IsTooDeep t.grammar (packed_of stacks h) a → PackedIsTooDeep t.grammar text (packed_of stacks h)
+    follow_deep a w deep = comes_too_deep laws t.grammar text (config_of stacks h) f sees (packed_of stacks h) (own_is stacks h) t a refl ((exact_config a).0 w) deep

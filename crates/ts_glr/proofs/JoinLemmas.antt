@@ -1,20 +1,24 @@
 -- Which head goes on next, and when one may stand for another.
-use Rattle.std.proofs.Common.{◌≡◌, ◌∙◌, sym, ap, refl, subst, ℕ, ◌+◌, ◌-◌, ◌<◌, ◌≤◌, zero, suc, List, [], ◌∷◌, ◌++◌, length, get_or, slice_get, take, drop, map, Some, None, inl, inr, Fits, w32, arith, add-one}
+use Rattle.std.proofs.Common.{◌≡◌, ◌∙◌, sym, ap, refl, subst, ℕ, ◌+◌, ◌-◌, ◌<◌, ◌≤◌, zero, suc, List, [], ◌∷◌, ◌++◌, length, get_or, slice_get, take, drop, map, Some, None, inl, inr, ⊎_elim, Fits, w32, arith, add-one}
 use Rattle.std.specs.List.{Contains, slice_set}
 use Rattle.std.proofs.Math.Seq.{split_at}
 use Rattle.std.proofs.lemmas.List.{take-append-drop, take-set, drop-set, take_more, take_all}
 use Rattle.spec_trees.specs.declared.tree.Tree.{Tree}
 use Rattle.spec_trees.specs.Trees.{pad_of, size_of, span_of, all_spans, bare}
-use Rattle.spec_packing.specs.Serving.{ServesFor, AllServe}
+use Rattle.spec_packing.specs.Replacing.{Replaces, AllReplace}
+use Rattle.spec_packing.specs.Packing.{packed_trees}
 use Rattle.ts_table.specs.declared.view.ParseTable.{ParseTable}
 use Rattle.ts_gss.specs.declared.layer.Layer.{Layer}
 use Rattle.ts_gss.specs.Stacks.{stack_at, trees_on, tree_on, under_top}
 use Rattle.ts_steps.specs.declared.head.StackHead.{StackHead}
 use Rattle.ts_steps.specs.MoveLaws.{Laws}
 use Rattle.ts_steps.specs.Good.{IsGoodTree, AreGoodTrees}
+use Rattle.ts_steps.specs.LiveHeads.{packed_layers, IsLiveHead}
+use Rattle.ts_steps.proofs.LayerLemmas.{layers_trees}
+use Rattle.ts_glr.specs.declared.joining.Kept.{Kept}
 use Rattle.ts_glr.specs.Lists.{OfEach}
 use Rattle.ts_glr.specs.Laws.{PackingLaws}
-use Rattle.ts_glr.specs.Joining.{GoesBefore, IsTakenOut, HeadServes, IsKeptOf, JoinsOne}
+use Rattle.ts_glr.specs.Joining.{GoesBefore, IsTakenOut, HeadServes, IsKeptOf, IsJoined, JoinsOne}
 use Rattle.ts_glr.proofs.ListLemmas.{each_append, each_map, each_at}
 use Rattle.ts_glr.proofs.OrderLemmas.{bare_better}
 
@@ -97,36 +101,45 @@ taken_out stacks old new k x lt is new_is none = record {
   first = λ y w b. none y x w (subst (λ (z : StackHead). GoesBefore stacks y z) is b);
 }
 
--- one of two heads is put in the place of the one in the list
-pub joins_there : (stacks : List (List Layer)) (old now : List StackHead) (k : ℕ) (other kept h : StackHead) → now ≡ old → slice_get now k ≡ Some other → IsKeptOf stacks other h kept → JoinsOne stacks old (slice_set now k kept) h
-joins_there stacks old now k other kept h same there w = record {
+-- what is so of each head of a list is so of the one of a number
+pub live_at : (P : StackHead → Type 0) (live : List StackHead) (k : ℕ) (x : StackHead) → slice_get live k ≡ Some x → OfEach P live → P x
+live_at P live k x e all = each_at P live x all (k, in_list live k x e, there_or live k x x e)
+
+-- and what is so of two heads is so of the one that is kept and of the other
+pub kept_live : (P : StackHead → Type 0) (stacks : List (List Layer)) (a b : StackHead) (kept : Kept) → IsKeptOf stacks a b kept → P a → P b → P kept.head × P kept.other
+kept_live P stacks a b kept w one two = ⊎_elim (λ s. (subst P (sym s.0) one, subst P (sym s.1) two)) (λ s. (subst P (sym s.0) two, subst P (sym s.1) one)) w.1
+
+-- two heads as one are put in the place of the one in the list
+pub joins_there : (stacks new : List (List Layer)) (old now : List StackHead) (k : ℕ) (other h joined : StackHead) (kept : Kept) → now ≡ old → slice_get now k ≡ Some other → IsKeptOf stacks other h kept → IsJoined stacks new kept joined → JoinsOne stacks new old (slice_set now k joined) h
+joins_there stacks new old now k other h joined kept same there w is = record {
   left = take k now;
   other = other;
   kept = kept;
+  joined = joined;
   right = drop (k + 1) now;
   old_is = sym same ∙ cut_at now k other there;
-  new_is = set_parts now k kept (in_list now k other there);
+  new_is = set_parts now k joined (in_list now k other there);
   kept_is = w;
+  joined_is = is;
 }
 
--- ---- trees and stacks that serve
+-- ---- trees and stacks that take the place of others
 
 module _ (laws : Laws) where
-  bare_serves : (t u : Tree) → ServesFor t u → ServesFor (bare t) (bare u)
-  bare_serves t u s = record {
+  bare_replaces : (t u : Tree) → Replaces t u → Replaces (bare t) (bare u)
+  bare_replaces t u s = record {
     symbol = (laws.keeps t).symbol ∙ s.symbol ∙ sym (laws.keeps u).symbol;
     extra = (laws.keeps t).extra ∙ s.extra ∙ sym (laws.keeps u).extra;
     pad = (laws.keeps t).pad ∙ s.pad ∙ sym (laws.keeps u).pad;
     size = (laws.keeps t).size ∙ s.size ∙ sym (laws.keeps u).size;
-    depth = omega (arith, (laws.keeps t).depth, (laws.keeps u).depth, s.depth);
     no_better = λ b. s.no_better (bare_better laws u t b);
   }
 
-  all_bare : (ts us : List Tree) → AllServe ts us → AllServe (map bare ts) (map bare us)
+  all_bare : (ts us : List Tree) → AllReplace ts us → AllReplace (map bare ts) (map bare us)
   all_bare [] [] a = tt
   all_bare [] (u ∷ us) a = absurd a
   all_bare (t ∷ ts) [] a = absurd a
-  all_bare (t ∷ ts) (u ∷ us) a = (bare_serves t u a.0, all_bare ts us a.1)
+  all_bare (t ∷ ts) (u ∷ us) a = (bare_replaces t u a.0, all_bare ts us a.1)
 
 -- ---- the walk down two stacks
 
@@ -138,8 +151,8 @@ pub record Walking (t : ParseTable) (size : ℕ) (stacks : List (List Layer)) (k
   pub under_good : AreGoodTrees t.grammar (trees_on (stack_at stacks under))
   pub over_spans : all_spans (trees_on (stack_at stacks over)) ≡ place
   pub under_spans : all_spans (trees_on (stack_at stacks under)) ≡ place
-  pub rest : AllServe (trees_on (stack_at stacks over)) (trees_on (stack_at stacks under))
-      → AllServe (trees_on (stack_at stacks kept.top)) (trees_on (stack_at stacks other.top))
+  pub rest : AllReplace (trees_on (stack_at stacks over)) (trees_on (stack_at stacks under))
+      → AllReplace (trees_on (stack_at stacks kept.top)) (trees_on (stack_at stacks other.top))
 
 -- a stack that does not end at the start of the text is not empty
 pub has_layer : (stacks : List (List Layer)) (top place : ℕ) → all_spans (trees_on (stack_at stacks top)) ≡ place → 0 < place → 0 < length (stack_at stacks top)
@@ -175,7 +188,7 @@ sum_fits a b place le f = grind arith
 
 pub walk_more : (t : ParseTable) (size : ℕ) (stacks : List (List Layer)) (kept other : StackHead) (over under place o u q : ℕ) (x y : Tree) → Walking t size stacks kept other over under place
     → Some x ≡ tree_on (stack_at stacks over) → Some y ≡ tree_on (stack_at stacks under) → stack_at stacks o ≡ under_top (stack_at stacks over) → stack_at stacks u ≡ under_top (stack_at stacks under)
-    → o < over → u < under → q ≡ place - (pad_of x + size_of x) → ServesFor x y → Walking t size stacks kept other o u q
+    → o < over → u < under → q ≡ place - (pad_of x + size_of x) → Replaces x y → Walking t size stacks kept other o u q
 walk_more t size stacks kept other over under place o u q x y w ex ey bo bu lo lu eq s =
     let a = trees_step (stack_at stacks over) (stack_at stacks o) x ex bo in
     let b = trees_step (stack_at stacks under) (stack_at stacks u) y ey bu in
@@ -188,17 +201,58 @@ walk_more t size stacks kept other over under place o u q x y w ex ey bo bu lo l
       under_good = (subst (AreGoodTrees t.grammar) b w.under_good).1;
       over_spans = omega (arith, sa, w.over_spans, eq);
       under_spans = omega (arith, sb, w.under_spans, eq, s.pad, s.size);
-      rest = λ r. w.rest (subst (λ (l : List Tree). AllServe l (trees_on (stack_at stacks under))) (sym a) (subst (λ (l : List Tree). AllServe (x ∷ trees_on (stack_at stacks o)) l) (sym b) (s, r)));
+      rest = λ r. w.rest (subst (λ (l : List Tree). AllReplace l (trees_on (stack_at stacks under))) (sym a) (subst (λ (l : List Tree). AllReplace (x ∷ trees_on (stack_at stacks o)) l) (sym b) (s, r)));
     }
 
-all_same : PackingLaws → (ts : List Tree) → AllServe ts ts
+same_tree : PackingLaws → (t : Tree) → Replaces t t
+same_tree p t = let s = p.same_tree t in record { symbol = refl; extra = refl; pad = refl; size = refl; no_better = s.no_better }
+
+all_same : PackingLaws → (ts : List Tree) → AllReplace ts ts
 all_same p [] = tt
-all_same p (t ∷ ts) = (p.same_tree t, all_same p ts)
+all_same p (t ∷ ts) = (same_tree p t, all_same p ts)
 
 -- both stacks have come to one
 pub walk_ends : (laws : Laws) (p : PackingLaws) (t : ParseTable) (size : ℕ) (stacks : List (List Layer)) (kept other : StackHead) (over under place : ℕ) → kept.place ≡ other.place → over ≡ under → Walking t size stacks kept other over under place → HeadServes stacks kept other
 walk_ends laws p t size stacks kept other over under place same_place same w = record {
   place = same_place;
-  stack = all_bare laws (trees_on (stack_at stacks kept.top)) (trees_on (stack_at stacks other.top))
-      (w.rest (subst (λ (n : ℕ). AllServe (trees_on (stack_at stacks over)) (trees_on (stack_at stacks n))) same (all_same p (trees_on (stack_at stacks over)))));
+  trees =
+      subst (λ (ts : List Tree). AllReplace ts (packed_trees (packed_layers (stack_at stacks other.top)))) (sym (layers_trees (stack_at stacks kept.top)))
+      (subst (λ (ts : List Tree). AllReplace (map bare (trees_on (stack_at stacks kept.top))) ts) (sym (layers_trees (stack_at stacks other.top)))
+      (all_bare laws (trees_on (stack_at stacks kept.top)) (trees_on (stack_at stacks other.top))
+      (w.rest (subst (λ (n : ℕ). AllReplace (trees_on (stack_at stacks over)) (trees_on (stack_at stacks n))) same (all_same p (trees_on (stack_at stacks over)))))));
 }
+
+-- ---- two stacks as one
+
+-- the layers down to these were compared, and both stacks have as many
+pub record Pairing (stacks : List (List Layer)) (kept other : StackHead) (over under : ℕ) : Type 0 where
+  pub over_there : over < length stacks
+  pub under_there : under < length stacks
+  pub pairs : AllReplace (packed_trees (packed_layers (stack_at stacks over))) (packed_trees (packed_layers (stack_at stacks under)))
+
+pub pair_begins : (t : ParseTable) (size : ℕ) (stacks : List (List Layer)) (kept other : StackHead) → IsLiveHead t size stacks kept → IsLiveHead t size stacks other → HeadServes stacks kept other → Pairing stacks kept other kept.top other.top
+pair_begins t size stacks kept other a b s = record { over_there = a.there; under_there = b.there; pairs = s.trees }
+
+-- a stack that is no other has a layer where the other has one
+module _ (stacks : List (List Layer)) (kept other : StackHead) (over under : ℕ) (p : Pairing stacks kept other over under) where
+  both_some : (ls ms : List Layer) → AllReplace (packed_trees (packed_layers ls)) (packed_trees (packed_layers ms)) → 0 < length ls → 0 < length ms
+  both_some [] ms a some = absurd (omega (arith, some))
+  both_some (l ∷ ls) [] a some = absurd a
+  both_some (l ∷ ls) (m ∷ ms) a some = omega arith
+
+  pub under_some : 0 < length (stack_at stacks over) → 0 < length (stack_at stacks under)
+  under_some some = both_some (stack_at stacks over) (stack_at stacks under) p.pairs some
+
+  pairs_under : (ls ms : List Layer) → AllReplace (packed_trees (packed_layers ls)) (packed_trees (packed_layers ms)) → AllReplace (packed_trees (packed_layers (under_top ls))) (packed_trees (packed_layers (under_top ms)))
+  pairs_under [] [] a = tt
+  pairs_under [] (m ∷ ms) a = absurd a
+  pairs_under (l ∷ ls) [] a = absurd a
+  pairs_under (l ∷ ls) (m ∷ ms) a = a.1
+
+  pub pair_on : (o u : ℕ) → stack_at stacks o ≡ under_top (stack_at stacks over) → stack_at stacks u ≡ under_top (stack_at stacks under) → o < over → u < under → Pairing stacks kept other o u
+  pair_on o u bo bu lo lu = record {
+    over_there = omega (arith, lo, p.over_there);
+    under_there = omega (arith, lu, p.under_there);
+    pairs = subst (λ (ls : List Layer). AllReplace (packed_trees (packed_layers ls)) (packed_trees (packed_layers (stack_at stacks u)))) (sym bo)
+        (subst (λ (ms : List Layer). AllReplace (packed_trees (packed_layers (under_top (stack_at stacks over)))) (packed_trees (packed_layers ms))) (sym bu) (pairs_under (stack_at stacks over) (stack_at stacks under) p.pairs));
+  }

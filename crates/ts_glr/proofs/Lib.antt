@@ -10,12 +10,13 @@ pub mod SeenLemmas
 pub mod ActLemmas
 pub mod SpentLemmas
 pub mod JoinLemmas
+pub mod SettleLemmas
+pub mod JoinedLemmas
 pub mod SearchLemmas
 pub mod FollowLemmas
 pub mod RestLemmas
 pub mod ParseLemmas
 pub mod TurnLemmas
 pub mod ForkLemmas
-pub mod SettleLemmas
 pub mod SpreadLemmas
 pub mod CrossLemmas

@@ -7,20 +7,19 @@ use Rattle.spec_trees.specs.declared.tree.Tree.{Tree}
 use Rattle.spec_trees.specs.Trees.{children_of, state_of}
 use Rattle.spec_trees.specs.Choice.{IsInForm}
 use Rattle.spec_runs.specs.Configurations.{Configuration}
-use Rattle.spec_runs.specs.Runs.{Run}
 use Rattle.spec_runs.specs.Outcomes.{Fresh, deep_outcome, tree_outcome, stuck_outcome}
-use Rattle.spec_forced.specs.OnlyRuns.{OnlyRun}
 use Rattle.spec_forced.specs.Sound.{States, IsSound}
-use Rattle.spec_crossing.specs.Resting.{IsPastStuck, Rests}
+use Rattle.spec_packing.specs.Packing.{WasMet}
+use Rattle.spec_crossing.specs.Resting.{IsPastStuck, PackedRests}
 use Rattle.ts_table.specs.declared.view.ParseTable.{ParseTable}
 use Rattle.ts_gss.specs.declared.layer.Layer.{Layer}
 use Rattle.ts_steps.specs.declared.head.StackHead.{StackHead}
 use Rattle.ts_steps.specs.Good.{EachTree}
-use Rattle.ts_steps.specs.LiveHeads.{config_of}
+use Rattle.ts_steps.specs.LiveHeads.{config_of, packed_of}
 use Rattle.ts_steps.specs.declared.reparsed.Reparsed.{Reparsed}
 use Rattle.ts_steps.specs.declared.reparsed.Reparsed.TheVariants.{Accepted, Stuck, Deep, Forks}
 use Rattle.ts_steps.specs.Heads.{IsOwnWithin, IsOwnHead, StandOnHead}
-use Rattle.ts_steps.specs.Reparsing.{OnFork, IsForkFrom, IsOwnResult, IsResult}
+use Rattle.ts_steps.specs.Reparsing.{OnFork, IsForkFrom, IsOwnResult, IsResult, ComesByLayers}
 use Rattle.ts_glr.specs.declared.outcome.Outcome.{Outcome}
 use Rattle.ts_glr.specs.declared.forking.Forked.{Forked}
 use Rattle.ts_glr.specs.declared.forking.Forked.TheVariants.{One, Over}
@@ -28,7 +27,7 @@ use Rattle.ts_glr.specs.Laws.{PackingLaws}
 use Rattle.ts_glr.specs.Turns.{turn_weight}
 use Rattle.ts_glr.specs.Forks.{LeavesOne, EndsAll, ComesTo}
 use Rattle.ts_glr.proofs.TurnLemmas.{turn_le}
-use Rattle.ts_glr.proofs.RestLemmas.{Through, rests_start, rests_on, rests_tree, rests_stuck, rests_deep}
+use Rattle.ts_glr.proofs.RestLemmas.{rests_start, rests_on, rests_tree, rests_stuck}
 
 -- ---- the start
 
@@ -36,38 +35,42 @@ pub own_start : (t : ParseTable) (size : ℕ) (stacks : List (List Layer)) → s
 own_start t size stacks is = subst (λ (s : List (List Layer)). IsOwnHead t size s (record { top = 0; place = 0 })) (sym is) (record {
   live = record {
     there = omega arith;
-    stack = record { states = tt; good = tt; spans = refl; reach = tt; within = omega arith };
+    stack = record { states = tt; depths = tt; good = tt; spans = refl; reach = tt; within = omega arith };
   };
   own = tt;
   made = tt;
 })
 
 pub start_rests : (packing : PackingLaws) (t : ParseTable) → Fit t.grammar → (states : States) (text : Bytes) (stacks : List (List Layer)) (stuck : Option ℕ) → stacks ≡ [] ∷ [] → stuck ≡ None
-    → Rests t.grammar text stuck (config_of stacks (record { top = 0; place = 0 })) × StandOnHead t states text stacks (record { top = 0; place = 0 })
+    → PackedRests t.grammar text stuck (packed_of stacks (record { top = 0; place = 0 })) × StandOnHead t states text stacks (record { top = 0; place = 0 })
 start_rests packing t fit states text stacks stuck is none =
-    subst (λ (s : List (List Layer)). Rests t.grammar text stuck (config_of s (record { top = 0; place = 0 })) × StandOnHead t states text s (record { top = 0; place = 0 })) (sym is)
-    (rests_start packing t.grammar fit text stuck none, tt)
+    subst (λ (s : List (List Layer)). PackedRests t.grammar text stuck (packed_of s (record { top = 0; place = 0 })) × StandOnHead t states text s (record { top = 0; place = 0 })) (sym is)
+    (rests_start packing t.grammar fit text stuck (λ q e. absurd (let f : ◌≡◌ {A = Option ℕ} None (Some q) = subst (λ (o : Option ℕ). o ≡ Some q) none e in cc)), tt)
 
 -- ---- one stack
 
-module _ (packing : PackingLaws) (t : ParseTable) (fit : Fit t.grammar) (states : States) (text : Bytes) (old new : List (List Layer)) (h : StackHead) (stuck : Option ℕ) (r : Reparsed) (result : IsResult t states text old new h r) (rests : Rests t.grammar text stuck (config_of old h)) where
+module _ (packing : PackingLaws) (t : ParseTable) (fit : Fit t.grammar) (states : States) (text : Bytes) (old new : List (List Layer)) (h : StackHead) (stuck : Option ℕ) (r : Reparsed) (result : IsResult t states text old new h r)
+    (layers : WasMet t.grammar text (packed_of old h) → ComesByLayers t text old new h r) (rests : PackedRests t.grammar text stuck (packed_of old h)) where
+  comes : ComesByLayers t text old new h r
+  comes = layers rests.met
+
   pub accepts_sound : (u : Tree) → r ≡ Accepted u → Fresh t.grammar text (tree_outcome u) × IsSound t.grammar states text u
   accepts_sound u is =
       let w = subst (λ (x : Reparsed). IsResult t states text old new h x) is result in
-      (rests_tree packing t.grammar fit text stuck (config_of old h) rests u w.0, w.1)
+      (rests_tree packing t.grammar fit text stuck (packed_of old h) rests u (subst (λ (x : Reparsed). ComesByLayers t text old new h x) is comes), w.1)
 
   pub stuck_at : (place q : ℕ) → r ≡ Stuck place → place ≤ q → ((p : ℕ) → IsPastStuck stuck p → p ≤ q) → (q ≡ place) ⊎ (stuck ≡ Some q) → Fresh t.grammar text (stuck_outcome q)
   stuck_at place q is mine others from =
-      rests_stuck packing t.grammar fit text stuck (config_of old h) rests place q (subst (λ (x : Reparsed). IsResult t states text old new h x) is result) mine others from
+      rests_stuck packing t.grammar fit text stuck (packed_of old h) rests place q (subst (λ (x : Reparsed). ComesByLayers t text old new h x) is comes) mine others from
 
   pub too_deep : r ≡ Deep → Fresh t.grammar text deep_outcome
-  too_deep is = rests_deep packing t.grammar fit text stuck (config_of old h) rests (subst (λ (x : Reparsed). IsResult t states text old new h x) is result)
+  too_deep is = subst (λ (x : Reparsed). ComesByLayers t text old new h x) is comes
 
   -- where several moves stay
-  pub fork_rests : (through : Through) (runs : (g : FlatGrammar) (text : Bytes) (c d : Configuration) → OnlyRun g text c d → Run g text c d) (k : StackHead) → r ≡ Forks k → Rests t.grammar text stuck (config_of new k) × StandOnHead t states text new k
-  fork_rests through runs k is =
+  pub fork_rests : (k : StackHead) → r ≡ Forks k → PackedRests t.grammar text stuck (packed_of new k) × StandOnHead t states text new k
+  fork_rests k is =
       let w = subst (λ (x : Reparsed). IsResult t states text old new h x) is result in
-      (rests_on packing t.grammar fit text through runs stuck (config_of old h) (config_of new k) w.0 rests, w.1)
+      (rests_on packing t.grammar fit text stuck (packed_of old h) (packed_of new k) (subst (λ (x : Reparsed). ComesByLayers t text old new h x) is comes) rests, w.1)
 
 pub own_root : (t : ParseTable) (r : Reparsed) (u : Tree) → r ≡ Accepted u → IsOwnResult t r → IsInForm t.grammar u × EachTree (IsOwnWithin t.grammar) (children_of u) × (state_of u ≡ None)
 own_root t r u is own = subst (λ (x : Reparsed). IsOwnResult t x) is own

@@ -6,58 +6,68 @@ use Rattle.spec_trees.specs.declared.tree.Tree.{Tree}
 use Rattle.spec_trees.specs.Trees.{bare}
 use Rattle.spec_tables.specs.Fit.{Fit}
 use Rattle.spec_trees.specs.Choice.{Better}
-use Rattle.spec_runs.specs.Configurations.{Configuration, starting}
-use Rattle.spec_runs.specs.Runs.{StepsOn, Run, run_here, run_on, IsReached, ComesTooDeep}
+use Rattle.spec_runs.specs.Configurations.{Configuration}
+use Rattle.spec_runs.specs.Runs.{StepsOn, IsReached, AcceptsTree, StopsAt}
 use Rattle.spec_runs.specs.Outcomes.{SomeIsTooDeep, Fresh}
-use Rattle.spec_packing.specs.Serving.{ServesConfiguration, ComesToServe}
-use Rattle.spec_crossing.specs.Resting.{AccountsFor, Rests}
+use Rattle.spec_packing.specs.Packing.{PackedStack, Packs, WasMet, GoesThrough, PackedStepsOn, PackedIsTooDeep, joined_stacks}
+use Rattle.spec_crossing.specs.Resting.{AccountsFor, PackedRests}
 use Rattle.ts_table.specs.declared.view.ParseTable.{ParseTable}
 use Rattle.ts_gss.specs.declared.layer.Layer.{Layer}
 use Rattle.ts_steps.specs.declared.head.StackHead.{StackHead}
-use Rattle.ts_steps.specs.LiveHeads.{config_of, IsLiveHead}
+use Rattle.ts_steps.specs.LiveHeads.{config_of, packed_of, IsLiveHead}
 use Rattle.ts_glr.specs.declared.outcome.Outcome.{Outcome}
 use Rattle.ts_glr.specs.Lists.{OfEach, Any}
 use Rattle.ts_steps.specs.Heads.{IsOwnHead}
 use Rattle.ts_glr.specs.Steps.{HasForm, StandAfter}
 use Rattle.ts_glr.specs.Laws.{PackingLaws}
-use Rattle.ts_glr.specs.Joining.{IsTakenOut, HeadServes, JoinsOne}
-use Rattle.ts_glr.specs.Search.{StackStays, StacksStay, Keeps, Spent, Searching}
+use Rattle.ts_glr.specs.Joining.{IsTakenOut, JoinsOne}
+use Rattle.ts_glr.specs.Search.{StackStays, StacksStay, Keeps, AccountsForLayers, Spent, Searching}
 use Rattle.ts_glr.specs.Outcomes.{value_of_outcome, EndsAs, IsTreeOf}
 use Rattle.ts_glr.proofs.ListLemmas.{each_append, each_map, each_both, each_left, each_right, any_left, any_right, any_cases, any_map, any_both, each_last, any_last}
-use Rattle.ts_glr.proofs.StackLemmas.{live_kept, config_kept}
+use Rattle.ts_glr.proofs.StackLemmas.{live_kept, packed_kept, own_is}
 
-run_more : (g : FlatGrammar) (text : Bytes) (a b c : Configuration) → Run g text a b → StepsOn g text b c → Run g text a c
-run_more g text a _ c (run_here _) s = run_on a c c s (run_here c)
-run_more g text a _ c (run_on _ d b first rest) s = run_on a d c first (run_more g text d b c rest s)
+-- one head was joined with another, and stands for both
+pub record Joined (t : ParseTable) (text : Bytes) (stacks new : List (List Layer)) (rest live : List StackHead) (h : StackHead) : Type 0 where
+  pub joins : JoinsOne stacks new rest live h
+  pub live : IsLiveHead t (length text) new joins.joined
+  pub packed : packed_of new joins.joined ≡ joined_stacks (packed_of stacks joins.kept.head) (packed_of stacks joins.kept.other)
 
 module _ (packing : PackingLaws) (t : ParseTable) (fit : Fit t.grammar) (text : Bytes) where
   abbrev Live : List (List Layer) → StackHead → Type 0
-  Live stacks h = IsLiveHead t (length text) stacks h × IsReached t.grammar text (config_of stacks h)
+  Live stacks h = IsLiveHead t (length text) stacks h × WasMet t.grammar text (packed_of stacks h)
 
   abbrev LeadsBy : List (List Layer) → Configuration → StackHead → Type 0
-  LeadsBy stacks c h = ComesToServe t.grammar text (config_of stacks h) c
+  LeadsBy stacks c h = GoesThrough t.grammar text (packed_of stacks h) c
 
-  abbrev Steps : List Tree → Configuration → List (List Layer) → StackHead → Type 0
-  Steps trees c stacks h = IsOwnHead t (length text) stacks h × StandAfter t text trees stacks h × StepsOn t.grammar text c (config_of stacks h)
+  -- it leads on in both lists of stacks
+  abbrev InBoth : List (List Layer) → List (List Layer) → Configuration → StackHead → Type 0
+  InBoth new stacks c k = LeadsBy new c k × LeadsBy stacks c k
+
+  abbrev Steps : List Tree → Configuration → PackedStack → List (List Layer) → StackHead → Type 0
+  Steps trees c k stacks h = IsOwnHead t (length text) stacks h × StandAfter t text trees stacks h × StepsOn t.grammar text c (config_of stacks h) × PackedStepsOn t.grammar text k (packed_of stacks h)
+
+  -- a run comes to the own trees of layers that were met
+  pub own_reached : (stacks : List (List Layer)) (h : StackHead) → WasMet t.grammar text (packed_of stacks h) → IsReached t.grammar text (config_of stacks h)
+  own_reached stacks h met = subst (λ (c : Configuration). IsReached t.grammar text c) (own_is stacks h) met.reached
 
   -- where one head is left
-  pub search_rests : (stacks : List (List Layer)) (h : StackHead) (stuck : Option ℕ) → IsLiveHead t (length text) stacks h → Rests t.grammar text stuck (config_of stacks h) → Searching t text stacks (h ∷ []) None stuck
+  pub search_rests : (stacks : List (List Layer)) (h : StackHead) (stuck : Option ℕ) → IsLiveHead t (length text) stacks h → PackedRests t.grammar text stuck (packed_of stacks h) → Searching t text stacks (h ∷ []) None stuck
   search_rests stacks h stuck live r = record {
-    heads = ((live, r.reached), tt);
+    heads = ((live, r.met), tt);
     done = λ c reached. ⊎_elim (λ cov. inl cov) (λ w. inr (inl w)) (r.done c reached);
     tree_from = λ b e. absurd (let none : ◌≡◌ {A = Option Tree} None (Some b) = e in cc);
     stuck_from = r.stuck_from;
     some = inl (omega arith);
   }
 
-  pub rests_search : (stacks : List (List Layer)) (h : StackHead) (stuck : Option ℕ) → Searching t text stacks (h ∷ []) None stuck → Rests t.grammar text stuck (config_of stacks h)
+  pub rests_search : (stacks : List (List Layer)) (h : StackHead) (stuck : Option ℕ) → Searching t text stacks (h ∷ []) None stuck → PackedRests t.grammar text stuck (packed_of stacks h)
   rests_search stacks h stuck s = record {
-    reached = s.heads.0.1;
+    met = s.heads.0.1;
     done = λ c reached. ⊎_elim (λ cov. inl cov) (λ w. inr (only_one c w)) (s.done c reached);
     stuck_from = s.stuck_from;
   }
     where
-      only_one : (c : Configuration) → Any (LeadsBy stacks c) (h ∷ []) → ComesToServe t.grammar text (config_of stacks h) c
+      only_one : (c : Configuration) → Any (LeadsBy stacks c) (h ∷ []) → GoesThrough t.grammar text (packed_of stacks h) c
       only_one c (inl w) = w
       only_one c (inr w) = absurd w
 
@@ -71,15 +81,16 @@ module _ (packing : PackingLaws) (t : ParseTable) (fit : Fit t.grammar) (text : 
   pub all_live : (stacks : List (List Layer)) (live : List StackHead) (best : Option Tree) (stuck : Option ℕ) → Searching t text stacks live best stuck → OfEach (λ k. IsLiveHead t (length text) stacks k) live
   all_live stacks live best stuck s = each_map (Live stacks) (λ (k : StackHead). IsLiveHead t (length text) stacks k) live (λ k w. w.0) s.heads
 
-  -- what is accounted for at a configuration is at each for which it may stand
-  covers_served : (c d : Configuration) (best : Option Tree) (stuck : Option ℕ) → IsReached t.grammar text c → IsReached t.grammar text d → ServesConfiguration d c → AccountsFor t.grammar text best stuck d → AccountsFor t.grammar text best stuck c
-  covers_served c d best stuck rc rd s cov = record {
+  -- what is accounted for at layers is at each configuration for which they stand
+  covers_packed : (c : Configuration) (stacks : List (List Layer)) (h : StackHead) (best : Option Tree) (stuck : Option ℕ) → IsReached t.grammar text c → WasMet t.grammar text (packed_of stacks h) → Packs (packed_of stacks h) c
+      → AccountsForLayers t.grammar text best stuck (config_of stacks h) (packed_of stacks h) → AccountsFor t.grammar text best stuck c
+  covers_packed c stacks h best stuck rc met s cov = record {
     accepted = λ u a.
-        let w = packing.accepts t.grammar fit text c d u rc rd s a in
-        let b = cov.accepted w.0 w.1 in
+        let w = packing.accepts t.grammar fit text (packed_of stacks h) c u met rc s a in
+        let b = cov.accepted w.0 (subst (λ (d : Configuration). AcceptsTree t.grammar text d w.0) (own_is stacks h) w.1) in
         (b.0, b.1, packing.no_better (bare b.0) w.0 u b.2 w.2);
-    places = λ q stop. cov.places q (packing.stops t.grammar text c d q s stop);
-    shallow = λ deep. cov.shallow (packing.deep t.grammar fit text c d rc rd s deep);
+    places = λ q stop. cov.places q (subst (λ (d : Configuration). StopsAt t.grammar text d q) (own_is stacks h) (packing.stops t.grammar fit text (packed_of stacks h) c q s stop));
+    shallow = λ deep. cov.shallow (packing.deep t.grammar fit text (packed_of stacks h) c met rc s deep);
   }
 
   -- the head that stands last
@@ -92,17 +103,17 @@ module _ (packing : PackingLaws) (t : ParseTable) (fit : Fit t.grammar) (text : 
   live_still : (old new : List (List Layer)) (h : StackHead) → StackStays old new h → Live old h → Live new h
   live_still old new h stays l = (
     live_kept t (length text) old new h stays l.0,
-    subst (λ (c : Configuration). IsReached t.grammar text c) (sym (config_kept t (length text) old new h stays l.0)) l.1,
+    subst (λ (k : PackedStack). WasMet t.grammar text k) (sym (packed_kept t (length text) old new h stays l.0)) l.1,
   )
 
   -- the head that stands last was followed
   pub search_more : (trees : List Tree) (old new : List (List Layer)) (most : ℕ) (rest live' : List StackHead) (h : StackHead) (best best' : Option Tree) (stuck stuck' : Option ℕ) → StacksStay old new rest
-      → Searching t text old (rest ++ h ∷ []) best stuck → Spent t text trees new most (config_of old h) rest live' best best' stuck stuck' → Searching t text new live' best' stuck'
+      → Searching t text old (rest ++ h ∷ []) best stuck → Spent t text trees new most (config_of old h) (packed_of old h) rest live' best best' stuck stuck' → Searching t text new live' best' stuck'
   search_more trees old new most rest live' h best best' stuck stuck' stay s sp = record {
     heads = subst (OfEach (Live new)) (sym sp.live_is)
         (each_append (Live new) rest sp.more
         (each_both (StackStays old new) (Live old) (Live new) rest (λ k a w. live_still old new k a w) stay others)
-        (each_map (Steps trees (config_of old h) new) (Live new) sp.more (λ k w. (w.0.live, run_more t.grammar text starting (config_of old h) (config_of new k) reached w.2)) sp.sound));
+        (each_map (Steps trees (config_of old h) (packed_of old h) new) (Live new) sp.more (λ k w. (w.0.live, packing.met t.grammar fit text (packed_of old h) (packed_of new k) met w.3)) sp.sound));
     done = λ c r. ⊎_elim (λ cov. inl (covers_more c (config_of old h) best best' stuck stuck' sp.keeps cov))
         (λ w. ⊎_elim (λ (u : Any (LeadsBy old c) rest). inr (in_rest c u)) (λ (v : Any (LeadsBy old c) (h ∷ [])). in_head c r v)
         (any_cases (LeadsBy old c) rest (h ∷ []) w)) (s.done c r);
@@ -117,8 +128,11 @@ module _ (packing : PackingLaws) (t : ParseTable) (fit : Fit t.grammar) (text : 
       kept : OfEach (λ k. StackStays old new k × Live old k) rest
       kept = each_both (StackStays old new) (Live old) (λ k. StackStays old new k × Live old k) rest (λ k a w. (a, w)) stay others
 
+      met : WasMet t.grammar text (packed_of old h)
+      met = (head_there old rest h best stuck s).1
+
       reached : IsReached t.grammar text (config_of old h)
-      reached = (head_there old rest h best stuck s).1
+      reached = own_reached old h met
 
       enough : (more : List StackHead) → 0 < length more → live' ≡ rest ++ more → 0 < length live'
       enough more n is = omega (arith, n, ap (λ (l : List StackHead). length l) is, length-append rest more)
@@ -128,22 +142,22 @@ module _ (packing : PackingLaws) (t : ParseTable) (fit : Fit t.grammar) (text : 
           subst (Any (LeadsBy new c)) (sym sp.live_is)
           (any_left (LeadsBy new c) rest sp.more
           (any_both (λ k. StackStays old new k × Live old k) (LeadsBy old c) (LeadsBy new c) rest
-          (λ k w r. subst (λ (d : Configuration). ComesToServe t.grammar text d c) (sym (config_kept t (length text) old new k w.0 w.1.0)) r)
+          (λ k w r. subst (λ (d : PackedStack). GoesThrough t.grammar text d c) (sym (packed_kept t (length text) old new k w.0 w.1.0)) r)
           kept u))
 
-      run_from : (d at c : Configuration) → d ≡ config_of old h → IsReached t.grammar text c → Run t.grammar text d at → ComesTooDeep t.grammar text at ⊎ ServesConfiguration at c → AccountsFor t.grammar text best' stuck' c ⊎ Any (LeadsBy new c) live'
-      run_from d _ c is r (run_here _) serves =
-          inl (⊎_elim (λ deep. absurd (sp.covers.shallow (subst (λ (x : Configuration). ComesTooDeep t.grammar text x) is deep)))
-          (λ w. covers_served c (config_of old h) best' stuck' r reached (subst (λ (x : Configuration). ServesConfiguration x c) is w) sp.covers) serves)
-      run_from d at c is r (run_on _ e _ first later) serves =
-          inr (subst (Any (LeadsBy new c)) (sym sp.live_is)
+      next_leads : (c : Configuration) → (n : PackedStack) × PackedStepsOn t.grammar text (packed_of old h) n × GoesThrough t.grammar text n c → Any (LeadsBy new c) live'
+      next_leads c w =
+          subst (Any (LeadsBy new c)) (sym sp.live_is)
           (any_right (LeadsBy new c) rest sp.more
-          (any_map (λ (k : StackHead). config_of new k ≡ e) (LeadsBy new c) sp.more
-          (λ k w. subst (λ (x : Configuration). ComesToServe t.grammar text x c) (sym w) (record { at = at; run = later; serves = serves }))
-          (sp.complete e (subst (λ (x : Configuration). StepsOn t.grammar text x e) is first)))))
+          (any_map (λ (k : StackHead). packed_of new k ≡ w.0) (LeadsBy new c) sp.more
+          (λ k is. subst (λ (x : PackedStack). GoesThrough t.grammar text x c) (sym is) w.2)
+          (sp.complete w.0 w.1)))
 
       in_head : (c : Configuration) → IsReached t.grammar text c → Any (LeadsBy old c) (h ∷ []) → AccountsFor t.grammar text best' stuck' c ⊎ Any (LeadsBy new c) live'
-      in_head c r (inl w) = run_from (config_of old h) w.at c refl r w.run w.serves
+      in_head c r (inl w) =
+          ⊎_elim (λ stands. inl (covers_packed c old h best' stuck' r met stands sp.covers))
+          (λ more. ⊎_elim (λ deep. absurd (sp.covers.shallow deep)) (λ next. inr (next_leads c next)) more)
+          (packing.on t.grammar fit text (packed_of old h) c met w)
       in_head c r (inr w) = absurd w
 
   -- ---- the choice of the next head, and joining
@@ -158,56 +172,89 @@ module _ (packing : PackingLaws) (t : ParseTable) (fit : Fit t.grammar) (text : 
     some = inl (omega (arith, length-append rest (h ∷ [])));
   }
 
-  leads_served : (stacks : List (List Layer)) (a b : StackHead) (c : Configuration) → Live stacks a → Live stacks b → HeadServes stacks a b → LeadsBy stacks c b → LeadsBy stacks c a
-  leads_served stacks a b c la lb s w = packing.runs t.grammar fit text (config_of stacks b) (config_of stacks a) c lb.1 la.1 s w
-
-  -- of two heads that lead on, the one that is kept leads to what both lead to
-  pub search_joined : (stacks : List (List Layer)) (rest live : List StackHead) (h : StackHead) (best : Option Tree) (stuck : Option ℕ) → JoinsOne stacks rest live h → Searching t text stacks (rest ++ h ∷ []) best stuck → Searching t text stacks live best stuck
-  search_joined stacks rest live h best stuck j s = record {
-    heads = subst (OfEach (Live stacks)) (sym j.new_is) (each_append (Live stacks) j.left (j.kept ∷ j.right) (each_left (Live stacks) j.left (j.other ∷ j.right) both) (kept_live, others.1));
-    done = λ c r. ⊎_elim (λ cov. inl cov) (λ w. inr (subst (Any (LeadsBy stacks c)) (sym j.new_is) (⊎_elim (λ u. in_rest c (subst (Any (LeadsBy stacks c)) j.old_is u)) (λ u. in_head c u)
-        (any_cases (LeadsBy stacks c) rest (h ∷ []) w)))) (s.done c r);
+  -- two heads as one lead to what both lead to
+  pub search_joined : (stacks new : List (List Layer)) (rest live : List StackHead) (h : StackHead) (best : Option Tree) (stuck : Option ℕ) → StacksStay stacks new rest → Joined t text stacks new rest live h
+      → Searching t text stacks (rest ++ h ∷ []) best stuck → Searching t text new live best stuck
+  search_joined stacks new rest live h best stuck stay w s = record {
+    heads = subst (OfEach (Live new)) (sym j.new_is) (each_append (Live new) j.left (j.joined ∷ j.right) (each_left (Live new) j.left (j.other ∷ j.right) all) (joined_live, (each_right (Live new) j.left (j.other ∷ j.right) all).1));
+    done = λ c r. ⊎_elim (λ cov. inl cov) (λ u. inr (subst (Any (LeadsBy new c)) (sym j.new_is) (⊎_elim (λ v. in_rest c (in_old c v)) (λ v. in_head c v)
+        (any_cases (LeadsBy stacks c) rest (h ∷ []) u)))) (s.done c r);
     tree_from = s.tree_from;
     stuck_from = s.stuck_from;
-    some = inl (omega (arith, ap (λ (l : List StackHead). length l) j.new_is, length-append j.left (j.kept ∷ j.right)));
+    some = inl (omega (arith, ap (λ (l : List StackHead). length l) j.new_is, length-append j.left (j.joined ∷ j.right)));
   }
     where
-      both : OfEach (Live stacks) (j.left ++ j.other ∷ j.right)
-      both = subst (OfEach (Live stacks)) j.old_is (each_left (Live stacks) rest (h ∷ []) s.heads)
+      j : JoinsOne stacks new rest live h
+      j = w.joins
 
-      others : OfEach (Live stacks) (j.other ∷ j.right)
-      others = each_right (Live stacks) j.left (j.other ∷ j.right) both
+      olds : OfEach (Live stacks) rest
+      olds = each_left (Live stacks) rest (h ∷ []) s.heads
+
+      both : OfEach (Live stacks) (j.left ++ j.other ∷ j.right)
+      both = subst (OfEach (Live stacks)) j.old_is olds
+
+      kept : OfEach (λ k. StackStays stacks new k × Live stacks k) rest
+      kept = each_both (StackStays stacks new) (Live stacks) (λ k. StackStays stacks new k × Live stacks k) rest (λ k a b. (a, b)) stay olds
+
+      all : OfEach (Live new) (j.left ++ j.other ∷ j.right)
+      all = subst (OfEach (Live new)) j.old_is (each_map (λ k. StackStays stacks new k × Live stacks k) (Live new) rest (λ k p. live_still stacks new k p.0 p.1) kept)
+
+      other_live : Live stacks j.other
+      other_live = (each_right (Live stacks) j.left (j.other ∷ j.right) both).0
 
       last : Live stacks h
       last = (each_right (Live stacks) rest (h ∷ []) s.heads).0
 
-      kept_live : Live stacks j.kept
-      kept_live = ⊎_elim (λ w. subst (Live stacks) (sym w.0) others.0) (λ w. subst (Live stacks) (sym w.0) last) j.kept_is
+      met_of : (k : StackHead) → (k ≡ j.other) ⊎ (k ≡ h) → WasMet t.grammar text (packed_of stacks k)
+      met_of k (inl is) = subst (λ (x : StackHead). WasMet t.grammar text (packed_of stacks x)) (sym is) other_live.1
+      met_of k (inr is) = subst (λ (x : StackHead). WasMet t.grammar text (packed_of stacks x)) (sym is) last.1
 
-      by_other : (c : Configuration) → LeadsBy stacks c j.other → LeadsBy stacks c j.kept
-      by_other c w = ⊎_elim (λ k. subst (LeadsBy stacks c) (sym k.0) w) (λ k. subst (LeadsBy stacks c) (sym k.0) (leads_served stacks h j.other c last others.0 k.1 w)) j.kept_is
+      kept_is : (j.kept.head ≡ j.other) ⊎ (j.kept.head ≡ h)
+      kept_is = ⊎_elim (λ p. inl p.0) (λ p. inr p.0) j.kept_is.1
 
-      by_head : (c : Configuration) → LeadsBy stacks c h → LeadsBy stacks c j.kept
-      by_head c w = ⊎_elim (λ k. subst (LeadsBy stacks c) (sym k.0) (leads_served stacks j.other h c others.0 last k.1 w)) (λ k. subst (LeadsBy stacks c) (sym k.0) w) j.kept_is
+      other_is : (j.kept.other ≡ j.other) ⊎ (j.kept.other ≡ h)
+      other_is = ⊎_elim (λ p. inr p.1) (λ p. inl p.1) j.kept_is.1
 
-      in_rest : (c : Configuration) → Any (LeadsBy stacks c) (j.left ++ j.other ∷ j.right) → Any (LeadsBy stacks c) (j.left ++ j.kept ∷ j.right)
+      joined_live : Live new j.joined
+      joined_live = (
+        w.live,
+        subst (λ (k : PackedStack). WasMet t.grammar text k) (sym w.packed)
+            (packing.joined_met t.grammar text (packed_of stacks j.kept.head) (packed_of stacks j.kept.other) (met_of j.kept.head kept_is) (met_of j.kept.other other_is) j.kept_is.0),
+      )
+
+      by_either : (c : Configuration) → LeadsBy stacks c j.kept.head ⊎ LeadsBy stacks c j.kept.other → LeadsBy new c j.joined
+      by_either c u = subst (λ (k : PackedStack). GoesThrough t.grammar text k c) (sym w.packed)
+          (packing.leads t.grammar text (packed_of stacks j.kept.head) (packed_of stacks j.kept.other) c j.kept_is.0 u)
+
+      by_other : (c : Configuration) → LeadsBy stacks c j.other → LeadsBy new c j.joined
+      by_other c u = by_either c (⊎_elim (λ p. inl (subst (LeadsBy stacks c) (sym p.0) u)) (λ p. inr (subst (LeadsBy stacks c) (sym p.1) u)) j.kept_is.1)
+
+      by_head : (c : Configuration) → LeadsBy stacks c h → LeadsBy new c j.joined
+      by_head c u = by_either c (⊎_elim (λ p. inr (subst (LeadsBy stacks c) (sym p.1) u)) (λ p. inl (subst (LeadsBy stacks c) (sym p.0) u)) j.kept_is.1)
+
+      in_old : (c : Configuration) → Any (LeadsBy stacks c) rest → Any (InBoth new stacks c) (j.left ++ j.other ∷ j.right)
+      in_old c u = subst (Any (InBoth new stacks c)) j.old_is
+          (any_both (λ k. StackStays stacks new k × Live stacks k) (LeadsBy stacks c) (InBoth new stacks c) rest
+          (λ k p v. (subst (λ (d : PackedStack). GoesThrough t.grammar text d c) (sym (packed_kept t (length text) stacks new k p.0 p.1.0)) v, v)) kept u)
+
+      in_rest : (c : Configuration) → Any (InBoth new stacks c) (j.left ++ j.other ∷ j.right) → Any (LeadsBy new c) (j.left ++ j.joined ∷ j.right)
       in_rest c u =
-          ⊎_elim (λ a. any_left (LeadsBy stacks c) j.left (j.kept ∷ j.right) a)
-          (λ b. any_right (LeadsBy stacks c) j.left (j.kept ∷ j.right) (here c b))
-          (any_cases (LeadsBy stacks c) j.left (j.other ∷ j.right) u)
+          ⊎_elim (λ a. any_left (LeadsBy new c) j.left (j.joined ∷ j.right) (any_map (InBoth new stacks c) (LeadsBy new c) j.left (λ k p. p.0) a))
+          (λ b. any_right (LeadsBy new c) j.left (j.joined ∷ j.right) (here b))
+          (any_cases (InBoth new stacks c) j.left (j.other ∷ j.right) u)
         where
-          here : (c : Configuration) → Any (LeadsBy stacks c) (j.other ∷ j.right) → Any (LeadsBy stacks c) (j.kept ∷ j.right)
-          here c (inl w) = inl (by_other c w)
-          here c (inr w) = inr w
+          here : Any (InBoth new stacks c) (j.other ∷ j.right) → Any (LeadsBy new c) (j.joined ∷ j.right)
+          here (inl p) = inl (by_other c p.1)
+          here (inr more) = inr (any_map (InBoth new stacks c) (LeadsBy new c) j.right (λ k p. p.0) more)
 
-      in_head : (c : Configuration) → Any (LeadsBy stacks c) (h ∷ []) → Any (LeadsBy stacks c) (j.left ++ j.kept ∷ j.right)
-      in_head c (inl w) = any_right (LeadsBy stacks c) j.left (j.kept ∷ j.right) (inl (by_head c w))
-      in_head c (inr w) = absurd w
+      in_head : (c : Configuration) → Any (LeadsBy stacks c) (h ∷ []) → Any (LeadsBy new c) (j.left ++ j.joined ∷ j.right)
+      in_head c (inl u) = any_right (LeadsBy new c) j.left (j.joined ∷ j.right) (inl (by_head c u))
+      in_head c (inr u) = absurd u
 
   -- ---- the outcome
 
-  pub deep_ends : (stacks : List (List Layer)) (rest : List StackHead) (h : StackHead) (best : Option Tree) (stuck : Option ℕ) → Searching t text stacks (rest ++ h ∷ []) best stuck → ComesTooDeep t.grammar text (config_of stacks h) → SomeIsTooDeep t.grammar text
-  deep_ends stacks rest h best stuck s deep = (config_of stacks h, (head_there stacks rest h best stuck s).1, deep)
+  pub deep_ends : (stacks : List (List Layer)) (rest : List StackHead) (h : StackHead) (best : Option Tree) (stuck : Option ℕ) → Searching t text stacks (rest ++ h ∷ []) best stuck → PackedIsTooDeep t.grammar text (packed_of stacks h) → SomeIsTooDeep t.grammar text
+  deep_ends stacks rest h best stuck s deep = packing.too_deep t.grammar fit text (packed_of stacks h) (head_there stacks rest h best stuck s).1 deep
 
   all_covered : (stacks : List (List Layer)) (live : List StackHead) (best : Option Tree) (stuck : Option ℕ) → live ≡ [] → Searching t text stacks live best stuck → (c : Configuration) → IsReached t.grammar text c → AccountsFor t.grammar text best stuck c
   all_covered stacks live best stuck empty s c r = ⊎_elim (λ cov. cov) (λ w. absurd (subst (Any (LeadsBy stacks c)) empty w)) (s.done c r)

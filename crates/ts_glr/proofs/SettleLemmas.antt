@@ -5,14 +5,15 @@ use Rattle.ts_base.specs.Bytes.{Bytes}
 use Rattle.spec_trees.specs.declared.tree.Tree.{Tree}
 use Rattle.spec_trees.specs.Trees.{pad_of, size_of, span_of, all_spans, bare}
 use Rattle.spec_runs.specs.Configurations.{Configuration}
-use Rattle.spec_crossing.specs.Resting.{Rests}
+use Rattle.spec_packing.specs.Packing.{PackedStack}
+use Rattle.spec_crossing.specs.Resting.{PackedRests}
 use Rattle.spec_forced.specs.Sound.{States, StandOnStack}
 use Rattle.ts_table.specs.declared.view.ParseTable.{ParseTable}
 use Rattle.ts_gss.specs.declared.layer.Layer.{Layer}
-use Rattle.ts_gss.specs.Stacks.{layer_with, stack_at, state_on, tree_on, trees_on, under_top}
+use Rattle.ts_gss.specs.Stacks.{packed_layer, stack_at, state_on, depth_on, tree_on, trees_on, under_top}
 use Rattle.ts_steps.specs.declared.head.StackHead.{StackHead}
 use Rattle.ts_steps.specs.Good.{EachTree}
-use Rattle.ts_steps.specs.LiveHeads.{config_of, IsGoodStack}
+use Rattle.ts_steps.specs.LiveHeads.{config_of, packed_layers, packed_of, IsGoodStack}
 use Rattle.ts_steps.specs.Heads.{IsMadeNode, IsOwnWithin, IsOwnHead}
 use Rattle.ts_steps.proofs.StackLemmas.{stack_new}
 use Rattle.ts_glr.specs.declared.settling.Top.{Top}
@@ -29,23 +30,28 @@ pub record Lifting (stacks : List (List Layer)) (h : StackHead) (tops : List Top
   pub spans : all_spans (trees_on (stack_at stacks under)) ≡ place
   pub laid : stack_at stacks h.top ≡ layers_of tops ++ stack_at stacks under
 
-layer_step : (s below : List Layer) (x : Tree) (state : ℕ) → Some x ≡ tree_on s → state ≡ state_on s → below ≡ under_top s → s ≡ layer_with x state ∷ below
-layer_step [] below x state e n u = absurd (let f : Some x ≡ None = e in cc)
-layer_step (l ∷ s) below x state e n u = let f : Some x ≡ Some l.tree = e in let same : x ≡ l.tree = cc in rw (same, n, u) refl
+layer_step : (s below : List Layer) (x : Tree) (state depth : ℕ) → Some x ≡ tree_on s → state ≡ state_on s → Some depth ≡ depth_on s → below ≡ under_top s → s ≡ packed_layer x state depth ∷ below
+layer_step [] below x state depth e n d u = absurd (let f : Some x ≡ None = e in cc)
+layer_step (l ∷ s) below x state depth e n d u =
+    let f : Some x ≡ Some l.tree = e in
+    let g : Some depth ≡ Some l.depth = d in
+    let same : x ≡ l.tree = cc in
+    let deep : depth ≡ l.depth = cc in
+    rw (same, n, deep, u) refl
 
-layers_more : (tops : List Top) (x : Top) (s : List Layer) → layers_of (tops ++ x ∷ []) ++ s ≡ layers_of tops ++ layer_with x.node x.state ∷ s
-layers_more tops x s = ap (λ (l : List Layer). l ++ s) (map-append (λ (t : Top). layer_with t.node t.state) tops (x ∷ [])) ∙ append_assoc (layers_of tops) (layer_with x.node x.state ∷ []) s
+pub layers_more : (tops : List Top) (x : Top) (s : List Layer) → layers_of (tops ++ x ∷ []) ++ s ≡ layers_of tops ++ packed_layer x.node x.state x.depth ∷ s
+layers_more tops x s = ap (λ (l : List Layer). l ++ s) (map-append (λ (t : Top). packed_layer t.node t.state t.depth) tops (x ∷ [])) ∙ append_assoc (layers_of tops) (packed_layer x.node x.state x.depth ∷ []) s
 
-pub lifting_more : (stacks : List (List Layer)) (h : StackHead) (tops new : List Top) (under place below q state : ℕ) (x y : Tree) → Lifting stacks h tops under place → Some x ≡ tree_on (stack_at stacks under) → state ≡ state_on (stack_at stacks under)
-    → stack_at stacks below ≡ under_top (stack_at stacks under) → below < under → q ≡ place - (pad_of x + size_of x) → y ≡ x → new ≡ tops ++ record { node = y; state = state } ∷ [] → Lifting stacks h new below q
-lifting_more stacks h tops new under place below q state x y l e n u lower eq same is =
+pub lifting_more : (stacks : List (List Layer)) (h : StackHead) (tops new : List Top) (under place below q state depth : ℕ) (x y : Tree) → Lifting stacks h tops under place → Some x ≡ tree_on (stack_at stacks under) → state ≡ state_on (stack_at stacks under) → Some depth ≡ depth_on (stack_at stacks under)
+    → stack_at stacks below ≡ under_top (stack_at stacks under) → below < under → q ≡ place - (pad_of x + size_of x) → y ≡ x → new ≡ tops ++ record { node = y; state = state; depth = depth } ∷ [] → Lifting stacks h new below q
+lifting_more stacks h tops new under place below q state depth x y l e n d u lower eq same is =
     let a = trees_step (stack_at stacks under) (stack_at stacks below) x e u in
     let sum : all_spans (trees_on (stack_at stacks under)) ≡ span_of x + all_spans (trees_on (stack_at stacks below)) = ap all_spans a ∙ spans_step x (trees_on (stack_at stacks below)) in
     record {
       there = omega (arith, lower, l.there);
       spans = omega (arith, sum, l.spans, eq);
-      laid = l.laid ∙ ap (λ (s : List Layer). layers_of tops ++ s) (layer_step (stack_at stacks under) (stack_at stacks below) x state e n u)
-          ∙ sym (layers_more tops (record { node = x; state = state }) (stack_at stacks below)) ∙ ap (λ (z : Tree). layers_of (tops ++ record { node = z; state = state } ∷ []) ++ stack_at stacks below) (sym same)
+      laid = l.laid ∙ ap (λ (s : List Layer). layers_of tops ++ s) (layer_step (stack_at stacks under) (stack_at stacks below) x state depth e n d u)
+          ∙ sym (layers_more tops (record { node = x; state = state; depth = depth }) (stack_at stacks below)) ∙ ap (λ (z : Tree). layers_of (tops ++ record { node = z; state = state; depth = depth } ∷ []) ++ stack_at stacks below) (sym same)
           ∙ ap (λ (ts : List Top). layers_of ts ++ stack_at stacks below) (sym is);
     }
 
@@ -59,9 +65,9 @@ pub record Laying (stacks : List (List Layer)) (tops : List Top) (top : ℕ) (wh
   pub there : top < length stacks
   pub laid : layers_of tops ++ stack_at stacks top ≡ whole
 
-pub laying_more : (old new : List (List Layer)) (tops rest : List Top) (top above : ℕ) (x : Top) (whole : List Layer) → Laying old tops top whole → tops ≡ rest ++ x ∷ [] → above ≡ length old → new ≡ old ++ (layer_with x.node x.state ∷ stack_at old top) ∷ [] → Laying new rest above whole
+pub laying_more : (old new : List (List Layer)) (tops rest : List Top) (top above : ℕ) (x : Top) (whole : List Layer) → Laying old tops top whole → tops ≡ rest ++ x ∷ [] → above ≡ length old → new ≡ old ++ (packed_layer x.node x.state x.depth ∷ stack_at old top) ∷ [] → Laying new rest above whole
 laying_more old new tops rest top above x whole l is above_is new_is =
-    let layer = layer_with x.node x.state ∷ stack_at old top in
+    let layer = packed_layer x.node x.state x.depth ∷ stack_at old top in
     let len = ap (λ (ss : List (List Layer)). length ss) new_is in
     let more = length-append old (layer ∷ []) in
     let on : stack_at new above ≡ layer = ap (λ (ss : List (List Layer)). stack_at ss above) new_is ∙ ap (λ (n : ℕ). stack_at (old ++ layer ∷ []) n) above_is ∙ stack_new old layer in
@@ -92,6 +98,11 @@ module _ (t : ParseTable) (text : Bytes) (first old new : List (List Layer)) (be
       ap {B = Configuration} (λ (s : List Layer). record { stack = map bare (trees_on s); place = k.place }) (sym is.stack)
       ∙ ap {B = Configuration} (λ (n : ℕ). record { stack = map bare (trees_on (stack_at new settled.top)); place = n }) (sym is.place)
 
+  packed_is : packed_of old k ≡ packed_of new settled
+  packed_is =
+      ap {B = PackedStack} (λ (s : List Layer). record { stack = packed_layers s; place = k.place }) (sym is.stack)
+      ∙ ap {B = PackedStack} (λ (n : ℕ). record { stack = packed_layers (stack_at new settled.top); place = n }) (sym is.place)
+
   pub settled_one : LeavesOne t text first old before stuck live best h k → LeavesOne t text first new before stuck live best h settled
   settled_one l = record {
     own = record {
@@ -106,6 +117,6 @@ module _ (t : ParseTable) (text : Bytes) (first old new : List (List Layer)) (be
     lighter = subst (λ (c : Configuration). turn_weight t.grammar (length text) c < turn_weight t.grammar (length text) (config_of first h)) config_is l.lighter;
     empty = l.empty;
     none = l.none;
-    rests = λ r. subst (λ (c : Configuration). Rests t.grammar text stuck c) config_is (l.rests r);
+    rests = λ r. subst (λ (p : PackedStack). PackedRests t.grammar text stuck p) packed_is (l.rests r);
     stand = λ states are s. subst (λ (ts : List Tree). StandOnStack t.grammar states text ts) trees_is (l.stand states are s);
   }

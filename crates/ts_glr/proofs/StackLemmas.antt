@@ -8,6 +8,7 @@ use Rattle.spec_trees.specs.declared.tree.Tree.{Tree}
 use Rattle.spec_trees.specs.Trees.{is_extra_node, bare}
 use Rattle.spec_trees.specs.Made.{filling}
 use Rattle.spec_runs.specs.Configurations.{Configuration, HasMove}
+use Rattle.spec_packing.specs.Packing.{PackedStack, own_config}
 use Rattle.spec_forced.specs.Forced.{IsDecided}
 use Rattle.spec_forced.specs.Sound.{States, StandOnStack}
 use Rattle.ts_table.specs.declared.view.ParseTable.{ParseTable}
@@ -18,9 +19,10 @@ use Rattle.ts_steps.specs.declared.head.StackHead.{StackHead}
 use Rattle.ts_steps.specs.declared.found.FoundToken.{FoundToken}
 use Rattle.ts_steps.specs.Good.{EachTree}
 use Rattle.ts_steps.specs.MoveLaws.{Laws}
-use Rattle.ts_steps.specs.LiveHeads.{config_of, HaveStates, IsGoodStack, IsLiveHead, read_on, GainsStacks}
+use Rattle.ts_steps.specs.LiveHeads.{config_of, packed_of, packed_layers, HaveStates, IsGoodStack, IsLiveHead, read_on, GainsStacks}
 use Rattle.ts_steps.specs.Heads.{IsOwnWithin, IsMadeNode, IsOwnHead, StandOnHead}
 use Rattle.ts_steps.specs.Looking.{IsTokenAhead}
+use Rattle.ts_steps.proofs.LayerLemmas.{layers_trees}
 use Rattle.ts_glr.specs.Search.{StackStays, StacksStay}
 
 -- ---- stacks that stay
@@ -47,6 +49,13 @@ live_stays t size old new h g l = record {
 
 pub config_stays : (t : ParseTable) (size : ℕ) (old new : List (List Layer)) (h : StackHead) → GainsStacks old new → IsLiveHead t size old h → config_of new h ≡ config_of old h
 config_stays t size old new h g l = ap {B = Configuration} (λ (s : List Layer). record { stack = map bare (trees_on s); place = h.place }) (stack_stays old new h.top g l.there)
+
+pub packed_stays : (t : ParseTable) (size : ℕ) (old new : List (List Layer)) (h : StackHead) → GainsStacks old new → IsLiveHead t size old h → packed_of new h ≡ packed_of old h
+packed_stays t size old new h g l = ap {B = PackedStack} (λ (s : List Layer). record { stack = packed_layers s; place = h.place }) (stack_stays old new h.top g l.there)
+
+-- the layers' own trees are those of the configuration
+pub own_is : (stacks : List (List Layer)) (h : StackHead) → own_config (packed_of stacks h) ≡ config_of stacks h
+own_is stacks h = ap {B = Configuration} (λ (ts : List Tree). record { stack = ts; place = h.place }) (layers_trees (stack_at stacks h.top))
 
 pub read_stays : (t : ParseTable) (size : ℕ) (old new : List (List Layer)) (h : StackHead) → GainsStacks old new → IsLiveHead t size old h → read_on new h ≡ read_on old h
 read_stays t size old new h g l = ap (λ (s : List Layer). filling (trees_on s)) (stack_stays old new h.top g l.there)
@@ -90,6 +99,9 @@ live_kept t size old new h stays l = record {
 
 pub config_kept : (t : ParseTable) (size : ℕ) (old new : List (List Layer)) (h : StackHead) → StackStays old new h → IsLiveHead t size old h → config_of new h ≡ config_of old h
 config_kept t size old new h stays l = ap {B = Configuration} (λ (s : List Layer). record { stack = map bare (trees_on s); place = h.place }) (stays l.there).1
+
+pub packed_kept : (t : ParseTable) (size : ℕ) (old new : List (List Layer)) (h : StackHead) → StackStays old new h → IsLiveHead t size old h → packed_of new h ≡ packed_of old h
+packed_kept t size old new h stays l = ap {B = PackedStack} (λ (s : List Layer). record { stack = packed_layers s; place = h.place }) (stays l.there).1
 
 -- the state on top is that of the symbols
 pub state_there : (t : ParseTable) (layers : List Layer) → HaveStates t layers → IsStateOf t (filling (trees_on layers)) (state_on layers)

@@ -9,11 +9,12 @@ use Rattle.spec_runs.specs.Configurations.{Configuration}
 use Rattle.spec_runs.specs.Runs.{IsReached}
 use Rattle.spec_runs.specs.Outcomes.{SomeIsTooDeep, IsBestTree, IsLastStop}
 use Rattle.spec_forced.specs.Sound.{States, IsSound}
+use Rattle.spec_packing.specs.Packing.{stack_alone}
 use Rattle.spec_graph.specs.States.{AreRanks}
 use Rattle.spec_graph.specs.Laying.{IsBegun}
 use Rattle.spec_graph.specs.Links.{IsWholeTo}
 use Rattle.spec_crossing.specs.Leaving.{StandsAlone}
-use Rattle.spec_crossing.specs.Resting.{IsPastStuck, Rests, AccountsForGraph}
+use Rattle.spec_crossing.specs.Resting.{IsPastStuck, PackedRests, AccountsForGraph}
 use Rattle.ts_table.specs.declared.view.ParseTable.{ParseTable}
 use Rattle.ts_table.specs.Tables.{IsTable}
 use Rattle.ts_table.specs.Ranks.{unit_rank}
@@ -24,7 +25,7 @@ use Rattle.ts_reductions.specs.Sound.{Base, parsing_from, parsing_of, IsSoundBy}
 use Rattle.ts_reductions.specs.Keeping.{AreOwn, StandOnGraph}
 use Rattle.ts_steps.specs.declared.head.StackHead.{StackHead}
 use Rattle.ts_steps.specs.Good.{EachTree}
-use Rattle.ts_steps.specs.LiveHeads.{config_of}
+use Rattle.ts_steps.specs.LiveHeads.{packed_of}
 use Rattle.ts_steps.specs.Heads.{AreStatesOf, IsOwnWithin, IsOwnHead, StandOnHead}
 use Rattle.ts_places.specs.Sweeping.{IsTooDeep}
 use Rattle.ts_places.specs.Following.{IsWholeAt}
@@ -47,7 +48,8 @@ pub record LeftLaws : Type 0 where
       → c.place < n → StandsAlone g.heads n h → (before stuck : Option ℕ)
       → AccountsForGraph (parsing_from t text base) g.heads (bare_links g.links) n None before
       stuck
-      → Rests t.grammar text before c → Rests t.grammar text stuck (config_of stacks k)
+      → PackedRests t.grammar text before (stack_alone c)
+      → PackedRests t.grammar text stuck (packed_of stacks k)
   pub own : (t : ParseTable) (text : Bytes) (base : Base) (g : GraphView) (h : ℕ)
       (numbers : List ℕ) (stacks : List (List Layer)) (k : StackHead)
       → IsSoundBy t text base g → h < length g.heads
@@ -82,7 +84,7 @@ pub record OverLaws : Type 0 where
       → (best : Option Tree) (before stuck : Option ℕ)
       → AccountsForGraph (parsing_from t text base) g.heads (bare_links g.links)
       (suc (length text)) best before stuck
-      → Rests t.grammar text before c
+      → PackedRests t.grammar text before (stack_alone c)
       → (b : Tree) → best ≡ Some b → IsBestTree t.grammar text (bare b)
   pub stop : (t : ParseTable) (text : Bytes) (base : Base) (most : ℕ) (g : GraphView)
       (c : Configuration) → IsWholeAt t text base most g (suc (length text))
@@ -90,7 +92,7 @@ pub record OverLaws : Type 0 where
       → (best : Option Tree) (before stuck : Option ℕ)
       → AccountsForGraph (parsing_from t text base) g.heads (bare_links g.links)
       (suc (length text)) best before stuck
-      → Rests t.grammar text before c
+      → PackedRests t.grammar text before (stack_alone c)
       → (q : ℕ) → best ≡ None → stuck ≡ Some q → IsLastStop t.grammar text q
   pub root_own : (t : ParseTable) (text : Bytes) (base : Base) (g : GraphView) (h : ℕ) (b : Tree)
       → IsSoundBy t text base g → Accepts (parsing_of t text) g.heads h

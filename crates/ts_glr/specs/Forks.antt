@@ -5,12 +5,12 @@ use Rattle.ts_base.specs.Bytes.{Bytes}
 use Rattle.spec_trees.specs.declared.tree.Tree.{Tree}
 use Rattle.spec_runs.specs.Outcomes.{Fresh}
 use Rattle.spec_forced.specs.Sound.{States}
-use Rattle.spec_crossing.specs.Resting.{Rests}
+use Rattle.spec_crossing.specs.Resting.{PackedRests}
 use Rattle.ts_table.specs.declared.view.ParseTable.{ParseTable}
 use Rattle.ts_table.specs.Tables.{most_actions}
 use Rattle.ts_gss.specs.declared.layer.Layer.{Layer}
 use Rattle.ts_steps.specs.declared.head.StackHead.{StackHead}
-use Rattle.ts_steps.specs.LiveHeads.{config_of}
+use Rattle.ts_steps.specs.LiveHeads.{config_of, packed_of}
 use Rattle.ts_steps.specs.Heads.{AreStatesOf, IsOwnHead, StandOnHead}
 use Rattle.ts_glr.specs.declared.outcome.Outcome.{Outcome}
 use Rattle.ts_glr.specs.declared.forking.Forked.{Forked}
@@ -30,7 +30,7 @@ pub record Following (t : ParseTable) (text : Bytes) (first stacks : List (List 
   pub owns : Owns t (length text) h.place stacks live best stuck
   pub lighter : live_weight t (length text) stacks live
       < (most_actions t + 2) ^ head_weight t.grammar (length text) first h
-  pub search : Rests t.grammar text before (config_of first h)
+  pub search : PackedRests t.grammar text before (packed_of first h)
       → Searching t text stacks live best stuck
   pub stand : (states : States) → AreStatesOf t states → StandOnHead t states text first h
       → AllStand t states text stacks live best
@@ -45,8 +45,8 @@ pub record LeavesOne (t : ParseTable) (text : Bytes) (first stacks : List (List 
       < turn_weight t.grammar (length text) (config_of first h)
   pub empty : live ≡ []
   pub none : best ≡ None
-  pub rests : Rests t.grammar text before (config_of first h)
-      → Rests t.grammar text stuck (config_of stacks k)
+  pub rests : PackedRests t.grammar text before (packed_of first h)
+      → PackedRests t.grammar text stuck (packed_of stacks k)
   pub stand : (states : States) → AreStatesOf t states → StandOnHead t states text first h
       → StandOnHead t states text stacks k
 
@@ -55,7 +55,7 @@ pub record EndsAll (t : ParseTable) (text : Bytes) (first : List (List Layer)) (
     (h : StackHead) (out : Outcome) : Type 0 where
   pub form : IsTreeOf t.grammar out
   pub own : IsOwnOutcome t out
-  pub fresh : Rests t.grammar text before (config_of first h)
+  pub fresh : PackedRests t.grammar text before (packed_of first h)
       → Fresh t.grammar text (value_of_outcome out)
   pub sound : (states : States) → AreStatesOf t states → StandOnHead t states text first h
       → IsSoundOutcome t states text out

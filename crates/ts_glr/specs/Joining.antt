@@ -1,13 +1,14 @@
 -- Which reading goes on next, and what becomes of two where one stands for the other. It serves
 -- private clauses and proofs alone.
-use Rattle.std.specs.Prelude.{◌≡◌, ℕ, ◌-◌, ◌<◌, ◌⊎◌, List, [], ◌∷◌, ◌++◌}
+use Rattle.std.specs.Prelude.{◌≡◌, ℕ, ◌-◌, ◌<◌, ◌⊎◌, max, List, [], ◌∷◌, ◌++◌, length}
 use Rattle.std.specs.List.{Contains}
 use Rattle.spec_trees.specs.Trees.{span_of}
-use Rattle.spec_packing.specs.Serving.{ServesConfiguration}
+use Rattle.spec_packing.specs.Packing.{MayJoin}
 use Rattle.ts_gss.specs.declared.layer.Layer.{Layer}
-use Rattle.ts_gss.specs.Stacks.{stack_at}
+use Rattle.ts_gss.specs.Stacks.{packed_layer, stack_at}
 use Rattle.ts_steps.specs.declared.head.StackHead.{StackHead}
-use Rattle.ts_steps.specs.LiveHeads.{config_of}
+use Rattle.ts_steps.specs.LiveHeads.{packed_of}
+use Rattle.ts_glr.specs.declared.joining.Kept.{Kept}
 
 -- ---- the order
 
@@ -39,22 +40,39 @@ pub record IsTakenOut (stacks : List (List Layer)) (old new : List StackHead) (h
 
 -- ---- joining
 
--- what the first head stands for may stand for what the second one does
+-- the trees of the first head's stack may take the place of those of the second one's
 abbrev pub HeadServes : List (List Layer) → StackHead → StackHead → Type 0
-HeadServes stacks a b = ServesConfiguration (config_of stacks a) (config_of stacks b)
+HeadServes stacks a b = MayJoin (packed_of stacks a) (packed_of stacks b)
 
--- of two heads this one is kept, which may stand for the other
-abbrev pub IsKeptOf : List (List Layer) → StackHead → StackHead → StackHead → Type 0
+-- of two heads the first of these is kept, which may stand for the other
+abbrev pub IsKeptOf : List (List Layer) → StackHead → StackHead → Kept → Type 0
 IsKeptOf stacks a b kept =
-    ((kept ≡ a) × HeadServes stacks a b) ⊎ ((kept ≡ b) × HeadServes stacks b a)
+    HeadServes stacks kept.head kept.other
+    × (((kept.head ≡ a) × (kept.other ≡ b)) ⊎ ((kept.head ≡ b) × (kept.other ≡ a)))
 
--- the head was joined with one of the list: the one that is kept of the two is in its place
-pub record JoinsOne (stacks : List (List Layer)) (old new : List StackHead) (h : StackHead)
+-- the trees and states of the first layers, and of each two depths the greater one
+abbrev pub joined_layers : List Layer → List Layer → List Layer
+joined_layers [] ms = []
+joined_layers (l ∷ ls) [] = []
+joined_layers (l ∷ ls) (m ∷ ms) =
+    packed_layer l.tree l.state (max l.depth m.depth) ∷ joined_layers ls ms
+
+-- the new head stands for both
+pub record IsJoined (old new : List (List Layer)) (kept : Kept) (k : StackHead) : Type 0 where
+  pub there : k.top < length new
+  pub place : k.place ≡ kept.head.place
+  pub stack : stack_at new k.top
+      ≡ joined_layers (stack_at old kept.head.top) (stack_at old kept.other.top)
+
+-- the head was joined with one of the list: both as one are in its place
+pub record JoinsOne (stacks stacks' : List (List Layer)) (old new : List StackHead) (h : StackHead)
     : Type 0 where
   pub left : List StackHead
   pub other : StackHead
-  pub kept : StackHead
+  pub kept : Kept
+  pub joined : StackHead
   pub right : List StackHead
   pub old_is : old ≡ left ++ other ∷ right
-  pub new_is : new ≡ left ++ kept ∷ right
+  pub new_is : new ≡ left ++ joined ∷ right
   pub kept_is : IsKeptOf stacks other h kept
+  pub joined_is : IsJoined stacks stacks' kept joined

@@ -14,29 +14,41 @@ use Rattle.spec_trees.specs.declared.tree.Tree.{Tree}
 use Rattle.spec_trees.specs.Choice.{Better}
 use Rattle.spec_runs.specs.Configurations.{Configuration, stack_symbols, AreValidTokens, HasMove, IsReduction, NextIs}
 use Rattle.spec_runs.specs.Runs.{IsReached, ComesTooDeep, AcceptsTree, StopsAt}
+use Rattle.spec_runs.specs.Outcomes.{SomeIsTooDeep}
 use Rattle.spec_forced.specs.Forced.{IsDecided}
-use Rattle.spec_packing.specs.Serving.{ServesFor, ServesConfiguration, ComesToServe}
+use Rattle.spec_packing.specs.Serving.{ServesFor}
+use Rattle.spec_packing.specs.Packing.{PackedStack, own_config, stack_alone, Packs, WasMet, GoesThrough, PackedStepsOn, PackedIsTooDeep, joined_stacks, MayJoin}
 use Rattle.ts_table.specs.declared.view.ParseTable.{ParseTable}
 use Rattle.ts_lexer.specs.States.{AreValid}
 
--- For proofs alone: laws of the better of two trees, and of readings that serve for others.
+-- For proofs alone: laws of the better of two trees, and of layers that stand for readings.
 pub record PackingLaws : Type 0 where
   pub no_better : (t u v : Tree)
       → (Better u t → ⊥) → (Better v u → ⊥) → Better v t → ⊥
   pub same_tree : (t : Tree) → ServesFor t t
-  pub same : (c : Configuration) → ServesConfiguration c c
-  pub deep : (g : FlatGrammar) → Fit g → (text : Bytes) (c d : Configuration)
-      → IsReached g text c → IsReached g text d → ServesConfiguration d c
-      → ComesTooDeep g text c → ComesTooDeep g text d
-  pub stops : (g : FlatGrammar) (text : Bytes) (c d : Configuration) (place : ℕ)
-      → ServesConfiguration d c → StopsAt g text c place → StopsAt g text d place
-  pub accepts : (g : FlatGrammar) → Fit g → (text : Bytes) (c d : Configuration) (u : Tree)
-      → IsReached g text c → IsReached g text d → ServesConfiguration d c
-      → AcceptsTree g text c u
-      → (t : Tree) × AcceptsTree g text d t × (Better u t → ⊥)
-  pub runs : (g : FlatGrammar) → Fit g → (text : Bytes) (c d e : Configuration)
-      → IsReached g text c → IsReached g text d → ServesConfiguration d c
-      → ComesToServe g text c e → ComesToServe g text d e
+  pub own : (g : FlatGrammar) → Fit g → (text : Bytes) (c : Configuration) → IsReached g text c
+      → WasMet g text (stack_alone c) × Packs (stack_alone c) c
+  pub met : (g : FlatGrammar) → Fit g → (text : Bytes) (k n : PackedStack) → WasMet g text k
+      → PackedStepsOn g text k n → WasMet g text n
+  pub too_deep : (g : FlatGrammar) → Fit g → (text : Bytes) (k : PackedStack) → WasMet g text k
+      → PackedIsTooDeep g text k → SomeIsTooDeep g text
+  pub on : (g : FlatGrammar) → Fit g → (text : Bytes) (k : PackedStack) (d : Configuration)
+      → WasMet g text k → GoesThrough g text k d
+      → Packs k d ⊎ (PackedIsTooDeep g text k
+      ⊎ ((n : PackedStack) × PackedStepsOn g text k n × GoesThrough g text n d))
+  pub deep : (g : FlatGrammar) → Fit g → (text : Bytes) (k : PackedStack) (c : Configuration)
+      → WasMet g text k → IsReached g text c → Packs k c → ComesTooDeep g text c
+      → PackedIsTooDeep g text k
+  pub stops : (g : FlatGrammar) → Fit g → (text : Bytes) (k : PackedStack) (c : Configuration)
+      (place : ℕ) → Packs k c → StopsAt g text c place → StopsAt g text (own_config k) place
+  pub accepts : (g : FlatGrammar) → Fit g → (text : Bytes) (k : PackedStack) (c : Configuration)
+      (u : Tree) → WasMet g text k → IsReached g text c → Packs k c → AcceptsTree g text c u
+      → (t : Tree) × AcceptsTree g text (own_config k) t × (Better u t → ⊥)
+  pub leads : (g : FlatGrammar) (text : Bytes) (k j : PackedStack) (d : Configuration)
+      → MayJoin k j → GoesThrough g text k d ⊎ GoesThrough g text j d
+      → GoesThrough g text (joined_stacks k j) d
+  pub joined_met : (g : FlatGrammar) (text : Bytes) (k j : PackedStack) → WasMet g text k
+      → WasMet g text j → MayJoin k j → WasMet g text (joined_stacks k j)
 
 -- For proofs alone: laws of a token that is seen again behind a reduction.
 pub record AgainLaws : Type 0 where

@@ -10,7 +10,7 @@ use Rattle.spec_runs.specs.Configurations.{Configuration}
 use Rattle.spec_runs.specs.Runs.{StepsOn, IsReached, AcceptsTree, StopsAt}
 use Rattle.spec_runs.specs.Outcomes.{SomeAccepts, SomeStopsAt}
 use Rattle.spec_forced.specs.Sound.{States, IsSound}
-use Rattle.spec_packing.specs.Serving.{ComesToServe}
+use Rattle.spec_packing.specs.Packing.{PackedStack, WasMet, GoesThrough, PackedStepsOn, PackedIsTooDeep}
 use Rattle.spec_crossing.specs.Resting.{Withstands, IsPastStuck, AccountsFor}
 use Rattle.ts_table.specs.declared.view.ParseTable.{ParseTable}
 use Rattle.ts_gss.specs.declared.layer.Layer.{Layer}
@@ -18,12 +18,12 @@ use Rattle.ts_gss.specs.Stacks.{stack_at}
 use Rattle.ts_steps.specs.declared.found.FoundToken.{FoundToken}
 use Rattle.ts_steps.specs.declared.head.StackHead.{StackHead}
 use Rattle.ts_steps.specs.Good.{EachTree}
-use Rattle.ts_steps.specs.LiveHeads.{config_of, IsLiveHead, IsRootOf}
+use Rattle.ts_steps.specs.LiveHeads.{config_of, packed_of, IsLiveHead, IsRootOf}
 use Rattle.ts_steps.specs.Heads.{IsOwnWithin, IsOwnHead, StandOnHead}
 use Rattle.ts_glr.specs.declared.acting.Moved.{Moved}
 use Rattle.ts_glr.specs.declared.acting.Moved.TheVariants.{To, Ended, TooDeep}
 use Rattle.ts_glr.specs.Lists.{OfEach, Any}
-use Rattle.ts_glr.specs.Steps.{ActionLeads, IsTooDeep, StandAfter, IsSoundRoot}
+use Rattle.ts_glr.specs.Steps.{ActionLeads, LayersLead, IsTooDeep, StandAfter, IsSoundRoot}
 
 -- the heads that an action came to
 abbrev pub heads_of : Moved → List StackHead
@@ -47,19 +47,20 @@ abbrev pub StacksStay : List (List Layer) → List (List Layer) → List StackHe
 StacksStay old new heads = OfEach (StackStays old new) heads
 
 -- The heads were added to which some actions lead; the trees that they accept are accounted for.
--- The nodes of both stand, if these trees do.
+-- The nodes of both stand, if these trees do. So it is from a configuration, and from its layers.
 pub record Acting (t : ParseTable) (text : Bytes) (trees : List Tree) (stacks : List (List Layer))
-    (c : Configuration) (f : FoundToken) (done : List Action) (old live : List StackHead)
+    (c : Configuration) (k : PackedStack) (f : FoundToken) (done : List Action) (old live : List StackHead)
     (first best : Option Tree) : Type 0 where
   pub more : List StackHead
   pub live_is : live ≡ old ++ more
   pub few : length more ≤ length done
   pub sound : OfEach (λ h. IsOwnHead t (length text) stacks h × StandAfter t text trees stacks h
-      × Any (λ a. ActionLeads t.grammar c f a (config_of stacks h)) done) more
-  pub complete : OfEach (λ a. (e : Configuration) → ActionLeads t.grammar c f a e
-      → Any (λ h. config_of stacks h ≡ e) more) done
+      × Any (λ a. ActionLeads t.grammar c f a (config_of stacks h)
+      × LayersLead t.grammar k f a (packed_of stacks h)) done) more
+  pub complete : OfEach (λ a. (n : PackedStack) → LayersLead t.grammar k f a n
+      → Any (λ h. packed_of stacks h ≡ n) more) done
   pub accepted : OfEach (λ a. a ≡ Accept → (u : Tree) → IsRootOf c.stack u → Withstands best u) done
-  pub shallow : OfEach (λ a. IsTooDeep t.grammar c a → ⊥) done
+  pub shallow : OfEach (λ a. IsTooDeep t.grammar k a → ⊥) done
   pub fruitful : OfEach (λ a. (0 < length more) ⊎ ((b : Tree) × (best ≡ Some b))) done
   pub others : (u : Tree) → Withstands first u → Withstands best u
   pub from : (b : Tree) → best ≡ Some b
@@ -80,32 +81,40 @@ abbrev pub HasSome : List StackHead → Option Tree → Option ℕ → Type 0
 HasSome live best stuck =
     (0 < length live) ⊎ (((b : Tree) × (best ≡ Some b)) ⊎ ((q : ℕ) × (stuck ≡ Some q)))
 
+-- all ends are accounted for at a configuration with these layers
+pub record AccountsForLayers (g : FlatGrammar) (text : Bytes) (best : Option Tree)
+    (stuck : Option ℕ) (c : Configuration) (k : PackedStack) : Type 0 where
+  pub accepted : (u : Tree) → AcceptsTree g text c u → Withstands best u
+  pub places : (q : ℕ) → StopsAt g text c q → IsPastStuck stuck q
+  pub shallow : PackedIsTooDeep g text k → ⊥
+
 -- A head was followed by one step in all ways. The nodes of the new heads and trees stand, if these
--- trees do.
+-- trees do. So it is from a configuration, and from its layers.
 pub record Spent (t : ParseTable) (text : Bytes) (trees : List Tree) (stacks : List (List Layer))
-    (most : ℕ) (c : Configuration) (old live : List StackHead) (first best : Option Tree)
+    (most : ℕ) (c : Configuration) (k : PackedStack) (old live : List StackHead) (first best : Option Tree)
     (before stuck : Option ℕ) : Type 0 where
   pub more : List StackHead
   pub live_is : live ≡ old ++ more
   pub few : length more ≤ suc most
   pub sound : OfEach (λ h. IsOwnHead t (length text) stacks h × StandAfter t text trees stacks h
-      × StepsOn t.grammar text c (config_of stacks h)) more
-  pub complete : (e : Configuration) → StepsOn t.grammar text c e
-      → Any (λ h. config_of stacks h ≡ e) more
-  pub covers : AccountsFor t.grammar text best stuck c
+      × StepsOn t.grammar text c (config_of stacks h)
+      × PackedStepsOn t.grammar text k (packed_of stacks h)) more
+  pub complete : (n : PackedStack) → PackedStepsOn t.grammar text k n
+      → Any (λ h. packed_of stacks h ≡ n) more
+  pub covers : AccountsForLayers t.grammar text best stuck c k
   pub keeps : Keeps t.grammar text c first best before stuck
   pub root : (b : Tree) → best ≡ Some b → (first ≡ Some b) ⊎ IsSoundRoot t text trees b
   pub fruitful : HasSome more best stuck
 
--- All runs are accounted for: the ends at a configuration that is reached are known, or some live
--- head leads to one that may stand for it, or to a node that is too deep.
+-- All runs are accounted for: the layers of the live heads were met, and the ends at a configuration
+-- that is reached are known, or a run to it goes through what the layers of some live head stand for.
 pub record Searching (t : ParseTable) (text : Bytes) (stacks : List (List Layer))
     (live : List StackHead) (best : Option Tree) (stuck : Option ℕ) : Type 0 where
   pub heads : OfEach (λ h. IsLiveHead t (length text) stacks h
-      × IsReached t.grammar text (config_of stacks h)) live
+      × WasMet t.grammar text (packed_of stacks h)) live
   pub done : (c : Configuration) → IsReached t.grammar text c
       → AccountsFor t.grammar text best stuck c
-      ⊎ Any (λ h. ComesToServe t.grammar text (config_of stacks h) c) live
+      ⊎ Any (λ h. GoesThrough t.grammar text (packed_of stacks h) c) live
   pub tree_from : (b : Tree) → best ≡ Some b → SomeAccepts t.grammar text (bare b)
   pub stuck_from : (q : ℕ) → stuck ≡ Some q → SomeStopsAt t.grammar text q
   pub some : HasSome live best stuck

@@ -3,11 +3,13 @@
 use Rattle.std.specs.Prelude.{◌≡◌, ℕ, ◌<◌, ◌≤◌, suc, List, [], ◌∷◌, length, Option, None}
 use Rattle.ts_base.specs.Bytes.{Bytes}
 use Rattle.spec_forced.specs.Sound.{States}
+use Rattle.spec_packing.specs.Packing.{stack_alone}
 use Rattle.spec_graph.specs.Laying.{IsBegun}
+use Rattle.spec_crossing.specs.Resting.{PackedRests}
 use Rattle.ts_table.specs.declared.view.ParseTable.{ParseTable}
 use Rattle.ts_gss.specs.declared.layer.Layer.{Layer}
 use Rattle.ts_steps.specs.declared.head.StackHead.{StackHead}
-use Rattle.ts_steps.specs.LiveHeads.{config_of}
+use Rattle.ts_steps.specs.LiveHeads.{config_of, packed_of}
 use Rattle.ts_steps.specs.Heads.{AreStatesOf, StandOnHead}
 use Rattle.ts_reductions.specs.declared.setting.Setting.{Setting}
 use Rattle.ts_reductions.specs.Sound.{Base, parsing_from}
@@ -60,6 +62,26 @@ pub record IsSpreadDeep (t : ParseTable) (text : Bytes) (first : List (List Laye
   pub base : Base
   pub begun : IsBegun (parsing_from t text base) (config_of first h)
   pub deep : IsTooDeep t text base spread.graph
+
+-- What is known of runs at a stack is so of the one at which the graph begins, and its trees stand.
+pub record GoesBackTo (t : ParseTable) (text : Bytes) (stacks : List (List Layer))
+    (start : StackHead) (first : List (List Layer)) (h : StackHead) : Type 0 where
+  pub within : h.place ≤ length text
+  pub rests : (stuck : Option ℕ) → PackedRests t.grammar text stuck (packed_of stacks start)
+      → PackedRests t.grammar text stuck (stack_alone (config_of first h))
+  pub stand : (states : States) → AreStatesOf t states → StandOnHead t states text stacks start
+      → StandOnHead t states text first h
+
+-- The graph was begun for a stack, at that stack or at the start of the text. One stack is asked for
+-- past a place that is behind both.
+pub record IsSpreadFor (t : ParseTable) (text : Bytes) (s : Setting) (stacks : List (List Layer))
+    (start : StackHead) (from : ℕ) (spread : Spread) : Type 0 where
+  pub first : List (List Layer)
+  pub head : StackHead
+  pub back : GoesBackTo t text stacks start first head
+  pub low : head.place ≤ from
+  pub past : start.place ≤ from
+  pub laid : IsSpread t text s first head spread
 
 -- what following the graph over a place came to
 abbrev pub PassesTo : ParseTable → Bytes → Setting → List (List Layer) → StackHead → Spread → Spread

@@ -11,6 +11,7 @@ use Rattle.spec_trees.specs.Trees.{children_of, state_of, tree_depth, bare}
 use Rattle.spec_trees.specs.Made.{most_depth}
 use Rattle.spec_trees.specs.Choice.{IsInForm}
 use Rattle.spec_runs.specs.Configurations.{Configuration, NextIs, IsReduction, token_tree, pushed}
+use Rattle.spec_packing.specs.Packing.{PackedTree, PackedStack, packed_with, IsPackedReduction}
 use Rattle.spec_forced.specs.Sound.{States, StandOnStack, IsSound}
 use Rattle.spec_crossing.specs.Resting.{Withstands}
 use Rattle.ts_table.specs.declared.view.ParseTable.{ParseTable}
@@ -19,7 +20,7 @@ use Rattle.ts_gss.specs.Stacks.{stack_at, trees_on}
 use Rattle.ts_steps.specs.declared.found.FoundToken.{FoundToken}
 use Rattle.ts_steps.specs.declared.head.StackHead.{StackHead}
 use Rattle.ts_steps.specs.Good.{EachTree}
-use Rattle.ts_steps.specs.LiveHeads.{config_of, IsRootOf}
+use Rattle.ts_steps.specs.LiveHeads.{config_of, packed_of, IsRootOf}
 use Rattle.ts_steps.specs.Heads.{AreStatesOf, IsOwnWithin, IsOwnHead, StandOnHead}
 use Rattle.ts_glr.specs.declared.acting.Moved.{Moved}
 use Rattle.ts_glr.specs.declared.acting.Moved.TheVariants.{To, Ended, TooDeep}
@@ -53,11 +54,19 @@ ActionLeads g c f (Reduce number) e =
     × (tree_depth node ≤ most_depth) × (e ≡ record { stack = after; place = c.place })
 ActionLeads g c f Accept e = ⊥
 
--- the action is a reduction whose node is too deep
-abbrev pub IsTooDeep : FlatGrammar → Configuration → Action → Type 0
-IsTooDeep g c a =
-    (number : ℕ) × (node : Tree) × (after : List Tree) × (a ≡ Reduce number)
-    × IsReduction g number c.stack node after × (most_depth < tree_depth node)
+-- where it leads from layers
+abbrev pub LayersLead : FlatGrammar → PackedStack → FoundToken → Action → PackedStack → Type 0
+LayersLead g k f (Shift next) n = n ≡ packed_with k (token_tree f.token f.pad f.size)
+LayersLead g k f (Reduce number) n =
+    (node : PackedTree) × (after : List PackedTree) × IsPackedReduction g number k.stack node after
+    × (node.depth ≤ most_depth) × (n ≡ record { stack = after; place = k.place })
+LayersLead g k f Accept n = ⊥
+
+-- the action is a reduction that makes a layer that is too deep
+abbrev pub IsTooDeep : FlatGrammar → PackedStack → Action → Type 0
+IsTooDeep g k a =
+    (number : ℕ) × (node : PackedTree) × (after : List PackedTree) × (a ≡ Reduce number)
+    × IsPackedReduction g number k.stack node after × (most_depth < node.depth)
 
 -- ---- stacks and roots whose nodes stand
 
@@ -82,9 +91,10 @@ abbrev pub IsActed : ParseTable → Bytes → List (List Layer) → List (List L
 IsActed t text old new h f best after a (To k) =
     IsOwnHead t (length text) new k
     × ActionLeads t.grammar (config_of old h) f a (config_of new k)
+    × LayersLead t.grammar (packed_of old h) f a (packed_of new k)
     × StandAfter t text (trees_on (stack_at old h.top)) new k × (after ≡ best)
 IsActed t text old new h f best after a Ended =
     (a ≡ Accept)
     × ((u : Tree) × IsRootOf (config_of old h).stack (bare u) × KeepsBest best after u
     × IsSoundRoot t text (trees_on (stack_at old h.top)) u)
-IsActed t text old new h f best after a TooDeep = IsTooDeep t.grammar (config_of old h) a
+IsActed t text old new h f best after a TooDeep = IsTooDeep t.grammar (packed_of old h) a

@@ -6,7 +6,7 @@ ghost use Rattle.ts_base.specs.Bytes.{Bytes};
 ghost use Rattle.ts_core.specs.declared.action.Action.{Action as AnyAction};
 ghost use Rattle.ts_table.specs.Tables.{ActsBy};
 ghost use Rattle.ts_gss.specs.Stacks.{stack_at, trees_on};
-ghost use Rattle.ts_steps.specs.LiveHeads.{config_of, read_on, GainsStacks};
+ghost use Rattle.ts_steps.specs.LiveHeads.{config_of, packed_of, read_on, GainsStacks};
 ghost use Rattle.ts_steps.specs.Settings.{IsParseSetting};
 ghost use Rattle.ts_steps.specs.Heads.{IsOwnHead};
 ghost use Rattle.ts_steps.specs.Looking.{IsTokenAhead};
@@ -130,11 +130,12 @@ pub(crate) fn act_all(
         → AreSeen table.now text readings.old.graph readings.old.seen.items
         → AreSeen table.now text readings.new.graph readings.new.seen.items) }
     ensures deep { IfOk result (λ b. b ≡ true → (a : AnyAction) × Contains actions.now a
-        × IsTooDeep table.now.grammar (config_of readings.old.graph head) a) }
+        × IsTooDeep table.now.grammar (packed_of readings.old.graph head) a) }
     ensures done { IfOk result (λ b. b ≡ false → (text : Bytes) → length text ≡ setting.now.size
         → IsTokenAhead table.now text readings.old.graph head found
         → Acting table.now text (trees_on (stack_at readings.old.graph head.top))
-        readings.new.graph (config_of readings.old.graph head) found actions.now
+        readings.new.graph (config_of readings.old.graph head)
+        (packed_of readings.old.graph head) found actions.now
         readings.old.live.items readings.new.live.items readings.old.best readings.new.best) }
 {
     laws_hold();

@@ -7,6 +7,7 @@ ghost use Rattle.spec_forced.specs.OnlyRuns.{IsFork};
 ghost use Rattle.spec_graph.specs.Laying.{Parsing};
 ghost use Rattle.spec_crossing.specs.Resting.{IsPastStuck};
 ghost use Rattle.ts_table.specs.declared.view.ParseTable.{ParseTable};
+ghost use Rattle.ts_table.specs.Tables.{IsTable};
 ghost use Rattle.ts_gss.specs.declared.layer.Layer.{Layer};
 ghost use Rattle.ts_reductions.specs.SoundLinks.{IsSoundFor};
 ghost use Rattle.ts_steps.specs.declared.head.StackHead.{StackHead as AnyHead};
@@ -15,13 +16,13 @@ ghost use Rattle.ts_steps.specs.Heads.{IsOwnHead};
 ghost use Rattle.ts_reductions.specs.declared.setting.Setting.{Setting as AnySetting};
 ghost use Rattle.ts_reductions.specs.Lines.{IsSetting};
 ghost use Rattle.ts_crossing.specs.Leaving.{IsStack, IsLeft};
-ghost use Rattle.ts_glr.specs.Spreading.{IsSpread, IsSpreadOut, IsLeftOf, AsksFor, Crosses};
+ghost use Rattle.ts_glr.specs.Spreading.{IsSpread, IsSpreadOut, GoesBackTo, IsSpreadFor, IsLeftOf, AsksFor, Crosses};
 
-use crate::laws::{left_laws_hold, over_laws_hold};
+use crate::laws::{laws_hold, left_laws_hold, over_laws_hold, packing_laws_hold};
 use crate::outcome::Outcome;
 use crate::spread::{Passed, Spread, spread_from};
 use std::alloc::{AllocError, Global};
-use ts_crossing::{Left, leave, one_stack};
+use ts_crossing::{Left, leave, one_stack, own_stacks_enter};
 use ts_gss::Graph as Stacks;
 use ts_lexer::Tokens;
 use ts_places::best_of;
@@ -161,9 +162,10 @@ fn ending(
 ) -> Result<Crossed, AllocError>
     requires { (text : Bytes) × (first : List (List Layer)) × (h : AnyHead)
         × IsSpreadOut table.now text first h spread.now × (size ≡ length text) }
-    ensures { IfOk result (λ crossed. (text : Bytes) (first : List (List Layer)) (h : AnyHead)
+    ensures { IfOk result (λ crossed. (text : Bytes) (stacks first : List (List Layer))
+        (start h : AnyHead) → GoesBackTo table.now text stacks start first h
         → IsSpreadOut table.now text first h spread.now → size ≡ length text
-        → h.place ≤ length text → Crosses table.now text first before h crossed) }
+        → Crosses table.now text stacks before start crossed) }
 {
     over_laws_hold();
     table.stands();
@@ -174,6 +176,44 @@ fn ending(
             Some(place) => Ok(Crossed::Told(Outcome::Stuck(place))),
             None => Ok(Crossed::Nowhere),
         },
+    }
+}
+
+/// The graph as it begins, and the place past which one stack is asked for.
+#[derive(Drop)]
+struct Begun {
+    spread: Spread,
+    from: u32,
+}
+
+/// The graph of a stack. Where some of its layers stand for deeper trees too, it begins at the start
+/// of the text, and one stack is asked for only past twice as many bytes: what is followed once
+/// more is no more than what is followed then.
+fn begin(alloc: Global, stacks: &Stacks, start: StackHead) -> Result<Begun, AllocError>
+    requires { (t : ParseTable) × (text : Bytes) × IsTable t × (length text ≤ most_span)
+        × IsOwnHead t (length text) stacks.now start
+        × IsFork t.grammar text (config_of stacks.now start) }
+    ensures { IfOk result (λ begun. (t : ParseTable) (text : Bytes) (s : AnySetting)
+        → IsTable t → length text ≤ most_span → IsOwnHead t (length text) stacks.now start
+        → IsFork t.grammar text (config_of stacks.now start) → IsSetting t (length text) s
+        → IsSpreadFor t text s stacks.now start begun.from begun.spread) }
+{
+    laws_hold();
+    packing_laws_hold();
+    own_stacks_enter();
+    if stacks.is_exact(start.top) {
+        let spread = spread_from(alloc, stacks, start)?;
+        Ok(Begun {
+            spread,
+            from: start.place,
+        })
+    } else {
+        let none = Stacks::new(alloc);
+        let spread = spread_from(alloc, &none, StackHead { top: 0, place: 0 })?;
+        Ok(Begun {
+            spread,
+            from: start.place.saturating_add(start.place),
+        })
     }
 }
 
@@ -204,7 +244,7 @@ pub(crate) fn cross<L: Tokens>(
     over_laws_hold();
     unit_ranks();
     table.stands();
-    let mut spread = spread_from(alloc, stacks, start)?;
+    let Begun { mut spread, from } = begin(alloc, stacks, start)?;
     let mut pace = Pace {
         places: 0,
         asked: 1,
@@ -217,7 +257,7 @@ pub(crate) fn cross<L: Tokens>(
                 let crossed = ending(alloc, table, &spread, setting.size, before)?;
                 return Ok(crossed);
             }
-            Passed::On => match ask_in_turn(alloc, &spread, start.place, &mut pace)? {
+            Passed::On => match ask_in_turn(alloc, &spread, from, &mut pace)? {
                 None => {}
                 Some(left) => {
                     let stuck = further(before, spread.ends.stuck);

@@ -1,11 +1,11 @@
 //! Following a live stack by one step in all ways: the lexer and the head go in; the heads of the
 //! new stacks come out, or that a node would be too deep.
 ghost use Rattle.std.specs.Prelude.{◌≡◌, ℕ, true, false, length, Option, IfOk, OnOk};
-ghost use Rattle.spec_runs.specs.Runs.{ComesTooDeep};
+ghost use Rattle.spec_packing.specs.Packing.{PackedIsTooDeep};
 ghost use Rattle.ts_base.specs.Bytes.{Bytes};
 ghost use Rattle.ts_table.specs.Tables.{most_actions};
 ghost use Rattle.ts_gss.specs.Stacks.{stack_at, trees_on};
-ghost use Rattle.ts_steps.specs.LiveHeads.{config_of, GainsStacks};
+ghost use Rattle.ts_steps.specs.LiveHeads.{config_of, packed_of, GainsStacks};
 ghost use Rattle.ts_steps.specs.Settings.{IsParseSetting};
 ghost use Rattle.ts_steps.specs.Heads.{IsOwnHead};
 ghost use Rattle.ts_steps.specs.Looking.{IsTokenAhead};
@@ -48,13 +48,14 @@ fn follow(
         → AreSeen table.now text readings.new.graph readings.new.seen.items) }
     ensures deep { IfOk result (λ b. b ≡ true → (text : Bytes)
         → IsTokenAhead table.now text readings.old.graph head found
-        → ComesTooDeep table.now.grammar text (config_of readings.old.graph head)) }
+        → PackedIsTooDeep table.now.grammar text (packed_of readings.old.graph head)) }
     ensures done { IfOk result (λ b. b ≡ false → (text : Bytes) (stuck : Option ℕ)
         → length text ≡ setting.now.size
         → IsTokenAhead table.now text readings.old.graph head found
         → Spent table.now text (trees_on (stack_at readings.old.graph head.top))
         readings.new.graph (most_actions table.now)
-        (config_of readings.old.graph head) readings.old.live.items readings.new.live.items
+        (config_of readings.old.graph head) (packed_of readings.old.graph head)
+        readings.old.live.items readings.new.live.items
         readings.old.best readings.new.best stuck stuck) }
 {
     laws_hold();
@@ -92,12 +93,12 @@ pub(crate) fn advance<L: Tokens>(
     ensures form { OnOk result (HasForm table.now.grammar readings.new.best) }
     ensures seen { OnOk result (AreSeen table.now (L.Text.bytes text.now) readings.new.graph
         readings.new.seen.items) }
-    ensures deep { IfOk result (λ b. b ≡ true → ComesTooDeep table.now.grammar
-        (L.Text.bytes text.now) (config_of readings.old.graph head)) }
+    ensures deep { IfOk result (λ b. b ≡ true → PackedIsTooDeep table.now.grammar
+        (L.Text.bytes text.now) (packed_of readings.old.graph head)) }
     ensures done { IfOk result (λ b. b ≡ false → Spent table.now (L.Text.bytes text.now)
         (trees_on (stack_at readings.old.graph head.top)) readings.new.graph
         (most_actions table.now) (config_of readings.old.graph head)
-        readings.old.live.items readings.new.live.items readings.old.best readings.new.best
+        (packed_of readings.old.graph head) readings.old.live.items readings.new.live.items readings.old.best readings.new.best
         readings.old.stuck readings.new.stuck) }
 {
     laws_hold();

@@ -109,7 +109,8 @@ pub(crate) fn follow_all<L: Tokens>(
         if !spend(&mut left) {
             return Ok(None);
         }
-        if join(&readings.graph, &mut readings.live, head) {
+        let joined = join(alloc, &mut readings.graph, &mut readings.live, head)?;
+        if joined {
             continue;
         }
         let deep = advance(alloc, table, setting, lexer, text, readings, head)?;

@@ -3,12 +3,12 @@ ghost use Rattle.ts_steps.specs.MoveLaws.{Laws};
 ghost use Rattle.ts_glr.specs.Laws.{AgainLaws, PackingLaws};
 ghost use Rattle.ts_glr.specs.CrossLaws.{LeftLaws, OverLaws};
 
-use spec_crossing::followed_graphs_rest;
+use spec_crossing::followed_graphs_pack;
 use spec_forced::lexings_are_decided;
 use spec_graph::graphs_are_sound;
 use spec_lexing::{beginnings, token_within};
 use spec_packing::{
-    configurations_serve, ends_are_served, no_better_through, runs_are_served, trees_serve,
+    no_better_through, packed_stacks_end, packed_stacks_follow, packed_stacks_join, trees_serve,
 };
 use spec_reuse::same_token_again;
 use spec_runs::{
@@ -49,9 +49,9 @@ pub(crate) fn packing_laws_hold()
 {
     no_better_through();
     trees_serve();
-    configurations_serve();
-    ends_are_served();
-    runs_are_served();
+    packed_stacks_follow();
+    packed_stacks_end();
+    packed_stacks_join();
 }
 
 /// The laws of a stack that is left in a graph hold.
@@ -67,7 +67,7 @@ pub(crate) fn over_laws_hold()
     ensures { OverLaws }
 {
     graphs_are_sound();
-    followed_graphs_rest();
+    followed_graphs_pack();
     ends_account();
     roots_are_own();
 }

@@ -17,7 +17,6 @@ use crate::laws::{laws_hold, packing_laws_hold};
 use crate::outcome::Outcome;
 use crate::readings::readings_of;
 use crate::turning::follow_fork;
-use spec_forced::only_runs_are_one_way;
 use std::alloc::{AllocError, Global};
 use ts_lexer::{Content, Tokens};
 use ts_offer::{Nothing, Offers};
@@ -69,7 +68,6 @@ pub fn parse_with<'t, L: Tokens, O: Offers<'t>>(
 {
     laws_hold();
     packing_laws_hold();
-    only_runs_are_one_way();
     table.stands();
     let setting = parse_setting(alloc, table, text.len())?;
     let mut readings = readings_of(alloc);

@@ -1,8 +1,9 @@
 //! What is left of a fork: the stack that is left goes in, and the same stack comes out, laid anew on
 //! the part of it that was there before; all others that were put there meanwhile are gone.
-ghost use Rattle.std.specs.Prelude.{◌≡◌, ◌<◌, ◌++◌, length, IfOk};
+ghost use Rattle.std.specs.Prelude.{◌≡◌, ◌<◌, ◌++◌, length, IfOk, OnOk};
 ghost use Rattle.spec_trees.specs.Trees.{all_spans};
 ghost use Rattle.ts_gss.specs.Stacks.{stack_at, trees_on};
+ghost use Rattle.ts_steps.specs.LiveHeads.{GainsStacks};
 ghost use Rattle.ts_glr.specs.Settling.{layers_of, IsSettled};
 
 use std::alloc::{AllocError, Global};
@@ -15,6 +16,7 @@ use ts_steps::StackHead;
 pub(crate) struct Top {
     pub node: Node,
     pub state: u16,
+    pub depth: u32,
 }
 
 /// Layers from the top of a stack, the topmost first, and the stack under them.
@@ -43,22 +45,28 @@ fn lift(alloc: Global, graph: &Graph, from: usize, head: StackHead) -> Result<Li
         place -= node.pad() + node.size();
         let copy = node.try_clone()?;
         let state = graph.state(under);
-        tops.push(Top { node: copy, state })?;
+        let depth = graph.depth(under);
+        tops.push(Top {
+            node: copy,
+            state,
+            depth,
+        })?;
         under = graph.below(under);
     }
     Ok(Lifted { tops, under })
 }
 
 /// Lays layers on a stack, the last of them the lowest.
-fn lay(graph: &mut Graph, mut tops: Vec<Top>, under: usize) -> Result<usize, AllocError>
+pub(crate) fn lay(graph: &mut Graph, mut tops: Vec<Top>, under: usize) -> Result<usize, AllocError>
     requires { under < length graph.old }
     ensures there { IfOk result (λ top. top < length graph.new) }
     ensures stack { IfOk result (λ top. stack_at graph.new top
         ≡ layers_of tops.items ++ stack_at graph.old under) }
+    ensures grows { OnOk result (GainsStacks graph.old graph.new) }
 {
     let mut top = under;
     while let Some(layer) = tops.pop() {
-        top = graph.push(top, layer.node, layer.state)?;
+        top = graph.push_packed(top, layer.node, layer.state, layer.depth)?;
     }
     Ok(top)
 }

@@ -1,21 +1,18 @@
 //! The ways to read a text on the graph of stacks: the stack from which they go on goes in, and the
 //! graph is followed over one place after another, with what ends there.
-ghost use Rattle.std.specs.Prelude.{◌≤◌, List, length, IfOk};
+ghost use Rattle.std.specs.Prelude.{List, length, IfOk};
 ghost use Rattle.ts_base.specs.Bytes.{Bytes};
-ghost use Rattle.spec_trees.specs.Made.{most_span};
-ghost use Rattle.spec_forced.specs.OnlyRuns.{IsFork};
 ghost use Rattle.ts_table.specs.declared.view.ParseTable.{ParseTable};
-ghost use Rattle.ts_table.specs.Tables.{IsTable};
 ghost use Rattle.ts_gss.specs.declared.layer.Layer.{Layer};
 ghost use Rattle.ts_steps.specs.declared.head.StackHead.{StackHead as AnyHead};
-ghost use Rattle.ts_steps.specs.LiveHeads.{config_of};
 ghost use Rattle.ts_steps.specs.Heads.{IsOwnHead};
 ghost use Rattle.ts_reductions.specs.declared.setting.Setting.{Setting as AnySetting};
 ghost use Rattle.ts_reductions.specs.Lines.{IsSetting};
+ghost use Rattle.ts_crossing.specs.Entering.{CanEnter};
 ghost use Rattle.ts_glr.specs.Spreading.{IsSpread, PassesTo};
 
 use std::alloc::{AllocError, Global};
-use ts_crossing::{Entered, enter, own_stacks_enter};
+use ts_crossing::{Entered, enter};
 use ts_graph::Graph;
 use ts_gss::Graph as Stacks;
 use ts_lexer::Tokens;
@@ -54,15 +51,11 @@ pub(crate) fn spread_from(
     stacks: &Stacks,
     start: StackHead,
 ) -> Result<Spread, AllocError>
-    requires { (t : ParseTable) × (text : Bytes) × IsTable t × (length text ≤ most_span)
-        × IsOwnHead t (length text) stacks.now start
-        × IsFork t.grammar text (config_of stacks.now start) }
+    requires { (t : ParseTable) × (text : Bytes) × CanEnter t text stacks.now start }
     ensures { IfOk result (λ spread. (t : ParseTable) (text : Bytes) (s : AnySetting)
-        → IsTable t → length text ≤ most_span → IsOwnHead t (length text) stacks.now start
-        → IsFork t.grammar text (config_of stacks.now start) → IsSetting t (length text) s
-        → IsSpread t text s stacks.now start spread) }
+        → CanEnter t text stacks.now start → IsOwnHead t (length text) stacks.now start
+        → IsSetting t (length text) s → IsSpread t text s stacks.now start spread) }
 {
-    own_stacks_enter();
     unit_ranks();
     ends_begin();
     let Entered { graph, place } = enter(alloc, stacks, start)?;

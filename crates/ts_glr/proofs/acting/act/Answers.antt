@@ -31,7 +31,7 @@ accept-requires-clause-stays c =
 pub returns-in_ok-next-in-Shift-clause-acted : goal.returns-in_ok-next-in-Shift-clause-acted
 returns-in_ok-next-in-Shift-clause-acted c text long ahead =
     acted_shift c.laws_hold.ensures c.args.table.now c.args.setting.now.size c.args.readings.now.graph c.args.head c.args.found c.args.action c.requires.acts text long ahead c.stands.ensures c.requires.live c.shift.new.graph c.args.readings.now.best
-    c.in-Shift.state c.in_ok-next-in-Shift.next c.in-Shift.is c.in_ok-next-in-Shift.ensures.config c.in_ok-next-in-Shift.ensures.live c.in_ok-next-in-Shift.ensures.stand
+    c.in-Shift.state c.in_ok-next-in-Shift.next c.in-Shift.is c.in_ok-next-in-Shift.ensures.config c.in_ok-next-in-Shift.ensures.layers c.in_ok-next-in-Shift.ensures.live c.in_ok-next-in-Shift.ensures.stand
 
 pub returns-in_ok-note-in-Some-clause-acted : goal.returns-in_ok-note-in-Some-clause-acted
 returns-in_ok-note-in-Some-clause-acted c text long ahead =

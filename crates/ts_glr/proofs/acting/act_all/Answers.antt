@@ -5,10 +5,10 @@ use Rattle.ts_core.specs.declared.action.Action.{Action}
 use Rattle.ts_core.specs.declared.action.Action.TheVariants.{Shift}
 use Rattle.ts_table.specs.Tables.{ActsBy}
 use Rattle.ts_gss.specs.Stacks.{stack_at, trees_on}
-use Rattle.ts_steps.specs.LiveHeads.{config_of}
+use Rattle.ts_steps.specs.LiveHeads.{config_of, packed_of}
 use Rattle.ts_steps.specs.declared.head.StackHead.{StackHead}
 use Rattle.ts_glr.specs.Search.{Acting, heads_of}
-use Rattle.ts_glr.proofs.StackLemmas.{own_stays, config_stays, read_stays, trees_stay, ahead_stays, grows_none, grows_more}
+use Rattle.ts_glr.proofs.StackLemmas.{own_stays, config_stays, packed_stays, read_stays, trees_stay, ahead_stays, grows_none, grows_more}
 use Rattle.ts_glr.proofs.ActLemmas.{acting_begins, acting_more, acted_deep}
 use Rattle.ts_glr.proofs.acting.act_all.Goals as goal
 
@@ -19,7 +19,7 @@ loop-action-init c = record {
   stuck = refl;
   seen = λ text long ahead all. all;
   acting = λ text long ahead.
-      acting_begins c.laws_hold.ensures c.args.table.now text (trees_on (stack_at c.args.readings.now.graph c.args.head.top)) (config_of c.args.readings.now.graph c.args.head) c.args.found c.args.readings.now.graph c.args.readings.now.live.items c.args.readings.now.best;
+      acting_begins c.args.table.now text (trees_on (stack_at c.args.readings.now.graph c.args.head.top)) (config_of c.args.readings.now.graph c.args.head) (packed_of c.args.readings.now.graph c.args.head) c.args.found c.args.readings.now.graph c.args.readings.now.live.items c.args.readings.now.best;
 }
 
 pub act-requires-clause-live : goal.act-requires-clause-live
@@ -43,8 +43,8 @@ returns-then-branch-clause-deep c true_is =
     let r = c.requires.sees in (
       item,
       Contains-get_or c.args.actions.now c.loop-action.action-index (Shift 0) c.loop-action-test.true,
-      acted_deep c.laws_hold.ensures c.args.table.now r.0 (trees_on (stack_at c.args.readings.now.graph c.args.head.top)) (config_of c.args.readings.now.graph c.args.head) c.args.found c.loop-action.readings.graph c.act.new.readings.graph c.args.head item c.in_ok-moved.moved c.loop-action.readings.best c.act.new.readings.best
-          (config_stays c.args.table.now c.args.setting.now.size c.args.readings.now.graph c.loop-action.readings.graph c.args.head c.loop-action.invariant.grows c.requires.live.live)
+      acted_deep c.args.table.now r.0 (trees_on (stack_at c.args.readings.now.graph c.args.head.top)) (config_of c.args.readings.now.graph c.args.head) (packed_of c.args.readings.now.graph c.args.head) c.args.found c.loop-action.readings.graph c.act.new.readings.graph c.args.head item c.in_ok-moved.moved c.loop-action.readings.best c.act.new.readings.best
+          (packed_stays c.args.table.now c.args.setting.now.size c.args.readings.now.graph c.loop-action.readings.graph c.args.head c.loop-action.invariant.grows c.requires.live.live)
           (c.in_ok-moved.ensures.acted r.0 r.1 (ahead_stays c.args.table.now c.args.setting.now.size r.0 c.args.readings.now.graph c.loop-action.readings.graph c.args.head c.args.found c.loop-action.invariant.grows c.requires.live.live r.2))
           (sym c.in_ok-add.ensures.deep ∙ c.if-branch.true),
     )
@@ -63,9 +63,10 @@ loop-action-preserved c =
       seen = λ text long ahead all. c.in_ok-moved.ensures.seen text long (ahead_stays c.args.table.now c.args.setting.now.size text c.args.readings.now.graph c.loop-action.readings.graph c.args.head c.args.found c.loop-action.invariant.grows c.requires.live.live ahead) (c.loop-action.invariant.seen text long ahead all);
       acting = λ text long ahead. subst (λ (done : List Action). Acting c.args.table.now text trees c.act.new.readings.graph (config_of c.args.readings.now.graph c.args.head) c.args.found done c.args.readings.now.live.items c.add.new.live.items c.args.readings.now.best c.act.new.readings.best)
           (sym (take_more c.args.actions.now c.loop-action.action-index (Shift 0) c.loop-action-test.true))
-          (acting_more c.laws_hold.ensures c.args.table.now text trees (config_of c.args.readings.now.graph c.args.head) c.args.found c.loop-action.readings.graph c.act.new.readings.graph c.args.head (take c.loop-action.action-index c.args.actions.now) item c.in_ok-moved.moved
+          (acting_more c.args.table.now text trees (config_of c.args.readings.now.graph c.args.head) (packed_of c.args.readings.now.graph c.args.head) c.args.found c.loop-action.readings.graph c.act.new.readings.graph c.args.head (take c.loop-action.action-index c.args.actions.now) item c.in_ok-moved.moved
           c.args.readings.now.live.items c.loop-action.readings.live.items c.add.new.live.items c.args.readings.now.best c.loop-action.readings.best c.act.new.readings.best
           (config_stays c.args.table.now c.args.setting.now.size c.args.readings.now.graph c.loop-action.readings.graph c.args.head c.loop-action.invariant.grows c.requires.live.live)
+          (packed_stays c.args.table.now c.args.setting.now.size c.args.readings.now.graph c.loop-action.readings.graph c.args.head c.loop-action.invariant.grows c.requires.live.live)
           (trees_stay c.args.readings.now.graph c.loop-action.readings.graph c.args.head c.loop-action.invariant.grows c.requires.live.live.there)
           c.in_ok-moved.ensures.grows (c.loop-action.invariant.acting text long ahead)
           (c.in_ok-moved.ensures.acted text long (ahead_stays c.args.table.now c.args.setting.now.size text c.args.readings.now.graph c.loop-action.readings.graph c.args.head c.args.found c.loop-action.invariant.grows c.requires.live.live ahead))

@@ -1,7 +1,7 @@
 use Rattle.std.proofs.Common.{◌≡◌, take, length}
 use Rattle.ts_base.specs.Bytes.{Bytes}
 use Rattle.ts_gss.specs.Stacks.{stack_at, trees_on}
-use Rattle.ts_steps.specs.LiveHeads.{config_of, GainsStacks}
+use Rattle.ts_steps.specs.LiveHeads.{config_of, packed_of, GainsStacks}
 use Rattle.ts_steps.specs.Looking.{IsTokenAhead}
 use Rattle.ts_glr.specs.Steps.{HasForm}
 use Rattle.ts_glr.specs.Search.{Acting}
@@ -16,5 +16,5 @@ invariant-loop-action l = record {
   seen : (text : Bytes) → length text ≡ l.setting.size → IsTokenAhead l.table text l.initial.readings.graph l.head l.found
       → AreSeen l.table text l.initial.readings.graph l.initial.readings.seen.items → AreSeen l.table text l.readings.graph l.readings.seen.items;
   acting : (text : Bytes) → length text ≡ l.setting.size → IsTokenAhead l.table text l.initial.readings.graph l.head l.found
-      → Acting l.table text (trees_on (stack_at l.initial.readings.graph l.head.top)) l.readings.graph (config_of l.initial.readings.graph l.head) l.found (take l.action-index l.actions) l.initial.readings.live.items l.readings.live.items l.initial.readings.best l.readings.best;
+      → Acting l.table text (trees_on (stack_at l.initial.readings.graph l.head.top)) l.readings.graph (config_of l.initial.readings.graph l.head) (packed_of l.initial.readings.graph l.head) l.found (take l.action-index l.actions) l.initial.readings.live.items l.readings.live.items l.initial.readings.best l.readings.best;
 }

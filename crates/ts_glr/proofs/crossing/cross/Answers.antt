@@ -3,8 +3,8 @@ use Rattle.ts_glr.proofs.SpreadLemmas.{passed_on, passed_over, passed_deep}
 use Rattle.ts_glr.proofs.CrossLemmas.{left_one, deep_ends, some_left}
 use Rattle.ts_glr.proofs.crossing.cross.Goals as goal
 
-pub spread_from-requires : goal.spread_from-requires
-spread_from-requires g c = (c.args.table.now, g.L.Text.Content.bytes c.args.text.now, c.stands.ensures, c.requires.short, c.requires.own, c.requires.fork)
+pub begin-requires : goal.begin-requires
+begin-requires g c = (c.args.table.now, g.L.Text.Content.bytes c.args.text.now, c.stands.ensures, c.requires.short, c.requires.own, c.requires.fork)
 
 pub loop-spread-init : goal.loop-spread-init
 loop-spread-init g c = record {
@@ -13,7 +13,7 @@ loop-spread-init g c = record {
 }
 
 pub pass-requires-clause-ready : goal.pass-requires-clause-ready
-pass-requires-clause-ready g c = (c.args.stacks.now, c.args.start, c.loop-spread.invariant.spread)
+pass-requires-clause-ready g c = let all = c.loop-spread.invariant.spread in (all.first, all.head, all.laid)
 
 pub pass-requires-clause-made : goal.pass-requires-clause-made
 pass-requires-clause-made g c = c.loop-spread.invariant.made
@@ -22,17 +22,18 @@ pub returns-in-Deep-clause-crosses : goal.returns-in-Deep-clause-crosses
 returns-in-Deep-clause-crosses g c =
     let t = c.args.table.now in
     let text = g.L.Text.Content.bytes c.args.text.now in
-    deep_ends c.over_laws_hold.ensures t text c.args.stacks.now c.args.before c.args.start c.pass.new.self
-    (passed_deep t text c.args.setting.now c.args.stacks.now c.args.start c.loop-spread.spread c.pass.new.self c.in_ok-pass.field-0 (c.in_ok-pass.ensures.passes c.args.stacks.now c.args.start c.loop-spread.invariant.spread) c.in-Deep.is)
+    let all = c.loop-spread.invariant.spread in
+    deep_ends c.over_laws_hold.ensures t text c.args.stacks.now all.first c.args.before c.args.start all.head c.pass.new.self all.back
+    (passed_deep t text c.args.setting.now c.loop-spread.invariant.spread.first c.loop-spread.invariant.spread.head c.loop-spread.spread c.pass.new.self c.in_ok-pass.field-0 (c.in_ok-pass.ensures.passes c.loop-spread.invariant.spread.first c.loop-spread.invariant.spread.head c.loop-spread.invariant.spread.laid) c.in-Deep.is)
 
 pub ending-requires : goal.ending-requires
 ending-requires g c =
     let t = c.args.table.now in
     let text = g.L.Text.Content.bytes c.args.text.now in (
       text,
-      c.args.stacks.now,
-      c.args.start,
-      passed_over t text c.args.setting.now c.args.stacks.now c.args.start c.loop-spread.spread c.pass.new.self c.in_ok-pass.field-0 (c.in_ok-pass.ensures.passes c.args.stacks.now c.args.start c.loop-spread.invariant.spread) c.in-Over.is,
+      c.loop-spread.invariant.spread.first,
+      c.loop-spread.invariant.spread.head,
+      passed_over t text c.args.setting.now c.loop-spread.invariant.spread.first c.loop-spread.invariant.spread.head c.loop-spread.spread c.pass.new.self c.in_ok-pass.field-0 (c.in_ok-pass.ensures.passes c.loop-spread.invariant.spread.first c.loop-spread.invariant.spread.head c.loop-spread.invariant.spread.laid) c.in-Over.is,
       c.requires.setting.size_is,
     )
 
@@ -40,9 +41,10 @@ pub returns-in-Over-clause-crosses : goal.returns-in-Over-clause-crosses
 returns-in-Over-clause-crosses g c =
     let t = c.args.table.now in
     let text = g.L.Text.Content.bytes c.args.text.now in
-    c.in_ok-crossed-in-Over.ensures text c.args.stacks.now c.args.start
-    (passed_over t text c.args.setting.now c.args.stacks.now c.args.start c.loop-spread.spread c.pass.new.self c.in_ok-pass.field-0 (c.in_ok-pass.ensures.passes c.args.stacks.now c.args.start c.loop-spread.invariant.spread) c.in-Over.is)
-    c.requires.setting.size_is c.requires.own.live.stack.within
+    let all = c.loop-spread.invariant.spread in
+    c.in_ok-crossed-in-Over.ensures text c.args.stacks.now all.first c.args.start all.head all.back
+    (passed_over t text c.args.setting.now c.loop-spread.invariant.spread.first c.loop-spread.invariant.spread.head c.loop-spread.spread c.pass.new.self c.in_ok-pass.field-0 (c.in_ok-pass.ensures.passes c.loop-spread.invariant.spread.first c.loop-spread.invariant.spread.head c.loop-spread.invariant.spread.laid) c.in-Over.is)
+    c.requires.setting.size_is
 
 pub ask_in_turn-requires : goal.ask_in_turn-requires
 ask_in_turn-requires g c =
@@ -51,25 +53,27 @@ ask_in_turn-requires g c =
       t,
       text,
       c.args.setting.now,
-      c.args.stacks.now,
-      c.args.start,
-      (passed_on t text c.args.setting.now c.args.stacks.now c.args.start c.loop-spread.spread c.pass.new.self c.in_ok-pass.field-0 (c.in_ok-pass.ensures.passes c.args.stacks.now c.args.start c.loop-spread.invariant.spread) c.in-On.is).0,
+      c.loop-spread.invariant.spread.first,
+      c.loop-spread.invariant.spread.head,
+      (passed_on t text c.args.setting.now c.loop-spread.invariant.spread.first c.loop-spread.invariant.spread.head c.loop-spread.spread c.pass.new.self c.in_ok-pass.field-0 (c.in_ok-pass.ensures.passes c.loop-spread.invariant.spread.first c.loop-spread.invariant.spread.head c.loop-spread.invariant.spread.laid) c.in-On.is).0,
     )
 
 pub returns-in-Some-clause-crosses : goal.returns-in-Some-clause-crosses
 returns-in-Some-clause-crosses g c =
     let t = c.args.table.now in
     let text = g.L.Text.Content.bytes c.args.text.now in
-    let p = (passed_on t text c.args.setting.now c.args.stacks.now c.args.start c.loop-spread.spread c.pass.new.self c.in_ok-pass.field-0 (c.in_ok-pass.ensures.passes c.args.stacks.now c.args.start c.loop-spread.invariant.spread) c.in-On.is).0 in
+    let p = (passed_on t text c.args.setting.now c.loop-spread.invariant.spread.first c.loop-spread.invariant.spread.head c.loop-spread.spread c.pass.new.self c.in_ok-pass.field-0 (c.in_ok-pass.ensures.passes c.loop-spread.invariant.spread.first c.loop-spread.invariant.spread.head c.loop-spread.invariant.spread.laid) c.in-On.is).0 in
     let ranks = c.unit_ranks.ensures t.grammar c.stands.ensures.fit in
-    left_one c.left_laws_hold.ensures c.over_laws_hold.ensures t c.stands.ensures ranks.below text c.args.setting.now c.args.stacks.now c.args.before c.further-stuck.result c.args.start c.pass.new.self p c.in-Some.left
-    (some_left c.pass.new.self c.args.start.place c.in_ok-ask_in_turn-in-On.field-0 c.in-Some.left c.in-Some.is c.in_ok-ask_in_turn-in-On.ensures) c.further-stuck.ensures.first c.further-stuck.ensures.second c.further-stuck.ensures.from
+    let all = c.loop-spread.invariant.spread in
+    let now = record { first = all.first; head = all.head; back = all.back; low = all.low; past = all.past; laid = p } in
+    left_one c.left_laws_hold.ensures c.over_laws_hold.ensures t c.stands.ensures ranks.below text c.args.setting.now c.args.stacks.now c.args.before c.further-stuck.result c.args.start c.in_ok-spread.from c.pass.new.self now c.in-Some.left
+    (some_left c.pass.new.self c.in_ok-spread.from c.in_ok-ask_in_turn-in-On.field-0 c.in-Some.left c.in-Some.is c.in_ok-ask_in_turn-in-On.ensures) c.further-stuck.ensures.first c.further-stuck.ensures.second c.further-stuck.ensures.from
 
 pub loop-spread-smaller : goal.loop-spread-smaller
 loop-spread-smaller g c =
     let t = c.args.table.now in
     let text = g.L.Text.Content.bytes c.args.text.now in
-    let w = passed_on t text c.args.setting.now c.args.stacks.now c.args.start c.loop-spread.spread c.pass.new.self c.in_ok-pass.field-0 (c.in_ok-pass.ensures.passes c.args.stacks.now c.args.start c.loop-spread.invariant.spread) c.in-On.is in
+    let w = passed_on t text c.args.setting.now c.loop-spread.invariant.spread.first c.loop-spread.invariant.spread.head c.loop-spread.spread c.pass.new.self c.in_ok-pass.field-0 (c.in_ok-pass.ensures.passes c.loop-spread.invariant.spread.first c.loop-spread.invariant.spread.head c.loop-spread.invariant.spread.laid) c.in-On.is in
     let within = w.0.within in
     let past = w.1 in
     omega (arith, within, past)
@@ -78,7 +82,15 @@ pub loop-spread-preserved : goal.loop-spread-preserved
 loop-spread-preserved g c =
     let t = c.args.table.now in
     let text = g.L.Text.Content.bytes c.args.text.now in
+    let all = c.loop-spread.invariant.spread in
     record {
       made = c.in_ok-pass.ensures.made;
-      spread = (passed_on t text c.args.setting.now c.args.stacks.now c.args.start c.loop-spread.spread c.pass.new.self c.in_ok-pass.field-0 (c.in_ok-pass.ensures.passes c.args.stacks.now c.args.start c.loop-spread.invariant.spread) c.in-On.is).0;
+      spread = record {
+        first = all.first;
+        head = all.head;
+        back = all.back;
+        low = all.low;
+        past = all.past;
+        laid = (passed_on t text c.args.setting.now all.first all.head c.loop-spread.spread c.pass.new.self c.in_ok-pass.field-0 (c.in_ok-pass.ensures.passes all.first all.head all.laid) c.in-On.is).0;
+      };
     }

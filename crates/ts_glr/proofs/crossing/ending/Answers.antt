@@ -9,15 +9,15 @@ best_of-requires c =
     (c.args.table.now, r.0, subst (λ (hs : List ℕ). CanChoose c.args.table.now r.0 c.args.spread.now.graph c.args.size hs) (sym c.as_slice.ensures.value) (can_choose c.args.table.now r.0 r.1 r.2 c.args.spread.now c.args.size r.3 r.4))
 
 pub returns-in-Some : goal.returns-in-Some
-returns-in-Some c = λ text first h p size within.
+returns-in-Some c text stacks first start h back p size =
     let t = c.args.table.now in
     let can = subst (λ (hs : List ℕ). CanChoose t text c.args.spread.now.graph c.args.size hs) (sym c.as_slice.ensures.value) (can_choose t text first h c.args.spread.now c.args.size p size) in
     let best = subst (λ (hs : List ℕ). IsBestOn t text c.args.spread.now.graph hs c.in_ok-node.field-0) c.as_slice.ensures.value (c.in_ok-node.ensures t text can) in
-    tree_ends c.over_laws_hold.ensures t c.stands.ensures text first c.args.before c.further-stuck.result h within c.args.spread.now p c.in_ok-node.field-0 best c.further-stuck.ensures.first c.further-stuck.ensures.second c.further-stuck.ensures.from c.in-Some.node c.in-Some.is
+    tree_ends c.over_laws_hold.ensures t c.stands.ensures text stacks first c.args.before c.further-stuck.result start h back c.args.spread.now p c.in_ok-node.field-0 best c.further-stuck.ensures.first c.further-stuck.ensures.second c.further-stuck.ensures.from c.in-Some.node c.in-Some.is
 
 pub returns-in-Some-stuck : goal.returns-in-Some-stuck
-returns-in-Some-stuck c = λ text first h p size within.
+returns-in-Some-stuck c text stacks first start h back p size =
     let t = c.args.table.now in
     let can = subst (λ (hs : List ℕ). CanChoose t text c.args.spread.now.graph c.args.size hs) (sym c.as_slice.ensures.value) (can_choose t text first h c.args.spread.now c.args.size p size) in
     let best = subst (λ (hs : List ℕ). IsBestOn t text c.args.spread.now.graph hs c.in_ok-node.field-0) c.as_slice.ensures.value (c.in_ok-node.ensures t text can) in
-    stop_ends c.over_laws_hold.ensures t c.stands.ensures text first c.args.before c.further-stuck.result h within c.args.spread.now p c.in_ok-node.field-0 best c.further-stuck.ensures.first c.further-stuck.ensures.second c.further-stuck.ensures.from c.in-Some-stuck.place c.in-None.is c.in-Some-stuck.is
+    stop_ends c.over_laws_hold.ensures t c.stands.ensures text stacks first c.args.before c.further-stuck.result start h back c.args.spread.now p c.in_ok-node.field-0 best c.further-stuck.ensures.first c.further-stuck.ensures.second c.further-stuck.ensures.from c.in-Some-stuck.place c.in-None.is c.in-Some-stuck.is

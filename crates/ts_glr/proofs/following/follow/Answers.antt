@@ -21,7 +21,7 @@ returns-then-is_empty-clause-done c shallow text stuck long ahead =
     let exact : (a : Action) → Contains c.actions-actions.result.now a ↔ ActsBy c.args.table.now (read_on c.args.readings.now.graph c.args.head) c.args.found.token.0 a = λ a. c.actions-actions.ensures.exact (read_on c.args.readings.now.graph c.args.head) a st in
     follow_passes c.laws_hold.ensures c.args.table.now c.stands.ensures c.args.setting.now.size c.args.readings.now.graph c.args.head c.args.found c.state.result st c.actions-actions.result.now exact text ahead
     (none_there c.actions-actions.result.now c.is_empty.result c.if-is_empty.true c.is_empty.ensures) long c.pass.new.graph c.in_ok-next.next c.args.readings.now.live.items c.push.new.self.items c.args.readings.now.best stuck c.in_ok-push.ensures.items c.requires.live
-    c.in_ok-next.ensures.config c.in_ok-next.ensures.live c.in_ok-next.ensures.stand
+    c.in_ok-next.ensures.config c.in_ok-next.ensures.layers c.in_ok-next.ensures.live c.in_ok-next.ensures.stand
 
 pub act_all-requires-clause-act : goal.act_all-requires-clause-act
 act_all-requires-clause-act c a w =

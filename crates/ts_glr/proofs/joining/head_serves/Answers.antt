@@ -19,8 +19,8 @@ node-instead-requires-clause-some c =
     let w = c.loop-over.invariant c.requires.0 c.requires.1 c.requires.2 c.requires.3 in
     has_layer c.args.graph.now c.loop-over.under c.loop-over.place w.under_spans (let p = c.if-place-eq0.false in grind arith)
 
-pub tree_serves-requires : goal.tree_serves-requires
-tree_serves-requires c =
+pub tree_replaces-requires : goal.tree_replaces-requires
+tree_replaces-requires c =
     let w = c.loop-over.invariant c.requires.0 c.requires.1 c.requires.2 c.requires.3 in (
       c.requires.0.grammar,
       (top_good c.requires.0 (stack_at c.args.graph.now c.loop-over.under) c.node-instead.result.now c.node-instead.ensures w.under_good).form,
@@ -49,7 +49,7 @@ pub loop-over-preserved : goal.loop-over-preserved
 loop-over-preserved c t size a b =
     walk_more t size c.args.graph.now c.args.kept c.args.other c.loop-over.over c.loop-over.under c.loop-over.place c.below-over.result c.below-under.result (c.loop-over.place - (c.pad.result + c.size.result)) c.node-node.result.now c.node-instead.result.now
     (c.loop-over.invariant t size a b) c.node-node.ensures c.node-instead.ensures c.below-over.ensures.stack c.below-under.ensures.stack c.below-over.ensures.lower c.below-under.ensures.lower
-    (let p = c.pad.ensures in let q = c.size.ensures in omega (arith, p, q)) (c.tree_serves.ensures.0 (grind arith))
+    (let p = c.pad.ensures in let q = c.size.ensures in omega (arith, p, q)) (c.tree_replaces.ensures.0 (grind arith))
 
 pub returns : goal.returns
 returns c e =

@@ -4,9 +4,13 @@ pub returns : goal.returns
 returns c = record {
   no_better = c.no_better_through.ensures;
   same_tree = c.trees_serve.ensures.same;
-  same = c.configurations_serve.ensures.same;
-  deep = c.ends_are_served.ensures.deep;
-  stops = c.ends_are_served.ensures.stops;
-  accepts = c.ends_are_served.ensures.accepts;
-  runs = c.runs_are_served.ensures.through;
+  own = c.packed_stacks_follow.ensures.own;
+  met = c.packed_stacks_follow.ensures.met;
+  too_deep = c.packed_stacks_follow.ensures.deep;
+  on = c.packed_stacks_follow.ensures.on;
+  deep = c.packed_stacks_end.ensures.deep;
+  stops = c.packed_stacks_end.ensures.stops;
+  accepts = c.packed_stacks_end.ensures.accepts;
+  leads = c.packed_stacks_join.ensures.leads;
+  joined_met = c.packed_stacks_join.ensures.met;
 }

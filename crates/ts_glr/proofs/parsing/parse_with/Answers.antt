@@ -87,7 +87,8 @@ loop-kept-preserved g c =
       rests = λ states are honest lent.
           let before = c.loop-kept.invariant.rests states are honest lent in
           let result = c.in_ok-root.ensures.fresh states are (λ place state t given. honest place state t (c.loop-kept.invariant.gives place state t given)) (λ place state symbol s given. lent place state symbol s (c.loop-kept.invariant.lends place state symbol s given)) before.1 in
-          let fork = fork_rests c.packing_laws_hold.ensures c.args.table.now c.stands.ensures.fit states text c.loop-kept.readings.graph c.reparse.new.graph c.loop-kept.head c.loop-kept.readings.stuck c.in_ok-root.field-0 result before.0 c.only_runs_are_one_way.ensures.through c.only_runs_are_one_way.ensures.run c.in-Forks.fork c.in-Forks.is in
+          let layers = c.in_ok-root.ensures.layers states are (λ place state t given. honest place state t (c.loop-kept.invariant.gives place state t given)) (λ place state symbol s given. lent place state symbol s (c.loop-kept.invariant.lends place state symbol s given)) before.1 in
+          let fork = fork_rests c.packing_laws_hold.ensures c.args.table.now c.stands.ensures.fit states text c.loop-kept.readings.graph c.reparse.new.graph c.loop-kept.head c.loop-kept.readings.stuck c.in_ok-root.field-0 result layers before.0 c.in-Forks.fork c.in-Forks.is in
           (left.rests fork.0, left.stand states are fork.1);
     }
 
@@ -102,21 +103,24 @@ returns-in-Accepted-clause-fresh g c states are honest lent =
     let text = g.L.Text.Content.bytes c.args.text.now in
     let before = c.loop-kept.invariant.rests states are honest lent in
     let result = c.in_ok-root.ensures.fresh states are (λ place state t given. honest place state t (c.loop-kept.invariant.gives place state t given)) (λ place state symbol s given. lent place state symbol s (c.loop-kept.invariant.lends place state symbol s given)) before.1 in
-    accepts_sound c.packing_laws_hold.ensures c.args.table.now c.stands.ensures.fit states text c.loop-kept.readings.graph c.reparse.new.graph c.loop-kept.head c.loop-kept.readings.stuck c.in_ok-root.field-0 result before.0 c.in-Accepted.root c.in-Accepted.is
+    let layers = c.in_ok-root.ensures.layers states are (λ place state t given. honest place state t (c.loop-kept.invariant.gives place state t given)) (λ place state symbol s given. lent place state symbol s (c.loop-kept.invariant.lends place state symbol s given)) before.1 in
+    accepts_sound c.packing_laws_hold.ensures c.args.table.now c.stands.ensures.fit states text c.loop-kept.readings.graph c.reparse.new.graph c.loop-kept.head c.loop-kept.readings.stuck c.in_ok-root.field-0 result layers before.0 c.in-Accepted.root c.in-Accepted.is
 
 pub returns-in-Stuck-clause-fresh : goal.returns-in-Stuck-clause-fresh
 returns-in-Stuck-clause-fresh g c states are honest lent =
     let text = g.L.Text.Content.bytes c.args.text.now in
     let before = c.loop-kept.invariant.rests states are honest lent in
     let result = c.in_ok-root.ensures.fresh states are (λ place state t given. honest place state t (c.loop-kept.invariant.gives place state t given)) (λ place state symbol s given. lent place state symbol s (c.loop-kept.invariant.lends place state symbol s given)) before.1 in
-    (stuck_at c.packing_laws_hold.ensures c.args.table.now c.stands.ensures.fit states text c.loop-kept.readings.graph c.reparse.new.graph c.loop-kept.head c.loop-kept.readings.stuck c.in_ok-root.field-0 result before.0 c.in-Stuck.place c.furthest.result c.in-Stuck.is c.furthest.ensures.mine c.furthest.ensures.others c.furthest.ensures.from, tt)
+    let layers = c.in_ok-root.ensures.layers states are (λ place state t given. honest place state t (c.loop-kept.invariant.gives place state t given)) (λ place state symbol s given. lent place state symbol s (c.loop-kept.invariant.lends place state symbol s given)) before.1 in
+    (stuck_at c.packing_laws_hold.ensures c.args.table.now c.stands.ensures.fit states text c.loop-kept.readings.graph c.reparse.new.graph c.loop-kept.head c.loop-kept.readings.stuck c.in_ok-root.field-0 result layers before.0 c.in-Stuck.place c.furthest.result c.in-Stuck.is c.furthest.ensures.mine c.furthest.ensures.others c.furthest.ensures.from, tt)
 
 pub returns-in-Deep-clause-fresh : goal.returns-in-Deep-clause-fresh
 returns-in-Deep-clause-fresh g c states are honest lent =
     let text = g.L.Text.Content.bytes c.args.text.now in
     let before = c.loop-kept.invariant.rests states are honest lent in
     let result = c.in_ok-root.ensures.fresh states are (λ place state t given. honest place state t (c.loop-kept.invariant.gives place state t given)) (λ place state symbol s given. lent place state symbol s (c.loop-kept.invariant.lends place state symbol s given)) before.1 in
-    (too_deep c.packing_laws_hold.ensures c.args.table.now c.stands.ensures.fit states text c.loop-kept.readings.graph c.reparse.new.graph c.loop-kept.head c.loop-kept.readings.stuck c.in_ok-root.field-0 result before.0 c.in-Deep.is, tt)
+    let layers = c.in_ok-root.ensures.layers states are (λ place state t given. honest place state t (c.loop-kept.invariant.gives place state t given)) (λ place state symbol s given. lent place state symbol s (c.loop-kept.invariant.lends place state symbol s given)) before.1 in
+    (too_deep c.packing_laws_hold.ensures c.args.table.now c.stands.ensures.fit states text c.loop-kept.readings.graph c.reparse.new.graph c.loop-kept.head c.loop-kept.readings.stuck c.in_ok-root.field-0 result layers before.0 c.in-Deep.is, tt)
 
 pub returns-in-Over-clause-form : goal.returns-in-Over-clause-form
 returns-in-Over-clause-form g c =
@@ -132,5 +136,6 @@ returns-in-Over-clause-fresh g c states are honest lent =
     let all = ends_all c.args.table.now text c.reparse.new.graph c.follow_fork.new.readings.graph c.loop-kept.readings.stuck c.follow_fork.new.readings.stuck c.follow_fork.new.readings.live.items c.follow_fork.new.readings.best c.in-Forks.fork c.in_ok-next-in-Forks.field-0 c.in_ok-next-in-Forks.ensures.follows c.in-Over.outcome c.in-Over.is in
     let before = c.loop-kept.invariant.rests states are honest lent in
     let result = c.in_ok-root.ensures.fresh states are (λ place state t given. honest place state t (c.loop-kept.invariant.gives place state t given)) (λ place state symbol s given. lent place state symbol s (c.loop-kept.invariant.lends place state symbol s given)) before.1 in
-    let fork = fork_rests c.packing_laws_hold.ensures c.args.table.now c.stands.ensures.fit states text c.loop-kept.readings.graph c.reparse.new.graph c.loop-kept.head c.loop-kept.readings.stuck c.in_ok-root.field-0 result before.0 c.only_runs_are_one_way.ensures.through c.only_runs_are_one_way.ensures.run c.in-Forks.fork c.in-Forks.is in
+    let layers = c.in_ok-root.ensures.layers states are (λ place state t given. honest place state t (c.loop-kept.invariant.gives place state t given)) (λ place state symbol s given. lent place state symbol s (c.loop-kept.invariant.lends place state symbol s given)) before.1 in
+    let fork = fork_rests c.packing_laws_hold.ensures c.args.table.now c.stands.ensures.fit states text c.loop-kept.readings.graph c.reparse.new.graph c.loop-kept.head c.loop-kept.readings.stuck c.in_ok-root.field-0 result layers before.0 c.in-Forks.fork c.in-Forks.is in
     (all.fresh fork.0, all.sound states are fork.1)

@@ -3,8 +3,8 @@ use Rattle.std.specs.Prelude.{IfSome}
 use Rattle.spec_trees.specs.declared.tree.Tree.{Tree}
 use Rattle.spec_trees.specs.declared.tree.Stretch.{Stretch}
 use Rattle.spec_forced.specs.Sound.{States}
-use Rattle.spec_crossing.specs.Resting.{Rests}
-use Rattle.ts_steps.specs.LiveHeads.{config_of}
+use Rattle.spec_crossing.specs.Resting.{PackedRests}
+use Rattle.ts_steps.specs.LiveHeads.{config_of, packed_of}
 use Rattle.ts_reductions.specs.Lines.{IsSetting}
 use Rattle.ts_steps.specs.Heads.{AreStatesOf, IsOwnHead, StandOnHead}
 use Rattle.ts_steps.specs.Reparsing.{AreHonest, AreHonestlyLent}
@@ -23,7 +23,7 @@ invariant-loop-kept g l = record {
   kept : IfSome l.kept (IsSetting l.table (length (g.L.Text.Content.bytes l.text)));
   rests : (states : States) → AreStatesOf l.table states → AreHonest l.table.grammar states (g.L.Text.Content.bytes l.text) (g.O.Offers.gives l.initial.offers)
       → AreHonestlyLent l.table.grammar states (g.L.Text.Content.bytes l.text) (g.O.Offers.lends l.initial.offers)
-      → Rests l.table.grammar (g.L.Text.Content.bytes l.text) l.readings.stuck (config_of l.readings.graph l.head) × StandOnHead l.table states (g.L.Text.Content.bytes l.text) l.readings.graph l.head;
+      → PackedRests l.table.grammar (g.L.Text.Content.bytes l.text) l.readings.stuck (packed_of l.readings.graph l.head) × StandOnHead l.table states (g.L.Text.Content.bytes l.text) l.readings.graph l.head;
 }
 
 abbrev pub decreases-loop-kept : goal.decreases-loop-kept

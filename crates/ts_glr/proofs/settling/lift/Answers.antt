@@ -25,5 +25,11 @@ overflow_add-place c =
 
 pub loop-place-preserved : goal.loop-place-preserved
 loop-place-preserved c =
-    lifting_more c.args.graph.now c.args.head c.loop-place.tops.items c.push.new.self.items c.loop-place.under c.loop-place.place c.below-under.result (c.loop-place.place - (c.pad.result + c.size.result)) c.state-state.result c.node-node.result.now c.in_ok-copy.copy c.loop-place.invariant
-    c.node-node.ensures c.state-state.ensures c.below-under.ensures.stack c.below-under.ensures.lower (let p = c.pad.ensures in let q = c.size.ensures in omega (arith, p, q)) c.in_ok-copy.ensures c.in_ok-push.ensures.items
+    lifting_more c.args.graph.now c.args.head c.loop-place.tops.items c.push.new.self.items c.loop-place.under c.loop-place.place c.below-under.result (c.loop-place.place - (c.pad.result + c.size.result)) c.state-state.result c.depth-depth.result c.node-node.result.now c.in_ok-copy.copy c.loop-place.invariant
+    c.node-node.ensures c.state-state.ensures c.depth-depth.ensures c.below-under.ensures.stack c.below-under.ensures.lower (let p = c.pad.ensures in let q = c.size.ensures in omega (arith, p, q)) c.in_ok-copy.ensures c.in_ok-push.ensures.items
+
+pub depth-depth-requires-clause-there : goal.depth-depth-requires-clause-there
+depth-depth-requires-clause-there c = c.loop-place.invariant.there
+
+pub depth-depth-requires-clause-some : goal.depth-depth-requires-clause-some
+depth-depth-requires-clause-some c = has_layer c.args.graph.now c.loop-place.under c.loop-place.place c.loop-place.invariant.spans c.loop-place-test.true
