@@ -27,8 +27,8 @@ use Rattle.ts_glr.proofs.ListLemmas.{each_append, each_map, each_both, each_left
 use Rattle.ts_glr.proofs.StackLemmas.{live_kept, packed_kept, own_is}
 
 -- one head was joined with another, and stands for both
-pub record Joined (t : ParseTable) (text : Bytes) (stacks new : List (List Layer)) (rest live : List StackHead) (h : StackHead) : Type 0 where
-  pub joins : JoinsOne stacks new rest live h
+pub record Joined (t : ParseTable) (text : Bytes) (stacks new : List (List Layer)) (rest now : List StackHead) (h : StackHead) : Type 0 where
+  pub joins : JoinsOne stacks new rest now h
   pub live : IsLiveHead t (length text) new joins.joined
   pub packed : packed_of new joins.joined ≡ joined_stacks (packed_of stacks joins.kept.head) (packed_of stacks joins.kept.other)
 

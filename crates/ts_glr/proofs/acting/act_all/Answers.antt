@@ -61,7 +61,7 @@ loop-action-preserved c =
       form = c.in_ok-moved.ensures.form;
       stuck = c.in_ok-moved.ensures.stuck ∙ c.loop-action.invariant.stuck;
       seen = λ text long ahead all. c.in_ok-moved.ensures.seen text long (ahead_stays c.args.table.now c.args.setting.now.size text c.args.readings.now.graph c.loop-action.readings.graph c.args.head c.args.found c.loop-action.invariant.grows c.requires.live.live ahead) (c.loop-action.invariant.seen text long ahead all);
-      acting = λ text long ahead. subst (λ (done : List Action). Acting c.args.table.now text trees c.act.new.readings.graph (config_of c.args.readings.now.graph c.args.head) c.args.found done c.args.readings.now.live.items c.add.new.live.items c.args.readings.now.best c.act.new.readings.best)
+      acting = λ text long ahead. subst (λ (done : List Action). Acting c.args.table.now text trees c.act.new.readings.graph (config_of c.args.readings.now.graph c.args.head) (packed_of c.args.readings.now.graph c.args.head) c.args.found done c.args.readings.now.live.items c.add.new.live.items c.args.readings.now.best c.act.new.readings.best)
           (sym (take_more c.args.actions.now c.loop-action.action-index (Shift 0) c.loop-action-test.true))
           (acting_more c.args.table.now text trees (config_of c.args.readings.now.graph c.args.head) (packed_of c.args.readings.now.graph c.args.head) c.args.found c.loop-action.readings.graph c.act.new.readings.graph c.args.head (take c.loop-action.action-index c.args.actions.now) item c.in_ok-moved.moved
           c.args.readings.now.live.items c.loop-action.readings.live.items c.add.new.live.items c.args.readings.now.best c.loop-action.readings.best c.act.new.readings.best
