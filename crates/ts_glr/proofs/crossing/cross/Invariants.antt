@@ -5,7 +5,7 @@ use Rattle.ts_glr.proofs.crossing.cross.Given as goal
 abbrev pub invariant-loop-spread : goal.invariant-loop-spread
 invariant-loop-spread g l = record {
   made : g.L.Tokens.made_for l.lexer l.table;
-  spread : IsSpreadFor l.table (g.L.Text.Content.bytes l.text) l.setting l.stacks l.start l.from l.spread;
+  spread : IsSpreadFor l.table (g.L.Text.Content.bytes l.text) l.setting l.stacks l.fn.start l.from l.spread;
 }
 
 abbrev pub decreases-loop-spread : goal.decreases-loop-spread
