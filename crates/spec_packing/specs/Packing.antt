@@ -48,8 +48,8 @@ stack_alone c = record { stack = map packed_alone c.stack; place = c.place }
 
 -- ---- what layers stand for
 
--- The layer covers the tree: it is of one kind with its own tree, with one symbol and the same bytes,
--- and no deeper than the layer says.
+-- The layer covers the tree: it is of one kind with its own tree, with one symbol and the same
+-- bytes, and no deeper than the layer says.
 pub record CoversTree (l : PackedTree) (t : Tree) : Type 0 where
   pub symbol : symbol_of l.tree ≡ symbol_of t
   pub extra : is_extra_node l.tree ≡ is_extra_node t

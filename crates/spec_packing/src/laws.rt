@@ -96,10 +96,10 @@ pub fn runs_are_served()
     laws_hold();
 }
 
-/// A reading that is reached is a stack of layers that was met, and stands for it. A step of a stack
-/// that was met comes to such a one again, and where it is too deep, some run is. A run that goes
-/// through what the stack stands for ends there, or goes through what it stands for after one of its
-/// steps, or the stack is too deep.
+/// A reading that is reached is a stack of layers that was met, and stands for it. A step of a
+/// stack that was met comes to such a one again, and where it is too deep, some run is. A run that
+/// goes through what the stack stands for ends there, or goes through what it stands for after one
+/// of its steps, or the stack is too deep.
 pub fn packed_stacks_follow()
     ensures own { (g : FlatGrammar) → Fit g → (text : Bytes) (c : Configuration)
         → IsReached g text c → WasMet g text (stack_alone c) × Packs (stack_alone c) c }

@@ -72,8 +72,8 @@ fn made_laws_hold()
     bare_trees_are_made();
 }
 
-/// A stack that a parser made can be entered where several moves stay at it, and so can the one of the
-/// start of a text.
+/// A stack that a parser made can be entered where several moves stay at it, and so can the one of
+/// the start of a text.
 pub fn own_stacks_enter()
     ensures fork { (t : ParseTable) (text : Bytes) (stacks : List (List Layer)) (h : AnyHead)
         → IsTable t → length text ≤ most_span → IsOwnHead t (length text) stacks h
@@ -85,10 +85,10 @@ pub fn own_stacks_enter()
     made_laws_hold();
 }
 
-/// Where all runs rest at the stack over which the graph is sound, which stands for itself alone, and
-/// the ends before a place are accounted for, they rest at the layers of the stack that is left, where
-/// its head stands alone at the place or past it. And a parser made it, if a parser made the trees of
-/// the graph; and its trees stand, if those of the graph do.
+/// Where all runs rest at the stack over which the graph is sound, which stands for itself alone,
+/// and the ends before a place are accounted for, they rest at the layers of the stack that is
+/// left, where its head stands alone at the place or past it. And a parser made it, if a parser
+/// made the trees of the graph; and its trees stand, if those of the graph do.
 pub fn left_stacks_go_on()
     ensures rests { (t : ParseTable) (text : Bytes) (base : AnyBase) (g : GraphView) (h : ℕ)
         (numbers : List ℕ) (stacks : List (List Layer)) (k : AnyHead)

@@ -49,8 +49,8 @@ StacksStay old new heads = OfEach (StackStays old new) heads
 -- The heads were added to which some actions lead; the trees that they accept are accounted for.
 -- The nodes of both stand, if these trees do. So it is from a configuration, and from its layers.
 pub record Acting (t : ParseTable) (text : Bytes) (trees : List Tree) (stacks : List (List Layer))
-    (c : Configuration) (k : PackedStack) (f : FoundToken) (done : List Action) (old live : List StackHead)
-    (first best : Option Tree) : Type 0 where
+    (c : Configuration) (k : PackedStack) (f : FoundToken) (done : List Action)
+    (old live : List StackHead) (first best : Option Tree) : Type 0 where
   pub more : List StackHead
   pub live_is : live ≡ old ++ more
   pub few : length more ≤ length done
@@ -91,8 +91,8 @@ pub record AccountsForLayers (g : FlatGrammar) (text : Bytes) (best : Option Tre
 -- A head was followed by one step in all ways. The nodes of the new heads and trees stand, if these
 -- trees do. So it is from a configuration, and from its layers.
 pub record Spent (t : ParseTable) (text : Bytes) (trees : List Tree) (stacks : List (List Layer))
-    (most : ℕ) (c : Configuration) (k : PackedStack) (old live : List StackHead) (first best : Option Tree)
-    (before stuck : Option ℕ) : Type 0 where
+    (most : ℕ) (c : Configuration) (k : PackedStack) (old live : List StackHead)
+    (first best : Option Tree) (before stuck : Option ℕ) : Type 0 where
   pub more : List StackHead
   pub live_is : live ≡ old ++ more
   pub few : length more ≤ suc most
@@ -106,8 +106,9 @@ pub record Spent (t : ParseTable) (text : Bytes) (trees : List Tree) (stacks : L
   pub root : (b : Tree) → best ≡ Some b → (first ≡ Some b) ⊎ IsSoundRoot t text trees b
   pub fruitful : HasSome more best stuck
 
--- All runs are accounted for: the layers of the live heads were met, and the ends at a configuration
--- that is reached are known, or a run to it goes through what the layers of some live head stand for.
+-- All runs are accounted for: the layers of the live heads were met, and the ends at a
+-- configuration that is reached are known, or a run to it goes through what the layers of some live
+-- head stand for.
 pub record Searching (t : ParseTable) (text : Bytes) (stacks : List (List Layer))
     (live : List StackHead) (best : Option Tree) (stuck : Option ℕ) : Type 0 where
   pub heads : OfEach (λ h. IsLiveHead t (length text) stacks h

@@ -72,8 +72,8 @@ pub record GoesBackTo (t : ParseTable) (text : Bytes) (stacks : List (List Layer
   pub stand : (states : States) → AreStatesOf t states → StandOnHead t states text stacks start
       → StandOnHead t states text first h
 
--- The graph was begun for a stack, at that stack or at the start of the text. One stack is asked for
--- past a place that is behind both.
+-- The graph was begun for a stack, at that stack or at the start of the text. One stack is asked
+-- for past a place that is behind both.
 pub record IsSpreadFor (t : ParseTable) (text : Bytes) (s : Setting) (stacks : List (List Layer))
     (start : StackHead) (from : ℕ) (spread : Spread) : Type 0 where
   pub first : List (List Layer)

@@ -186,9 +186,9 @@ struct Begun {
     from: u32,
 }
 
-/// The graph of a stack. Where some of its layers stand for deeper trees too, it begins at the start
-/// of the text, and one stack is asked for only past twice as many bytes: what is followed once
-/// more is no more than what is followed then.
+/// The graph of a stack. Where some of its layers stand for deeper trees too, it begins at the
+/// start of the text, and one stack is asked for only past twice as many bytes: what is followed
+/// once more is no more than what is followed then.
 fn begin(alloc: Global, stacks: &Stacks, start: StackHead) -> Result<Begun, AllocError>
     requires { (t : ParseTable) × (text : Bytes) × IsTable t × (length text ≤ most_span)
         × IsOwnHead t (length text) stacks.now start

@@ -98,8 +98,8 @@ pub(crate) fn advance<L: Tokens>(
     ensures done { IfOk result (λ b. b ≡ false → Spent table.now (L.Text.bytes text.now)
         (trees_on (stack_at readings.old.graph head.top)) readings.new.graph
         (most_actions table.now) (config_of readings.old.graph head)
-        (packed_of readings.old.graph head) readings.old.live.items readings.new.live.items readings.old.best readings.new.best
-        readings.old.stuck readings.new.stuck) }
+        (packed_of readings.old.graph head) readings.old.live.items readings.new.live.items
+        readings.old.best readings.new.best readings.old.stuck readings.new.stuck) }
 {
     laws_hold();
     let graph = &readings.graph;

@@ -102,9 +102,9 @@ fn tree_replaces(kept: &Node, other: &Node) -> bool
         && !better(other, kept)
 }
 
-/// Whether a head may stand for another: each tree of its stack may take the place of the one in its
-/// place. The part that both stacks share is not looked at. At the start of the text none stands for
-/// another.
+/// Whether a head may stand for another: each tree of its stack may take the place of the one in
+/// its place. The part that both stacks share is not looked at. At the start of the text none
+/// stands for another.
 fn head_serves(graph: &Graph, kept: StackHead, other: StackHead) -> bool
     requires { (t : ParseTable) × (size : ℕ) × IsLiveHead t size graph.now kept
         × IsLiveHead t size graph.now other }

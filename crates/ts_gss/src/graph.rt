@@ -208,8 +208,8 @@ impl Graph {
         Ok(head)
     }
 
-    /// Puts a node on a stack, with the state above it and the greatest depth of the nodes for which
-    /// it stands, and gives the head of the new stack. All stacks that were there stay.
+    /// Puts a node on a stack, with the state above it and the greatest depth of the nodes for
+    /// which it stands, and gives the head of the new stack. All stacks that were there stay.
     ///
     /// # Errors
     ///

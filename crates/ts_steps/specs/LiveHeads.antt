@@ -145,8 +145,8 @@ abbrev pub AreAlone : List PackedTree → Type 0
 AreAlone [] = Unit {0}
 AreAlone (l ∷ layers) = (l.depth ≡ tree_depth l.tree) × AreAlone layers
 
--- What a reduction of a live stack comes to, of its trees and of its layers: none where the layer is
--- too deep. It is as deep as its tree where all are on the stack.
+-- What a reduction of a live stack comes to, of its trees and of its layers: none where the layer
+-- is too deep. It is as deep as its tree where all are on the stack.
 pub record IsReducedTo (t : ParseTable) (size number : ℕ) (old new : List (List Layer))
     (h : StackHead) (o : Option StackHead) : Type 0 where
   pub node : Tree

@@ -84,8 +84,8 @@ IsOwnResult t Deep = Unit {0}
 IsOwnResult t (Forks k) = Unit {0}
 
 -- What all runs from the trees on the stack of the head come to, with a tree that is sound. Where
--- several moves stay, they all lead to that stack by one way, and its trees stand. That a node would
--- be too deep is said of its layers alone.
+-- several moves stay, they all lead to that stack by one way, and its trees stand. That a node
+-- would be too deep is said of its layers alone.
 abbrev pub IsResult : ParseTable → States → Bytes → List (List Layer) → List (List Layer)
     → StackHead → Reparsed → Type 0
 IsResult t states text old new h (Accepted u) =
@@ -109,8 +109,9 @@ pub record IsNoEnd (g : FlatGrammar) (text : Bytes) (d : Configuration) : Type 0
   pub unstuck : (q : ℕ) → StopsAt g text d q → ⊥
   pub shallow : ComesTooDeep g text d → ⊥
 
--- The new layers were met, a run leads to their own trees from those of the old ones, and each run that goes through what the old ones stand for goes through
--- what the new ones stand for, or does not end where it is.
+-- The new layers were met, a run leads to their own trees from those of the old ones, and each run
+-- that goes through what the old ones stand for goes through what the new ones stand for, or does
+-- not end where it is.
 pub record LeadThrough (g : FlatGrammar) (text : Bytes) (k n : PackedStack) : Type 0 where
   pub met : WasMet g text n
   pub run : Run g text (own_config k) (own_config n)

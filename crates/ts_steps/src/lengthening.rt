@@ -169,8 +169,8 @@ fn cut_out(alloc: Global, elements: Elements<'_>) -> Result<Section, AllocError>
 }
 
 /// Takes over at once the elements that are offered behind the repetition on top of a stack, or
-/// below the extras there. None where no repetition is there, or nothing that can be taken, or where
-/// a layer stands for deeper trees than its own.
+/// below the extras there. None where no repetition is there, or nothing that can be taken, or
+/// where a layer stands for deeper trees than its own.
 pub(crate) fn take_elements<'t, O: Offers<'t>>(
     alloc: Global,
     table: &Table,

@@ -160,8 +160,8 @@ fn seen_again(
 /// honest, this is what all runs from that stack come to, and the tree is sound. Where several
 /// moves stay on a token it stops, and tells the stack to which these runs lead. Each place is
 /// asked for a node once at most, and of a node that is taken over the first token alone is lexed;
-/// of elements that are taken over no token is. So it is of all readings for which the layers of the
-/// stack stand; where one of these stands for deeper trees than its own, nothing is taken over.
+/// of elements that are taken over no token is. So it is of all readings for which the layers of
+/// the stack stand; where one of these stands for deeper trees than its own, nothing is taken over.
 ///
 /// # Errors
 ///
