@@ -1,4 +1,5 @@
 use Rattle.std.proofs.Common.{arith}
+use Rattle.ts_glr.specs.Spreading.{IsSpreadFor}
 use Rattle.ts_glr.proofs.SpreadLemmas.{passed_on, passed_over, passed_deep}
 use Rattle.ts_glr.proofs.CrossLemmas.{left_one, deep_ends, some_left}
 use Rattle.ts_glr.proofs.crossing.cross.Goals as goal
@@ -65,9 +66,9 @@ returns-in-Some-clause-crosses g c =
     let p = (passed_on t text c.args.setting.now c.loop-spread.invariant.spread.first c.loop-spread.invariant.spread.head c.loop-spread.spread c.pass.new.self c.in_ok-pass.field-0 (c.in_ok-pass.ensures.passes c.loop-spread.invariant.spread.first c.loop-spread.invariant.spread.head c.loop-spread.invariant.spread.laid) c.in-On.is).0 in
     let ranks = c.unit_ranks.ensures t.grammar c.stands.ensures.fit in
     let all = c.loop-spread.invariant.spread in
-    let now = record { first = all.first; head = all.head; back = all.back; low = all.low; past = all.past; laid = p } in
-    left_one c.left_laws_hold.ensures c.over_laws_hold.ensures t c.stands.ensures ranks.below text c.args.setting.now c.args.stacks.now c.args.before c.further-stuck.result c.args.start c.in_ok-spread.from c.pass.new.self now c.in-Some.left
-    (some_left c.pass.new.self c.in_ok-spread.from c.in_ok-ask_in_turn-in-On.field-0 c.in-Some.left c.in-Some.is c.in_ok-ask_in_turn-in-On.ensures) c.further-stuck.ensures.first c.further-stuck.ensures.second c.further-stuck.ensures.from
+    let now : IsSpreadFor t text c.args.setting.now c.args.stacks.now c.args.start c.in_ok-spread.field-0.from c.pass.new.self = record { first = all.first; head = all.head; back = all.back; low = all.low; past = all.past; laid = p } in
+    left_one c.left_laws_hold.ensures c.over_laws_hold.ensures t c.stands.ensures ranks.below text c.args.setting.now c.args.stacks.now c.args.before c.further-stuck.result c.args.start c.in_ok-spread.field-0.from c.pass.new.self now c.in-Some.left
+    (some_left c.pass.new.self c.in_ok-spread.field-0.from c.in_ok-ask_in_turn-in-On.field-0 c.in-Some.left c.in-Some.is c.in_ok-ask_in_turn-in-On.ensures) c.further-stuck.ensures.first c.further-stuck.ensures.second c.further-stuck.ensures.from
 
 pub loop-spread-smaller : goal.loop-spread-smaller
 loop-spread-smaller g c =
