@@ -231,7 +231,7 @@ from_start packing t fit text s stacks first start from spread past is p = recor
 }
 
 pub can_choose : (t : ParseTable) (text : Bytes) (first : List (List Layer)) (h : StackHead) (spread : Spread) (size : ℕ) → IsSpreadOut t text first h spread → size ≡ length text → CanChoose t text spread.graph size spread.ends.accepting.items
-can_choose t text first h spread size p size_is = record {
+can_choose t text _ _ spread size p size_is = record {
   sound = (p.base, p.whole.sound);
   size_is = size_is;
   each = λ k here. (p.ends.each k here).0;
