@@ -1,4 +1,4 @@
-use Rattle.std.proofs.Common.{◌∙◌, ◌↔◌, sym, subst, List, IsTrue, take, get_or, slice_index_or}
+use Rattle.std.proofs.Common.{◌∙◌, sym, subst, List, take, get_or, slice_index_or}
 use Rattle.std.proofs.lemmas.List.{take_all}
 use Rattle.std.proofs.lemmas.List.Elements.{Contains-get_or}
 use Rattle.ts_base.specs.Bytes.{Bytes}
@@ -22,13 +22,13 @@ loop-capture-preserved-then-not-is_named g c = record {
 
 pub returns-then-decides-clause-is : goal.returns-then-decides-clause-is
 returns-then-decides-clause-is g c =
-    decided c.args.predicate.now.some c.args.predicate.now.negated (IsAs (AnswersOf (g.H.Hosts.called c.args.hosts.now) (g.H.Hosts.accepts c.args.hosts.now)) c.args.predicate.now.asked) (texts_of c.args.text.now c.args.predicate.now.capture c.args.captures.now) (capture_text c.args.text.now (get_or c.args.captures.now c.loop-capture.capture-index none)) c.in_ok-is.is (text_named c.args.text.now c.args.predicate.now.capture c.args.captures.now c.loop-capture.capture-index none c.loop-capture-test.true (sym c.is_named.ensures ∙ c.if-not-is_named.false)) c.in_ok-is.ensures.is (c.decides.ensures.yes c.if-decides.true)
+    decided c.args.predicate.now.some c.args.predicate.now.negated (IsAs (AnswersOf (g.H.Hosts.called c.args.hosts.now) (g.H.Hosts.accepts c.args.hosts.now)) c.args.predicate.now.asked) (texts_of c.args.text.now c.args.predicate.now.capture c.args.captures.now) (capture_text c.args.text.now (get_or c.args.captures.now c.loop-capture.capture-index none)) c.in_ok-is.is' (text_named c.args.text.now c.args.predicate.now.capture c.args.captures.now c.loop-capture.capture-index none c.loop-capture-test.true (sym c.is_named.ensures ∙ c.if-not-is_named.false)) c.in_ok-is.ensures.is (c.decides.ensures.yes c.if-decides.true)
 
 pub loop-capture-preserved : goal.loop-capture-preserved
 loop-capture-preserved g c = record {
   matcher = c.is_of_node.ensures.matcher;
   left_open = subst (λ (l : List Bytes). AllLeaveOpen c.args.predicate.now.some c.args.predicate.now.negated (IsAs (AnswersOf (g.H.Hosts.called c.args.hosts.now) (g.H.Hosts.accepts c.args.hosts.now)) c.args.predicate.now.asked) l) (sym (texts_one c.args.text.now c.args.predicate.now.capture c.args.captures.now c.loop-capture.capture-index none c.loop-capture-test.true (sym c.is_named.ensures ∙ c.if-not-is_named.false)))
-      (open_more c.args.predicate.now.some c.args.predicate.now.negated (IsAs (AnswersOf (g.H.Hosts.called c.args.hosts.now) (g.H.Hosts.accepts c.args.hosts.now)) c.args.predicate.now.asked) (texts_of c.args.text.now c.args.predicate.now.capture (take c.loop-capture.capture-index c.args.captures.now)) (capture_text c.args.text.now (get_or c.args.captures.now c.loop-capture.capture-index none)) c.in_ok-is.is c.in_ok-is.ensures.is (c.decides.ensures.no c.if-decides.false) c.loop-capture.invariant.left_open);
+      (open_more c.args.predicate.now.some c.args.predicate.now.negated (IsAs (AnswersOf (g.H.Hosts.called c.args.hosts.now) (g.H.Hosts.accepts c.args.hosts.now)) c.args.predicate.now.asked) (texts_of c.args.text.now c.args.predicate.now.capture (take c.loop-capture.capture-index c.args.captures.now)) (capture_text c.args.text.now (get_or c.args.captures.now c.loop-capture.capture-index none)) c.in_ok-is.is' c.in_ok-is.ensures.is (c.decides.ensures.no c.if-decides.false) c.loop-capture.invariant.left_open);
 }
 
 pub returns-clause-is : goal.returns-clause-is
