@@ -334,6 +334,7 @@ fn compares_bytes_and_not_pieces(rt: HostRuntime) -> Result<(), Fail> {
     let other = Text::from_bytes(alloc, b"b".as_slice())?;
     let changed = apply(alloc, &grown, &one_part(alloc, 29_999, 30_000, other)?)?;
     assert!(rt; changed != plain);
+    assert_eq!(rt; changed.len(), 30_000);
     assert_eq!(rt; changed.byte(29_999), b'b');
     assert!(rt; changed.try_clone(alloc)? == changed);
     Ok(())
