@@ -7,9 +7,9 @@ PROGRAM is `crates/ts_cli/out/ts_cli` if none is given, which `./hemshale build`
 `bench/parse.py`: nested JSON and a flat list of 10 KB and 1 MB, and C-like texts and a Lisp of 200 KB. A script opens
 the text, puts a byte behind it that no token begins with, and then puts one digit after another in the place of others:
 in the middle of the text, or at places all over it. So each version is stuck behind its last token, and its line is
-short: what is timed is the copy of the text, the marks, and the parse up to that place, in which all that stood in the
-first version's tree may be taken over. Printed are the microseconds of a whole parse of the text, of an edit, and how
-many times as fast an edit is: processor time, the least of three runs, less that of a script without the edits, or of an
+short: what is timed is the new text, the marks, and the parse up to that place, in which all that stood in the first
+version's tree may be taken over. Printed are the microseconds of a whole parse of the text, of an edit, and how many
+times as fast an edit is: processor time, the least of three runs, less that of a script without the edits, or of an
 empty text for the whole parse. The line of a whole parse is printed too, so its time is an upper bound of parsing.
 There are few edits of a short text, since a tree is dropped once edits took much out of its text.
 """

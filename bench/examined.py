@@ -9,12 +9,11 @@ The texts are those of `bench/parse.py`. Each of EDITS edits, 4,000 if none is g
 another: in the middle of the text, or at places all over it; a fortieth of them where the text has choices. The tree is
 marked and the new text parsed with what the tree offers; the old text and tree are then let go.
 
-Printed for each text are the processor time of a whole parse, that of an edit, and what of it the copy of the text
-takes with the edit in it: the least of three runs, less that of a run without edits, which tells little beside so many
-edits. And in bytes an edit: what the lexer examined; and what was needed, which is what was examined for each leaf that
-lies in nothing that was offered, and for the first leaf of each node that was. All that was offered counts as kept.
-Several stacks may lex one place, and the end of the text is lexed too. Printed too is how many elements were offered an
-edit.
+Printed for each text are the processor time of a whole parse, that of an edit, and what of it the text with the edit
+in it takes: the least of three runs, less that of a run without edits, which tells little beside so many edits. And in
+bytes an edit: what the lexer examined; and what was needed, which is what was examined for each leaf that lies in
+nothing that was offered, and for the first leaf of each node that was. All that was offered counts as kept. Several
+stacks may lex one place, and the end of the text is lexed too. Printed too is how many elements were offered an edit.
 """
 import subprocess
 import sys
@@ -229,7 +228,7 @@ fn tree_in(outcome: Outcome) -> Option<Node> {
 /// How much of an edit is done.
 #[derive(Clone, Copy, PartialEq)]
 enum Work {
-    /// The text is copied with the edit in it.
+    /// The text with the edit in it is made.
     Copied,
     /// It is parsed too, with what its marked tree offers.
     Parsed,
@@ -448,13 +447,13 @@ def main():
 
             none = least(program, *words(0, "parsed"))
             whole = none - least(program, *words(0, "parsed", "nothing"))
-            copy = (least(program, *words(edits, "copied")) - none) / edits
+            made = (least(program, *words(edits, "copied")) - none) / edits
             edit = (least(program, *words(edits, "parsed")) - none) / edits
             printed, _, _ = run(program, *words(edits, "noted"))
             examined, needed, elements = [int(word) / edits for word in printed.split()]
             print(
                 f"{name}, {'all over' if step else 'in the middle'}: whole {whole:,.0f} us, an edit {edit:,.1f} us, "
-                f"{copy:,.1f} of them the copy, {whole / edit:,.0f} times; {examined:,.1f} bytes lexed an edit, "
+                f"{made:,.1f} of them the text, {whole / edit:,.0f} times; {examined:,.1f} bytes lexed an edit, "
                 f"{needed:,.1f} needed, {elements:,.1f} elements offered",
                 flush=True,
             )
