@@ -8,3 +8,4 @@ pub mod ReadLemmas
 pub mod RestLemmas
 pub mod HaltLemmas
 pub mod PackedLemmas
+pub mod TellLemmas

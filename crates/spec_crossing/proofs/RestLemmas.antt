@@ -4,7 +4,7 @@ use Rattle.spec_trees.specs.declared.tree.Tree.{Tree}
 use Rattle.spec_trees.specs.Trees.{bare}
 use Rattle.spec_trees.specs.Choice.{Better}
 use Rattle.spec_runs.specs.Configurations.{Configuration}
-use Rattle.spec_runs.specs.Runs.{IsReached, ComesTooDeep, AcceptsTree, StopsAt}
+use Rattle.spec_runs.specs.Runs.{IsReached, ComesTooDeep, AcceptsTree}
 use Rattle.spec_runs.specs.Outcomes.{SomeAccepts, SomeStopsAt, IsBestTree, IsLastStop}
 use Rattle.spec_graph.specs.declared.graph.Head.{Head}
 use Rattle.spec_graph.specs.declared.graph.Link.{Link}
@@ -86,14 +86,3 @@ module _ (P : Parsing) (heads : List Head) (links : List Link) (n : ℕ) (best :
 
         no_greater : (p : ℕ) → IsPastStuck stuck p → p ≤ q
         no_greater p k = let same : k.0 ≡ q = same_place k.0 q (sym k.1 ∙ is) in let le = k.2 in omega (arith, same, le)
-
-    -- where some run ends, there is a tree or a place
-    pub rests_some : (((d : Configuration) → IsReached P.grammar P.text d
-        → ComesTooDeep P.grammar P.text d ⊎ (((u : Tree) × AcceptsTree P.grammar P.text d u) ⊎ ((q : ℕ) × StopsAt P.grammar P.text d q)) → ⊥) → ⊥)
-        → best ≡ None → stuck ≡ None → ⊥
-    rests_some some none nowhere = some (λ d rd end. ⊎_elim (λ deep. never_deep d rd deep)
-        (λ more. ⊎_elim (λ a. never_withstands best a.0 none (accounted d a.0 rd a.1))
-        (λ s. let k = past d rd s.0 s.1 in let e : ◌≡◌ {A = Option ℕ} None (Some k.0) = sym nowhere ∙ k.1 in cc) more) end)
-      where
-        past : (d : Configuration) → IsReached P.grammar P.text d → (q : ℕ) → StopsAt P.grammar P.text d q → IsPastStuck stuck q
-        past d rd q s = ⊎_elim (λ cov. counts.past q (cov.places q s)) (λ w. let v = (ends d rd w).stops q s in counts.places q v.0 v.1 v.2) (done d rd)

@@ -2,9 +2,7 @@
 
 ghost use Rattle.std.specs.Prelude.{◌≡◌, ℕ, ◌+◌, ◌<◌, ◌≤◌, ◌⊎◌, true, false, List, [], ◌∷◌, ◌++◌, length, Option, Some, None};
 ghost use Rattle.std.specs.List.{Contains};
-ghost use Rattle.ts_base.specs.Bytes.{Bytes};
 ghost use Rattle.ts_core.specs.declared.flat.FlatGrammar.{FlatGrammar};
-ghost use Rattle.spec_lexing.specs.Lexing.{Found};
 ghost use Rattle.spec_tables.specs.Actions.{Move, Act, accept};
 ghost use Rattle.spec_tables.specs.Fit.{Fit};
 ghost use Rattle.spec_trees.specs.declared.tree.Tree.{Tree};
@@ -12,9 +10,9 @@ ghost use Rattle.spec_trees.specs.Trees.{is_extra_node, elements_of, children_of
 ghost use Rattle.spec_trees.specs.Inside.{IsNodeIn};
 ghost use Rattle.spec_trees.specs.Made.{filling, AreCounted};
 ghost use Rattle.spec_trees.specs.Choice.{code_of, IsInForm};
-ghost use Rattle.spec_runs.specs.Configurations.{Configuration, NextIs};
+ghost use Rattle.spec_runs.specs.Configurations.{Configuration};
 ghost use Rattle.spec_runs.specs.Moves.{IsUnused};
-ghost use Rattle.spec_runs.specs.Runs.{StepsOn, Run, IsReached, ComesTooDeep, AcceptsTree, StopsAt};
+ghost use Rattle.spec_runs.specs.Runs.{StepsOn, Run, IsReached};
 ghost use Rattle.spec_runs.specs.Outcomes.{IsBestTree, IsLastStop};
 ghost use Rattle.spec_packing.specs.Packing.{stack_alone, GoesThrough};
 ghost use Rattle.spec_packing.specs.Serving.{ComesToServe};
@@ -30,7 +28,7 @@ ghost use Rattle.spec_crossing.specs.Leaving.{IsOnlyWay, IsOneWay, EndsWithToken
 ghost use Rattle.spec_crossing.specs.Resting.{Rests, PackedRests, AccountsForGraph};
 
 use spec_graph::graphs_are_sound;
-use spec_lexing::{fewer_tokens, one_answer, token_within};
+use spec_lexing::{fewer_tokens, one_answer, something_is_seen, token_within};
 use spec_packing::{configurations_step, ends_are_served, no_better_through, runs_are_served};
 use spec_reuse::{no_new_tokens, some_move_stays};
 use spec_runs::{
@@ -122,7 +120,7 @@ pub fn runs_go_through()
 
 /// What is known of all runs where they rest at a configuration, and the graph was followed from
 /// there: they rest at the stack that is left; and where the graph was followed past the text, the
-/// best tree or the greatest place is the outcome, one of which there is where some run ends.
+/// best tree or the greatest place is the outcome.
 pub fn followed_graphs_rest()
     ensures leaves { (P : Parsing) → Fit P.grammar → AreStates P.grammar P.goto
         → (c : Configuration) → IsReached P.grammar P.text c → IsBegun P c
@@ -155,20 +153,6 @@ pub fn followed_graphs_rest()
         → AccountsForGraph P heads links n best before stuck
         → Rests P.grammar P.text before c
         → (q : ℕ) → best ≡ None → stuck ≡ Some q → IsLastStop P.grammar P.text q }
-    ensures some { (P : Parsing) → Fit P.grammar → AreStates P.grammar P.goto
-        → (c : Configuration) → IsReached P.grammar P.text c → IsBegun P c
-        → (rank : ℕ → ℕ) (most : ℕ) → AreRanks P.grammar rank most
-        → (heads : List Head) (links : List Link) → IsGraph P heads links
-        → (n : ℕ) → IsWholeTo P rank heads links (record { look = n; begins = n; rank = most })
-        → c.place < n → length P.text < n → P.place ≤ length P.text
-        → (best : Option Tree) (before stuck : Option ℕ)
-        → AccountsForGraph P heads links n best before stuck
-        → Rests P.grammar P.text before c
-        → (((d : Configuration) → IsReached P.grammar P.text d
-        → ComesTooDeep P.grammar P.text d
-        ⊎ (((u : Tree) × AcceptsTree P.grammar P.text d u)
-        ⊎ ((q : ℕ) × StopsAt P.grammar P.text d q)) → ⊥) → ⊥)
-        → best ≡ None → stuck ≡ None → ⊥ }
 {
     laws_hold();
     serving_laws_hold();
@@ -209,39 +193,29 @@ pub fn followed_graphs_pack()
         → AccountsForGraph P heads links n best before stuck
         → PackedRests P.grammar P.text before (stack_alone c)
         → (q : ℕ) → best ≡ None → stuck ≡ Some q → IsLastStop P.grammar P.text q }
-    ensures some { (P : Parsing) → Fit P.grammar → AreStates P.grammar P.goto
-        → (c : Configuration) → IsReached P.grammar P.text c → IsBegun P c
-        → (rank : ℕ → ℕ) (most : ℕ) → AreRanks P.grammar rank most
-        → (heads : List Head) (links : List Link) → IsGraph P heads links
-        → (n : ℕ) → IsWholeTo P rank heads links (record { look = n; begins = n; rank = most })
-        → c.place < n → length P.text < n → P.place ≤ length P.text
-        → (best : Option Tree) (before stuck : Option ℕ)
-        → AccountsForGraph P heads links n best before stuck
-        → PackedRests P.grammar P.text before (stack_alone c)
-        → (((d : Configuration) → IsReached P.grammar P.text d
-        → ComesTooDeep P.grammar P.text d
-        ⊎ (((u : Tree) × AcceptsTree P.grammar P.text d u)
-        ⊎ ((q : ℕ) × StopsAt P.grammar P.text d q)) → ⊥) → ⊥)
-        → best ≡ None → stuck ≡ None → ⊥ }
 {
     laws_hold();
     serving_laws_hold();
     graphs_are_sound();
 }
 
-/// Each run ends: where each step makes a number fall, and something is seen wherever runs go on
-/// to, it cannot be that none comes to a node that is too deep, accepts a tree, or stops.
-pub fn runs_end()
-    ensures { (g : FlatGrammar) → Fit g → (text : Bytes) (c : Configuration)
-        (weight : Configuration → ℕ)
-        → ((d e : Configuration) → Run g text c d → StepsOn g text d e → weight e < weight d)
-        → ((d : Configuration) → Run g text c d
-        → ((found : Found) × NextIs g text d found → ⊥) → ⊥)
-        → ((d : Configuration) → Run g text c d
-        → ComesTooDeep g text d
-        ⊎ (((u : Tree) × AcceptsTree g text d u) ⊎ ((q : ℕ) × StopsAt g text d q)) → ⊥) → ⊥ }
+/// A graph that was followed past the text tells a tree or a stop, whatever came to the stack from
+/// which runs go on, where each step makes a number fall.
+pub fn followed_graphs_tell()
+    ensures { (P : Parsing) → Fit P.grammar → AreStates P.grammar P.goto → IsGrounded P
+        → (rank : ℕ → ℕ) (most : ℕ) → AreRanks P.grammar rank most
+        → (heads : List Head) (links : List Link) → IsGraph P heads links
+        → (n : ℕ) → IsWholeTo P rank heads links (record { look = n; begins = n; rank = most })
+        → length P.text < n → P.place ≤ length P.text
+        → (best : Option Tree) (before stuck : Option ℕ)
+        → AccountsForGraph P heads links n best before stuck
+        → (weight : Configuration → ℕ)
+        → ((d e : Configuration) → d.place ≤ length P.text → StepsOn P.grammar P.text d e
+        → weight e < weight d)
+        → best ≡ None → stuck ≡ None → ⊥ }
 {
     laws_hold();
+    something_is_seen();
 }
 
 /// What stands on a stack from which runs go on can be laid there, entry by entry.

@@ -2,7 +2,7 @@ use Rattle.std.proofs.Common.{refl, None}
 use Rattle.spec_packing.specs.Serving.{ComesToServe}
 use Rattle.spec_crossing.specs.Leaving.{way_config}
 use Rattle.spec_crossing.proofs.LeaveLemmas.{left_from, left_serves, ends_all}
-use Rattle.spec_crossing.proofs.RestLemmas.{left_done, stuck_there, rests_tree, rests_stop, rests_some}
+use Rattle.spec_crossing.proofs.RestLemmas.{left_done, stuck_there, rests_tree, rests_stop}
 use Rattle.spec_crossing.proofs.laws.followed_graphs_rest.Goals as goal
 
 pub returns-clause-leaves : goal.returns-clause-leaves
@@ -24,8 +24,3 @@ pub returns-clause-stop : goal.returns-clause-stop
 returns-clause-stop c P fit states b reached begun rank most ranked heads links graph n whole early last inside best before stuck counts r q none is =
     rests_stop P heads links n best before stuck counts (ComesToServe P.grammar P.text b) r.done r.stuck_from (λ q s. c.graphs_are_sound.ensures.stops P fit states b reached begun heads links graph q s) c.serving_laws_hold.ensures (λ t a. c.graphs_are_sound.ensures.accepts P fit states b reached begun heads links graph t a)
     (λ d rd w. ends_all P (record { laws = c.laws_hold.ensures; fit = fit; states = states }) c.serving_laws_hold.ensures b reached begun rank most ranked heads links graph n whole early last inside d rd w) q none is
-
-pub returns-clause-some : goal.returns-clause-some
-returns-clause-some c P fit states b reached begun rank most ranked heads links graph n whole early last inside best before stuck counts r some none nowhere =
-    rests_some P heads links n best before stuck counts (ComesToServe P.grammar P.text b) r.done r.stuck_from (λ q s. c.graphs_are_sound.ensures.stops P fit states b reached begun heads links graph q s) c.serving_laws_hold.ensures (λ t a. c.graphs_are_sound.ensures.accepts P fit states b reached begun heads links graph t a)
-    (λ d rd w. ends_all P (record { laws = c.laws_hold.ensures; fit = fit; states = states }) c.serving_laws_hold.ensures b reached begun rank most ranked heads links graph n whole early last inside d rd w) some none nowhere
