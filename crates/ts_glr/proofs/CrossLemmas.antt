@@ -164,28 +164,33 @@ deep_ends over t text stacks first before start h spread back p = record {
   sound = λ states are stand. tt;
 }
 
-module _ (over : OverLaws) (t : ParseTable) (table : IsTable t) (text : Bytes) (stacks first : List (List Layer)) (before stuck : Option ℕ) (start h : StackHead) (back : GoesBackTo t text stacks start first h) (spread : Spread) (p : IsSpreadOut t text first h spread) (best : Option Tree)
-    (is_best : IsBestOn t text spread.graph spread.ends.accepting.items best) (one : (q : ℕ) → IsPastStuck before q → IsPastStuck stuck q) (other : (q : ℕ) → IsPastStuck spread.ends.stuck q → IsPastStuck stuck q) (from : (q : ℕ) → stuck ≡ Some q → (before ≡ Some q) ⊎ (spread.ends.stuck ≡ Some q)) where
+module _ (over : OverLaws) (t : ParseTable) (text : Bytes) (first : List (List Layer)) (before stuck : Option ℕ) (h : StackHead) (spread : Spread) (p : IsSpreadOut t text first h spread) (best : Option Tree) (is_best : IsBestOn t text spread.graph spread.ends.accepting.items best)
+    (one : (q : ℕ) → IsPastStuck before q → IsPastStuck stuck q) (other : (q : ℕ) → IsPastStuck spread.ends.stuck q → IsPastStuck stuck q) (from : (q : ℕ) → stuck ≡ Some q → (before ≡ Some q) ⊎ (spread.ends.stuck ≡ Some q)) where
   account : AccountsForGraph (parsing_from t text p.base) spread.graph.heads (bare_links spread.graph.links) (suc (length text)) best before stuck
   account = over.counted t text p.base spread.graph (suc (length text)) spread.ends best before stuck p.ends is_best one other from
 
-  pub tree_ends : (b : Tree) → best ≡ Some b → EndsAll t text stacks before start (Accepted b)
-  tree_ends b is =
-      let root = is_best.root b is in
-      record {
-        form = is_best.form b is;
-        own = over.root_own t text p.base spread.graph root.0 b p.whole.sound (p.ends.each root.0 root.1).0 root.2 p.own;
-        fresh = λ r. over.tree t text p.base p.most spread.graph (config_of first h) p.whole p.low p.begun back.within best before stuck account (back.rests before r) b is;
-        sound = λ states are stand. over.root_sound t text p.base spread.graph root.0 b p.whole.sound (p.ends.each root.0 root.1).0 root.2 table states are p.own (p.stand states are (back.stand states are stand));
-      }
+  -- there is a tree or a place
+  pub some_ends : best ≡ None → stuck ≡ None → ⊥
+  some_ends none nowhere = over.some t text p.base p.most spread.graph p.whole p.low best before stuck account none nowhere
 
-  pub stop_ends : (q : ℕ) → best ≡ None → stuck ≡ Some q → EndsAll t text stacks before start (Stuck q)
-  stop_ends q none is = record {
-    form = tt;
-    own = tt;
-    fresh = λ r. over.stop t text p.base p.most spread.graph (config_of first h) p.whole p.low p.begun back.within best before stuck account (back.rests before r) q none is;
-    sound = λ states are stand. tt;
-  }
+  module _ (table : IsTable t) (stacks : List (List Layer)) (start : StackHead) (back : GoesBackTo t text stacks start first h) where
+    pub tree_ends : (b : Tree) → best ≡ Some b → EndsAll t text stacks before start (Accepted b)
+    tree_ends b is =
+        let root = is_best.root b is in
+        record {
+          form = is_best.form b is;
+          own = over.root_own t text p.base spread.graph root.0 b p.whole.sound (p.ends.each root.0 root.1).0 root.2 p.own;
+          fresh = λ r. over.tree t text p.base p.most spread.graph (config_of first h) p.whole p.low p.begun back.within best before stuck account (back.rests before r) b is;
+          sound = λ states are stand. over.root_sound t text p.base spread.graph root.0 b p.whole.sound (p.ends.each root.0 root.1).0 root.2 table states are p.own (p.stand states are (back.stand states are stand));
+        }
+
+    pub stop_ends : (q : ℕ) → best ≡ None → stuck ≡ Some q → EndsAll t text stacks before start (Stuck q)
+    stop_ends q none is = record {
+      form = tt;
+      own = tt;
+      fresh = λ r. over.stop t text p.base p.most spread.graph (config_of first h) p.whole p.low p.begun back.within best before stuck account (back.rests before r) q none is;
+      sound = λ states are stand. tt;
+    }
 
 -- ---- the stack at which the graph begins
 

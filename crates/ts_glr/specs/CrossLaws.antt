@@ -63,7 +63,7 @@ pub record LeftLaws : Type 0 where
       → StandOnGraph t.grammar states text base g → StandOnHead t states text stacks k
 
 -- For proofs alone: laws of what ended in a graph, of its best root, and of a node that would be
--- too deep.
+-- too deep. Something ends in it.
 pub record OverLaws : Type 0 where
   pub counted : (t : ParseTable) (text : Bytes) (base : Base) (g : GraphView) (to : ℕ)
       (ends : Ends) (best : Option Tree) (before after : Option ℕ)
@@ -94,6 +94,12 @@ pub record OverLaws : Type 0 where
       (suc (length text)) best before stuck
       → PackedRests t.grammar text before (stack_alone c)
       → (q : ℕ) → best ≡ None → stuck ≡ Some q → IsLastStop t.grammar text q
+  pub some : (t : ParseTable) (text : Bytes) (base : Base) (most : ℕ) (g : GraphView)
+      → IsWholeAt t text base most g (suc (length text)) → base.place ≤ length text
+      → (best : Option Tree) (before stuck : Option ℕ)
+      → AccountsForGraph (parsing_from t text base) g.heads (bare_links g.links)
+      (suc (length text)) best before stuck
+      → best ≡ None → stuck ≡ None → ⊥
   pub root_own : (t : ParseTable) (text : Bytes) (base : Base) (g : GraphView) (h : ℕ) (b : Tree)
       → IsSoundBy t text base g → Accepts (parsing_of t text) g.heads h
       → IsRootOn g (length text) h b → AreOwn t.grammar g

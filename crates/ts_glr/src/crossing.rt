@@ -36,7 +36,7 @@ pub(crate) enum Crossed {
     /// One stack is left, before any tree is accepted; and the greatest place at which one stopped.
     One(Left, Option<u32>),
     Told(Outcome),
-    /// A reduction over nothing is asked for, or no way ended.
+    /// A reduction over nothing is asked for.
     Nowhere,
 }
 
@@ -152,7 +152,7 @@ fn ask_in_turn(
 }
 
 /// The outcome once all ways were followed to the end of the text, which has so many bytes: the
-/// best tree, or the greatest place at which one stopped.
+/// best tree, or the greatest place at which one stopped. Some way always ends.
 fn ending(
     alloc: Global,
     table: &Table,
@@ -174,7 +174,7 @@ fn ending(
         Some(node) => Ok(Crossed::Told(Outcome::Accepted(node))),
         None => match stuck {
             Some(place) => Ok(Crossed::Told(Outcome::Stuck(place))),
-            None => Ok(Crossed::Nowhere),
+            None => unreachable!(),
         },
     }
 }

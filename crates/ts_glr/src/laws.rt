@@ -3,7 +3,7 @@ ghost use Rattle.ts_steps.specs.MoveLaws.{Laws};
 ghost use Rattle.ts_glr.specs.Laws.{AgainLaws, PackingLaws};
 ghost use Rattle.ts_glr.specs.CrossLaws.{LeftLaws, OverLaws};
 
-use spec_crossing::followed_graphs_pack;
+use spec_crossing::{followed_graphs_pack, followed_graphs_tell};
 use spec_forced::lexings_are_decided;
 use spec_graph::graphs_are_sound;
 use spec_lexing::{beginnings, token_within};
@@ -18,6 +18,7 @@ use spec_runs::{
 use ts_crossing::left_stacks_go_on;
 use ts_lexer::tokens_of_states;
 use ts_places::{ends_account, roots_are_own};
+use ts_steps::steps_fall;
 
 /// All laws hold.
 pub(crate) fn laws_hold()
@@ -68,6 +69,8 @@ pub(crate) fn over_laws_hold()
 {
     graphs_are_sound();
     followed_graphs_pack();
+    followed_graphs_tell();
+    steps_fall();
     ends_account();
     roots_are_own();
 }

@@ -2,6 +2,7 @@ use Rattle.std.proofs.Common.{suc, length, arith}
 use Rattle.ts_table.specs.Ranks.{unit_rank}
 use Rattle.ts_reductions.specs.SoundLinks.{bare_links}
 use Rattle.ts_reductions.specs.Sound.{parsing_from}
+use Rattle.ts_steps.specs.Weights.{config_weight}
 use Rattle.ts_crossing.proofs.LeftLemmas.{own_reached}
 use Rattle.ts_glr.proofs.laws.over_laws_hold.Goals as goal
 
@@ -20,6 +21,10 @@ returns c = record {
       let p = w.sound.laid.parsed in
       c.followed_graphs_pack.ensures.stop (parsing_from t text base) p.fit p.states d (own_reached t.grammar text d r.met.reached) begun (unit_rank t.grammar) most w.ranks g.heads (bare_links g.links) w.sound.laid.graph
       (suc (length text)) w.whole (omega (arith, within)) (omega arith) low best before stuck account r q none is;
+  some = λ t text base most g w low best before stuck account none nowhere.
+      let p = w.sound.laid.parsed in
+      c.followed_graphs_tell.ensures (parsing_from t text base) p.fit p.states p.grounded (unit_rank t.grammar) most w.ranks g.heads (bare_links g.links) w.sound.laid.graph
+      (suc (length text)) w.whole (omega arith) low best before stuck account (config_weight t.grammar (length text)) (λ d e le step. c.steps_fall.ensures t.grammar p.fit text d e le step) none nowhere;
   root_own = c.roots_are_own.ensures.own;
   root_sound = c.roots_are_own.ensures.sound;
 }
