@@ -244,6 +244,14 @@ can_choose t text _ _ spread size p size_is = record {
 
 -- ---- by the answer
 
+-- the graph was followed over one more place
+pub spread_for : (t : ParseTable) (text : Bytes) (s : Setting) (stacks : List (List Layer)) (start : StackHead) (from : ℕ) (old new : Spread) (all : IsSpreadFor t text s stacks start from old) → IsSpread t text s all.first all.head new → IsSpreadFor t text s stacks start from new
+spread_for t text s stacks start from old new all laid = record { first = all.first; head = all.head; back = all.back; low = all.low; past = all.past; laid = laid }
+
+-- what holds of the answer, if there is one
+pub has_it : {X : Type 0} (P : X → Type 0) (o : Option X) (x : X) → o ≡ Some x → IfSome o P → P x
+has_it {X = X} P o x is h = subst (λ (y : Option X). IfSome y P) is h
+
 module _ (t : ParseTable) (text : Bytes) (first : List (List Layer)) (before : Option ℕ) (h : StackHead) (x : Crossed) (crosses : Crosses t text first before h x) where
   pub one_by : (l : Left) (stuck : Option ℕ) (live : List StackHead) (best : Option Tree) → x ≡ One l stuck → live ≡ [] → best ≡ None → LeavesOne t text first l.stacks before stuck live best h l.head
   one_by l stuck live best is empty none =

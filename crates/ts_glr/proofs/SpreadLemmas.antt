@@ -1,17 +1,26 @@
 -- All ways to read a text on the graph: what is known at first, and after each place.
-use Rattle.std.proofs.Common.{◌≡◌, subst, ℕ, suc, ◌<◌, ◌≤◌, List, length, arith}
+use Rattle.std.proofs.Common.{◌≡◌, ◌∙◌, sym, ap, refl, subst, ℕ, suc, ◌<◌, ◌≤◌, true, List, [], ◌∷◌, ◌++◌, append-nil, length, map, arith}
 use Rattle.ts_base.specs.Bytes.{Bytes}
+use Rattle.spec_trees.specs.declared.tree.Tree.{Tree}
+use Rattle.spec_trees.specs.Trees.{is_extra_node, bare}
+use Rattle.spec_trees.specs.Made.{filling}
+use Rattle.spec_runs.specs.BareTrees.{KeepsAll}
+use Rattle.spec_runs.specs.Configurations.{AreExtras}
 use Rattle.spec_graph.specs.States.{AreRanks}
+use Rattle.spec_graph.specs.Laying.{IsBegun}
 use Rattle.ts_graph.specs.declared.view.GraphView.{GraphView}
 use Rattle.ts_graph.specs.Down.{KeepNumbers}
 use Rattle.ts_table.specs.declared.view.ParseTable.{ParseTable}
 use Rattle.ts_table.specs.Ranks.{unit_rank}
+use Rattle.ts_table.specs.Tables.{IsStateOf, at_first, by_goto}
 use Rattle.ts_gss.specs.declared.layer.Layer.{Layer}
+use Rattle.ts_gss.specs.Stacks.{stack_at, trees_on, state_on}
 use Rattle.ts_reductions.specs.Laying.{head_at}
 use Rattle.ts_reductions.specs.declared.setting.Setting.{Setting}
 use Rattle.ts_reductions.specs.Lines.{IsSetting}
-use Rattle.ts_reductions.specs.Sound.{Base, base_at, IsSoundBy}
+use Rattle.ts_reductions.specs.Sound.{Base, base_at, parsing_from, IsSoundBy}
 use Rattle.ts_steps.specs.declared.head.StackHead.{StackHead}
+use Rattle.ts_steps.specs.LiveHeads.{config_of, HaveStates}
 use Rattle.ts_steps.specs.Heads.{IsOwnHead}
 use Rattle.ts_places.specs.declared.sights.Sights.{Sights}
 use Rattle.ts_places.specs.Looking.{IsHeadAt}
@@ -24,11 +33,12 @@ use Rattle.ts_places.specs.Frontiers.{AreOpen}
 use Rattle.ts_places.specs.Following.{GoesOnAt, IsOver, Follows}
 use Rattle.ts_places.specs.declared.ends.Ends.{Ends}
 use Rattle.ts_places.specs.Ends.{AreEnds, AreLater}
+use Rattle.ts_places.specs.Nothing.{IsOfSome}
 use Rattle.ts_crossing.specs.Entering.{IsEntered}
 use Rattle.ts_glr.specs.declared.spread.Spread.{Spread}
 use Rattle.ts_glr.specs.declared.spread.Passed.{Passed}
 use Rattle.ts_glr.specs.declared.spread.Passed.TheVariants as passed
-use Rattle.ts_glr.specs.Spreading.{IsSpread, IsSpreadOut, IsSpreadDeep, PassesTo}
+use Rattle.ts_glr.specs.Spreading.{IsOfSomeFrom, IsSpread, IsSpreadOut, IsSpreadDeep, PassesTo}
 
 -- for proofs alone: what ended stays so where a graph grows, and where no heads stand
 abbrev pub Stays : Type 0
@@ -43,11 +53,33 @@ PassesOver = (t : ParseTable) (text : Bytes) (g : GraphView) (from to next : ℕ
 abbrev pub Sees : ParseTable → GraphView → Sights → Ends → Ends → Type 0
 Sees t g sights old new = (text : Bytes) (base : Base) (from look : ℕ) → AreAllSights t text base g look sights → from ≤ look → AreEnds t text g from look old → AreEnds t text g from (suc look) new
 
+-- a stack of extras alone has state 0
+extras_none : (keeps : (t : Tree) → KeepsAll t) (ts : List Tree) → AreExtras (map bare ts) → filling ts ≡ []
+extras_none keeps [] e = refl
+extras_none keeps (t ∷ ts) e = let x : is_extra_node t ≡ true = sym (keeps t).extra ∙ e.0 in rw (x, extras_none keeps ts e.1) refl
+
+none_first : (t : ParseTable) (read : List ℕ) (state : ℕ) → IsStateOf t read state → read ≡ [] → state ≡ 0
+none_first t _ _ at_first e = refl
+none_first t _ _ (by_goto read state symbol next s g) e = absurd (let h : symbol ∷ read ≡ [] = e in cc)
+
+extras_state : (keeps : (t : Tree) → KeepsAll t) (t : ParseTable) (layers : List Layer) → HaveStates t layers → AreExtras (map bare (trees_on layers)) → state_on layers ≡ 0
+extras_state keeps t [] states e = refl
+extras_state keeps t (l ∷ layers) states e = none_first t (filling (trees_on (l ∷ layers))) l.state states.0 (extras_none keeps (trees_on (l ∷ layers)) e)
+
+-- runs that go on from the empty stack begin at a stack of extras alone
+some_from : (keeps : (t : Tree) → KeepsAll t) (t : ParseTable) (text : Bytes) (first : List (List Layer)) (h : StackHead) → IsOwnHead t (length text) first h → IsOfSomeFrom t text first h
+    → (base : Base) → IsBegun (parsing_from t text base) (config_of first h) → IsOfSome t text base
+some_from keeps t text first h own some base begun none nothing =
+    some
+    (extras_state keeps t (stack_at first h.top) own.live.stack.states
+    (subst (λ (ts : List Tree). AreExtras ts) (sym (begun.stack_is ∙ ap (λ (ts : List Tree). begun.extras ++ ts) none ∙ append-nil begun.extras)) begun.all_extras))
+    nothing
+
 module _ (t : ParseTable) (text : Bytes) (s : Setting) (first : List (List Layer)) (h : StackHead) where
   -- at first
-  pub begun : (most : ℕ) → AreRanks t.grammar (unit_rank t.grammar) most → IsOwnHead t (length text) first h → IsSetting t (length text) s → (g : GraphView) (place : ℕ) (frontier : Frontier) (ends : Ends)
+  pub begun : ((t : Tree) → KeepsAll t) → IsOfSomeFrom t text first h → (most : ℕ) → AreRanks t.grammar (unit_rank t.grammar) most → IsOwnHead t (length text) first h → IsSetting t (length text) s → (g : GraphView) (place : ℕ) (frontier : Frontier) (ends : Ends)
       → IsEntered t text first h g place → AreOpen g place frontier.heads.items → AreEnds t text g place place ends → IsSpread t text s first h (record { graph = g; frontier = frontier; ends = ends; place = place })
-  begun most ranks own setting g place frontier ends e are_open none = record {
+  begun keeps some most ranks own setting g place frontier ends e are_open none = record {
     base = base_at e.stack place;
     most = most;
     begun = e.begun;
@@ -55,6 +87,7 @@ module _ (t : ParseTable) (text : Bytes) (s : Setting) (first : List (List Layer
       setting = setting;
       whole = record { early = omega arith; ranks = ranks; sound = e.sound; whole = e.whole most ranks };
       are_open = are_open;
+      some = some_from keeps t text first h own some (base_at e.stack place) e.begun;
     };
     ends = none;
     within = e.sound.laid.within e.top.0 (head_at e.top.1 place) e.top.2;
@@ -79,7 +112,7 @@ module _ (t : ParseTable) (text : Bytes) (s : Setting) (first : List (List Layer
           base = p.base;
           most = p.most;
           begun = p.begun;
-          can = record { setting = p.can.setting; whole = on.whole; are_open = on.at.are_open };
+          can = record { setting = p.can.setting; whole = on.whole; are_open = on.at.are_open; some = p.can.some };
           ends = ends_on;
           within = (
               let st = on.at.there in

@@ -8,6 +8,7 @@ use Rattle.spec_graph.specs.Laying.{IsBegun}
 use Rattle.spec_crossing.specs.Resting.{PackedRests}
 use Rattle.ts_table.specs.declared.view.ParseTable.{ParseTable}
 use Rattle.ts_gss.specs.declared.layer.Layer.{Layer}
+use Rattle.ts_gss.specs.Stacks.{stack_at, state_on}
 use Rattle.ts_steps.specs.declared.head.StackHead.{StackHead}
 use Rattle.ts_steps.specs.LiveHeads.{config_of, packed_of}
 use Rattle.ts_steps.specs.Heads.{AreStatesOf, StandOnHead}
@@ -17,16 +18,21 @@ use Rattle.ts_reductions.specs.Keeping.{AreOwn, StandOnGraph}
 use Rattle.ts_places.specs.Sweeping.{IsTooDeep}
 use Rattle.ts_places.specs.Following.{IsWholeAt, CanFollow}
 use Rattle.ts_places.specs.Ends.{AreEnds}
+use Rattle.ts_places.specs.Nothing.{IsOfNothing}
 use Rattle.ts_crossing.specs.declared.leaving.Left.{Left}
 use Rattle.ts_crossing.specs.Leaving.{IsStack, IsLeft}
 use Rattle.ts_glr.specs.declared.spread.Spread.{Spread}
 use Rattle.ts_glr.specs.declared.spread.Passed.{Passed}
-use Rattle.ts_glr.specs.declared.spread.Passed.TheVariants.{On, Over, Deep, Idle}
+use Rattle.ts_glr.specs.declared.spread.Passed.TheVariants.{On, Over, Deep}
 use Rattle.ts_glr.specs.declared.crossing.Asked.{Asked}
 use Rattle.ts_glr.specs.declared.crossing.Asked.TheVariants.{Waits, Fails, Leaves}
 use Rattle.ts_glr.specs.declared.crossing.Crossed.{Crossed}
-use Rattle.ts_glr.specs.declared.crossing.Crossed.TheVariants.{One, Told, Nowhere}
+use Rattle.ts_glr.specs.declared.crossing.Crossed.TheVariants.{One, Told}
 use Rattle.ts_glr.specs.Forks.{LeavesOne, EndsAll}
+
+-- if the stack of the head has extras alone, the text is not of nothing
+abbrev pub IsOfSomeFrom : ParseTable → Bytes → List (List Layer) → StackHead → Type 0
+IsOfSomeFrom t text stacks h = state_on (stack_at stacks h.top) ≡ 0 → IsOfNothing t text → ⊥
 
 -- The graph is sound over the stack of the head but for the extras on top. All that is asked for
 -- before the place was done, these are the heads that stand there or past it, and the ends before.
@@ -90,7 +96,6 @@ PassesTo t text s first h old new On =
     IsSpread t text s first h new × (old.place < new.place)
 PassesTo t text s first h old new Over = IsSpreadOut t text first h new
 PassesTo t text s first h old new Deep = IsSpreadDeep t text first h new
-PassesTo t text s first h old new Idle = Unit {0}
 
 -- One head waits alone, past the place, and nothing was accepted. These are the trees of the only
 -- way down from it.
@@ -115,4 +120,3 @@ abbrev pub Crosses : ParseTable → Bytes → List (List Layer) → Option ℕ �
 Crosses t text first before h (One l stuck) =
     LeavesOne t text first l.stacks before stuck [] None h l.head
 Crosses t text first before h (Told out) = EndsAll t text first before h out
-Crosses t text first before h Nowhere = Unit {0}

@@ -1,20 +1,21 @@
 //! Following all ways to read a text on the graph of stacks, from a stack on at which several moves
 //! stay: the stack goes in; the one that is left comes out, or what the text comes to.
-ghost use Rattle.std.specs.Prelude.{◌≡◌, ℕ, ◌<◌, ◌≤◌, ◌⊎◌, ◌∷◌, [], true, List, length, Some, IfOk, IfSome};
+ghost use Rattle.std.specs.Prelude.{◌≡◌, ℕ, ◌<◌, ◌≤◌, ◌⊎◌, ◌∷◌, [], true, List, length, Some, None, IfOk, IfSome};
 ghost use Rattle.ts_base.specs.Bytes.{Bytes};
 ghost use Rattle.spec_trees.specs.Made.{most_span};
 ghost use Rattle.spec_forced.specs.OnlyRuns.{IsFork};
 ghost use Rattle.spec_graph.specs.Laying.{Parsing};
 ghost use Rattle.spec_crossing.specs.Resting.{IsPastStuck};
 ghost use Rattle.ts_table.specs.declared.view.ParseTable.{ParseTable};
-ghost use Rattle.ts_table.specs.Tables.{IsTable};
 ghost use Rattle.ts_gss.specs.declared.layer.Layer.{Layer};
+ghost use Rattle.ts_gss.specs.Stacks.{AreExact, stack_at, state_on};
 ghost use Rattle.ts_reductions.specs.SoundLinks.{IsSoundFor};
 ghost use Rattle.ts_steps.specs.declared.head.StackHead.{StackHead as AnyHead};
 ghost use Rattle.ts_steps.specs.LiveHeads.{config_of};
 ghost use Rattle.ts_steps.specs.Heads.{IsOwnHead};
 ghost use Rattle.ts_reductions.specs.declared.setting.Setting.{Setting as AnySetting};
 ghost use Rattle.ts_reductions.specs.Lines.{IsSetting};
+ghost use Rattle.ts_places.specs.Nothing.{IsOfNothing};
 ghost use Rattle.ts_crossing.specs.Leaving.{IsStack, IsLeft};
 ghost use Rattle.ts_glr.specs.Spreading.{IsSpread, IsSpreadOut, GoesBackTo, IsSpreadFor, IsLeftOf, AsksFor, Crosses};
 
@@ -25,7 +26,7 @@ use std::alloc::{AllocError, Global};
 use ts_crossing::{Left, leave, one_stack, own_stacks_enter};
 use ts_gss::Graph as Stacks;
 use ts_lexer::Tokens;
-use ts_places::best_of;
+use ts_places::{best_of, is_of_nothing};
 use ts_reductions::Setting;
 use ts_steps::StackHead;
 use ts_table::{Table, unit_ranks};
@@ -36,8 +37,6 @@ pub(crate) enum Crossed {
     /// One stack is left, before any tree is accepted; and the greatest place at which one stopped.
     One(Left, Option<u32>),
     Told(Outcome),
-    /// A reduction over nothing is asked for.
-    Nowhere,
 }
 
 /// What asking for one stack that is left came to.
@@ -186,41 +185,79 @@ struct Begun {
     from: u32,
 }
 
-/// The graph of a stack. Where some of its layers stand for deeper trees too, it begins at the
-/// start of the text, and one stack is asked for only past twice as many bytes: what is followed
-/// once more is no more than what is followed then.
-fn begin(alloc: Global, stacks: &Stacks, start: StackHead) -> Result<Begun, AllocError>
-    requires { (t : ParseTable) × (text : Bytes) × IsTable t × (length text ≤ most_span)
-        × IsOwnHead t (length text) stacks.now start
-        × IsFork t.grammar text (config_of stacks.now start) }
-    ensures { IfOk result (λ begun. (t : ParseTable) (text : Bytes) (s : AnySetting)
-        → IsTable t → length text ≤ most_span → IsOwnHead t (length text) stacks.now start
-        → IsFork t.grammar text (config_of stacks.now start) → IsSetting t (length text) s
-        → IsSpreadFor t text s stacks.now start begun.from begun.spread) }
+/// Whether the graph begins at a stack: more than extras lie on it, and none of its layers stands
+/// for deeper trees too.
+fn begins_there(stacks: &Stacks, start: StackHead) -> bool
+    requires { start.top < length stacks.now }
+    ensures exact { result ≡ true → AreExact (stack_at stacks.now start.top) }
+    ensures some { result ≡ true → state_on (stack_at stacks.now start.top) ≡ 0 → ⊥ }
+{
+    stacks.state(start.top) != 0 && stacks.is_exact(start.top)
+}
+
+/// The place past which one stack is asked for, where the graph of a stack begins at the start of
+/// the text. Where extras alone lie on the stack, its graph begins there in any case. Else it is
+/// past twice as many bytes: what is followed once more is no more than what is followed then.
+fn far_enough(stacks: &Stacks, start: StackHead) -> u32
+    requires { start.top < length stacks.now }
+    ensures { start.place ≤ result }
+{
+    if stacks.state(start.top) == 0 {
+        start.place
+    } else {
+        start.place.saturating_add(start.place)
+    }
+}
+
+/// The graph of a stack. It begins at the start of the text where it cannot begin at the stack.
+/// None where it would, and the text has nothing but extras before a token on which a reduction
+/// over nothing stays.
+fn begin<L: Tokens>(
+    alloc: Global,
+    table: &Table,
+    setting: &Setting,
+    lexer: &mut L,
+    text: &L::Text,
+    stacks: &Stacks,
+    start: StackHead,
+) -> Result<Option<Begun>, AllocError>
+    requires made { L.made_for lexer.old table.now }
+    requires setting { IsSetting table.now (length (L.Text.bytes text.now)) setting.now }
+    requires short { length (L.Text.bytes text.now) ≤ most_span }
+    requires own { IsOwnHead table.now (length (L.Text.bytes text.now)) stacks.now start }
+    requires fork { IsFork table.now.grammar (L.Text.bytes text.now) (config_of stacks.now start) }
+    ensures made { L.made_for lexer.new table.now }
+    ensures nothing { IfOk result (λ o. o ≡ None
+        → IsOfNothing table.now (L.Text.bytes text.now)) }
+    ensures begins { IfOk result (λ o. IfSome o (λ begun. IsSpreadFor table.now
+        (L.Text.bytes text.now) setting.now stacks.now start begun.from begun.spread)) }
 {
     laws_hold();
     packing_laws_hold();
     own_stacks_enter();
-    if stacks.is_exact(start.top) {
+    table.stands();
+    if begins_there(stacks, start) {
         let spread = spread_from(alloc, stacks, start)?;
-        Ok(Begun {
+        return Ok(Some(Begun {
             spread,
             from: start.place,
-        })
-    } else {
-        let none = Stacks::new(alloc);
-        let spread = spread_from(alloc, &none, StackHead { top: 0, place: 0 })?;
-        Ok(Begun {
-            spread,
-            from: start.place.saturating_add(start.place),
-        })
+        }));
     }
+    if is_of_nothing(table, setting, lexer, text) {
+        return Ok(None);
+    }
+    let none = Stacks::new(alloc);
+    let spread = spread_from(alloc, &none, StackHead { top: 0, place: 0 })?;
+    let from = far_enough(stacks, start);
+    Ok(Some(Begun { spread, from }))
 }
 
 /// Follows all ways to read a text on the graph of stacks, from a stack on, until one stack is
 /// left, before any tree is accepted, or there is none. Where one head waits alone and several ways
 /// lead down from it, it is asked again only after as many places as were followed so far: asking
 /// so costs little beside following, and at most twice as many places are followed as had to be.
+/// None where the graph would begin at the start of the text, and the text has nothing but extras
+/// before a token on which a reduction over nothing stays.
 pub(crate) fn cross<L: Tokens>(
     alloc: Global,
     table: &Table,
@@ -230,38 +267,44 @@ pub(crate) fn cross<L: Tokens>(
     stacks: &Stacks,
     start: StackHead,
     before: Option<u32>,
-) -> Result<Crossed, AllocError>
+) -> Result<Option<Crossed>, AllocError>
     requires made { L.made_for lexer.old table.now }
     requires setting { IsSetting table.now (length (L.Text.bytes text.now)) setting.now }
     requires short { length (L.Text.bytes text.now) ≤ most_span }
     requires own { IsOwnHead table.now (length (L.Text.bytes text.now)) stacks.now start }
     requires fork { IsFork table.now.grammar (L.Text.bytes text.now) (config_of stacks.now start) }
     ensures made { L.made_for lexer.new table.now }
-    ensures crosses { IfOk result (Crosses table.now (L.Text.bytes text.now) stacks.now before
-        start) }
+    ensures nothing { IfOk result (λ o. o ≡ None
+        → IsOfNothing table.now (L.Text.bytes text.now)) }
+    ensures crosses { IfOk result (λ o. IfSome o (Crosses table.now (L.Text.bytes text.now)
+        stacks.now before start)) }
 {
     left_laws_hold();
     over_laws_hold();
     unit_ranks();
     table.stands();
-    let Begun { mut spread, from } = begin(alloc, stacks, start)?;
+    let Begun { mut spread, from } = match begin(
+        alloc, table, setting, lexer, text, stacks, start,
+    )? {
+        None => return Ok(None),
+        Some(begun) => begun,
+    };
     let mut pace = Pace {
         places: 0,
         asked: 1,
     };
     loop {
         match spread.pass(alloc, table, setting, lexer, text)? {
-            Passed::Deep => return Ok(Crossed::Told(Outcome::Deep)),
-            Passed::Idle => return Ok(Crossed::Nowhere),
+            Passed::Deep => return Ok(Some(Crossed::Told(Outcome::Deep))),
             Passed::Over => {
                 let crossed = ending(alloc, table, &spread, setting.size, before)?;
-                return Ok(crossed);
+                return Ok(Some(crossed));
             }
             Passed::On => match ask_in_turn(alloc, &spread, from, &mut pace)? {
                 None => {}
                 Some(left) => {
                     let stuck = further(before, spread.ends.stuck);
-                    return Ok(Crossed::One(left, stuck));
+                    return Ok(Some(Crossed::One(left, stuck)));
                 }
             },
         }

@@ -9,8 +9,9 @@ ghost use Rattle.ts_steps.specs.Heads.{IsOwnHead};
 ghost use Rattle.ts_reductions.specs.declared.setting.Setting.{Setting as AnySetting};
 ghost use Rattle.ts_reductions.specs.Lines.{IsSetting};
 ghost use Rattle.ts_crossing.specs.Entering.{CanEnter};
-ghost use Rattle.ts_glr.specs.Spreading.{IsSpread, PassesTo};
+ghost use Rattle.ts_glr.specs.Spreading.{IsOfSomeFrom, IsSpread, PassesTo};
 
+use crate::laws::left_laws_hold;
 use std::alloc::{AllocError, Global};
 use ts_crossing::{Entered, enter};
 use ts_graph::Graph;
@@ -41,8 +42,6 @@ pub(crate) enum Passed {
     Over,
     /// A node would be too deep.
     Deep,
-    /// A reduction over nothing is asked for. Nothing was done.
-    Idle,
 }
 
 /// The beginning: the stack of the head alone.
@@ -54,8 +53,10 @@ pub(crate) fn spread_from(
     requires { (t : ParseTable) × (text : Bytes) × CanEnter t text stacks.now start }
     ensures { IfOk result (λ spread. (t : ParseTable) (text : Bytes) (s : AnySetting)
         → CanEnter t text stacks.now start → IsOwnHead t (length text) stacks.now start
-        → IsSetting t (length text) s → IsSpread t text s stacks.now start spread) }
+        → IsOfSomeFrom t text stacks.now start → IsSetting t (length text) s
+        → IsSpread t text s stacks.now start spread) }
 {
+    left_laws_hold();
     unit_ranks();
     ends_begin();
     let Entered { graph, place } = enter(alloc, stacks, start)?;
@@ -100,7 +101,6 @@ impl Spread {
         )?;
         match next {
             Next::TooDeep => Ok(Passed::Deep),
-            Next::Nothing => Ok(Passed::Idle),
             Next::Nowhere => {
                 see_ends(table, &self.graph, &sights, &mut self.ends)?;
                 Ok(Passed::Over)

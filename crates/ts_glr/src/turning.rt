@@ -8,6 +8,7 @@ ghost use Rattle.ts_steps.specs.LiveHeads.{config_of};
 ghost use Rattle.ts_steps.specs.Settings.{IsParseSetting};
 ghost use Rattle.ts_steps.specs.Heads.{IsOwnHead};
 ghost use Rattle.ts_reductions.specs.Lines.{IsSetting};
+ghost use Rattle.ts_places.specs.Nothing.{IsOfNothing};
 ghost use Rattle.ts_glr.specs.Forks.{ComesTo};
 
 use crate::crossing::{Crossed, cross};
@@ -55,7 +56,8 @@ fn begin_anew(alloc: Global, readings: &mut Readings, stuck: Option<u32>)
     readings.best = None;
 }
 
-/// Follows all ways on the graph of stacks. None where it does not tell what they come to; nothing
+/// Follows all ways on the graph of stacks. None where it would begin at the start of the text, and
+/// the text has nothing but extras before a token on which a reduction over nothing stays; nothing
 /// is changed then.
 fn follow_graph<L: Tokens>(
     alloc: Global,
@@ -78,22 +80,27 @@ fn follow_graph<L: Tokens>(
     ensures follows { IfOk result (λ o. IfSome o (ComesTo table.now (L.Text.bytes text.now)
         readings.old.graph readings.new.graph readings.old.stuck readings.new.stuck
         readings.new.live.items readings.new.best start)) }
+    ensures nothing { IfOk result (λ o. o ≡ None
+        → IsOfNothing table.now (L.Text.bytes text.now)) }
     ensures kept { IfOk result (λ o. o ≡ None → readings.new ≡ readings.old) }
 {
     let stacks = &readings.graph;
     let known = readings.stuck;
     match cross(alloc, table, setting, lexer, text, stacks, start, known)? {
-        Crossed::One(left, stuck) => {
-            readings.graph = left.stacks;
-            readings.stuck = stuck;
-            Ok(Some(Forked::One(left.head)))
-        }
-        Crossed::Told(outcome) => Ok(Some(Forked::Over(outcome))),
-        Crossed::Nowhere => Ok(None),
+        None => Ok(None),
+        Some(crossed) => match crossed {
+            Crossed::One(left, stuck) => {
+                readings.graph = left.stacks;
+                readings.stuck = stuck;
+                Ok(Some(Forked::One(left.head)))
+            }
+            Crossed::Told(outcome) => Ok(Some(Forked::Over(outcome))),
+        },
     }
 }
 
-/// Follows all ways on plain stacks, in however many steps.
+/// Follows all ways on plain stacks, without a limit. On a text of nothing each of them is one
+/// reduction, and acceptance.
 fn follow_plain<L: Tokens>(
     alloc: Global,
     table: &Table,
@@ -119,8 +126,7 @@ fn follow_plain<L: Tokens>(
     }
 }
 
-/// Follows all ways on the graph of stacks, and without a limit on plain stacks where it does not
-/// tell what they come to.
+/// Follows all ways on the graph of stacks, and on plain stacks where the text is of nothing.
 fn follow_long<L: Tokens>(
     alloc: Global,
     table: &Table,

@@ -1,5 +1,5 @@
 -- What is done at a place makes the graph whole up to the next.
-use Rattle.std.proofs.Common.{◌≡◌, ◌∙◌, sym, refl, subst, ℕ, zero, suc, ◌+◌, ◌<◌, ◌≤◌, ◌⊎◌, inl, inr, Bool, true, false, IsTrue, ◌↔◌, List, slice_get, Option, Some, None, arith}
+use Rattle.std.proofs.Common.{◌≡◌, ◌∙◌, sym, refl, subst, ℕ, zero, suc, ◌+◌, ◌<◌, ◌≤◌, ◌⊎◌, inl, inr, List, slice_get, Option, Some, None, arith}
 use Rattle.std.specs.List.{Contains}
 use Rattle.std.proofs.lemmas.Option.{slice_get_within}
 use Rattle.ts_base.specs.Bytes.{Bytes}
@@ -23,16 +23,14 @@ use Rattle.ts_places.specs.Looking.{AllStandAt, HasAllAt}
 use Rattle.ts_places.specs.Passing.{first_key}
 use Rattle.ts_places.specs.Shifting.{AreAllSights, AreShifted}
 use Rattle.ts_places.specs.Sweeping.{CanSweep, IsWholeBy, last_key, AreSwept, IsTooDeep, Sweeps}
-use Rattle.ts_places.specs.declared.following.Passed.{Passed}
-use Rattle.ts_places.specs.declared.following.Passed.TheVariants.{Over, Deep, Idle}
 use Rattle.ts_places.proofs.SmallLemmas.{at_contained, read_at}
 use Rattle.ts_places.proofs.GrowLemmas.{link_stays}
 use Rattle.ts_places.specs.declared.frontier.Frontier.{Frontier}
 use Rattle.ts_places.specs.Laws.{PlaceLaws}
+use Rattle.ts_places.specs.SweepLaws.{KeyLaws}
 use Rattle.ts_places.specs.Frontiers.{AreThoseAt, HasNoneBetween, IsNextPlace, IsLastPlace, IsNextOpen}
-use Rattle.ts_places.specs.Nothing.{CanAskAll, SomeAsksForNothing}
-use Rattle.ts_places.specs.Following.{IsWholeAt, CanFollow, GoesOnAt, IsOver, IsNothingAsked, next_at, Follows, CanPass, IsPassed, Passes}
-use Rattle.ts_places.proofs.NothingLemmas.{asks_takes}
+use Rattle.ts_places.specs.Following.{IsWholeAt, CanFollow, GoesOnAt, IsOver, next_at, Follows, CanPass, IsPassed, Passes}
+use Rattle.ts_places.proofs.StartLemmas.{top_takes_some}
 use Rattle.ts_places.proofs.FrontierLemmas.{here_stand, here_all}
 
 apart : (a b : ℕ) → b ≤ a → (n : ℕ) × (a ≡ n + b)
@@ -42,7 +40,7 @@ apart (suc a) (suc b) le = let r = apart a b (omega (arith, le)) in let e = r.1 
 
 -- ---- before
 
-module _ (t : ParseTable) (text : Bytes) (s : Setting) (base : Base) (most : ℕ) (g : GraphView) (place : ℕ) (sights : Sights) (can : CanPass t text s base most g place sights) where
+module _ (keys : KeyLaws) (t : ParseTable) (table : IsTable t) (text : Bytes) (s : Setting) (base : Base) (most : ℕ) (g : GraphView) (place : ℕ) (sights : Sights) (can : CanPass t text s base most g place sights) where
   tops_seen : (top : Top) → Contains sights.tops.items top → IsTop t text g place top
   tops_seen top there =
       let a = can.seen.sights in
@@ -61,30 +59,12 @@ module _ (t : ParseTable) (text : Bytes) (s : Setting) (base : Base) (most : ℕ
         reach = w.reach;
       }
 
-  -- the same by another name of the tops
-  module _ (tops : List Top) (same : tops ≡ sights.tops.items) where
-    pub can_ask : CanAskAll t text s g place tops
-    can_ask = record {
-      sound = (base, can.whole.sound);
-      setting = can.setting;
-      seen = λ top there. tops_seen top (subst (λ (l : List Top). Contains l top) same there);
-    }
-
-    pub can_sweep : (SomeAsksForNothing t g tops → ⊥) → CanSweep t text base s g place sights
-    can_sweep none = record {
-      setting = can.setting;
-      seen = can.seen;
-      takes_some = λ top there. asks_takes t g top (λ a. none (top, subst (λ (l : List Top). Contains l top) (sym same) there, a));
-    }
-
-    pub nothing_asked : SomeAsksForNothing t g tops → IsNothingAsked t text g place
-    nothing_asked a = record { top = a.0; seen = tops_seen a.0 (subst (λ (l : List Top). Contains l a.0) same a.1); asks = a.2 }
-
-pub asked_by : (t : ParseTable) (g : GraphView) (tops : List Top) (b : Bool) → b ≡ true → IsTrue b ↔ SomeAsksForNothing t g tops → SomeAsksForNothing t g tops
-asked_by t g tops b e k = k.0 e
-
-pub none_asked_by : (t : ParseTable) (g : GraphView) (tops : List Top) (b : Bool) → b ≡ false → IsTrue b ↔ SomeAsksForNothing t g tops → SomeAsksForNothing t g tops → ⊥
-none_asked_by t g tops b e k a = let h : b ≡ true = k.1 a in let f : false ≡ true = sym e ∙ h in cc
+  pub can_sweep : CanSweep t text base s g place sights
+  can_sweep = record {
+    setting = can.setting;
+    seen = can.seen;
+    takes_some = λ top there. top_takes_some t text base g can.seen.sound keys table can.some place can.seen.late top (tops_seen top there);
+  }
 
 -- ---- by answers
 
@@ -94,15 +74,12 @@ swept_by t text base old mid place sights r is h = subst (λ (x : Reduced). Swee
 pub deep_by : (t : ParseTable) (text : Bytes) (base : Base) (old mid : GraphView) (place : ℕ) (sights : Sights) (r : Reduced) → r ≡ TooDeep → Sweeps t text base old mid place sights r → IsTooDeep t text base mid
 deep_by t text base old mid place sights r is h = subst (λ (x : Reduced). Sweeps t text base old mid place sights x) is h
 
-module _ (t : ParseTable) (text : Bytes) (base : Base) (most : ℕ) (old new : GraphView) (place : ℕ) (before after : Sights) (p : Passed) where
-  pub passed_by : p ≡ Over → Passes t text base most old new place before after p → IsPassed t text base most old new place after
-  passed_by is h = subst (λ (x : Passed). Passes t text base most old new place before after x) is h
+module _ (t : ParseTable) (text : Bytes) (base : Base) (most : ℕ) (old new : GraphView) (place : ℕ) (sights : Sights) (r : Reduced) where
+  pub passed_by : r ≡ Done → Passes t text base most old new place sights r → IsPassed t text base most old new place sights
+  passed_by is h = subst (λ (x : Reduced). Passes t text base most old new place sights x) is h
 
-  pub deep_passed : p ≡ Deep → Passes t text base most old new place before after p → IsTooDeep t text base new
-  deep_passed is h = subst (λ (x : Passed). Passes t text base most old new place before after x) is h
-
-  pub idle_passed : p ≡ Idle → Passes t text base most old new place before after p → IsNothingAsked t text old place × (new ≡ old) × (after ≡ before)
-  idle_passed is h = subst (λ (x : Passed). Passes t text base most old new place before after x) is h
+  pub deep_passed : r ≡ TooDeep → Passes t text base most old new place sights r → IsTooDeep t text base new
+  deep_passed is h = subst (λ (x : Reduced). Passes t text base most old new place sights x) is h
 
 -- what is seen at all heads of the frontier that stand at the place
 module _ (t : ParseTable) (text : Bytes) (s : Setting) (base : Base) (most : ℕ) (g : GraphView) (place : ℕ) (frontier : Frontier) (can : CanFollow t text s base most g place frontier) (waiting : List ℕ) (waiting_is : waiting ≡ frontier.heads.items) (here : List ℕ) (at : AreThoseAt g place waiting here) where
@@ -112,6 +89,7 @@ module _ (t : ParseTable) (text : Bytes) (s : Setting) (base : Base) (most : ℕ
     whole = can.whole;
     seen = f can.whole.sound can.whole.early (subst (λ (l : List ℕ). AllStandAt g place l) (sym same) (here_stand g place frontier.heads.items waiting waiting_is can.are_open here at))
         (subst (λ (l : List ℕ). HasAllAt g place l) (sym same) (here_all g place frontier.heads.items waiting waiting_is can.are_open here at));
+    some = can.some;
   }
 
 -- ---- all that was done at a place

@@ -20,6 +20,7 @@ pub mod SweepLemmas
 pub mod TurnLemmas
 pub mod FrontierLemmas
 pub mod NothingLemmas
+pub mod StartLemmas
 pub mod FollowLemmas
 pub mod OrderLemmas
 pub mod ListLemmas

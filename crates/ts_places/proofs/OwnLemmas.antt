@@ -1,5 +1,5 @@
 -- An accepted root is a parser's own where the trees of its graph are, and sound where they stand.
-use Rattle.std.proofs.Common.{◌≡◌, ◌∙◌, sym, ap, refl, subst, ℕ, suc, ◌+◌, ◌≤◌, List, [], ◌∷◌, ◌++◌, length, reverse, drop, Some, None, arith}
+use Rattle.std.proofs.Common.{◌≡◌, ◌∙◌, sym, ap, refl, subst, ℕ, suc, ◌≤◌, List, [], ◌∷◌, ◌++◌, length, reverse, drop, Some, None, arith}
 use Rattle.std.specs.List.{Contains}
 use Rattle.std.proofs.lemmas.List.{reverse-reverse}
 use Rattle.ts_base.specs.Bytes.{Bytes}
@@ -9,7 +9,7 @@ use Rattle.spec_trees.specs.declared.tree.Tree.{Tree}
 use Rattle.spec_trees.specs.declared.tree.Tree.TheOpen.{Tree-F}
 use Rattle.spec_trees.specs.declared.tree.Tree.TheViews.{out-roll-Tree}
 use Rattle.spec_trees.specs.Trees.{symbol_of, production_of, total_of, state_of, children_of, node_extent, span_of, all_spans}
-use Rattle.spec_trees.specs.Made.{accepted, filling}
+use Rattle.spec_trees.specs.Made.{filling}
 use Rattle.spec_forced.specs.Forced.{Stands}
 use Rattle.spec_forced.specs.Sound.{States, IsStateAfter, AllSound, IsSound, StandOnStack}
 use Rattle.spec_graph.specs.declared.graph.Head.{Head}

@@ -7,9 +7,9 @@ use Rattle.ts_graph.specs.declared.view.GraphView.{GraphView}
 use Rattle.ts_table.specs.declared.view.ParseTable.{ParseTable}
 use Rattle.ts_table.specs.Ranks.{unit_rank}
 use Rattle.ts_reductions.specs.Laying.{Grows, HasPassed}
+use Rattle.ts_reductions.specs.declared.reducing.Reduced.{Reduced}
+use Rattle.ts_reductions.specs.declared.reducing.Reduced.TheVariants as reduced
 use Rattle.ts_reductions.specs.declared.setting.Setting.{Setting}
-use Rattle.ts_reductions.specs.declared.top.Top.{Top}
-use Rattle.ts_reductions.specs.Asking.{IsTop}
 use Rattle.ts_reductions.specs.Keeping.{KeepsTrees}
 use Rattle.ts_reductions.specs.Lines.{IsSetting}
 use Rattle.ts_reductions.specs.Sound.{Base, parsing_from, IsSoundBy}
@@ -18,12 +18,10 @@ use Rattle.ts_places.specs.Passing.{first_key}
 use Rattle.ts_places.specs.Shifting.{AreAllSights}
 use Rattle.ts_places.specs.Sweeping.{IsWholeBy, IsTooDeep}
 use Rattle.ts_places.specs.declared.following.Next.{Next}
-use Rattle.ts_places.specs.declared.following.Next.TheVariants.{Place, Nowhere, TooDeep, Nothing}
-use Rattle.ts_places.specs.declared.following.Passed.{Passed}
-use Rattle.ts_places.specs.declared.following.Passed.TheVariants.{Over, Deep, Idle}
+use Rattle.ts_places.specs.declared.following.Next.TheVariants.{Place, Nowhere, TooDeep}
 use Rattle.ts_places.specs.declared.frontier.Frontier.{Frontier}
 use Rattle.ts_places.specs.Frontiers.{AreOpen, IsNextPlace, IsLastPlace}
-use Rattle.ts_places.specs.Nothing.{AsksForNothing}
+use Rattle.ts_places.specs.Nothing.{IsOfSome}
 
 -- ---- before
 
@@ -36,12 +34,14 @@ pub record IsWholeAt (t : ParseTable) (text : Bytes) (base : Base) (most : ℕ) 
   pub sound : IsSoundBy t text base g
   pub whole : IsWholeBy t text base g (first_key most place)
 
--- and the setting of its table, and the heads that stand at the place or past it
+-- And the setting of its table, and the heads that stand at the place or past it. If the stack is
+-- empty, the text is not of nothing.
 pub record CanFollow (t : ParseTable) (text : Bytes) (s : Setting) (base : Base) (most : ℕ)
     (g : GraphView) (place : ℕ) (frontier : Frontier) : Type 0 where
   pub setting : IsSetting t (length text) s
   pub whole : IsWholeAt t text base most g place
   pub are_open : AreOpen g place frontier.heads.items
+  pub some : IsOfSome t text base
 
 -- ---- after
 
@@ -71,13 +71,6 @@ pub record IsOver (t : ParseTable) (text : Bytes) (base : Base) (most : ℕ) (ol
   pub last : IsLastPlace new place
   pub whole : (n : ℕ) → place < n → IsWholeAt t text base most new n
 
--- a head at the place sees a token on which a reduction over nothing stays
-pub record IsNothingAsked (t : ParseTable) (text : Bytes) (g : GraphView) (place : ℕ)
-    : Type 0 where
-  pub top : Top
-  pub seen : IsTop t text g place top
-  pub asks : AsksForNothing t g top
-
 -- where the graph goes on, by the next place
 abbrev pub next_at : Option ℕ → Next
 next_at None = Nowhere
@@ -91,8 +84,6 @@ Follows t text base most old new place before after sights (Place next) =
 Follows t text base most old new place before after sights Nowhere =
     IsOver t text base most old new place sights
 Follows t text base most old new place before after sights TooDeep = IsTooDeep t text base new
-Follows t text base most old new place before after sights Nothing =
-    IsNothingAsked t text old place × (new ≡ old) × (after ≡ before)
 
 -- ---- between
 
@@ -102,6 +93,7 @@ pub record CanPass (t : ParseTable) (text : Bytes) (s : Setting) (base : Base) (
   pub setting : IsSetting t (length text) s
   pub whole : IsWholeAt t text base most g place
   pub seen : AreAllSights t text base g place sights
+  pub some : IsOfSome t text base
 
 -- all that is asked for was done
 pub record IsPassed (t : ParseTable) (text : Bytes) (base : Base) (most : ℕ) (old new : GraphView)
@@ -110,10 +102,8 @@ pub record IsPassed (t : ParseTable) (text : Bytes) (base : Base) (most : ℕ) (
   pub whole : IsWholeAt t text base most new (suc place)
 
 -- what is said of the place, by the answer
-abbrev pub Passes : ParseTable → Bytes → Base → ℕ → GraphView → GraphView → ℕ → Sights → Sights
-    → Passed → Type 0
-Passes t text base most old new place before after Over =
-    IsPassed t text base most old new place after
-Passes t text base most old new place before after Deep = IsTooDeep t text base new
-Passes t text base most old new place before after Idle =
-    IsNothingAsked t text old place × (new ≡ old) × (after ≡ before)
+abbrev pub Passes : ParseTable → Bytes → Base → ℕ → GraphView → GraphView → ℕ → Sights → Reduced
+    → Type 0
+Passes t text base most old new place sights reduced.Done =
+    IsPassed t text base most old new place sights
+Passes t text base most old new place sights reduced.TooDeep = IsTooDeep t text base new

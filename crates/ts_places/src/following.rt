@@ -10,9 +10,9 @@ ghost use Rattle.ts_places.specs.Following.{CanPass, Passes, CanFollow, next_at,
 use crate::frontier::{Frontier, advance, those_at, those_past};
 use crate::laws::place_laws_hold;
 use crate::looking::look_all;
-use crate::nothing::some_asks_for_nothing;
 use crate::shifting::shift_all;
 use crate::sights::Sights;
+use crate::sweep_laws::key_laws_hold;
 use crate::sweeping::sweep;
 use std::alloc::{AllocError, Global};
 use ts_graph::Graph;
@@ -29,9 +29,6 @@ pub enum Next {
     Nowhere,
     /// A node would have been too deep.
     TooDeep,
-    /// A reduction over nothing stays on a token that is seen at the place, as it does at the end
-    /// of a text that has no token but extras. Nothing was done.
-    Nothing,
 }
 
 /// What a place came to.
@@ -40,17 +37,6 @@ pub struct Followed {
     /// What the heads that stand there see.
     pub sights: Sights,
     pub next: Next,
-}
-
-/// What is done at a place came to.
-#[derive(Clone, Copy)]
-pub(crate) enum Passed {
-    /// All of it was done.
-    Over,
-    /// A node would have been too deep.
-    Deep,
-    /// A reduction over nothing is asked for. Nothing was done.
-    Idle,
 }
 
 /// What the heads of a place see, all of which these are.
@@ -86,27 +72,25 @@ fn pass_place<L: Tokens>(
     graph: &mut Graph,
     place: u32,
     sights: &mut Sights,
-) -> Result<Passed, AllocError>
+) -> Result<Reduced, AllocError>
     requires made { L.made_for lexer.old table.now }
     requires ready { (base : AnyBase) × (most : ℕ) × CanPass table.now (L.Text.bytes text.now)
         setting.now base most graph.old place sights.old }
     ensures made { L.made_for lexer.new table.now }
-    ensures passes { IfOk result (λ passed. (base : AnyBase) (most : ℕ)
+    ensures passes { IfOk result (λ reduced. (base : AnyBase) (most : ℕ)
         → CanPass table.now (L.Text.bytes text.now) setting.now base most graph.old place
         sights.old
-        → Passes table.now (L.Text.bytes text.now) base most graph.old graph.new place
-        sights.old sights.new passed) }
+        → Passes table.now (L.Text.bytes text.now) base most graph.old graph.new place sights.new
+        reduced) }
 {
     place_laws_hold();
+    key_laws_hold();
     table.stands();
-    if some_asks_for_nothing(table, setting, graph, sights.tops.as_slice()) {
-        return Ok(Passed::Idle);
-    }
     match sweep(alloc, table, setting, lexer, text, graph, place, sights)? {
-        Reduced::TooDeep => Ok(Passed::Deep),
+        Reduced::TooDeep => Ok(Reduced::TooDeep),
         Reduced::Done => {
             shift_all(table, graph, sights)?;
-            Ok(Passed::Over)
+            Ok(Reduced::Done)
         }
     }
 }
@@ -164,17 +148,13 @@ pub fn follow_place<L: Tokens>(
         place,
         &mut sights,
     )? {
-        Passed::Over => {
+        Reduced::Done => {
             let next = as_next(advance(graph, count, place, past, frontier)?);
             Ok(Followed { sights, next })
         }
-        Passed::Deep => Ok(Followed {
+        Reduced::TooDeep => Ok(Followed {
             sights,
             next: Next::TooDeep,
-        }),
-        Passed::Idle => Ok(Followed {
-            sights,
-            next: Next::Nothing,
         }),
     }
 }

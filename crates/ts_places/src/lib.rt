@@ -2,7 +2,8 @@
 //! the place or past it go in, and the graph with all that is done at the place comes out, with
 //! what its heads there see and where it goes on. What ends there is kept: the heads that accept,
 //! and the greatest place at which one stops; and at last the best tree that the graph accepts at
-//! these heads comes out.
+//! these heads comes out. Texts of nothing but extras, where a reduction over nothing stays, are
+//! told by themselves: no graph is followed over them.
 #![tactic(auto)]
 
 mod best;
@@ -28,4 +29,5 @@ pub use end_laws::{ends_account, ends_begin, ends_stay, ends_tell_the_outcome, r
 pub use ends::{Ends, see_ends};
 pub use following::{Followed, Next, follow_place};
 pub use frontier::{Frontier, frontier_at};
+pub use nothing::is_of_nothing;
 pub use sights::{Sights, Span};

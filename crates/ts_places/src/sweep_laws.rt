@@ -1,14 +1,5 @@
-//! The laws of other crates that the proofs of all reductions of a place rest on, and a law of
-//! reductions over nothing. No value goes in or out.
-ghost use Rattle.std.specs.Prelude.{◌≡◌, ℕ, slice_get, Some};
-ghost use Rattle.ts_base.specs.Bytes.{Bytes};
-ghost use Rattle.spec_graph.specs.declared.graph.Head.{Head as AnyHead};
-ghost use Rattle.ts_graph.specs.declared.view.GraphView.{GraphView};
-ghost use Rattle.ts_table.specs.declared.view.ParseTable.{ParseTable};
-ghost use Rattle.ts_table.specs.Tables.{IsTable};
-ghost use Rattle.ts_reductions.specs.declared.top.Top.{Top as AnyTop};
-ghost use Rattle.ts_reductions.specs.Asking.{IsTop, TakesSome};
-ghost use Rattle.ts_reductions.specs.Sound.{IsSoundOver};
+//! The laws of other crates that the proofs of all reductions of a place rest on. No value goes in
+//! or out.
 ghost use Rattle.ts_reductions.specs.LayingLaws.{LayingLaws};
 ghost use Rattle.ts_reductions.specs.Laws.{ReductionLaws, NodeLaws};
 ghost use Rattle.ts_places.specs.ShiftLaws.{LookLaws, LeafLaws};
@@ -71,15 +62,4 @@ pub(crate) fn key_laws_hold()
     keys_pass();
     keys_follow();
     moves_have_their_place();
-}
-
-/// A reduction over nothing stays on no token that is seen at a head which is not in state 0, the
-/// state of the empty stack.
-pub(crate) fn full_stacks_take_some()
-    ensures { (t : ParseTable) (text : Bytes) (g : GraphView) (look : ℕ) (top : AnyTop)
-        → IsTable t → IsSoundOver t text g → IsTop t text g look top
-        → ((head : AnyHead) → slice_get g.heads top.head ≡ Some head → head.state ≡ 0 → ⊥)
-        → TakesSome t g top }
-{
-    key_laws_hold();
 }

@@ -1,9 +1,9 @@
-use Rattle.std.proofs.Common.{sym, refl, subst, List, ℕ}
+use Rattle.std.proofs.Common.{sym, subst, List, ℕ}
 use Rattle.ts_places.specs.Looking.{AllStandAt}
 use Rattle.ts_places.specs.declared.following.Next.{Next}
 use Rattle.ts_places.specs.Following.{Follows}
 use Rattle.ts_places.proofs.FrontierLemmas.{all_heads, here_stand, past_open}
-use Rattle.ts_places.proofs.FollowLemmas.{can_pass, passed_by, deep_passed, idle_passed, follows_next}
+use Rattle.ts_places.proofs.FollowLemmas.{can_pass, passed_by, deep_passed, follows_next}
 use Rattle.ts_places.proofs.following.follow_place.Goals as goal
 
 pub those_at-requires : goal.those_at-requires
@@ -35,25 +35,19 @@ pass_place-requires-clause-ready g c =
 pub advance-requires : goal.advance-requires
 advance-requires g c =
     let r = c.requires.ready in
-    let p = passed_by c.args.table.now (g.L.Text.Content.bytes c.args.text.now) r.0 r.1 c.args.graph.now c.pass_place.new.graph c.args.place c.in_ok-sights.sights c.pass_place.new.sights c.in_ok-pass_place.field-0 c.in-Over.is
+    let p = passed_by c.args.table.now (g.L.Text.Content.bytes c.args.text.now) r.0 r.1 c.args.graph.now c.pass_place.new.graph c.args.place c.pass_place.new.sights c.in_ok-pass_place.field-0 c.in-Done.is
     (c.in_ok-pass_place.ensures.passes r.0 r.1 (can_pass c.args.table.now (g.L.Text.Content.bytes c.args.text.now) c.args.setting.now r.0 r.1 c.args.graph.now c.args.place c.args.frontier.now r.2 c.as_slice-waiting.result.now c.as_slice-waiting.ensures.value c.in_ok-here.here.items c.in_ok-here.ensures c.as_slice.result.now c.as_slice.ensures.value c.in_ok-sights.sights (c.in_ok-sights.ensures.sights r.0 c.args.place))) in
     (c.args.graph.now, c.count-count.ensures.count, p.followed.grows.stay, past_open c.args.graph.now c.args.place c.args.frontier.now.heads.items c.as_slice-waiting.result.now c.as_slice-waiting.ensures.value r.2.are_open c.in_ok-past.past.items c.in_ok-past.ensures)
 
-pub returns-in-Over-clause-follows : goal.returns-in-Over-clause-follows
-returns-in-Over-clause-follows g c = λ base most can.
-    let p = passed_by c.args.table.now (g.L.Text.Content.bytes c.args.text.now) base most c.args.graph.now c.pass_place.new.graph c.args.place c.in_ok-sights.sights c.pass_place.new.sights c.in_ok-pass_place.field-0 c.in-Over.is
+pub returns-in-Done-clause-follows : goal.returns-in-Done-clause-follows
+returns-in-Done-clause-follows g c = λ base most can.
+    let p = passed_by c.args.table.now (g.L.Text.Content.bytes c.args.text.now) base most c.args.graph.now c.pass_place.new.graph c.args.place c.pass_place.new.sights c.in_ok-pass_place.field-0 c.in-Done.is
     (c.in_ok-pass_place.ensures.passes base most (can_pass c.args.table.now (g.L.Text.Content.bytes c.args.text.now) c.args.setting.now base most c.args.graph.now c.args.place c.args.frontier.now can c.as_slice-waiting.result.now c.as_slice-waiting.ensures.value c.in_ok-here.here.items c.in_ok-here.ensures c.as_slice.result.now c.as_slice.ensures.value c.in_ok-sights.sights (c.in_ok-sights.ensures.sights base c.args.place))) in
     subst (λ (n : Next). Follows c.args.table.now (g.L.Text.Content.bytes c.args.text.now) base most c.args.graph.now c.pass_place.new.graph c.args.place c.args.frontier.now c.advance.new.frontier c.pass_place.new.sights n) (sym c.as_next-next.ensures)
-    (follows_next c.place_laws_hold.ensures c.args.table.now (g.L.Text.Content.bytes c.args.text.now) base most c.args.graph.now c.pass_place.new.graph c.args.place c.pass_place.new.sights p c.args.frontier.now c.advance.new.frontier c.in_ok-advance-in-Over.field-0
-    (c.in_ok-advance-in-Over.ensures c.args.graph.now c.count-count.ensures.count p.followed.grows.stay (past_open c.args.graph.now c.args.place c.args.frontier.now.heads.items c.as_slice-waiting.result.now c.as_slice-waiting.ensures.value can.are_open c.in_ok-past.past.items c.in_ok-past.ensures)))
-
-pub returns-in-Deep-clause-follows : goal.returns-in-Deep-clause-follows
-returns-in-Deep-clause-follows g c = λ base most can.
-    deep_passed c.args.table.now (g.L.Text.Content.bytes c.args.text.now) base most c.args.graph.now c.pass_place.new.graph c.args.place c.in_ok-sights.sights c.pass_place.new.sights c.in_ok-pass_place.field-0 c.in-Deep.is
-    (c.in_ok-pass_place.ensures.passes base most (can_pass c.args.table.now (g.L.Text.Content.bytes c.args.text.now) c.args.setting.now base most c.args.graph.now c.args.place c.args.frontier.now can c.as_slice-waiting.result.now c.as_slice-waiting.ensures.value c.in_ok-here.here.items c.in_ok-here.ensures c.as_slice.result.now c.as_slice.ensures.value c.in_ok-sights.sights (c.in_ok-sights.ensures.sights base c.args.place)))
+    (follows_next c.place_laws_hold.ensures c.args.table.now (g.L.Text.Content.bytes c.args.text.now) base most c.args.graph.now c.pass_place.new.graph c.args.place c.pass_place.new.sights p c.args.frontier.now c.advance.new.frontier c.in_ok-advance-in-Done.field-0
+    (c.in_ok-advance-in-Done.ensures c.args.graph.now c.count-count.ensures.count p.followed.grows.stay (past_open c.args.graph.now c.args.place c.args.frontier.now.heads.items c.as_slice-waiting.result.now c.as_slice-waiting.ensures.value can.are_open c.in_ok-past.past.items c.in_ok-past.ensures)))
 
 pub returns-clause-follows : goal.returns-clause-follows
 returns-clause-follows g c = λ base most can.
-    let d = idle_passed c.args.table.now (g.L.Text.Content.bytes c.args.text.now) base most c.args.graph.now c.pass_place.new.graph c.args.place c.in_ok-sights.sights c.pass_place.new.sights c.in_ok-pass_place.field-0 c.in-Idle.is
-    (c.in_ok-pass_place.ensures.passes base most (can_pass c.args.table.now (g.L.Text.Content.bytes c.args.text.now) c.args.setting.now base most c.args.graph.now c.args.place c.args.frontier.now can c.as_slice-waiting.result.now c.as_slice-waiting.ensures.value c.in_ok-here.here.items c.in_ok-here.ensures c.as_slice.result.now c.as_slice.ensures.value c.in_ok-sights.sights (c.in_ok-sights.ensures.sights base c.args.place))) in
-    (d.0, d.1, refl)
+    deep_passed c.args.table.now (g.L.Text.Content.bytes c.args.text.now) base most c.args.graph.now c.pass_place.new.graph c.args.place c.pass_place.new.sights c.in_ok-pass_place.field-0 c.in-TooDeep.is
+    (c.in_ok-pass_place.ensures.passes base most (can_pass c.args.table.now (g.L.Text.Content.bytes c.args.text.now) c.args.setting.now base most c.args.graph.now c.args.place c.args.frontier.now can c.as_slice-waiting.result.now c.as_slice-waiting.ensures.value c.in_ok-here.here.items c.in_ok-here.ensures c.as_slice.result.now c.as_slice.ensures.value c.in_ok-sights.sights (c.in_ok-sights.ensures.sights base c.args.place)))
