@@ -1,13 +1,11 @@
 -- Rows of verdicts, made one after another.
-use Rattle.std.proofs.Common.{◌≡◌, ◌∙◌, sym, ap, refl, subst, ℕ, ◌+◌, ◌<◌, ◌⊎◌, ⊎_elim, Bool, true, false, List, [], ◌∷◌, ◌++◌, length, get_or, slice_get, Option, Some, None, append_assoc, length-append, arith}
+use Rattle.std.proofs.Common.{◌≡◌, ◌∙◌, sym, ap, refl, subst, ℕ, ◌+◌, ⊎_elim, Bool, true, false, List, [], ◌∷◌, ◌++◌, length, slice_get, Option, Some, None, append_assoc, length-append, arith}
 use Rattle.std.proofs.lemmas.List.{append-nil}
 use Rattle.std.proofs.lemmas.Option.{slice_get_within}
 use Rattle.ts_base.proofs.PlaceLemmas.{in_prefix, push_cases}
 use Rattle.ts_core.specs.declared.flat.FlatGrammar.{FlatGrammar}
 use Rattle.ts_core.specs.declared.symbol.Symbol.{Symbol}
-use Rattle.ts_automata.specs.declared.automaton.Automaton.{Automaton}
 use Rattle.ts_automata.specs.declared.tables.SetTables.{SetTables}
-use Rattle.ts_automata.specs.Automata.{IsAutomaton}
 use Rattle.ts_automata.specs.Sets.{EachAt, sets_of}
 use Rattle.ts_automata.specs.Machine.{state_count}
 use Rattle.ts_lexer.specs.declared.ahead.LexTables.{LexTables}
@@ -16,7 +14,6 @@ use Rattle.ts_lexer.specs.declared.verdict.Verdict.{Verdict}
 use Rattle.ts_lexer.specs.declared.view.View.{View}
 use Rattle.ts_lexer.specs.Ahead.{contents_of, IsNumbered, HasMoreRows, AreVerdicts, HasPair, IsReady, HavePairs}
 use Rattle.ts_lexer.specs.Judged.{JudgesNodes}
-use Rattle.ts_lexer.specs.Rules.{IsRules}
 
 -- the row has the verdicts on the first so many sets
 pub record Judging (g : FlatGrammar) (valid : List Symbol) (first : Bool) (m : SetTables) (row : List Verdict) (k : ℕ) : Type 0 where

@@ -1,6 +1,5 @@
 -- Answers, and what they say.
-use Rattle.std.proofs.Common.{◌≡◌, ◌∙◌, sym, ap, subst, ℕ, ◌+◌, ◌<◌, List, length, drop, get_or, slice_get, Some, min, ◌-◌, ◌^◌, ◌↔◌, arith}
-use Rattle.std.specs.List.{Contains}
+use Rattle.std.proofs.Common.{◌≡◌, ◌∙◌, sym, ap, subst, ℕ, List, drop, arith}
 use Rattle.std.specs.Str.{IsUtf8}
 use Rattle.ts_base.specs.Bytes.{Bytes}
 use Rattle.ts_core.specs.declared.flat.FlatGrammar.{FlatGrammar}
@@ -10,8 +9,8 @@ use Rattle.spec_lexing.specs.Lexing.{Found, token, absent, Lex}
 use Rattle.spec_lexing.specs.Seen.{Seen, Agree}
 use Rattle.ts_lexer.specs.declared.lexed.Lexed.{Lexed}
 use Rattle.ts_lexer.specs.declared.lexed.Lexed.TheVariants.{Token, Absent}
-use Rattle.ts_lexer.specs.Answers.{SaysFound, extent_of, IsLexedAnswer, LexesIn, IsLexedAt}
-use Rattle.ts_lexer.specs.States.{AreValid, HaveSameSymbols}
+use Rattle.ts_lexer.specs.Answers.{SaysFound, extent_of, LexesIn, IsLexedAt}
+use Rattle.ts_lexer.specs.States.{HaveSameSymbols}
 
 -- an answer says one thing
 pub says_once : (start : ℕ) (a : Lexed) (f h : Found) → SaysFound start a f → SaysFound start a h → f ≡ h

@@ -115,7 +115,8 @@ knows g m is w n read members at = members_know g m.automaton is w members
     same : read.set ≡ members
     same = let e : Some read.set ≡ Some members = sym read.at ∙ at in cc
 
--- the nodes of a set that has been reached are at the end of just the parts that have the characters
+-- the nodes of a set that has been reached are at the end of just the parts that have the
+-- characters
 ends_read : (g : FlatGrammar) (m : SetTables) → IsAutomaton g m.automaton → (w : List ℕ) (n : ℕ) → (read : HasRead m w n)
     → (k : ℕ) → EndsIn m.automaton.nodes.items m.automaton.owners.items read.set k ↔ PartWord g w k
 ends_read g m is w n read k = ends_same g m.automaton is w read.set (λ t h. (read.holds t).0 h) (λ t c lt. (read.holds t).1 c) k

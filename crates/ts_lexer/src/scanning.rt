@@ -97,8 +97,8 @@ fn end_of_stay(machine: &Machine, set: usize, bytes: &[u8], from: usize) -> usiz
 }
 
 /// Reads a piece on by verdicts that were made ahead: a look-up each for the character's class and
-/// the next set, and one for the verdict of a set that is reached. What it says is told once, behind
-/// the characters over which it stays.
+/// the next set, and one for the verdict of a set that is reached. What it says is told once,
+/// behind the characters over which it stays.
 fn read_by_row(machine: &Machine, rules: &Rules, row: &[Verdict], run: &Run, piece: &str) -> Read
     requires count { length row.now ≡ state_count machine.now }
     requires set { run.now.state < state_count machine.now }

@@ -1,5 +1,5 @@
-//! Tokens in texts that are kept in several pieces. What is expected is reckoned from the bytes, and
-//! says nothing of where the texts are cut.
+//! Tokens in texts that are kept in several pieces. What is expected is reckoned from the bytes,
+//! and says nothing of where the texts are cut.
 use crate::engine::engine_of;
 use crate::lexed::Lexed;
 use indexmap::IndexSet;

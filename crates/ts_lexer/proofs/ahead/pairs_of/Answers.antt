@@ -1,4 +1,4 @@
-use Rattle.std.proofs.Common.{◌≡◌, ◌∙◌, sym, ap, refl, subst, ℕ, ◌+◌, List, ◌++◌, ◌∷◌, [], length, Option, length-append, arith}
+use Rattle.std.proofs.Common.{◌∙◌, sym, ap, refl, subst, List, ◌∷◌, [], length, Option, length-append, arith}
 use Rattle.ts_lexer.specs.declared.ahead.RowPair.{RowPair}
 use Rattle.ts_lexer.specs.declared.rules.Rules.{Rules}
 use Rattle.ts_lexer.specs.Ahead.{contents_of, HavePairs}

@@ -1,4 +1,4 @@
-use Rattle.std.proofs.Common.{◌≡◌, ℕ, arith, subst}
+use Rattle.std.proofs.Common.{◌≡◌, arith, subst}
 use Rattle.ts_automata.specs.declared.automaton.Automaton.{Automaton}
 use Rattle.ts_automata.specs.Machine.{state_count}
 use Rattle.ts_lexer.specs.Judged.{JudgesNodes}

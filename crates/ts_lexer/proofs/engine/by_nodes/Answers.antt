@@ -1,4 +1,4 @@
-use Rattle.std.proofs.Common.{◌≡◌, ◌∙◌, arith}
+use Rattle.std.proofs.Common.{arith}
 use Rattle.ts_lexer.proofs.engine.by_nodes.Goals as goal
 
 pub returns-clause-engine : goal.returns-clause-engine

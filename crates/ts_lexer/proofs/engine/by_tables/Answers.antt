@@ -1,4 +1,4 @@
-use Rattle.std.proofs.Common.{◌≡◌, ◌∙◌, sym, subst}
+use Rattle.std.proofs.Common.{◌∙◌, sym, subst}
 use Rattle.ts_automata.specs.declared.tables.SetTables.{SetTables}
 use Rattle.ts_automata.specs.Automata.{IsAutomaton}
 use Rattle.ts_lexer.specs.declared.rules.Rules.{Rules}

@@ -1,4 +1,4 @@
-use Rattle.std.proofs.Common.{◌≡◌, ◌∙◌, sym, subst, length, arith}
+use Rattle.std.proofs.Common.{◌≡◌, sym, subst, length, arith}
 use Rattle.std.proofs.lemmas.Result.{IfOk-weaker}
 use Rattle.ts_automata.specs.declared.automaton.Automaton.{Automaton}
 use Rattle.ts_automata.specs.Automata.{IsAutomaton}

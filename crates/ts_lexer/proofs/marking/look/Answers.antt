@@ -1,4 +1,4 @@
-use Rattle.std.proofs.Common.{refl, length}
+use Rattle.std.proofs.Common.{length}
 use Rattle.ts_lexer.proofs.marking.look.Goals as goal
 
 pub returns-clause-view : goal.returns-clause-view

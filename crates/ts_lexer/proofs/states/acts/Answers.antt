@@ -1,4 +1,4 @@
-use Rattle.std.proofs.Common.{◌≡◌, List, IsTrue, not, ◌↔◌, subst}
+use Rattle.std.proofs.Common.{List, IsTrue, not, ◌↔◌, subst}
 use Rattle.std.specs.List.{Contains}
 use Rattle.ts_core.specs.declared.action.Action.{Action}
 use Rattle.ts_lexer.proofs.StateLemmas.{acts_is}

@@ -1,5 +1,4 @@
 use Rattle.std.proofs.Common.{◌≡◌, ◌∙◌, length, arith}
-use Rattle.ts_lexer.specs.Ahead.{contents_of}
 use Rattle.ts_lexer.proofs.StateLemmas.{listing_none, listing_more}
 use Rattle.ts_lexer.proofs.states.lists_of.Goals as goal
 

@@ -2,7 +2,7 @@ use Rattle.std.proofs.Common.{◌≡◌, ◌∙◌, sym, subst, ℕ, ◌<◌, Li
 use Rattle.ts_core.specs.declared.symbol.Symbol.{Symbol}
 use Rattle.ts_automata.specs.Walks.{walk_room}
 use Rattle.ts_lexer.specs.Ahead.{contents_of}
-use Rattle.ts_lexer.specs.Ways.{IsWayOf, IsReadyFor}
+use Rattle.ts_lexer.specs.Ways.{IsWayOf}
 use Rattle.ts_lexer.specs.Answers.{IsLexedAnswer}
 use Rattle.ts_lexer.proofs.WayLemmas.{listed}
 use Rattle.ts_lexer.proofs.engine.Engine.lex.Goals as goal
