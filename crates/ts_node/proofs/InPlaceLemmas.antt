@@ -15,10 +15,10 @@ whole_still c s t w e h = record {
   held = h;
 }
 
--- what a run keeps it keeps with more of what was counted
-pub whole_longer : (c d : Counts) (s t : Shape) (more : Stretch) → IsWhole c s → ((x : Stretch) → IsCount c x → IsCount d (joined_stretch x more)) → stretch_of t ≡ joined_stretch (stretch_of s) more → HasNoEmptyPart t → IsWhole d t
-whole_longer c d s t more w law e h = record {
-  counted = subst (λ (x : Stretch). IsCount d x) (sym e) (law (stretch_of s) w.counted);
+-- what a run keeps it keeps with more, of which this was counted
+pub whole_longer : (c one d : Counts) (s t : Shape) (more : Stretch) → IsWhole c s → IsCount one more → ((x y : Stretch) → IsCount c x → IsCount one y → IsCount d (joined_stretch x y)) → stretch_of t ≡ joined_stretch (stretch_of s) more → HasNoEmptyPart t → IsWhole d t
+whole_longer c one d s t more w counted law e h = record {
+  counted = subst (λ (x : Stretch). IsCount d x) (sym e) (law (stretch_of s) more w.counted counted);
   held = h;
 }
 

@@ -15,4 +15,5 @@ pub mod RemakeLemmas
 pub mod RunLemmas
 pub mod SettledLemmas
 pub mod TotalLemmas
+pub mod UnitLemmas
 pub mod WholeLemmas

@@ -12,11 +12,13 @@ use Rattle.ts_node.specs.declared.node.Kind.{Kind}
 use Rattle.ts_node.specs.declared.node.Kind.TheVariants as kind
 use Rattle.ts_node.specs.declared.rule.RuleBody.{RuleBody}
 use Rattle.ts_node.specs.declared.rule.RuleBody.TheVariants as form
+use Rattle.ts_node.specs.declared.single.SingleBody.{SingleBody}
+use Rattle.ts_node.specs.declared.single.SingleBody.TheVariants as single
 use Rattle.ts_node.specs.declared.node.Shape.{Shape}
 use Rattle.ts_node.specs.declared.node.Shape.TheVariants as shape
-use Rattle.ts_node.specs.declared.node.Node.TheDeep.{deep-Kind, deep-RuleBody, deep-Shape}
+use Rattle.ts_node.specs.declared.node.Node.TheDeep.{deep-Kind, deep-RuleBody, deep-SingleBody, deep-Shape}
 use Rattle.spec_trees.specs.Trees.{node_count, nodes_step, all_nodes}
-use Rattle.ts_node.specs.Held.{node_tree, body_of, body_tree, rule_tree, stretch_of, HasNoEmptyPart}
+use Rattle.ts_node.specs.Held.{node_tree, body_of, single_of, body_tree, rule_tree, stretch_of, HasNoEmptyPart}
 
 -- For proofs alone: a node counts one, one for each of its elements, and the nodes of its children.
 pub nodes_of_body : (s : Summary) (production : Option ℕ) (es : List Element) (ks : List Tree)
@@ -52,14 +54,20 @@ pub body_falls : (b : RuleBody) → max (deep-RuleBody b) 0 ≤ 4 * node_count (
 body_falls (form.One body) = omega (arith, fold_out-Tree ℕ nodes_step body)
 body_falls (form.Two body) = omega (arith, fold_out-Tree ℕ nodes_step body)
 body_falls (form.Three body) = omega (arith, fold_out-Tree ℕ nodes_step body)
+body_falls (form.Four body) = omega (arith, fold_out-Tree ℕ nodes_step body)
 body_falls (form.Many body) = omega (arith, fold_out-Tree ℕ nodes_step body)
+
+-- For proofs alone: the body of a repetition of one element is smaller than the node.
+pub single_body_falls : (b : SingleBody) → max (deep-SingleBody b) 0 ≤ 4 * node_count (single_of b)
+single_body_falls (single.One body) = omega (arith, fold_out-Tree ℕ nodes_step body)
+single_body_falls (single.Two body) = omega (arith, fold_out-Tree ℕ nodes_step body)
 
 -- For proofs alone: the children of a rule's body are smaller than the body.
 pub children_fall : (s : Summary) (ks : List Tree)
     → max (most (λ k. 4 * node_count k + 1 + 1) ks) 0 ≤ 4 * node_count (rule_tree s ks) - 1
 children_fall s ks = omega (arith, most_le ks, nodes_of_body s (Some s.production) [] ks)
 
--- For proofs alone: the child of a repetition without a run is smaller than its node.
+-- For proofs alone: the children of a repetition without a run are smaller than its body.
 pub single_falls : (s : Summary) (es : List Element) (ks : List Tree)
     → max (most (λ k. 4 * node_count k + 1 + 1) ks) 0 ≤ 4 * node_count (body_tree s None es ks) - 1
 single_falls s es ks = omega (arith, most_le ks, nodes_of_body s None es ks)

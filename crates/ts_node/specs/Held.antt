@@ -17,6 +17,8 @@ use Rattle.ts_node.specs.declared.node.Kind.{Kind}
 use Rattle.ts_node.specs.declared.node.Kind.TheVariants as kind
 use Rattle.ts_node.specs.declared.rule.RuleBody.{RuleBody}
 use Rattle.ts_node.specs.declared.rule.RuleBody.TheVariants as form
+use Rattle.ts_node.specs.declared.single.SingleBody.{SingleBody}
+use Rattle.ts_node.specs.declared.single.SingleBody.TheVariants as single
 use Rattle.ts_node.specs.declared.node.Shape.{Shape}
 use Rattle.ts_node.specs.declared.node.Shape.TheVariants as shape
 
@@ -85,7 +87,13 @@ abbrev pub body_of : RuleBody → Tree
 body_of (form.One body) = body
 body_of (form.Two body) = body
 body_of (form.Three body) = body
+body_of (form.Four body) = body
 body_of (form.Many body) = body
+
+-- the tree that a repetition of one element of this body stands for
+abbrev pub single_of : SingleBody → Tree
+single_of (single.One body) = body
+single_of (single.Two body) = body
 
 -- the tree that a node stands for
 abbrev pub node_tree : Kind → Tree

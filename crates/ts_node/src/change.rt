@@ -39,7 +39,7 @@ pub fn remake(
         Kind::Rule(rule) => rule.remake(alloc, pad, size, changed, loose),
         Kind::Repetition(repetition) => repetition.get().remake(alloc, pad, size, changed, loose),
         Kind::Single(single) => {
-            let repetition = single.get().repetition(alloc)?;
+            let repetition = single.repetition(alloc)?;
             repetition.remake(alloc, pad, size, changed, loose)
         }
     }

@@ -4,13 +4,13 @@ ghost use Rattle.std.specs.Prelude.{◌≡◌, ◌+◌, ◌*◌, ◌<◌, ◌≤
 ghost use Rattle.std.specs.Int.RustNames.{unsigned_abs};
 ghost use lib.IntN.{◌+ℤ◌};
 ghost use Rattle.spec_trees.specs.declared.tree.Stretch.{Stretch};
-ghost use Rattle.spec_trees.specs.Trees.{all_spans, all_values};
-ghost use Rattle.spec_trees.specs.Made.{children_count, reach_of, most_span};
+ghost use Rattle.spec_trees.specs.Trees.{all_nodes, all_spans, all_totals, all_values};
+ghost use Rattle.spec_trees.specs.Made.{children_count, reach_of, most_span, node_limit};
 ghost use Rattle.ts_node.specs.Held.{joined_stretch, stretch, IsCount};
 ghost use Rattle.ts_node.specs.Held as held;
 
 use crate::node::{Counts, Node, Run, Sums};
-use crate::sums::{plus, sums, wide_plus};
+use crate::sums::{narrowed, plus, sums, wide_plus};
 use spec_trees::Element;
 
 /// What is counted of these elements and their children.
@@ -66,7 +66,7 @@ fn together(low: Counts, high: Counts) -> Counts
 }
 
 /// What is counted of one element over its children.
-fn counts_of_one(element: Element, children: &[Node]) -> Counts
+pub(crate) fn counts_of_one(element: Element, children: &[Node]) -> Counts
     requires wide { length children.now < 2 ^ 32 }
     requires own { element.children ≡ length children.now }
     ensures { IsCount result (stretch (element ∷ []) children.now) }
@@ -82,16 +82,25 @@ fn counts_of_one(element: Element, children: &[Node]) -> Counts
     }
 }
 
-/// What is counted of elements with one more behind them, over these children.
-pub(crate) fn with_one(counts: Counts, element: Element, more: &[Node]) -> Counts
-    requires wide { length more.now < 2 ^ 32 }
-    requires own { element.children ≡ length more.now }
-    requires counted { (s : Stretch) × IsCount counts s × (length s.elements + 1 < 2 ^ 32)
-        × (length s.children + length more.now < 2 ^ 32) }
-    ensures { (s : Stretch) → IsCount counts s
-        → IsCount result (joined_stretch s (stretch (element ∷ []) more.now)) }
+/// The dynamic totals of all children that were counted.
+pub(crate) fn counted_total(counts: Counts) -> i64
+    requires { (s : Stretch) × IsCount counts s × (all_nodes s.children < node_limit) }
+    ensures total { (s : Stretch) → IsCount counts s → result ≡ all_totals s.children }
+    ensures modest { (s : Stretch) → IsCount counts s
+        → unsigned_abs result ≤ 2 ^ 31 * all_nodes s.children }
 {
-    together(counts, counts_of_one(element, more))
+    narrowed(counts.sums.totals)
+}
+
+/// What is counted of elements with one more behind them, of which this is counted.
+pub(crate) fn with_one(counts: Counts, one: Counts) -> Counts
+    requires { (s more : Stretch) × IsCount counts s × IsCount one more
+        × (length s.elements + length more.elements < 2 ^ 32)
+        × (length s.children + length more.children < 2 ^ 32) }
+    ensures { (s more : Stretch) → IsCount counts s → IsCount one more
+        → IsCount result (joined_stretch s more) }
+{
+    together(counts, one)
 }
 
 /// The extent, or so many bytes, where these are more.

@@ -23,7 +23,7 @@ impl Node {
             }
             Kind::Repetition(repetition) => repetition.get().run().get().fill(k),
             Kind::Single(single) => {
-                let (elements, children) = single.get().lists();
+                let (elements, children) = single.lists();
                 fill_among(elements, children, k)
             }
         }

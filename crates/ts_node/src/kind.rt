@@ -36,8 +36,8 @@ impl Node {
                 NodeKind::Repetition
             }
             Kind::Single(single) => {
-                let _ = single.get().summary();
-                let _ = single.get().lists();
+                let _ = single.summary();
+                let _ = single.lists();
                 NodeKind::Repetition
             }
         }

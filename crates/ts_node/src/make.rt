@@ -1,19 +1,20 @@
 //! The makers of nodes: tokens and children go in, a leaf, a node over children, the accepted root,
 //! or a node as an edit leaves it comes out.
-ghost use Rattle.std.specs.Prelude.{◌≡◌, ◌+◌, ◌<◌, ◌≤◌, ◌++◌, ◌^◌, ◌-◌, ◌∷◌, [], true, All, IfOk, Some, None, length, IsTrue};
+ghost use Rattle.std.specs.Prelude.{◌≡◌, ◌+◌, ◌<◌, ◌≤◌, ◌++◌, ◌^◌, ◌-◌, ◌∷◌, [], true, All, IfOk, OnOk, Some, None, length, IsTrue};
 ghost use Rattle.std.proofs.Common.{is_some};
 ghost use Rattle.spec_trees.specs.Trees.{children_of, elements_of, is_extra_node, production_of, span_of};
 ghost use Rattle.spec_trees.specs.Made.{leaf_of, node_over, rule_node, first_element, next_element, accepted, reduced, made_by, most_span, IsNode, IsLeaf, Lengthens, FitsProduction};
 ghost use Rattle.spec_trees.specs.Made as made;
 ghost use Rattle.ts_node.specs.Entries.{form_is};
-ghost use Rattle.ts_node.specs.Held.{body_tree, IsSum, IsSummary};
+ghost use Rattle.ts_node.specs.Held.{body_tree, stretch, IsCount, IsSum, IsSummary};
 
-use crate::node::{Kind, Leaf, Node, Repetition, Run, Summary, Sums};
+use crate::counts::{counted_total, counts_of_one};
+use crate::node::{Counts, Kind, Leaf, Node, Repetition, Run, Summary, Sums};
 use crate::productions::{Entry, Form, Productions};
 use crate::rule::RuleNode;
 use crate::short::ShortSummary;
 use crate::single::Single;
-use crate::sums::{copy, moved, narrowed, pad_of_first, plus, sums, totals, with_value};
+use crate::sums::{copy, moved, narrowed, pad_of_first, plus, sums, with_value};
 use spec_trees::Element;
 use std::alloc::{AllocError, Global};
 use ts_base::{List, Shared};
@@ -69,7 +70,7 @@ impl Node {
                 unreachable!()
             }
             Kind::Single(single) => {
-                let _ = single.get().lists();
+                let _ = single.lists();
                 unreachable!()
             }
         }
@@ -77,7 +78,7 @@ impl Node {
 }
 
 /// What a node with these children says of itself.
-fn summary(head: Head, production: u32, pad: u32, elements: u32, sums: Sums) -> Summary
+pub(crate) fn summary(head: Head, production: u32, pad: u32, elements: u32, sums: Sums) -> Summary
     requires pad { pad ≤ sums.spans }
     requires short { sums.spans < 2 ^ 32 }
     requires few { 1 + (elements + sums.nodes) < 2 ^ 32 }
@@ -187,7 +188,7 @@ fn rule(
 }
 
 /// What a repetition says of an element that it gets.
-fn added(entry: Entry, alternative: u32, children: u32, extent: u32) -> Element
+pub(crate) fn added(entry: Entry, alternative: u32, children: u32, extent: u32) -> Element
     ensures { result ≡ made.element alternative children entry.dynamic extent }
 {
     Element {
@@ -259,7 +260,7 @@ fn over_one(
 }
 
 /// A repetition of one element over these children, of which the summary tells: in one piece of
-/// memory, where it is a single child and the numbers are small.
+/// memory, where they are one or two and the numbers are small.
 #[inline(always)]
 fn of_one(
     alloc: Global,
@@ -276,7 +277,13 @@ fn of_one(
 {
     match ShortSummary::of(summary) {
         Some(short) if children.len() == 1 => {
-            let single = Single::new(alloc, short, element, children)?;
+            let single = Single::of_one(alloc, short, element, children)?;
+            Ok(Node {
+                kind: Kind::Single(single),
+            })
+        }
+        Some(short) if children.len() == 2 => {
+            let single = Single::of_two(alloc, short, element, children)?;
             Ok(Node {
                 kind: Kind::Single(single),
             })
@@ -313,7 +320,7 @@ fn next(
 
 /// The repetition `before` with one more element of these children. What nobody else owns of it is
 /// lengthened in place, all else is shared.
-fn longer(
+pub(crate) fn longer(
     alloc: Global,
     entry: Entry,
     alternative: u32,
@@ -328,8 +335,11 @@ fn longer(
     ensures { IfOk result (λ node. node ≡ next_element entry.symbol.0 alternative entry.dynamic
         extent state (before ∷ more.old.items)) }
 {
+    let behind = bytes_behind(&before, extent);
+    let element = added(entry, alternative, more.len() as u32, behind);
+    let one = counts_of_one(element, more.as_slice());
+    let others = counted_total(one);
     let summary = before.summary();
-    let others = totals(more.as_slice());
     let total = plus(summary.dynamic, others);
     let dynamic = with_value(entry.dynamic, total);
     let head = Head {
@@ -338,9 +348,7 @@ fn longer(
         extent,
         state,
     };
-    let behind = bytes_behind(&before, extent);
-    let element = added(entry, alternative, more.len() as u32, behind);
-    let run = longer_run(alloc, before, element, more)?;
+    let run = longer_run(alloc, before, element, one, more)?;
     over_run(alloc, head, run)
 }
 
@@ -352,18 +360,20 @@ fn first_of(children: &mut Vec<Node>) -> Node
     children.remove(0)
 }
 
-/// The run of a repetition with one more element of these children.
+/// The run of a repetition with one more element of these children, of which this is counted.
 #[tactic(auto, using(crate::proofs::BodyLemmas::leaf_elements))]
 fn longer_run(
     alloc: Global,
     before: Node,
     element: Element,
+    one: Counts,
     more: &mut Vec<Node>,
 ) -> Result<Shared<Run>, AllocError>
     requires repetition { 0 < length (elements_of before) }
     requires wide { length (children_of before) + length more.old.items < 2 ^ 32 }
     requires fits { length (elements_of before) + 1 < 2 ^ 32 }
     requires own { element.children ≡ length more.old.items }
+    requires counted { IsCount one (stretch (element ∷ []) more.old.items) }
     ensures elements { IfOk result (λ run. run.elements ≡ elements_of before ++ element ∷ []) }
     ensures children { IfOk result (λ run. run.children ≡ children_of before ++ more.old.items) }
 {
@@ -376,11 +386,11 @@ fn longer_run(
         }
         Kind::Repetition(repetition) => {
             let run = run_of(repetition)?;
-            Run::with_element(alloc, run, element, more)
+            Run::with_element(alloc, run, element, one, more)
         }
         Kind::Single(single) => {
-            let repetition = single.get().repetition(alloc)?;
-            Run::with_element(alloc, repetition.into_run(), element, more)
+            let repetition = single.repetition(alloc)?;
+            Run::with_element(alloc, repetition.into_run(), element, one, more)
         }
     }
 }
@@ -397,9 +407,9 @@ fn run_of(repetition: Shared<Repetition>) -> Result<Shared<Run>, AllocError>
 }
 
 /// The node that a reduction by the production of this number makes of its children, which are
-/// taken out of their vector. A production that lengthens a repetition lengthens in place what
-/// nobody else owns of the repetition so far, and shares all else. It takes time by the logarithm
-/// of its length.
+/// taken out of their vector and leave it empty. A production that lengthens a repetition lengthens
+/// in place what nobody else owns of the repetition so far, and shares all else. It takes time by
+/// the logarithm of its length.
 ///
 /// # Errors
 ///
@@ -414,17 +424,14 @@ pub fn reduce(
 ) -> Result<Node, AllocError>
     requires fits { FitsProduction productions.now number children.old.items }
     requires node { IsNode (reduced productions.now number extent state children.old.items) }
-    ensures { IfOk result
+    ensures node { IfOk result
         (λ node. node ≡ reduced productions.now number extent state children.old.items) }
+    ensures emptied { OnOk result (children.new.items ≡ []) }
 {
-    made(
-        alloc,
-        productions.entry(number),
-        number,
-        children,
-        extent,
-        state,
-    )
+    let entry = productions.entry(number);
+    let node = made(alloc, entry, number, children, extent, state)?;
+    children.clear();
+    Ok(node)
 }
 
 fn made(
@@ -474,7 +481,7 @@ pub fn accept(
             unreachable!()
         }
         Kind::Single(single) => {
-            let _ = single.get().lists();
+            let _ = single.lists();
             unreachable!()
         }
         Kind::Rule(rule) => {

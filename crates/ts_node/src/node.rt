@@ -26,7 +26,7 @@ pub(crate) enum Kind {
     Leaf(Leaf),
     Rule(RuleNode),
     Repetition(Shared<Repetition>),
-    Single(Shared<Single>),
+    Single(Single),
 }
 
 /// A node over a token.
@@ -313,7 +313,7 @@ impl Node {
             Kind::Leaf(leaf) => leaf.summary(),
             Kind::Rule(rule) => rule.summary(),
             Kind::Repetition(repetition) => repetition.get().summary(),
-            Kind::Single(single) => single.get().summary(),
+            Kind::Single(single) => single.summary(),
         }
     }
 
@@ -354,7 +354,7 @@ impl Node {
                 None
             }
             Kind::Single(single) => {
-                let _ = single.get().lists();
+                let _ = single.lists();
                 None
             }
         }
@@ -438,7 +438,7 @@ impl Node {
                 false
             }
             Kind::Single(single) => {
-                let _ = single.get().summary();
+                let _ = single.summary();
                 false
             }
         }
@@ -454,8 +454,8 @@ impl Node {
             Kind::Rule(rule) => rule.children().len() as u32,
             Kind::Repetition(repetition) => repetition.get().run().get().counts().children,
             Kind::Single(single) => {
-                let _ = single.get().lists();
-                1
+                let (_, children) = single.lists();
+                children.len() as u32
             }
         }
     }
@@ -471,7 +471,7 @@ impl Node {
             Kind::Rule(rule) => &rule.children()[k as usize],
             Kind::Repetition(repetition) => repetition.get().run().get().child(k),
             Kind::Single(single) => {
-                let (_, children) = single.get().lists();
+                let (_, children) = single.lists();
                 &children[k as usize]
             }
         }
@@ -493,7 +493,7 @@ impl Node {
             }
             Kind::Repetition(repetition) => repetition.get().run().get().counts().elements,
             Kind::Single(single) => {
-                let _ = single.get().lists();
+                let _ = single.lists();
                 1
             }
         }
@@ -513,7 +513,7 @@ impl Node {
             }
             Kind::Repetition(repetition) => repetition.get().run().get().element(k),
             Kind::Single(single) => {
-                let (elements, _) = single.get().lists();
+                let (elements, _) = single.lists();
                 elements[k as usize]
             }
         }

@@ -26,7 +26,7 @@ impl Node {
             }
             Kind::Repetition(repetition) => repetition.get().run().get().settled_from(e),
             Kind::Single(single) => {
-                let (elements, _) = single.get().lists();
+                let (elements, _) = single.lists();
                 settled_among(elements, e)
             }
         }
@@ -51,7 +51,7 @@ impl Node {
             }
             Kind::Single(single) => {
                 let _ = self.nodes();
-                let (elements, children) = single.get().lists();
+                let (elements, children) = single.lists();
                 bytes_among(elements, children, e as usize) as u32
             }
         }
@@ -72,7 +72,7 @@ impl Node {
             }
             Kind::Repetition(repetition) => repetition.get().run().get().children_before(e),
             Kind::Single(single) => {
-                let (elements, _) = single.get().lists();
+                let (elements, _) = single.lists();
                 owned_before(elements, e as usize)
             }
         }
@@ -93,7 +93,7 @@ impl Node {
             }
             Kind::Repetition(repetition) => repetition.get().run().get().last_by(offset as u64),
             Kind::Single(single) => {
-                let (elements, children) = single.get().lists();
+                let (elements, children) = single.lists();
                 last_among(elements, children, offset as u64)
             }
         }
@@ -116,7 +116,7 @@ impl Node {
                 repetition.get().run().get().element_at(offset as u64)
             }
             Kind::Single(single) => {
-                let (elements, children) = single.get().lists();
+                let (elements, children) = single.lists();
                 element_among(elements, children, offset as u64)
             }
         }

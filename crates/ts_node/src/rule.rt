@@ -1,5 +1,5 @@
 //! Nodes of rules' productions: what a node says of itself and its children go in, and a node
-//! comes out. Up to three children lie in its own body, beside the short form of what it says of
+//! comes out. Up to four children lie in its own body, beside the short form of what it says of
 //! itself where there is one; others lie in a list, beside the whole of it.
 ghost use Rattle.std.specs.Prelude.{◌≡◌, ◌<◌, ◌++◌, ◌∷◌, [], IfOk, Some, false, length};
 ghost use Rattle.spec_trees.specs.Trees.{children_of, elements_of, is_extra_node, production_of};
@@ -9,7 +9,7 @@ ghost use Rattle.ts_node.specs.Short.{summary_of};
 
 use crate::node::{Node, Summary};
 use crate::short::ShortSummary;
-use crate::sums::moved;
+use crate::sums::{moved, only};
 use std::alloc::{AllocError, Global};
 use std::marker::Model;
 use ts_base::{List, Shared};
@@ -28,6 +28,7 @@ pub(crate) enum RuleBody {
     One(Shared<RuleOfOne>),
     Two(Shared<RuleOfTwo>),
     Three(Shared<RuleOfThree>),
+    Four(Shared<RuleOfFour>),
     Many(Shared<RuleOfMany>),
 }
 
@@ -50,6 +51,13 @@ pub(crate) struct RuleOfTwo {
 pub(crate) struct RuleOfThree {
     summary: ShortSummary,
     children: [Node; 3],
+}
+
+#[cycle(node)]
+#[derive(Drop)]
+pub(crate) struct RuleOfFour {
+    summary: ShortSummary,
+    children: [Node; 4],
 }
 
 /// A body of any number of children, with the whole of the summary.
@@ -160,6 +168,32 @@ impl Model for RuleOfThree {
     ghost size_decreases = { λ a h. children_fall (summary_of a.summary) a.children };
 }
 
+impl Model for RuleOfFour {
+    ghost use Rattle.std.specs.Prelude.{◌-◌, ◌*◌};
+    ghost use Rattle.spec_trees.specs.declared.tree.Tree.{Tree};
+    ghost use Rattle.spec_trees.specs.contracts.tree.Tree as tree;
+    ghost use Rattle.std.specs.Coded.{codes};
+
+    ghost Value = { Tree };
+
+    ghost coded = { Prim.hlevel (codes, tree.the_row.coded) };
+
+    ghost use Rattle.spec_trees.specs.Trees.{node_count};
+    ghost use Rattle.ts_node.specs.Held.{rule_tree, IsSummary};
+    ghost use Rattle.ts_node.specs.Short.{summary_of};
+
+    ghost view = { λ a. rule_tree (summary_of a.summary) a.children };
+
+    ghost invariant = { λ a.
+        IsSummary (summary_of a.summary) (rule_tree (summary_of a.summary) a.children) };
+
+    ghost size = { λ t. 4 * node_count t - 1 };
+
+    ghost use Rattle.ts_node.specs.Falls.{children_fall};
+
+    ghost size_decreases = { λ a h. children_fall (summary_of a.summary) a.children };
+}
+
 impl Model for RuleOfMany {
     ghost use Rattle.std.specs.Prelude.{◌-◌, ◌*◌};
     ghost use Rattle.spec_trees.specs.declared.tree.Tree.{Tree};
@@ -203,6 +237,15 @@ impl RuleOfTwo {
 }
 
 impl RuleOfThree {
+    fn parts(&self) -> (Summary, &[Node])
+        ensures parts { rule_tree result.0 result.1.now ≡ self.now }
+        ensures kept { IsSummary result.0 (rule_tree result.0 result.1.now) }
+    {
+        (self.summary.summary(), &self.children)
+    }
+}
+
+impl RuleOfFour {
     fn parts(&self) -> (Summary, &[Node])
         ensures parts { rule_tree result.0 result.1.now ≡ self.now }
         ensures kept { IsSummary result.0 (rule_tree result.0 result.1.now) }
@@ -256,6 +299,24 @@ impl RuleNode {
         Ok(RuleNode { body })
     }
 
+    /// The same of an only child.
+    ///
+    /// # Errors
+    ///
+    /// `AllocError` where memory runs out.
+    #[inline(always)]
+    pub(crate) fn of_child(
+        alloc: Global,
+        summary: Summary,
+        child: Node,
+    ) -> Result<RuleNode, AllocError>
+        requires { IsSummary summary (rule_tree summary (child ∷ [])) }
+        ensures { IfOk result (λ rule. rule ≡ rule_tree summary (child ∷ [])) }
+    {
+        let body = RuleBody::of_child(alloc, summary, child)?;
+        Ok(RuleNode { body })
+    }
+
     /// What it says of itself, and its children.
     #[inline(always)]
     pub(crate) fn parts(&self) -> (Summary, &[Node])
@@ -266,6 +327,7 @@ impl RuleNode {
             RuleBody::One(body) => body.get().parts(),
             RuleBody::Two(body) => body.get().parts(),
             RuleBody::Three(body) => body.get().parts(),
+            RuleBody::Four(body) => body.get().parts(),
             RuleBody::Many(body) => body.get().parts(),
         }
     }
@@ -310,6 +372,7 @@ impl RuleNode {
             RuleBody::One(body) => RuleBody::One(body.try_clone()?),
             RuleBody::Two(body) => RuleBody::Two(body.try_clone()?),
             RuleBody::Three(body) => RuleBody::Three(body.try_clone()?),
+            RuleBody::Four(body) => RuleBody::Four(body.try_clone()?),
             RuleBody::Many(body) => RuleBody::Many(body.try_clone()?),
         };
         Ok(RuleNode { body })
@@ -331,6 +394,31 @@ impl RuleBody {
             Some(short) => RuleBody::of_short(alloc, short, children),
             None => RuleBody::of_many(alloc, summary, children),
         }
+    }
+
+    /// A body of an only child.
+    #[inline(always)]
+    fn of_child(alloc: Global, summary: Summary, child: Node) -> Result<RuleBody, AllocError>
+        requires { IsSummary summary (rule_tree summary (child ∷ [])) }
+        ensures { IfOk result (λ body. body_of body ≡ rule_tree summary (child ∷ [])) }
+    {
+        match ShortSummary::of(summary) {
+            Some(short) => RuleBody::of_one(alloc, short, child),
+            None => {
+                let children = only(alloc, child)?;
+                Ok(RuleBody::Many(Shared::new(alloc, RuleOfMany { summary, children })?))
+            }
+        }
+    }
+
+    /// A body of an only child, with the short form of its summary.
+    #[inline(always)]
+    fn of_one(alloc: Global, summary: ShortSummary, child: Node) -> Result<RuleBody, AllocError>
+        requires { IsSummary (summary_of summary) (rule_tree (summary_of summary) (child ∷ [])) }
+        ensures { IfOk result (λ body. body_of body ≡ rule_tree (summary_of summary) (child ∷ [])) }
+    {
+        let children = [child];
+        Ok(RuleBody::One(Shared::new(alloc, RuleOfOne { summary, children })?))
     }
 
     /// A body of these children, with the short form of its summary where they are few.
@@ -357,6 +445,10 @@ impl RuleBody {
             3 => {
                 let children = three_of(children);
                 Ok(RuleBody::Three(Shared::new(alloc, RuleOfThree { summary, children })?))
+            }
+            4 => {
+                let children = four_of(children);
+                Ok(RuleBody::Four(Shared::new(alloc, RuleOfFour { summary, children })?))
             }
             _ => RuleBody::of_many(alloc, summary.summary(), children),
         }
@@ -388,15 +480,23 @@ fn last_of(nodes: &mut Vec<Node>) -> Node
 }
 
 /// Takes the only node out.
-pub(crate) fn one_of(nodes: &mut Vec<Node>) -> [Node; 1]
+pub(crate) fn only_of(nodes: &mut Vec<Node>) -> Node
+    requires { length nodes.old.items ≡ 1 }
+    ensures { nodes.old.items ≡ result ∷ [] }
+{
+    last_of(nodes)
+}
+
+/// The same, in an array.
+fn one_of(nodes: &mut Vec<Node>) -> [Node; 1]
     requires { length nodes.old.items ≡ 1 }
     ensures { result ≡ nodes.old.items }
 {
-    [last_of(nodes)]
+    [only_of(nodes)]
 }
 
 /// Takes both nodes out.
-fn two_of(nodes: &mut Vec<Node>) -> [Node; 2]
+pub(crate) fn two_of(nodes: &mut Vec<Node>) -> [Node; 2]
     requires { length nodes.old.items ≡ 2 }
     ensures { result ≡ nodes.old.items }
 {
@@ -414,4 +514,16 @@ fn three_of(nodes: &mut Vec<Node>) -> [Node; 3]
     let second = last_of(nodes);
     let first = last_of(nodes);
     [first, second, third]
+}
+
+/// Takes all four nodes out.
+fn four_of(nodes: &mut Vec<Node>) -> [Node; 4]
+    requires { length nodes.old.items ≡ 4 }
+    ensures { result ≡ nodes.old.items }
+{
+    let fourth = last_of(nodes);
+    let third = last_of(nodes);
+    let second = last_of(nodes);
+    let first = last_of(nodes);
+    [first, second, third, fourth]
 }

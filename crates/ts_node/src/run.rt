@@ -1,13 +1,13 @@
 //! Runs: the elements of a repetition with their children, in a tree of shared parts that is
 //! balanced as an AVL tree is. Heights and balance are no part of what a run means.
-ghost use Rattle.std.specs.Prelude.{◌≡◌, ◌+◌, ◌<◌, ◌≤◌, ◌^◌, ◌++◌, ◌∷◌, [], true, false, IfOk, IfErr, OnOk, OnErr, ℕ, length, set, slice_get, Some};
-ghost use Rattle.spec_trees.specs.declared.tree.Stretch.{Stretch};
+ghost use Rattle.std.specs.Prelude.{◌≡◌, ◌+◌, ◌<◌, ◌^◌, ◌++◌, ◌∷◌, [], IfOk, OnOk, length, set, slice_get, Some};
 ghost use Rattle.spec_trees.specs.Trees.{first_pad};
 ghost use Rattle.spec_trees.specs.Made.{children_count, loose_element, loosened_at};
-ghost use Rattle.ts_node.specs.Held.{joined_stretch, stretch, stretch_of, changed, loosened_stretch, IsCount, HasNoEmptyPart};
+ghost use Rattle.ts_node.specs.Held.{joined_stretch, stretch, changed, loosened_stretch, IsCount};
 ghost use Rattle.ts_node.specs.Sides.{IsSideOf};
 
-use crate::counts::{both, count, with_one};
+use crate::counts::{both, count};
+use crate::in_place::lengthen_alone;
 use crate::node::{Counts, Node, Run, Shape};
 use crate::sums::{copy, moved};
 use spec_trees::Element;
@@ -15,7 +15,7 @@ use std::alloc::{AllocError, Global};
 use ts_base::{List, Shared};
 
 /// The most elements and children together in a leaf, but for a leaf of one long element.
-const MOST_IN_LEAF: u64 = 128;
+pub(crate) const MOST_IN_LEAF: u64 = 128;
 
 /// The most elements and children together in the last leaf of a run that has other owners, and is
 /// so copied for each element by which it is lengthened.
@@ -276,72 +276,30 @@ impl Run {
         Run::leaf(alloc, elements, children)
     }
 
-    /// The run with one more element of these children. A last leaf that nobody else owns is
-    /// lengthened in place; another is copied, and all before it is shared. The last leaf grows
-    /// until it is full; it then becomes part of the balanced tree before it, and a new one begins.
+    /// The run with one more element of these children, of which this is counted. A last leaf that
+    /// nobody else owns is lengthened in place; another is copied, and all before it is shared. The
+    /// last leaf grows until it is full; it then becomes part of the balanced tree before it, and a
+    /// new one begins.
     pub(crate) fn with_element(
         alloc: Global,
         run: Shared<Run>,
         element: Element,
+        one: Counts,
         more: &mut Vec<Node>,
     ) -> Result<Shared<Run>, AllocError>
         requires fits { length run.elements + 1 < 2 ^ 32 }
         requires wide { length run.children + length more.old.items < 2 ^ 32 }
         requires own { element.children ≡ length more.old.items }
+        requires counted { IsCount one (stretch (element ∷ []) more.old.items) }
         ensures { IfOk result (λ new. new ≡ joined_stretch run
             (stretch (element ∷ []) more.old.items)) }
     {
         let mut run = run;
-        if lengthen_alone(&mut run, element, more)? {
+        if lengthen_alone(&mut run, element, one, more)? {
             Ok(run)
         } else {
             let last = Run::single(alloc, element, moved(alloc, more)?)?;
             Run::with_leaf(alloc, &run, &last)
-        }
-    }
-
-    /// Lengthens it in place by one more element of these children, where nobody else owns its last
-    /// leaf and this has room. Says whether it did.
-    #[tactic(auto, using(crate::proofs::InPlaceLemmas::whole_still, crate::proofs::InPlaceLemmas::whole_longer))]
-    fn lengthen(&mut self, element: Element, more: &mut Vec<Node>) -> Result<bool, AllocError>
-        requires fits { length self.old.elements + 1 < 2 ^ 32 }
-        requires wide { length self.old.children + length more.old.items < 2 ^ 32 }
-        requires own { element.children ≡ length more.old.items }
-        ensures longer { IfOk result (λ done. done ≡ true → self.new
-            ≡ joined_stretch self.old (stretch (element ∷ []) more.old.items)) }
-        ensures same { IfOk result (λ done. done ≡ false → self.new ≡ self.old) }
-        ensures left { IfOk result (λ done. done ≡ false → more.new.items ≡ more.old.items) }
-    {
-        let counts = self.counts;
-        let longer = with_one(counts, element, more.as_slice());
-        if lengthen_end(&mut self.shape, counts, element, more)? {
-            self.counts = longer;
-            Ok(true)
-        } else {
-            Ok(false)
-        }
-    }
-
-    /// The same of a run that is a leaf.
-    #[tactic(auto, using(crate::proofs::InPlaceLemmas::whole_still, crate::proofs::InPlaceLemmas::whole_longer))]
-    fn lengthen_leaf(&mut self, element: Element, more: &mut Vec<Node>) -> Result<bool, AllocError>
-        requires fits { length self.old.elements + 1 < 2 ^ 32 }
-        requires wide { length self.old.children + length more.old.items < 2 ^ 32 }
-        requires own { element.children ≡ length more.old.items }
-        ensures longer { IfOk result (λ done. done ≡ true → self.new
-            ≡ joined_stretch self.old (stretch (element ∷ []) more.old.items)) }
-        ensures same { IfOk result (λ done. done ≡ false → self.new ≡ self.old) }
-        ensures left { IfOk result (λ done. done ≡ false → more.new.items ≡ more.old.items) }
-        ensures kept { IfErr result (λ e. self.new ≡ self.old) }
-        ensures grown { length self.old.elements ≤ length self.new.elements }
-    {
-        let counts = self.counts;
-        let longer = with_one(counts, element, more.as_slice());
-        if lengthen_lists(&mut self.shape, counts, element, more)? {
-            self.counts = longer;
-            Ok(true)
-        } else {
-            Ok(false)
         }
     }
 
@@ -594,173 +552,6 @@ impl Run {
     }
 }
 
-/// Lengthens a run in place by one more element of these children, where nobody else owns it nor
-/// its last leaf, and this has room. Says whether it did.
-#[inline(always)]
-fn lengthen_alone(
-    run: &mut Shared<Run>,
-    element: Element,
-    more: &mut Vec<Node>,
-) -> Result<bool, AllocError>
-    requires fits { length run.old.elements + 1 < 2 ^ 32 }
-    requires wide { length run.old.children + length more.old.items < 2 ^ 32 }
-    requires own { element.children ≡ length more.old.items }
-    ensures longer { IfOk result (λ done. done ≡ true → run.new
-        ≡ joined_stretch run.old (stretch (element ∷ []) more.old.items)) }
-    ensures same { IfOk result (λ done. done ≡ false → run.new ≡ run.old) }
-    ensures left { IfOk result (λ done. done ≡ false → more.new.items ≡ more.old.items) }
-{
-    match run.get_mut() {
-        None => Ok(false),
-        Some(alone) => {
-            let done = alone.lengthen(element, more)?;
-            Ok(done)
-        }
-    }
-}
-
-/// The same of a run that is a leaf.
-#[inline(always)]
-fn lengthen_last(
-    leaf: &mut Shared<Run>,
-    element: Element,
-    more: &mut Vec<Node>,
-) -> Result<bool, AllocError>
-    requires fits { length leaf.old.elements + 1 < 2 ^ 32 }
-    requires wide { length leaf.old.children + length more.old.items < 2 ^ 32 }
-    requires own { element.children ≡ length more.old.items }
-    ensures longer { IfOk result (λ done. done ≡ true → leaf.new
-        ≡ joined_stretch leaf.old (stretch (element ∷ []) more.old.items)) }
-    ensures same { IfOk result (λ done. done ≡ false → leaf.new ≡ leaf.old) }
-    ensures left { IfOk result (λ done. done ≡ false → more.new.items ≡ more.old.items) }
-    ensures kept { IfErr result (λ e. leaf.new ≡ leaf.old) }
-    ensures grown { length leaf.old.elements ≤ length leaf.new.elements }
-{
-    match leaf.get_mut() {
-        None => Ok(false),
-        Some(alone) => {
-            let done = alone.lengthen_leaf(element, more)?;
-            Ok(done)
-        }
-    }
-}
-
-/// Lengthens what a run of these counts holds: a leaf, or the second part of a branch, where this
-/// is one.
-#[inline(always)]
-fn lengthen_end(
-    shape: &mut Shape,
-    counts: Counts,
-    element: Element,
-    more: &mut Vec<Node>,
-) -> Result<bool, AllocError>
-    requires fits { length (stretch_of shape.old).elements + 1 < 2 ^ 32 }
-    requires wide { length (stretch_of shape.old).children + length more.old.items < 2 ^ 32 }
-    requires own { element.children ≡ length more.old.items }
-    requires held { HasNoEmptyPart shape.old }
-    ensures longer { IfOk result (λ done. done ≡ true → stretch_of shape.new
-        ≡ joined_stretch (stretch_of shape.old) (stretch (element ∷ []) more.old.items)) }
-    ensures same { IfOk result (λ done. done ≡ false → stretch_of shape.new
-        ≡ stretch_of shape.old) }
-    ensures left { IfOk result (λ done. done ≡ false → more.new.items ≡ more.old.items) }
-    ensures kept { IfErr result (λ e. stretch_of shape.new ≡ stretch_of shape.old) }
-    ensures held { HasNoEmptyPart shape.new }
-{
-    match shape {
-        Shape::Leaf(elements, children) => {
-            let done = put_in_room(counts, elements, children, element, more)?;
-            Ok(done)
-        }
-        Shape::Branch(_, end) => {
-            let done = lengthen_last(end, element, more)?;
-            Ok(done)
-        }
-    }
-}
-
-/// Lengthens what a run of these counts holds, where it is a leaf.
-#[inline(always)]
-fn lengthen_lists(
-    shape: &mut Shape,
-    counts: Counts,
-    element: Element,
-    more: &mut Vec<Node>,
-) -> Result<bool, AllocError>
-    requires wide { length (stretch_of shape.old).children + length more.old.items < 2 ^ 32 }
-    requires held { HasNoEmptyPart shape.old }
-    ensures longer { IfOk result (λ done. done ≡ true → stretch_of shape.new
-        ≡ joined_stretch (stretch_of shape.old) (stretch (element ∷ []) more.old.items)) }
-    ensures same { IfOk result (λ done. done ≡ false → stretch_of shape.new
-        ≡ stretch_of shape.old) }
-    ensures left { IfOk result (λ done. done ≡ false → more.new.items ≡ more.old.items) }
-    ensures kept { IfErr result (λ e. stretch_of shape.new ≡ stretch_of shape.old) }
-    ensures held { HasNoEmptyPart shape.new }
-    ensures grown { length (stretch_of shape.old).elements
-        ≤ length (stretch_of shape.new).elements }
-{
-    match shape {
-        Shape::Leaf(elements, children) => {
-            let done = put_in_room(counts, elements, children, element, more)?;
-            Ok(done)
-        }
-        Shape::Branch(_, _) => Ok(false),
-    }
-}
-
-/// Puts an element behind those of a leaf of these counts, and its children behind theirs, where
-/// the leaf has room. Says whether it did.
-#[inline(always)]
-fn put_in_room(
-    leaf: Counts,
-    elements: &mut List<Element>,
-    children: &mut List<Node>,
-    element: Element,
-    more: &mut Vec<Node>,
-) -> Result<bool, AllocError>
-    requires { length more.old.items < 2 ^ 32 }
-    ensures elements { IfOk result (λ done. done ≡ true → elements.new
-        ≡ elements.old ++ element ∷ []) }
-    ensures children { IfOk result (λ done. done ≡ true → children.new
-        ≡ children.old ++ more.old.items) }
-    ensures same_elements { IfOk result (λ done. done ≡ false → elements.new ≡ elements.old) }
-    ensures same_children { IfOk result (λ done. done ≡ false → children.new ≡ children.old) }
-    ensures left { IfOk result (λ done. done ≡ false → more.new.items ≡ more.old.items) }
-    ensures kept_elements { IfErr result (λ e. elements.new ≡ elements.old) }
-    ensures kept_children { IfErr result (λ e. children.new ≡ children.old) }
-    ensures grown { length elements.old ≤ length elements.new }
-{
-    if !has_room_alone(leaf, more.len()) {
-        return Ok(false);
-    }
-    put(elements, children, element, more)?;
-    Ok(true)
-}
-
-/// Puts an element behind others, and its children behind theirs. Where memory runs out both lists
-/// are as before.
-#[inline(always)]
-#[tactic(auto, using(crate::proofs::InPlaceLemmas::popped))]
-fn put(
-    elements: &mut List<Element>,
-    children: &mut List<Node>,
-    element: Element,
-    more: &mut Vec<Node>,
-) -> Result<(), AllocError>
-    ensures elements { OnOk result (elements.new ≡ elements.old ++ element ∷ []) }
-    ensures children { OnOk result (children.new ≡ children.old ++ more.old.items) }
-    ensures kept_elements { OnErr result (elements.new ≡ elements.old) }
-    ensures kept_children { OnErr result (children.new ≡ children.old) }
-{
-    elements.push(element)?;
-    match children.append(more) {
-        Ok(()) => Ok(()),
-        Err(error) => {
-            let _ = elements.pop();
-            Err(error)
-        }
-    }
-}
-
 /// The part of a branch in which a child and an element lie.
 enum Side {
     Left,
@@ -785,13 +576,6 @@ fn side_of(low: Counts, k: u32, e: u32) -> Side
 /// Whether both are small enough to be one leaf.
 fn fit_one_leaf(left: &Run, right: &Run) -> bool {
     size(left) + size(right) <= MOST_IN_LEAF
-}
-
-/// Whether a leaf that nobody else owns has room for one more element of so many children.
-fn has_room_alone(leaf: Counts, children: usize) -> bool
-    requires { children < 2 ^ 32 }
-{
-    leaf.elements as u64 + leaf.children as u64 + 1 + children as u64 <= MOST_IN_LEAF
 }
 
 /// Whether a last leaf that is copied has room for one more.

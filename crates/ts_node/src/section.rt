@@ -104,7 +104,7 @@ impl Node {
                 Ok(Section { run })
             }
             Kind::Single(single) => {
-                let repetition = single.get().repetition(alloc)?;
+                let repetition = single.repetition(alloc)?;
                 let whole = Run::first(alloc, repetition.run(), to)?;
                 let run = Run::behind(alloc, &whole, from)?;
                 Ok(Section { run })
@@ -162,7 +162,7 @@ fn joined_run(alloc: Global, before: &Node, more: &Section) -> Result<Shared<Run
         }
         Kind::Repetition(repetition) => Run::join(alloc, repetition.get().run(), &more.run),
         Kind::Single(single) => {
-            let repetition = single.get().repetition(alloc)?;
+            let repetition = single.repetition(alloc)?;
             Run::join(alloc, repetition.run(), &more.run)
         }
     }

@@ -31,7 +31,7 @@ impl Node {
                 repetition.get().run().get().settled_within(e, room as u64)
             }
             Kind::Single(single) => {
-                let (elements, children) = single.get().lists();
+                let (elements, children) = single.lists();
                 settled_behind(elements, children, e as usize, room as u64)
             }
         }

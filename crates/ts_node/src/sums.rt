@@ -1,9 +1,8 @@
 //! Sums over children: a list of nodes goes in, and what a node over them has to know comes out.
-ghost use Rattle.std.specs.Prelude.{◌≡◌, ◌+◌, ◌*◌, ◌<◌, ◌≤◌, ◌^◌, ◌++◌, length, IfOk, OnOk};
+ghost use Rattle.std.specs.Prelude.{◌≡◌, ◌+◌, ◌<◌, ◌≤◌, ◌^◌, ◌++◌, ◌∷◌, [], length, IfOk, OnOk};
 ghost use Rattle.std.specs.Int.RustNames.{unsigned_abs};
 ghost use lib.IntN.{◌+ℤ◌};
-ghost use Rattle.spec_trees.specs.Trees.{all_nodes, all_totals, first_pad};
-ghost use Rattle.spec_trees.specs.Made.{node_limit};
+ghost use Rattle.spec_trees.specs.Trees.{first_pad};
 ghost use Rattle.ts_node.specs.Held.{IsSum};
 
 use crate::node::{Node, Sums};
@@ -33,20 +32,6 @@ pub(crate) fn sums(children: &[Node]) -> Sums
         depth,
         totals,
     }
-}
-
-/// The dynamic totals of all children together.
-pub(crate) fn totals(children: &[Node]) -> i64
-    requires { all_nodes children.now < node_limit }
-    ensures total { result ≡ all_totals children.now }
-    ensures modest { unsigned_abs result ≤ 2 ^ 31 * all_nodes children.now }
-{
-    let mut total = 0i64;
-    for child in children {
-        let summary = child.summary();
-        total = plus(total, summary.dynamic);
-    }
-    total
 }
 
 /// The sum of two totals.
@@ -131,4 +116,13 @@ pub(crate) fn moved(alloc: Global, nodes: &mut Vec<Node>) -> Result<List<Node>, 
     let mut all = Vec::with_capacity(alloc, nodes.len())?;
     append(&mut all, nodes)?;
     Ok(List::from_vec(all))
+}
+
+/// A list of one node.
+pub(crate) fn only(alloc: Global, node: Node) -> Result<List<Node>, AllocError>
+    ensures { IfOk result (λ list. list ≡ node ∷ []) }
+{
+    let mut list = List::with_capacity(alloc, 1)?;
+    list.push(node)?;
+    Ok(list)
 }

@@ -4,7 +4,6 @@ use Rattle.std.specs.Int.RustNames.{unsigned_abs}
 use mir.Syntax.{w64, w128}
 use mir.Val.{SFits, to_z, of_z}
 use Rattle.spec_trees.specs.declared.tree.Tree.{Tree}
-use Rattle.spec_trees.specs.declared.tree.Element.{Element}
 use Rattle.spec_trees.specs.Trees.{all_totals}
 use Rattle.spec_trees.specs.Made.{element}
 use Rattle.ts_node.specs.Held.{IsSum}

@@ -21,5 +21,5 @@ returns-clause-shallow c =
     let k = c.requires.can in
     let d = reduced_depth c.laws_hold.ensures c.args.setting.now.productions c.args.number k.0 k.1 c.args.extent c.args.state c.args.lengthens c.args.children.now.items k.2 k.3 in
     let low = c.requires.shallow in
-    let same = ap tree_depth c.in_ok-node.ensures in
+    let same = ap tree_depth c.in_ok-node.ensures.node in
     omega (arith, d, low, same)

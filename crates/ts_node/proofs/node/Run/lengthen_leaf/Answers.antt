@@ -1,19 +1,14 @@
-use Rattle.std.proofs.Common.{◌≡◌, ap, arith, List, length}
-use Rattle.spec_trees.specs.declared.tree.Tree.{Tree}
+use Rattle.std.proofs.Common.{◌≡◌, ap, arith, ◌∷◌, [], length, true}
 use Rattle.spec_trees.specs.declared.tree.Stretch.{Stretch}
-use Rattle.ts_node.specs.Held.{stretch_of}
+use Rattle.ts_node.specs.Held.{stretch, stretch_of}
+use Rattle.ts_node.proofs.InPlaceLemmas.{whole_longer}
 use Rattle.ts_node.proofs.node.Run.lengthen_leaf.Goals as goal
 
 pub with_one-longer-requires : goal.with_one-longer-requires
 with_one-longer-requires c =
-    let n : length c.as_slice.result.now ≡ length c.args.more.now.items = ap (λ (ks : List Tree). length ks) c.as_slice.ensures.value in
     let es : length (stretch_of c.self.inside.shape).elements ≡ length c.args.self.now.elements = ap (λ (s : Stretch). length s.elements) c.self.view_is in
     let ks : length (stretch_of c.self.inside.shape).children ≡ length c.args.self.now.children = ap (λ (s : Stretch). length s.children) c.self.view_is in
-    record {
-      wide = omega (arith, n, c.requires.wide);
-      own = omega (arith, n, c.requires.own);
-      counted = (stretch_of c.self.inside.shape, c.self.invariant.counted, omega (arith, es, c.requires.fits), omega (arith, n, ks, c.requires.wide));
-    }
+    (stretch_of c.self.inside.shape, stretch (c.args.element ∷ []) c.args.more.now.items, c.self.invariant.counted, c.requires.counted, omega (arith, es, c.requires.fits), omega (arith, ks, c.requires.wide))
 
 pub lengthen_lists-requires : goal.lengthen_lists-requires
 lengthen_lists-requires c =
@@ -22,3 +17,9 @@ lengthen_lists-requires c =
       wide = omega (arith, ks, c.requires.wide);
       held = c.self.invariant.held;
     }
+
+pub invariant_of-self-then-branch : goal.invariant_of-self-then-branch
+invariant_of-self-then-branch c =
+    let taken = c.if-branch.true in
+    let done : c.in_ok-lengthen_lists.field-0 ≡ true = cc in
+    whole_longer c.self.inside.counts c.args.one c.with_one-longer.result c.self.inside.shape c.lengthen_lists.new.shape (stretch (c.args.element ∷ []) c.args.more.now.items) c.self.invariant c.requires.counted c.with_one-longer.ensures (c.in_ok-lengthen_lists.ensures.longer done) c.lengthen_lists.ensures.held
