@@ -9,6 +9,12 @@ use Rattle.ts_gss.specs.declared.layer.Layer.{Layer}
 use Rattle.ts_gss.specs.Stacks.{trees_on, depths_on, tree_on, depth_on, under_top, begins_with_extra}
 use Rattle.ts_gss.specs.Paths.{IsLifted, IsTakenOff, depths_of, AreDepthsOf, still_wanting, Lifting, Taking}
 
+-- one tree, or none, turned round is the same
+pub short_turned : (ts : List Tree) → length ts ≤ 1 → ts ≡ reverse ts
+short_turned [] few = refl
+short_turned (t ∷ []) few = refl
+short_turned (t ∷ u ∷ ts) few = absurd (omega (arith, few))
+
 extras_more : (es : List Tree) (t : Tree) → AreExtras es → is_extra_node t ≡ true → AreExtras (es ++ t ∷ [])
 extras_more [] t all h = (h, tt)
 extras_more (e ∷ es) t all h = (all.0, extras_more es t all.1 h)

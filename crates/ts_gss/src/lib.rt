@@ -11,4 +11,4 @@ mod tests;
 
 pub use graph::Graph;
 pub use layer::Layer;
-pub use path::{Lifted, Taken};
+pub use path::{Lifted, Taken, turn};

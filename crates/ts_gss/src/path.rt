@@ -1,8 +1,8 @@
 //! Ways down a stack: its number goes in; the extras on top of it, or its topmost nodes that are no
 //! extras with the extras between them, come out, and the stack that is left.
-ghost use Rattle.std.specs.Prelude.{◌≡◌, ◌<◌, ◌≤◌, max, length, IfOk};
+ghost use Rattle.std.specs.Prelude.{◌≡◌, ◌<◌, ◌≤◌, ℕ, max, length, reverse, IfOk, Some};
 ghost use Rattle.spec_trees.specs.Made.{filling};
-ghost use Rattle.ts_gss.specs.Stacks.{stack_at, trees_on};
+ghost use Rattle.ts_gss.specs.Stacks.{stack_at, tree_on, trees_on};
 ghost use Rattle.ts_gss.specs.Paths.{IsLifted, IsTakenOff, AreDepthsOf, depths_of, still_wanting};
 
 use crate::graph::{Cell, Graph};
@@ -95,13 +95,31 @@ impl Graph {
             first = self.depth(at);
             at = self.below(at);
         }
-        nodes.reverse();
+        turn(&mut nodes);
         Ok(Taken {
             nodes,
             first,
             others,
             below: at,
         })
+    }
+
+    /// Takes the node on top off a stack. All stacks that were put there after it are taken out.
+    #[inline(always)]
+    pub fn take_node(&mut self, head: usize) -> Node
+        requires there { head < length self.old }
+        requires some { 0 < length (stack_at self.old head) }
+        ensures node { Some result ≡ tree_on (stack_at self.old head) }
+        ensures kept { (j : ℕ) → j < head → stack_at self.new j ≡ stack_at self.old j }
+        ensures there { length self.new ≡ head }
+    {
+        let Cell {
+            node,
+            below: _,
+            depth: _,
+            state: _,
+        } = self.take_top(head);
+        node
     }
 
     /// Takes so many nodes that are no extras off the top of a stack, with the extras between them.
@@ -146,13 +164,24 @@ impl Graph {
             first = depth;
             at = below;
         }
-        taken.reverse();
+        turn(&mut taken);
         Ok(Taken {
             nodes: taken,
             first,
             others,
             below: at,
         })
+    }
+}
+
+/// Turns nodes round. Mostly there is one of them or none, which is left as it is.
+#[inline(always)]
+#[tactic(auto, using(crate::proofs::PathLemmas::short_turned))]
+pub fn turn(nodes: &mut Vec<Node>)
+    ensures { nodes.new.items ≡ reverse nodes.old.items }
+{
+    if nodes.len() > 1 {
+        nodes.reverse();
     }
 }
 

@@ -1,5 +1,5 @@
 //! Each call once: nodes are pushed, and what lies on the stacks is compared.
-use crate::{Graph, Taken};
+use crate::{Graph, Taken, turn};
 use std::test::Fail;
 use ts_core::Symbol;
 use ts_node::Node;
@@ -20,15 +20,19 @@ fn a_node_lies_on_its_stack(rt: HostRuntime) -> Result<(), Fail> {
     assert_eq!(rt; graph.depth(top), 1);
     let packed = graph.push_packed(0, Node::leaf(Symbol(2), 0, 1, 2, None), 7, 3)?;
     let Taken {
-        nodes,
+        mut nodes,
         first,
         others,
         below,
     } = graph.take_off(alloc, packed, 1)?;
+    turn(&mut nodes);
     assert_eq!(rt; nodes.len(), 1);
     assert_eq!(rt; first, 3);
     assert_eq!(rt; others, 0);
     assert_eq!(rt; below, 0);
     graph.keep(nodes);
+    let last = graph.push(0, Node::leaf(Symbol(2), 0, 1, 2, None), 7)?;
+    let node = graph.take_node(last);
+    assert_eq!(rt; node.extra(), false);
     Ok(())
 }

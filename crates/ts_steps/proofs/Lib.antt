@@ -15,6 +15,7 @@ pub mod ReduceLemmas
 pub mod MadeLemmas
 pub mod RootLemmas
 pub mod LookLemmas
+pub mod TopLemmas
 pub mod WeightLemmas
 pub mod MoveLemmas
 pub mod ThroughLemmas

@@ -39,7 +39,7 @@ end_by_behind own end all ts e less = end_by_wider (own + end) all (own + 0) own
 pub seen_none : (behind : ℕ) → IsSeenOf [] behind (record { extent = behind; stated = true })
 seen_none behind = record { covers = tt; past = omega arith; most = λ start limit sum all. omega (arith, sum); stated = ((λ h. tt), (λ all. refl)) }
 
-seen_before : (t : Tree) (ts : List Tree) (behind : ℕ) (old new : Seen) → new.extent ≡ max (span_of t + old.extent) (node_extent t) → new.stated ≡ (old.stated && is_some (state_of t))
+pub seen_before : (t : Tree) (ts : List Tree) (behind : ℕ) (old new : Seen) → new.extent ≡ max (span_of t + old.extent) (node_extent t) → new.stated ≡ (old.stated && is_some (state_of t))
     → IsSeenOf ts behind old → IsSeenOf (t ∷ ts) behind new
 seen_before t ts behind old new extent stated k = record {
   covers = (omega (arith, extent), end_by_wider new.extent new.extent (span_of t) (0 + span_of t) ts (omega arith) (omega arith) (end_by_behind (span_of t) old.extent new.extent ts k.covers (omega (arith, extent))));

@@ -1,5 +1,5 @@
 -- What a reduction of the only stack puts on it.
-use Rattle.std.specs.Prelude.{◌≡◌, ℕ, ◌+◌, ◌<◌, ◌≤◌, ◌↔◌, Bool, true, List, ◌∷◌, ◌++◌, length, reverse, IsTrue, Some}
+use Rattle.std.specs.Prelude.{◌≡◌, ℕ, ◌+◌, ◌<◌, ◌≤◌, ◌↔◌, Bool, true, List, ◌∷◌, ◌++◌, length, reverse, IsTrue, Some, []}
 use Rattle.ts_core.specs.declared.flat.Production.{Production}
 use Rattle.spec_grammar.specs.Symbols.{production_at}
 use Rattle.spec_trees.specs.declared.tree.Tree.{Tree}
@@ -13,6 +13,7 @@ use Rattle.ts_gss.specs.declared.layer.Layer.{Layer}
 use Rattle.ts_steps.specs.LiveHeads.{IsGathered, AreLayersTaken}
 use Rattle.ts_steps.specs.declared.ahead.TokenAhead.{TokenAhead}
 use Rattle.ts_steps.specs.declared.gathering.Gathered.{Gathered}
+use Rattle.ts_steps.specs.declared.topmost.TopSeen.{TopSeen}
 use Rattle.ts_steps.specs.Heads.{state_where}
 
 -- So many bytes cover all lexings of a node's making, and no fewer do: those of its children and of
@@ -67,3 +68,12 @@ pub record IsGatheredBy (t : ParseTable) (size : ℕ) (stack : List Layer) (plac
   pub covers : CoversMaking r.extent ahead r.children.items r.extras.items
   pub stated : IsTrue r.stated ↔ (EachHasState r.children.items × EachHasState r.extras.items)
   pub layers : AreLayersTaken stack r.extras.items r.children.items r.first r.others below
+
+-- what a reduction sees of the node on top, where this is its only child. It serves private clauses
+-- and proofs alone.
+pub record IsTopSeen (t : ParseTable) (size : ℕ) (stack : List Layer) (place count ahead : ℕ)
+    (child : Tree) (s : TopSeen) (below : List Layer) : Type 0 where
+  pub gathered : IsGathered t size stack place count [] (child ∷ []) s.extent below
+  pub covers : CoversMaking s.extent ahead (child ∷ []) []
+  pub stated : IsTrue s.stated ↔ (EachHasState (child ∷ []) × EachHasState [])
+  pub layers : AreLayersTaken stack [] (child ∷ []) s.depth 0 below

@@ -12,7 +12,7 @@ ghost use Rattle.ts_steps.specs.Reducing.{IsGatheredBy};
 use crate::head::StackHead;
 use crate::making::{MOST_DEPTH, seen_over};
 use std::alloc::{AllocError, Global};
-use ts_gss::{Graph, Lifted, Taken};
+use ts_gss::{Graph, Lifted, Taken, turn};
 use ts_node::Node;
 
 /// What a reduction takes off a stack: the extras on top, the lowest first; the children; how many
@@ -92,7 +92,7 @@ fn gather(
 {
     let Lifted { mut extras, under } = graph.lift(alloc, head.top)?;
     let taken = graph.take(alloc, under, count)?;
-    extras.reverse();
+    turn(&mut extras);
     Ok(with_seen(extras, taken, ahead))
 }
 
@@ -118,7 +118,7 @@ fn gather_off(
 {
     let Lifted { mut extras, under } = graph.lift(alloc, head.top)?;
     let taken = graph.take_off(alloc, under, count)?;
-    extras.reverse();
+    turn(&mut extras);
     Ok(with_seen(extras, taken, ahead))
 }
 

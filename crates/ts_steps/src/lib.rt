@@ -24,6 +24,7 @@ mod reparsing;
 mod setting;
 mod shifting;
 mod taking;
+mod topmost;
 
 pub use accepting::accept;
 pub use ahead::TokenAhead;

@@ -1,6 +1,6 @@
 //! Nodes of reductions: the children of a reduction, or their depths, go in; how deep its node is,
 //! how many bytes were examined for it, and the node itself come out.
-ghost use Rattle.std.specs.Prelude.{◌≡◌, ℕ, ◌+◌, ◌<◌, ◌≤◌, ◌^◌, ◌↔◌, ◌&&◌, max, IfOk, IsTrue, MatchOption};
+ghost use Rattle.std.specs.Prelude.{◌≡◌, ℕ, ◌+◌, ◌<◌, ◌≤◌, ◌^◌, ◌↔◌, ◌&&◌, ◌∷◌, [], max, IfOk, IsTrue, MatchOption};
 ghost use Rattle.ts_core.specs.declared.flat.Production.{Production};
 ghost use Rattle.spec_trees.specs.Trees.{all_spans, tree_depth};
 ghost use Rattle.spec_trees.specs.Made.{EndBy, form_of, most_depth, reduced};
@@ -12,7 +12,7 @@ ghost use Rattle.ts_steps.specs.Making.{depth_by, depth_when, IsSeenOf};
 use crate::laws::laws_hold;
 use crate::setting::ParseSetting;
 use std::alloc::{AllocError, Global};
-use ts_node::{Node, Outline, reduce as reduced_node};
+use ts_node::{Node, Outline, reduce as reduced_node, reduce_one as reduced_one};
 
 /// The greatest depth of a node.
 pub(crate) const MOST_DEPTH: u32 = 1000;
@@ -88,6 +88,20 @@ pub(crate) fn seen_over(nodes: &[Node], behind: u32) -> Seen
     seen
 }
 
+/// What is known of one node, where the text was looked at for so many bytes behind it.
+#[inline(always)]
+pub(crate) fn seen_of(node: &Node, behind: u32) -> Seen
+    requires { (limit start : ℕ) × (limit < 2 ^ 31) × EndBy limit start (node.now ∷ [])
+        × (start + (all_spans (node.now ∷ []) + behind) ≤ limit) }
+    ensures { IsSeenOf (node.now ∷ []) behind result }
+{
+    let none = Seen {
+        extent: behind,
+        stated: true,
+    };
+    with_those_behind(node.outline(), none)
+}
+
 /// Whether each of some nodes has a state.
 pub(crate) fn have_states(nodes: &[Node]) -> bool
     ensures { IsTrue result ↔ EachHasState nodes.now }
@@ -120,5 +134,29 @@ pub(crate) fn node_of(
 {
     laws_hold();
     let node = reduced_node(alloc, &setting.productions, number, children, extent, state)?;
+    Ok(node)
+}
+
+/// The same of an only child, which is given by value.
+#[inline(always)]
+pub(crate) fn node_of_one(
+    alloc: Global,
+    setting: &ParseSetting,
+    number: u32,
+    lengthens: bool,
+    child: Node,
+    extent: u32,
+    state: Option<u16>,
+) -> Result<Node, AllocError>
+    requires can { (left : ℕ) × (p : Production)
+        × CanReduce setting.now.productions number left p extent (child ∷ [])
+        × (lengthens_by (form_of setting.now.productions left number) ≡ lengthens) }
+    requires shallow { depth_when lengthens (child ∷ []) ≤ most_depth }
+    ensures node { IfOk result (λ node.
+        node ≡ reduced setting.now.productions number extent state (child ∷ [])) }
+    ensures shallow { IfOk result (λ node. tree_depth node ≤ most_depth) }
+{
+    laws_hold();
+    let node = reduced_one(alloc, &setting.productions, number, child, extent, state)?;
     Ok(node)
 }

@@ -1,6 +1,6 @@
 //! Reductions of a stack: the number of a production goes in, and the head of the new stack comes
 //! out, or that the node is too deep.
-ghost use Rattle.std.specs.Prelude.{◌≡◌, ℕ, ◌+◌, ◌<◌, ◌≤◌, ◌∷◌, ◌++◌, ◌↔◌, suc, false, true, List, length, map, reverse, IfOk, IfSome, IsTrue, None, OnOk};
+ghost use Rattle.std.specs.Prelude.{◌≡◌, ℕ, ◌+◌, ◌<◌, ◌≤◌, ◌∷◌, ◌++◌, ◌↔◌, suc, false, true, List, length, map, reverse, slice_get, IfOk, IfSome, IsTrue, None, OnOk, Some};
 ghost use Rattle.ts_base.specs.Bytes.{Bytes};
 ghost use Rattle.spec_tables.specs.Actions.{Act, reduce as reducing_by};
 ghost use Rattle.spec_trees.specs.Trees.{all_spans, span_of};
@@ -9,7 +9,7 @@ ghost use Rattle.spec_runs.specs.Moves.{StandsBefore};
 ghost use Rattle.spec_forced.specs.Sound.{States};
 ghost use Rattle.ts_table.specs.declared.view.ParseTable.{ParseTable};
 ghost use Rattle.ts_table.specs.Tables.{IsStateOf};
-ghost use Rattle.ts_gss.specs.Stacks.{stack_at, trees_on};
+ghost use Rattle.ts_gss.specs.Stacks.{stack_at, begins_with_extra, trees_on};
 ghost use Rattle.ts_steps.specs.LiveHeads.{packed_tree, packed_own, packed_layers, IsGoodStack, read_on, GainsStacks, CanLay, CanPut, IsReducedTo};
 ghost use Rattle.ts_steps.specs.Settings.{IsParseSetting};
 ghost use Rattle.ts_steps.specs.Heads.{AreStatesOf, IsOwnHead, StandOnHead, IsMoveAhead};
@@ -19,9 +19,11 @@ use crate::ahead::TokenAhead;
 use crate::gathering::{Gathered, gather_for};
 use crate::head::StackHead;
 use crate::laws::{laws_hold, sound_laws_hold};
-use crate::making::{depth_over, node_of};
+use crate::lines::ProductionLine;
+use crate::making::{depth_over, node_of, node_of_one};
 use crate::setting::ParseSetting;
 use crate::shifting::state_below;
+use crate::topmost::{is_over_top, seen_on_top};
 use std::alloc::{AllocError, Global};
 use ts_core::Symbol;
 use ts_gss::Graph;
@@ -116,14 +118,65 @@ fn cut_alone(graph: &mut Graph, below: usize, alone: bool)
     }
 }
 
-/// Reduces a stack by the production of a number. Where it is alone this is done in place: all
-/// stacks of the graph that were put there after the one below the node are taken out. Else all
-/// stacks stay. None where the node would be deeper than a node may be; it is not made then.
-///
-/// # Errors
-///
-/// `AllocError` where memory runs out.
-pub fn reduce(
+/// Reduces a stack that is alone by a production of one step, where no extra is on top: the node on
+/// top is the only child. This is done in place.
+#[inline(always)]
+fn reduce_top(
+    alloc: Global,
+    table: &Table,
+    setting: &ParseSetting,
+    graph: &mut Graph,
+    head: StackHead,
+    number: u32,
+    ahead: TokenAhead,
+    line: ProductionLine,
+) -> Result<Option<StackHead>, AllocError>
+    requires setting { IsParseSetting table.now setting.now.size setting.now }
+    requires live { IsOwnHead table.now setting.now.size graph.old head }
+    requires stays { (token : ℕ)
+        × Act table.now.grammar (read_on graph.old head) token (reducing_by number) }
+    requires some { 0 < ahead.found.extent }
+    requires ahead { head.place + ahead.found.extent ≤ suc setting.now.size }
+    requires line { slice_get setting.now.lines number ≡ Some line }
+    requires one { line.steps ≡ 1 }
+    requires plain { begins_with_extra (stack_at graph.old head.top) ≡ false }
+    ensures done { IfOk result (λ o. IsReducedTo table.now setting.now.size number graph.old
+        graph.new head o) }
+    ensures kept { IfOk result (λ o. o ≡ None → graph.new ≡ graph.old) }
+    ensures live { IfOk result (λ o. IfSome o (IsOwnHead table.now setting.now.size graph.new)) }
+    ensures put { IfOk result (λ o. IfSome o (λ h. IsNodePut table.now number ahead
+        (trees_on (stack_at graph.old head.top)) (trees_on (stack_at graph.new h.top)))) }
+    ensures stand { IfOk result (λ o. IfSome o (λ h. (states : States) (text : Bytes)
+        → length text ≡ setting.now.size → AreStatesOf table.now states
+        → IsMoveAhead table.now text graph.old head ahead (reducing_by number)
+        → StandOnHead table.now states text graph.old head
+        → StandOnHead table.now states text graph.new h)) }
+{
+    laws_hold();
+    sound_laws_hold();
+    table.stands();
+    setting.productions.values_are_small();
+    let seen = seen_on_top(graph, head, ahead.found.extent);
+    let only = is_without_choice(ahead.only, seen.stated, line.steps);
+    let state = state_below(graph, seen.below, only);
+    match depth_over(seen.depth, 0, line.lengthens) {
+        None => Ok(None),
+        Some(depth) => {
+            let child = graph.take_node(head.top);
+            graph.cut(seen.below);
+            let lengthens = line.lengthens;
+            let node = node_of_one(alloc, setting, number, lengthens, child, seen.extent, state)?;
+            let top = put(table, graph, seen.below, line.left, node, depth, &[])?;
+            Ok(Some(StackHead {
+                top,
+                place: head.place,
+            }))
+        }
+    }
+}
+
+/// Reduces a stack where the children go by way of a vector.
+fn reduce_listed(
     alloc: Global,
     table: &Table,
     setting: &ParseSetting,
@@ -189,5 +242,50 @@ pub fn reduce(
                 place: head.place,
             }))
         }
+    }
+}
+
+/// Reduces a stack by the production of a number. Where it is alone this is done in place: all
+/// stacks of the graph that were put there after the one below the node are taken out. Else all
+/// stacks stay. None where the node would be deeper than a node may be; it is not made then.
+///
+/// # Errors
+///
+/// `AllocError` where memory runs out.
+pub fn reduce(
+    alloc: Global,
+    table: &Table,
+    setting: &ParseSetting,
+    graph: &mut Graph,
+    head: StackHead,
+    number: u32,
+    ahead: TokenAhead,
+    alone: bool,
+) -> Result<Option<StackHead>, AllocError>
+    requires setting { IsParseSetting table.now setting.now.size setting.now }
+    requires live { IsOwnHead table.now setting.now.size graph.old head }
+    requires stays { (token : ℕ)
+        × Act table.now.grammar (read_on graph.old head) token (reducing_by number) }
+    requires some { 0 < ahead.found.extent }
+    requires ahead { head.place + ahead.found.extent ≤ suc setting.now.size }
+    ensures grows { alone ≡ false → OnOk result (GainsStacks graph.old graph.new) }
+    ensures done { IfOk result (λ o. IsReducedTo table.now setting.now.size number graph.old
+        graph.new head o) }
+    ensures kept { IfOk result (λ o. o ≡ None → graph.new ≡ graph.old) }
+    ensures live { IfOk result (λ o. IfSome o (IsOwnHead table.now setting.now.size graph.new)) }
+    ensures put { IfOk result (λ o. IfSome o (λ h. IsNodePut table.now number ahead
+        (trees_on (stack_at graph.old head.top)) (trees_on (stack_at graph.new h.top)))) }
+    ensures stand { IfOk result (λ o. IfSome o (λ h. (states : States) (text : Bytes)
+        → length text ≡ setting.now.size → AreStatesOf table.now states
+        → IsMoveAhead table.now text graph.old head ahead (reducing_by number)
+        → StandOnHead table.now states text graph.old head
+        → StandOnHead table.now states text graph.new h)) }
+{
+    laws_hold();
+    let line = *setting.lines.get(number as usize);
+    if is_over_top(graph, head, line.steps, alone) {
+        reduce_top(alloc, table, setting, graph, head, number, ahead, line)
+    } else {
+        reduce_listed(alloc, table, setting, graph, head, number, ahead, alone)
     }
 }

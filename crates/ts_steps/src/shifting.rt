@@ -35,6 +35,7 @@ pub(crate) fn state_below(graph: &Graph, head: usize, only: bool) -> Option<u16>
 /// # Errors
 ///
 /// `AllocError` where memory runs out.
+#[inline(always)]
 pub fn shift(
     graph: &mut Graph,
     head: StackHead,

@@ -20,8 +20,8 @@ loop-wanting-preserved c = record {
 
 pub returns-clause-nodes : goal.returns-clause-nodes
 returns-clause-nodes c =
-    take_ends (stack_at c.args.self.now c.args.head) (stack_at c.args.self.now c.loop-wanting.at) c.args.count c.loop-wanting.wanting c.loop-wanting.nodes.items c.reverse.new.self.items c.loop-wanting.invariant.taking c.loop-wanting-test.false c.reverse.ensures.items
+    take_ends (stack_at c.args.self.now c.args.head) (stack_at c.args.self.now c.loop-wanting.at) c.args.count c.loop-wanting.wanting c.loop-wanting.nodes.items c.turn.new.nodes.items c.loop-wanting.invariant.taking c.loop-wanting-test.false c.turn.ensures
 
 pub returns-clause-depths : goal.returns-clause-depths
 returns-clause-depths c =
-    depths_end (stack_at c.args.self.now c.args.head) c.loop-wanting.nodes.items c.reverse.new.self.items c.loop-wanting.first c.loop-wanting.others c.reverse.ensures.items c.loop-wanting.invariant.depths
+    depths_end (stack_at c.args.self.now c.args.head) c.loop-wanting.nodes.items c.turn.new.nodes.items c.loop-wanting.first c.loop-wanting.others c.turn.ensures c.loop-wanting.invariant.depths
