@@ -589,11 +589,11 @@ def chunk(size):
 
 
 def rule(children):
-    """The bytes of a rule's node with so many children: one to three lie in its body, others in a list.
+    """The bytes of a rule's node with so many children: one to four lie in its body, others in a list.
 
-    Its numbers are small, so that it has the short form of its summary beside one to three children.
+    Its numbers are small, so that it has the short form of its summary beside one to four children.
     """
-    if 1 <= children <= 3:
+    if 1 <= children <= 4:
         return chunk(OWNERS + SHORT_SUMMARY + NODE * children)
     return chunk(OWNERS + SUMMARY + LIST) + chunk(NODE * children)
 
@@ -604,7 +604,13 @@ def leaf_of(elements, children):
 
 
 def repetition(elements, children):
-    """The bytes of a repetition that fits one leaf."""
+    """The bytes of a repetition that fits one leaf: one element of one or two children lies in its body.
+
+    Its numbers are small, so that it has the short form of its summary there. The first child lies behind the element,
+    where a multiple of 8 bytes is full.
+    """
+    if elements == 1 and 1 <= children <= 2:
+        return chunk(OWNERS + (SHORT_SUMMARY + ELEMENT + 7) // 8 * 8 + NODE * children)
     return chunk(OWNERS + REPETITION) + leaf_of(elements, children)
 
 
