@@ -26,6 +26,7 @@ use Rattle.ts_graph.specs.Ways.{AreAt}
 use Rattle.ts_reductions.specs.declared.setting.Setting.{Setting}
 use Rattle.ts_reductions.specs.SoundLinks.{bare_links}
 use Rattle.ts_reductions.specs.Sound.{parsing_from, IsSoundBy}
+use Rattle.ts_steps.specs.declared.found.FoundToken.{FoundToken}
 use Rattle.ts_steps.specs.declared.head.StackHead.{StackHead}
 use Rattle.ts_steps.specs.LiveHeads.{config_of, packed_tree, packed_layers}
 use Rattle.ts_steps.specs.Heads.{IsOwnHead}
@@ -46,7 +47,7 @@ use Rattle.ts_glr.specs.declared.spread.Spread.{Spread}
 use Rattle.ts_glr.specs.Laws.{PackingLaws}
 use Rattle.ts_glr.specs.CrossLaws.{LeftLaws, OverLaws}
 use Rattle.ts_glr.specs.Turns.{turn_weight}
-use Rattle.ts_glr.specs.Forks.{LeavesOne, EndsAll}
+use Rattle.ts_glr.specs.Forks.{LeavesOne, EndsAll, SeesKnown}
 use Rattle.ts_glr.specs.Spreading.{IsSpread, IsSpreadOut, IsSpreadDeep, GoesBackTo, IsSpreadFor, IsLeftOf, AsksFor, Crosses}
 use Rattle.ts_glr.proofs.RestLemmas.{rests_start}
 use Rattle.ts_glr.proofs.TurnLemmas.{turn_far}
@@ -253,10 +254,12 @@ pub has_it : {X : Type 0} (P : X → Type 0) (o : Option X) (x : X) → o ≡ So
 has_it {X = X} P o x is h = subst (λ (y : Option X). IfSome y P) is h
 
 module _ (t : ParseTable) (text : Bytes) (first : List (List Layer)) (before : Option ℕ) (h : StackHead) (x : Crossed) (crosses : Crosses t text first before h x) where
-  pub one_by : (l : Left) (stuck : Option ℕ) (live : List StackHead) (best : Option Tree) → x ≡ One l stuck → live ≡ [] → best ≡ None → LeavesOne t text first l.stacks before stuck live best h l.head
+  pub one_by : (l : Left) (stuck : Option ℕ) (live : List StackHead) (best : Option Tree) → x ≡ One l stuck → live ≡ [] → best ≡ None → LeavesOne t text first l.stacks before stuck live best h l.head × SeesKnown t text l.stacks l.head None
   one_by l stuck live best is empty none =
-      let w = subst (λ (y : Crossed). Crosses t text first before h y) is crosses in
-      record { own = w.own; far = w.far; lighter = w.lighter; empty = empty; none = none; rests = w.rests; stand = w.stand }
+      let w = subst (λ (y : Crossed). Crosses t text first before h y) is crosses in (
+        record { own = w.own; far = w.far; lighter = w.lighter; empty = empty; none = none; rests = w.rests; stand = w.stand },
+        λ f e. absurd (let q : ◌≡◌ {A = Option FoundToken} None (Some f) = e in cc),
+      )
 
   pub told_by : (out : Outcome) → x ≡ Told out → EndsAll t text first before h out
   told_by out is = subst (λ (y : Crossed). Crosses t text first before h y) is crosses

@@ -16,10 +16,12 @@ use Rattle.ts_table.specs.declared.view.ParseTable.{ParseTable}
 use Rattle.ts_table.specs.Tables.{most_actions}
 use Rattle.ts_gss.specs.declared.layer.Layer.{Layer}
 use Rattle.ts_gss.specs.Stacks.{stack_at, trees_on}
+use Rattle.ts_steps.specs.declared.found.FoundToken.{FoundToken}
 use Rattle.ts_steps.specs.declared.head.StackHead.{StackHead}
 use Rattle.ts_steps.specs.Good.{EachTree}
 use Rattle.ts_steps.specs.LiveHeads.{config_of, packed_of, IsLiveHead, GainsStacks}
 use Rattle.ts_steps.specs.Heads.{AreStatesOf, IsOwnWithin, IsOwnHead, StandOnHead}
+use Rattle.ts_steps.specs.Looking.{IsTokenAhead}
 use Rattle.ts_glr.specs.declared.outcome.Outcome.{Outcome}
 use Rattle.ts_glr.specs.declared.outcome.Outcome.TheVariants.{Deep}
 use Rattle.ts_glr.specs.Lists.{OfEach}
@@ -35,7 +37,7 @@ use Rattle.ts_glr.specs.declared.forking.Forked.TheVariants.{One, Over}
 use Rattle.ts_glr.specs.Forks.{Following, LeavesOne, EndsAll, ComesTo}
 use Rattle.ts_glr.proofs.ListLemmas.{each_append, each_map, each_both, each_left, each_right, each_last}
 use Rattle.ts_glr.proofs.TurnLemmas.{turn_lt}
-use Rattle.ts_glr.proofs.StackLemmas.{own_stays, config_stays, packed_stays, stand_stays, stay_grown}
+use Rattle.ts_glr.proofs.StackLemmas.{own_stays, ahead_stays, config_stays, packed_stays, stand_stays, stay_grown}
 use Rattle.ts_glr.proofs.LightLemmas.{StepsFall, live_falls, followed_falls, joined_falls, left_lighter}
 use Rattle.ts_glr.proofs.JoinedLemmas.{joined_live, joined_own, joined_stand, packed_is, config_is}
 use Rattle.ts_glr.proofs.SearchLemmas.{Joined, search_rests, rests_search, search_taken, search_joined, search_more, deep_ends, fresh_ends, form_ends}
@@ -328,15 +330,18 @@ module _ (t : ParseTable) (text : Bytes) (first mid : List (List Layer)) (h : St
   rests_there before r = subst (λ (k : PackedStack). PackedRests t.grammar text before k) (sym layers_same) r
 
   pub comes_from : (stacks : List (List Layer)) (before stuck : Option ℕ) (live : List StackHead) (best : Option Tree) (o : Forked) → ComesTo t text mid stacks before stuck live best h o → ComesTo t text first stacks before stuck live best h o
-  comes_from stacks before stuck live best (One k) w = record {
-    own = w.own;
-    far = w.far;
-    lighter = subst (λ (c : Configuration). turn_weight t.grammar (length text) (config_of stacks k) < turn_weight t.grammar (length text) c) same w.lighter;
-    empty = w.empty;
-    none = w.none;
-    rests = λ r. w.rests (rests_there before r);
-    stand = λ states are stand. w.stand states are (stands states stand);
-  }
+  comes_from stacks before stuck live best (One k known) w = (
+    record {
+      own = w.0.own;
+      far = w.0.far;
+      lighter = subst (λ (c : Configuration). turn_weight t.grammar (length text) (config_of stacks k) < turn_weight t.grammar (length text) c) same w.0.lighter;
+      empty = w.0.empty;
+      none = w.0.none;
+      rests = λ r. w.0.rests (rests_there before r);
+      stand = λ states are stand. w.0.stand states are (stands states stand);
+    },
+    w.1,
+  )
   comes_from stacks before stuck live best (Over out) w = record {
     form = w.form;
     own = w.own;
@@ -349,6 +354,9 @@ module _ (t : ParseTable) (text : Bytes) (first mid : List (List Layer)) (h : St
 
   pub again_fork : (now : List (List Layer)) → now ≡ mid → IsFork t.grammar text (config_of first h) → IsFork t.grammar text (config_of now h)
   again_fork now is fork = subst (λ (ss : List (List Layer)). IsFork t.grammar text (config_of ss h)) (sym is) (subst (λ (c : Configuration). IsFork t.grammar text c) (sym same) fork)
+
+  pub again_sees : (now : List (List Layer)) → now ≡ mid → (f : FoundToken) → IsTokenAhead t text first h f → IsTokenAhead t text now h f
+  again_sees now is f a = subst (λ (ss : List (List Layer)). IsTokenAhead t text ss h f) (sym is) (ahead_stays t (length text) text first mid h f grows own.live a)
 
   pub again_comes : (now stacks : List (List Layer)) (before before' stuck : Option ℕ) (live : List StackHead) (best : Option Tree) (o : Forked) → now ≡ mid → before' ≡ before
       → ComesTo t text now stacks before' stuck live best h o → ComesTo t text first stacks before stuck live best h o

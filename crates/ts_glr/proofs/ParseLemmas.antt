@@ -13,9 +13,11 @@ use Rattle.spec_packing.specs.Packing.{WasMet}
 use Rattle.spec_crossing.specs.Resting.{IsPastStuck, PackedRests}
 use Rattle.ts_table.specs.declared.view.ParseTable.{ParseTable}
 use Rattle.ts_gss.specs.declared.layer.Layer.{Layer}
+use Rattle.ts_steps.specs.declared.found.FoundToken.{FoundToken}
 use Rattle.ts_steps.specs.declared.head.StackHead.{StackHead}
 use Rattle.ts_steps.specs.Good.{EachTree}
 use Rattle.ts_steps.specs.LiveHeads.{config_of, packed_of}
+use Rattle.ts_steps.specs.declared.reparsed.Fork.{Fork}
 use Rattle.ts_steps.specs.declared.reparsed.Reparsed.{Reparsed}
 use Rattle.ts_steps.specs.declared.reparsed.Reparsed.TheVariants.{Accepted, Stuck, Deep, Forks}
 use Rattle.ts_steps.specs.Heads.{IsOwnWithin, IsOwnHead, StandOnHead}
@@ -25,7 +27,7 @@ use Rattle.ts_glr.specs.declared.forking.Forked.{Forked}
 use Rattle.ts_glr.specs.declared.forking.Forked.TheVariants.{One, Over}
 use Rattle.ts_glr.specs.Laws.{PackingLaws}
 use Rattle.ts_glr.specs.Turns.{turn_weight}
-use Rattle.ts_glr.specs.Forks.{LeavesOne, EndsAll, ComesTo}
+use Rattle.ts_glr.specs.Forks.{LeavesOne, EndsAll, SeesKnown, ComesTo}
 use Rattle.ts_glr.proofs.TurnLemmas.{turn_le}
 use Rattle.ts_glr.proofs.RestLemmas.{rests_start, rests_on, rests_tree, rests_stuck}
 
@@ -67,28 +69,28 @@ module _ (packing : PackingLaws) (t : ParseTable) (fit : Fit t.grammar) (states 
   too_deep is = subst (λ (x : Reparsed). ComesByLayers t text old new h x) is comes
 
   -- where several moves stay
-  pub fork_rests : (k : StackHead) → r ≡ Forks k → PackedRests t.grammar text stuck (packed_of new k) × StandOnHead t states text new k
+  pub fork_rests : (k : Fork) → r ≡ Forks k → PackedRests t.grammar text stuck (packed_of new k.head) × StandOnHead t states text new k.head
   fork_rests k is =
       let w = subst (λ (x : Reparsed). IsResult t states text old new h x) is result in
-      (rests_on packing t.grammar fit text stuck (packed_of old h) (packed_of new k) (subst (λ (x : Reparsed). ComesByLayers t text old new h x) is comes) rests, w.1)
+      (rests_on packing t.grammar fit text stuck (packed_of old h) (packed_of new k.head) (subst (λ (x : Reparsed). ComesByLayers t text old new h x) is comes) rests, w.1)
 
 pub own_root : (t : ParseTable) (r : Reparsed) (u : Tree) → r ≡ Accepted u → IsOwnResult t r → IsInForm t.grammar u × EachTree (IsOwnWithin t.grammar) (children_of u) × (state_of u ≡ None)
 own_root t r u is own = subst (λ (x : Reparsed). IsOwnResult t x) is own
 
-pub at_fork : (P : StackHead → Type 0) (r : Reparsed) (k : StackHead) → r ≡ Forks k → OnFork P r → P k
+pub at_fork : (P : Fork → Type 0) (r : Reparsed) (k : Fork) → r ≡ Forks k → OnFork P r → P k
 at_fork P r k is on = subst (λ (x : Reparsed). OnFork P x) is on
 
 -- ---- several stacks
 
 module _ (t : ParseTable) (text : Bytes) (first stacks : List (List Layer)) (before stuck : Option ℕ) (live : List StackHead) (best : Option Tree) (h : StackHead) (o : Forked) (comes : ComesTo t text first stacks before stuck live best h o) where
-  pub leaves_one : (k : StackHead) → o ≡ One k → LeavesOne t text first stacks before stuck live best h k
-  leaves_one k is = subst (λ (x : Forked). ComesTo t text first stacks before stuck live best h x) is comes
+  pub leaves_one : (k : StackHead) (known : Option FoundToken) → o ≡ One k known → LeavesOne t text first stacks before stuck live best h k × SeesKnown t text stacks k known
+  leaves_one k known is = subst (λ (x : Forked). ComesTo t text first stacks before stuck live best h x) is comes
 
   pub ends_all : (out : Outcome) → o ≡ Over out → EndsAll t text first before h out
   ends_all out is = subst (λ (x : Forked). ComesTo t text first stacks before stuck live best h x) is comes
 
 -- what is left weighs less than the stack from which the turn began
-pub turn_falls : (t : ParseTable) (text : Bytes) (old mid new : List (List Layer)) (h f k : StackHead) → IsForkFrom t text old mid h f
-    → turn_weight t.grammar (length text) (config_of new k) < turn_weight t.grammar (length text) (config_of mid f)
+pub turn_falls : (t : ParseTable) (text : Bytes) (old mid new : List (List Layer)) (h k : StackHead) (f : Fork) → IsForkFrom t text old mid h f
+    → turn_weight t.grammar (length text) (config_of new k) < turn_weight t.grammar (length text) (config_of mid f.head)
     → turn_weight t.grammar (length text) (config_of new k) < turn_weight t.grammar (length text) (config_of old h)
-turn_falls t text old mid new h f k fork less = let le = turn_le t.grammar (length text) (config_of old h) (config_of mid f) fork.later fork.weight in omega (arith, le, less)
+turn_falls t text old mid new h k f fork less = let le = turn_le t.grammar (length text) (config_of old h) (config_of mid f.head) fork.later fork.weight in omega (arith, le, less)

@@ -47,9 +47,6 @@ pub seen_more : (t : ParseTable) (text : Bytes) (stacks : List (List Layer)) (ol
 seen_more t text stacks old left new s room is one all =
     subst (OfEach (IsSeen t text stacks)) (sym is) (each_append (IsSeen t text stacks) left (s ∷ []) (seen_rest t text stacks old left room all) (one, tt))
 
-pub none_seen : (t : ParseTable) (text : Bytes) (stacks : List (List Layer)) (seen : List Seen) → seen ≡ [] → AreSeen t text stacks seen
-none_seen t text stacks seen none = subst (OfEach (IsSeen t text stacks)) (sym none) tt
-
 pub recalled : (t : ParseTable) (text : Bytes) (stacks : List (List Layer)) (old new : List Seen) (s : Seen) → IsRecalled old new s → AreSeen t text stacks old → IsSeen t text stacks s × AreSeen t text stacks new
 recalled t text stacks old new s w all =
     let P : Seen → Type 0 = IsSeen t text stacks in
@@ -92,6 +89,15 @@ pub some_recalled : (t : ParseTable) (text : Bytes) (stacks : List (List Layer))
 some_recalled t text stacks old new h o f w some all =
     let r = recalled t text stacks old new (record { head = h; found = f }) (subst (λ (x : Option FoundToken). MatchOption x (new ≡ old) (λ f. IsRecalled old new (record { head = h; found = f }))) some w) all in
     (r.0.1, r.1)
+
+-- one head alone is seen
+pub alone_seen : (t : ParseTable) (text : Bytes) (stacks : List (List Layer)) (seen : List Seen) (h : StackHead) (f : FoundToken) → seen ≡ record { head = h; found = f } ∷ [] → IsLiveHead t (length text) stacks h → IsTokenAhead t text stacks h f → AreSeen t text stacks seen
+alone_seen t text stacks seen h f is live sees = subst (OfEach (IsSeen t text stacks)) (sym is) ((live, sees), tt)
+
+-- what was recalled is seen
+pub known_recalled : (t : ParseTable) (text : Bytes) (stacks : List (List Layer)) (old new : List Seen) (h : StackHead) (o : Option FoundToken) → MatchOption o (new ≡ old) (λ f. IsRecalled old new (record { head = h; found = f })) → AreSeen t text stacks old
+    → (f : FoundToken) → o ≡ Some f → IsTokenAhead t text stacks h f
+known_recalled t text stacks old new h o w all f some = (some_recalled t text stacks old new h o f w some all).0
 
 -- ---- behind a reduction
 

@@ -1,23 +1,30 @@
 -- A stack that is left, laid anew.
-use Rattle.std.proofs.Common.{◌≡◌, ◌∙◌, sym, ap, refl, subst, ℕ, ◌+◌, ◌-◌, ◌<◌, ◌≤◌, List, [], ◌∷◌, ◌++◌, append_assoc, append-nil, length, length-append, map, take, Option, Some, None, arith}
+use Rattle.std.proofs.Common.{◌≡◌, ◌∙◌, sym, ap, refl, subst, ℕ, ◌+◌, ◌-◌, ◌<◌, ◌≤◌, List, [], ◌∷◌, ◌++◌, append_assoc, append-nil, length, length-append, map, take, drop, Option, Some, None, true, ◌⊎◌, suc, arith}
 use Rattle.std.proofs.lemmas.List.{map-append}
 use Rattle.ts_base.specs.Bytes.{Bytes}
+use Rattle.spec_grammar.specs.Symbols.{is_extra}
+use Rattle.spec_lexing.specs.Lexing.{token}
 use Rattle.spec_trees.specs.declared.tree.Tree.{Tree}
 use Rattle.spec_trees.specs.Trees.{pad_of, size_of, span_of, all_spans, bare}
-use Rattle.spec_runs.specs.Configurations.{Configuration}
+use Rattle.spec_trees.specs.Made.{filling}
+use Rattle.spec_runs.specs.Configurations.{Configuration, HasMove}
 use Rattle.spec_packing.specs.Packing.{PackedStack}
 use Rattle.spec_crossing.specs.Resting.{PackedRests}
+use Rattle.spec_forced.specs.Forced.{IsDecided}
 use Rattle.spec_forced.specs.Sound.{States, StandOnStack}
 use Rattle.ts_table.specs.declared.view.ParseTable.{ParseTable}
 use Rattle.ts_gss.specs.declared.layer.Layer.{Layer}
 use Rattle.ts_gss.specs.Stacks.{packed_layer, stack_at, state_on, depth_on, tree_on, trees_on, under_top}
+use Rattle.ts_steps.specs.declared.found.FoundToken.{FoundToken}
 use Rattle.ts_steps.specs.declared.head.StackHead.{StackHead}
 use Rattle.ts_steps.specs.Good.{EachTree}
-use Rattle.ts_steps.specs.LiveHeads.{config_of, packed_layers, packed_of, IsGoodStack}
+use Rattle.ts_steps.specs.LiveHeads.{config_of, packed_layers, packed_of, read_on, IsGoodStack}
 use Rattle.ts_steps.specs.Heads.{IsMadeNode, IsOwnWithin, IsOwnHead}
+use Rattle.ts_steps.specs.Looking.{IsTokenAhead}
 use Rattle.ts_steps.proofs.StackLemmas.{stack_new}
 use Rattle.ts_glr.specs.declared.settling.Top.{Top}
-use Rattle.ts_glr.specs.Forks.{LeavesOne}
+use Rattle.ts_glr.specs.declared.forking.Forked.TheVariants.{One}
+use Rattle.ts_glr.specs.Forks.{LeavesOne, SeesKnown, ComesTo}
 use Rattle.ts_glr.specs.Settling.{layers_of, IsSettled}
 use Rattle.ts_glr.specs.Turns.{turn_weight}
 use Rattle.ts_glr.proofs.JoinLemmas.{trees_step, spans_step}
@@ -103,7 +110,7 @@ module _ (t : ParseTable) (text : Bytes) (first old new : List (List Layer)) (be
       ap {B = PackedStack} (λ (s : List Layer). record { stack = packed_layers s; place = k.place }) (sym is.stack)
       ∙ ap {B = PackedStack} (λ (n : ℕ). record { stack = packed_layers (stack_at new settled.top); place = n }) (sym is.place)
 
-  pub settled_one : LeavesOne t text first old before stuck live best h k → LeavesOne t text first new before stuck live best h settled
+  settled_one : LeavesOne t text first old before stuck live best h k → LeavesOne t text first new before stuck live best h settled
   settled_one l = record {
     own = record {
       live = record {
@@ -120,3 +127,18 @@ module _ (t : ParseTable) (text : Bytes) (first old new : List (List Layer)) (be
     rests = λ r. subst (λ (p : PackedStack). PackedRests t.grammar text stuck p) packed_is (l.rests r);
     stand = λ states are s. subst (λ (ts : List Tree). StandOnStack t.grammar states text ts) trees_is (l.stand states are s);
   }
+
+  settled_ahead : (f : FoundToken) → IsTokenAhead t text old k f → IsTokenAhead t text new settled f
+  settled_ahead f a =
+      let reads : read_on old k ≡ read_on new settled = ap filling trees_is in
+      record {
+        decided = subst (λ (n : ℕ). IsDecided t.grammar (read_on new settled) (drop n text) (token f.token f.pad f.size) f.extent) (sym is.place)
+            (subst (λ (r : List ℕ). IsDecided t.grammar r (drop k.place text) (token f.token f.pad f.size) f.extent) reads a.decided);
+        known = subst (λ (r : List ℕ). HasMove t.grammar r f.token.0 ⊎ (is_extra t.grammar f.token.0 ≡ true)) reads a.known;
+        past = a.past;
+        reach = subst (λ (n : ℕ). n + f.extent ≤ suc (length text)) (sym is.place) a.reach;
+        some = a.some;
+      }
+
+  pub settled_comes : (known : Option FoundToken) → SeesKnown t text old k known → LeavesOne t text first old before stuck live best h k → ComesTo t text first new before stuck live best h (One settled known)
+  settled_comes known sees l = (settled_one l, λ f e. settled_ahead f (sees f e))

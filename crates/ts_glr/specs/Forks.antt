@@ -1,6 +1,6 @@
 -- What following all ways to read a text comes to, from a stack on at which several moves stay. It
 -- serves private clauses and proofs alone.
-use Rattle.std.specs.Prelude.{◌≡◌, ℕ, ◌+◌, ◌<◌, ◌≤◌, ◌^◌, List, [], length, Option, None}
+use Rattle.std.specs.Prelude.{◌≡◌, ℕ, ◌+◌, ◌<◌, ◌≤◌, ◌^◌, List, [], length, Option, Some, None}
 use Rattle.ts_base.specs.Bytes.{Bytes}
 use Rattle.spec_trees.specs.declared.tree.Tree.{Tree}
 use Rattle.spec_runs.specs.Outcomes.{Fresh}
@@ -9,9 +9,11 @@ use Rattle.spec_crossing.specs.Resting.{PackedRests}
 use Rattle.ts_table.specs.declared.view.ParseTable.{ParseTable}
 use Rattle.ts_table.specs.Tables.{most_actions}
 use Rattle.ts_gss.specs.declared.layer.Layer.{Layer}
+use Rattle.ts_steps.specs.declared.found.FoundToken.{FoundToken}
 use Rattle.ts_steps.specs.declared.head.StackHead.{StackHead}
 use Rattle.ts_steps.specs.LiveHeads.{config_of, packed_of}
 use Rattle.ts_steps.specs.Heads.{AreStatesOf, IsOwnHead, StandOnHead}
+use Rattle.ts_steps.specs.Looking.{IsTokenAhead}
 use Rattle.ts_glr.specs.declared.outcome.Outcome.{Outcome}
 use Rattle.ts_glr.specs.declared.forking.Forked.{Forked}
 use Rattle.ts_glr.specs.declared.forking.Forked.TheVariants.{One, Over}
@@ -60,10 +62,16 @@ pub record EndsAll (t : ParseTable) (text : Bytes) (first : List (List Layer)) (
   pub sound : (states : States) → AreStatesOf t states → StandOnHead t states text first h
       → IsSoundOutcome t states text out
 
+-- the token that the stack sees, where it is known
+abbrev pub SeesKnown : ParseTable → Bytes → List (List Layer) → StackHead → Option FoundToken
+    → Type 0
+SeesKnown t text stacks k known =
+    (f : FoundToken) → known ≡ Some f → IsTokenAhead t text stacks k f
+
 -- what following all of them comes to
 abbrev pub ComesTo : ParseTable → Bytes → List (List Layer) → List (List Layer) → Option ℕ
     → Option ℕ → List StackHead → Option Tree → StackHead → Forked → Type 0
-ComesTo t text first stacks before stuck live best h (One k) =
-    LeavesOne t text first stacks before stuck live best h k
+ComesTo t text first stacks before stuck live best h (One k known) =
+    LeavesOne t text first stacks before stuck live best h k × SeesKnown t text stacks k known
 ComesTo t text first stacks before stuck live best h (Over out) =
     EndsAll t text first before h out

@@ -7,23 +7,25 @@ ghost use Rattle.ts_glr.specs.Outcomes.{EndsAs};
 ghost use Rattle.ts_steps.specs.LiveHeads.{GainsStacks};
 ghost use Rattle.ts_steps.specs.Settings.{IsParseSetting};
 ghost use Rattle.ts_steps.specs.Heads.{IsOwnHead};
+ghost use Rattle.ts_steps.specs.Looking.{IsTokenAhead};
 
 use crate::following::advance;
 use crate::joining::{join, next_head};
 use crate::laws::{laws_hold, packing_laws_hold};
 use crate::outcome::Outcome;
 use crate::readings::Readings;
+use crate::seeing::{recall, see_alone};
 use crate::settling::settle;
 use std::alloc::{AllocError, Global};
 use ts_lexer::Tokens;
-use ts_steps::{ParseSetting, StackHead, steps_fall};
+use ts_steps::{FoundToken, ParseSetting, StackHead, steps_fall};
 use ts_table::Table;
 
-/// What following all live stacks comes to: one that is left alone, before any tree is accepted, or
-/// the outcome of the text.
+/// What following all live stacks comes to: one that is left alone, before any tree is accepted,
+/// with the token that it sees, where it is known, or the outcome of the text.
 #[derive(Drop)]
 pub(crate) enum Forked {
-    One(StackHead),
+    One(StackHead, Option<FoundToken>),
     Over(Outcome),
 }
 
@@ -65,9 +67,9 @@ fn spend(left: &mut Option<u32>) -> bool
     }
 }
 
-/// Follows all ways to read a text from a stack on, until one stack is left, before any tree is
-/// accepted, or there is none. None where there is a limit, and no more steps were left; all stacks
-/// stay then.
+/// Follows all ways to read a text from a stack on, which sees this token, until one stack is left,
+/// before any tree is accepted, or there is none. None where there is a limit, and no more steps
+/// were left; all stacks stay then.
 pub(crate) fn follow_all<L: Tokens>(
     alloc: Global,
     table: &Table,
@@ -76,11 +78,13 @@ pub(crate) fn follow_all<L: Tokens>(
     text: &L::Text,
     readings: &mut Readings,
     start: StackHead,
+    found: FoundToken,
     limit: Option<u32>,
 ) -> Result<Option<Forked>, AllocError>
     requires made { L.made_for lexer.old table.now }
     requires setting { IsParseSetting table.now (length (L.Text.bytes text.now)) setting.now }
     requires own { IsOwnHead table.now (length (L.Text.bytes text.now)) readings.old.graph start }
+    requires sees { IsTokenAhead table.now (L.Text.bytes text.now) readings.old.graph start found }
     requires alone { readings.old.live.items ≡ [] }
     requires best { readings.old.best ≡ None }
     ensures made { L.made_for lexer.new table.now }
@@ -95,7 +99,7 @@ pub(crate) fn follow_all<L: Tokens>(
     packing_laws_hold();
     table.stands();
     steps_fall();
-    readings.seen.clear();
+    see_alone(&mut readings.seen, start, found)?;
     let ends_deep = advance(alloc, table, setting, lexer, text, readings, start)?;
     if ends_deep {
         return Ok(Some(Forked::Over(Outcome::Deep)));
@@ -103,8 +107,9 @@ pub(crate) fn follow_all<L: Tokens>(
     let mut left = limit;
     while let Some(head) = next_head(&readings.graph, &mut readings.live) {
         if is_left_alone(readings) {
+            let known = recall(&mut readings.seen, head);
             let left = settle(alloc, &mut readings.graph, start.top, head)?;
-            return Ok(Some(Forked::One(left)));
+            return Ok(Some(Forked::One(left, known)));
         }
         if !spend(&mut left) {
             return Ok(None);

@@ -73,9 +73,12 @@ pub fn parse_with<'t, L: Tokens, O: Offers<'t>>(
     let mut readings = readings_of(alloc);
     let mut kept = None;
     let mut head = StackHead { top: 0, place: 0 };
+    let mut known = None;
     loop {
         let graph = &mut readings.graph;
-        match reparse(alloc, table, &setting, lexer, text, offers, graph, head)? {
+        match reparse(
+            alloc, table, &setting, lexer, text, offers, graph, head, known,
+        )? {
             Reparsed::Accepted(root) => return Ok(Outcome::Accepted(root)),
             Reparsed::Stuck(place) => {
                 return Ok(Outcome::Stuck(furthest(readings.stuck, place)));
@@ -92,7 +95,10 @@ pub fn parse_with<'t, L: Tokens, O: Offers<'t>>(
                     &mut kept,
                     fork,
                 )? {
-                    Forked::One(next) => head = next,
+                    Forked::One(next, ahead) => {
+                        head = next;
+                        known = ahead;
+                    }
                     Forked::Over(outcome) => return Ok(outcome),
                 }
             }

@@ -1,7 +1,7 @@
 //! What live heads are known to see: behind a reduction the token ahead is the one before it, if
 //! some move stays on it there. A head and that token go in, and come out where the head is
 //! followed, so that the token is not lexed again.
-ghost use Rattle.std.specs.Prelude.{◌≡◌, ◌<◌, ◌⊎◌, true, [], length, slice_get, Some, IfSome, MatchOption, OnOk};
+ghost use Rattle.std.specs.Prelude.{◌≡◌, ◌<◌, ◌⊎◌, ◌∷◌, true, [], length, slice_get, Some, IfSome, MatchOption, OnOk};
 ghost use Rattle.ts_base.specs.Bytes.{Bytes};
 ghost use Rattle.spec_runs.specs.Configurations.{HasMove};
 ghost use Rattle.ts_table.specs.Tables.{actions_of};
@@ -29,6 +29,19 @@ pub(crate) struct Seen {
 /// How many heads are kept with what they see. Where there are as many, all are forgotten: most of
 /// them are no longer live then.
 const MOST_SEEN: usize = 16;
+
+/// Keeps what one head sees, and forgets all others.
+pub(crate) fn see_alone(
+    seen: &mut Vec<Seen>,
+    head: StackHead,
+    found: FoundToken,
+) -> Result<(), AllocError>
+    ensures { OnOk result (seen.new.items ≡ record { head = head; found = found } ∷ []) }
+{
+    seen.clear();
+    seen.push(Seen { head, found })?;
+    Ok(())
+}
 
 /// Makes room for one more.
 fn make_room(seen: &mut Vec<Seen>)
@@ -104,7 +117,7 @@ fn number_of(seen: &[Seen], head: StackHead) -> Option<usize>
 
 /// Takes out what a head is known to see.
 #[inline(always)]
-fn recall(seen: &mut Vec<Seen>, head: StackHead) -> Option<FoundToken>
+pub(crate) fn recall(seen: &mut Vec<Seen>, head: StackHead) -> Option<FoundToken>
     ensures { MatchOption result (seen.new.items ≡ seen.old.items)
         (λ f. IsRecalled seen.old.items seen.new.items (record { head = head; found = f })) }
 {

@@ -7,6 +7,7 @@ ghost use Rattle.spec_forced.specs.OnlyRuns.{IsFork};
 ghost use Rattle.ts_steps.specs.LiveHeads.{config_of};
 ghost use Rattle.ts_steps.specs.Settings.{IsParseSetting};
 ghost use Rattle.ts_steps.specs.Heads.{IsOwnHead};
+ghost use Rattle.ts_steps.specs.Looking.{IsTokenAhead};
 ghost use Rattle.ts_reductions.specs.Lines.{IsSetting};
 ghost use Rattle.ts_places.specs.Nothing.{IsOfNothing};
 ghost use Rattle.ts_glr.specs.Forks.{ComesTo};
@@ -17,7 +18,7 @@ use crate::readings::Readings;
 use std::alloc::{AllocError, Global};
 use ts_lexer::Tokens;
 use ts_reductions::{Setting, setting_of};
-use ts_steps::{ParseSetting, StackHead};
+use ts_steps::{Fork, FoundToken, ParseSetting, StackHead};
 use ts_table::Table;
 
 /// How many steps are followed on plain stacks. Where the ways to read a text come together soon,
@@ -92,7 +93,7 @@ fn follow_graph<L: Tokens>(
             Crossed::One(left, stuck) => {
                 readings.graph = left.stacks;
                 readings.stuck = stuck;
-                Ok(Some(Forked::One(left.head)))
+                Ok(Some(Forked::One(left.head, None)))
             }
             Crossed::Told(outcome) => Ok(Some(Forked::Over(outcome))),
         },
@@ -109,10 +110,12 @@ fn follow_plain<L: Tokens>(
     text: &L::Text,
     readings: &mut Readings,
     start: StackHead,
+    found: FoundToken,
 ) -> Result<Forked, AllocError>
     requires made { L.made_for lexer.old table.now }
     requires setting { IsParseSetting table.now (length (L.Text.bytes text.now)) setting.now }
     requires own { IsOwnHead table.now (length (L.Text.bytes text.now)) readings.old.graph start }
+    requires sees { IsTokenAhead table.now (L.Text.bytes text.now) readings.old.graph start found }
     requires alone { readings.old.live.items ≡ [] }
     requires best { readings.old.best ≡ None }
     ensures made { L.made_for lexer.new table.now }
@@ -120,7 +123,9 @@ fn follow_plain<L: Tokens>(
         readings.new.graph readings.old.stuck readings.new.stuck readings.new.live.items
         readings.new.best start) }
 {
-    match follow_all(alloc, table, setting, lexer, text, readings, start, None)? {
+    match follow_all(
+        alloc, table, setting, lexer, text, readings, start, found, None,
+    )? {
         Some(forked) => Ok(forked),
         None => unreachable!(),
     }
@@ -136,10 +141,12 @@ fn follow_long<L: Tokens>(
     readings: &mut Readings,
     kept: &mut Option<Setting>,
     start: StackHead,
+    found: FoundToken,
 ) -> Result<Forked, AllocError>
     requires made { L.made_for lexer.old table.now }
     requires setting { IsParseSetting table.now (length (L.Text.bytes text.now)) setting.now }
     requires own { IsOwnHead table.now (length (L.Text.bytes text.now)) readings.old.graph start }
+    requires sees { IsTokenAhead table.now (L.Text.bytes text.now) readings.old.graph start found }
     requires fork { IsFork table.now.grammar (L.Text.bytes text.now)
         (config_of readings.old.graph start) }
     requires kept { IfSome kept.old (IsSetting table.now (length (L.Text.bytes text.now))) }
@@ -153,19 +160,19 @@ fn follow_long<L: Tokens>(
         (IsSetting table.now (length (L.Text.bytes text.now)))) }
 {
     let lines = take_setting(alloc, table, kept, setting.size)?;
-    let found = follow_graph(alloc, table, &lines, lexer, text, readings, start)?;
+    let crossed = follow_graph(alloc, table, &lines, lexer, text, readings, start)?;
     *kept = Some(lines);
-    match found {
+    match crossed {
         Some(forked) => Ok(forked),
         None => {
-            let forked = follow_plain(alloc, table, setting, lexer, text, readings, start)?;
+            let forked = follow_plain(alloc, table, setting, lexer, text, readings, start, found)?;
             Ok(forked)
         }
     }
 }
 
-/// Follows all ways to read a text from a stack on, until one stack is left, before any tree is
-/// accepted, or there is none.
+/// Follows all ways to read a text from a stack on, on whose token several moves stay, until one
+/// stack is left, before any tree is accepted, or there is none.
 pub(crate) fn follow_fork<L: Tokens>(
     alloc: Global,
     table: &Table,
@@ -174,30 +181,38 @@ pub(crate) fn follow_fork<L: Tokens>(
     text: &L::Text,
     readings: &mut Readings,
     kept: &mut Option<Setting>,
-    start: StackHead,
+    fork: Fork,
 ) -> Result<Forked, AllocError>
     requires made { L.made_for lexer.old table.now }
     requires setting { IsParseSetting table.now (length (L.Text.bytes text.now)) setting.now }
-    requires own { IsOwnHead table.now (length (L.Text.bytes text.now)) readings.old.graph start }
+    requires own { IsOwnHead table.now (length (L.Text.bytes text.now)) readings.old.graph
+        fork.head }
+    requires sees { IsTokenAhead table.now (L.Text.bytes text.now) readings.old.graph fork.head
+        fork.found }
     requires fork { IsFork table.now.grammar (L.Text.bytes text.now)
-        (config_of readings.old.graph start) }
+        (config_of readings.old.graph fork.head) }
     requires kept { IfSome kept.old (IsSetting table.now (length (L.Text.bytes text.now))) }
     requires alone { readings.old.live.items ≡ [] }
     requires best { readings.old.best ≡ None }
     ensures made { L.made_for lexer.new table.now }
     ensures follows { IfOk result (ComesTo table.now (L.Text.bytes text.now) readings.old.graph
         readings.new.graph readings.old.stuck readings.new.stuck readings.new.live.items
-        readings.new.best start) }
+        readings.new.best fork.head) }
     ensures kept { OnOk result (IfSome kept.new
         (IsSetting table.now (length (L.Text.bytes text.now)))) }
 {
+    let Fork { head, found } = fork;
     let before = readings.stuck;
     let some = Some(MOST_STEPS);
-    match follow_all(alloc, table, setting, lexer, text, readings, start, some)? {
+    match follow_all(
+        alloc, table, setting, lexer, text, readings, head, found, some,
+    )? {
         Some(forked) => Ok(forked),
         None => {
             begin_anew(alloc, readings, before);
-            let forked = follow_long(alloc, table, setting, lexer, text, readings, kept, start)?;
+            let forked = follow_long(
+                alloc, table, setting, lexer, text, readings, kept, head, found,
+            )?;
             Ok(forked)
         }
     }

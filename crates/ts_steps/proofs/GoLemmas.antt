@@ -184,7 +184,7 @@ module _ (laws : Laws) (t : ParseTable) (size : ℕ) (old : List (List Layer)) (
     goes_too_deep o number none is done = goes_deep number is (subst (λ (x : Option StackHead). IsReducedTo t size number old new h x) none done)
 
     -- several moves stay
-    pub goes_fork : new ≡ old → 1 < length (actions_of t (state_on (stack_at old h.top)) f.token.0) → GoesTo t text old new h (Ended (Forks h))
+    pub goes_fork : new ≡ old → 1 < length (actions_of t (state_on (stack_at old h.top)) f.token.0) → GoesTo t text old new h (Ended (Forks (record { head = h; found = f })))
     goes_fork kept many =
         let two = two_moves t (read_on old h) (state_on (stack_at old h.top)) f.token.0 table state many in (
           refl,
@@ -196,6 +196,7 @@ module _ (laws : Laws) (t : ParseTable) (size : ℕ) (old : List (List Layer)) (
             there = can_move laws alone t text old new h k f a two.1 two.3;
             differ = two.4;
           },
+          a,
         )
 
     pub goes_accept : (u : Tree) → Acts (Accept ∷ []) → IsRootOf (config_of old h).stack (bare u) → IsInForm t.grammar u → EachTree (IsOwnWithin t.grammar) (children_of u) → state_of u ≡ None

@@ -27,12 +27,13 @@ use Rattle.ts_steps.specs.declared.lengthening.ListEnd.{ListEnd}
 use Rattle.ts_steps.specs.MoveLaws.{Laws}
 use Rattle.ts_steps.specs.LiveHeads.{config_of}
 use Rattle.ts_steps.proofs.StackLemmas.{filling_bare, state_top, span_bare}
+use Rattle.ts_steps.specs.declared.reparsed.Fork.{Fork}
 use Rattle.ts_steps.specs.declared.reparsed.Reparsed.{Reparsed}
 use Rattle.ts_steps.specs.declared.reparsed.Reparsed.TheVariants.{Accepted, Stuck, Deep, Forks}
 use Rattle.ts_steps.specs.declared.reparsed.Going.{Going}
 use Rattle.ts_steps.specs.declared.reparsed.Going.TheVariants.{On, Reduced, Ended}
 use Rattle.ts_steps.specs.Laws.{SoundLaws}
-use Rattle.ts_steps.specs.Looking.{SeesAhead}
+use Rattle.ts_steps.specs.Looking.{IsTokenAhead, SeesAhead}
 use Rattle.ts_steps.specs.Heads.{AreStatesOf, IsOwnHead, StandOnHead, IsTaken}
 use Rattle.ts_steps.specs.Reparsing.{StandsFor, OnFork, IsResult, IsTakenFrom, EndsFrom, GoesTo}
 use Rattle.ts_steps.specs.Lengthening.{IsLengthened}
@@ -101,17 +102,17 @@ module _ (fresh : (g : FlatGrammar) (text : Bytes) (c d : Configuration) → End
   ends_result (Stuck place) e = from_start (stuck_outcome place) e.0
   ends_result Deep e = tt
   ends_result (Forks k) e =
-      let same : config_of old h ≡ config_of new k = ap (config_of old) (sym e.0) ∙ ap (λ (x : List (List Layer)). config_of x k) (sym e.1) in (
+      let same : config_of old h ≡ config_of new k.head = ap (config_of old) (sym e.0) ∙ ap (λ (x : List (List Layer)). config_of x k.head) (sym e.1) in (
         subst (λ (x : Configuration). OnlyRun t.grammar text (config_of first start) x) same (fork t.grammar text (config_of first start) (config_of old h) s.meet e.2),
-        subst (λ (x : List (List Layer)). StandOnHead t states text x k) (sym e.1) (subst (λ (x : StackHead). StandOnHead t states text old x) (sym e.0) s.stand),
+        subst (λ (x : List (List Layer)). StandOnHead t states text x k.head) (sym e.1) (subst (λ (x : StackHead). StandOnHead t states text old x) (sym e.0) s.stand),
       )
 
 -- what is so of the last stack is so of the one at which several moves stay
-pub ends_fork : (t : ParseTable) (text : Bytes) (P : List (List Layer) → StackHead → Type 0) (old new : List (List Layer)) (h : StackHead) (r : Reparsed) → (IsFork t.grammar text (config_of old h) → P old h) → EndsFrom t text old new h r → OnFork (P new) r
+pub ends_fork : (t : ParseTable) (text : Bytes) (P : List (List Layer) → StackHead → FoundToken → Type 0) (old new : List (List Layer)) (h : StackHead) (r : Reparsed) → ((f : FoundToken) → IsFork t.grammar text (config_of old h) → IsTokenAhead t text old h f → P old h f) → EndsFrom t text old new h r → OnFork (λ (k : Fork). P new k.head k.found) r
 ends_fork t text P old new h (Accepted u) p e = tt
 ends_fork t text P old new h (Stuck place) p e = tt
 ends_fork t text P old new h Deep p e = tt
-ends_fork t text P old new h (Forks k) p e = subst (λ (x : List (List Layer)). P x k) (sym e.1) (subst (λ (x : StackHead). P old x) (sym e.0) (p e.2))
+ends_fork t text P old new h (Forks k) p e = subst (λ (x : List (List Layer)). P x k.head k.found) (sym e.1) (subst (λ (x : StackHead). P old x k.found) (sym e.0) (p k.found e.2 e.3))
 
 -- ---- each move falls
 

@@ -393,7 +393,7 @@ module _ (laws : Laws) (packs : PackLaws) (t : ParseTable) (fit : Fit t.grammar)
       let far = from_alone w.0 w.3 deep_outcome (config_of old h, run_here (config_of old h), e.1 w.2) in
       (far.0, run_chain t.grammar text starting w.0 far.0 (reached_at w.0 w.1) far.1, far.2)) gone.at
   gone_result (Forks k) e =
-      let same : packed_of old h ≡ packed_of new k = ap (packed_of old) (sym e.0) ∙ ap (λ (x : List (List Layer)). packed_of x k) (sym e.1) in
+      let same : packed_of old h ≡ packed_of new k.head = ap (packed_of old) (sym e.0) ∙ ap (λ (x : List (List Layer)). packed_of x k.head) (sym e.1) in
       subst (λ (n : PackedStack). LeadThrough t.grammar text first n) same
       (⊎_elim (λ is. lead_at (packed_of old h) is)
       (λ w.

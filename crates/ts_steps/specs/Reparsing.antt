@@ -19,6 +19,7 @@ use Rattle.ts_gss.specs.Stacks.{stack_at, state_on}
 use Rattle.ts_steps.specs.declared.head.StackHead.{StackHead}
 use Rattle.ts_steps.specs.Good.{EachTree}
 use Rattle.ts_steps.specs.LiveHeads.{config_of, packed_of, read_on, AreAlone}
+use Rattle.ts_steps.specs.declared.reparsed.Fork.{Fork}
 use Rattle.ts_steps.specs.declared.reparsed.Reparsed.{Reparsed}
 use Rattle.ts_steps.specs.declared.reparsed.Reparsed.TheVariants.{Accepted, Stuck, Deep, Forks}
 use Rattle.ts_steps.specs.declared.reparsed.Going.{Going}
@@ -58,21 +59,22 @@ pub record StandsFor (t : ParseTable) (states : States) (text : Bytes) (c : Conf
   pub stand : StandOnHead t states text stacks h
 
 -- where several moves stay, this is so of the stack there
-abbrev pub OnFork : (StackHead → Type 0) → Reparsed → Type 0
+abbrev pub OnFork : (Fork → Type 0) → Reparsed → Type 0
 OnFork P (Accepted u) = Unit {0}
 OnFork P (Stuck place) = Unit {0}
 OnFork P Deep = Unit {0}
 OnFork P (Forks k) = P k
 
--- Several moves stay at the stack. It is one that a parser made, ends no earlier than the one from
--- which it began, and weighs no more.
+-- Several moves stay on the token that the stack sees. It is one that a parser made, ends no earlier
+-- than the one from which it began, and weighs no more.
 pub record IsForkFrom (t : ParseTable) (text : Bytes) (old new : List (List Layer))
-    (h k : StackHead) : Type 0 where
-  pub own : IsOwnHead t (length text) new k
-  pub later : h.place ≤ k.place
-  pub weight : config_weight t.grammar (length text) (config_of new k)
+    (h : StackHead) (k : Fork) : Type 0 where
+  pub own : IsOwnHead t (length text) new k.head
+  pub later : h.place ≤ k.head.place
+  pub weight : config_weight t.grammar (length text) (config_of new k.head)
       ≤ config_weight t.grammar (length text) (config_of old h)
-  pub fork : IsFork t.grammar text (config_of new k)
+  pub fork : IsFork t.grammar text (config_of new k.head)
+  pub sees : IsTokenAhead t text new k.head k.found
 
 -- What is so of the result, whatever was offered: a tree is one that a parser of the grammar made,
 -- and its root has no state.
@@ -94,7 +96,8 @@ IsResult t states text old new h (Stuck place) =
     FreshFrom t.grammar text (config_of old h) (stuck_outcome place)
 IsResult t states text old new h Deep = Unit {0}
 IsResult t states text old new h (Forks k) =
-    OnlyRun t.grammar text (config_of old h) (config_of new k) × StandOnHead t states text new k
+    OnlyRun t.grammar text (config_of old h) (config_of new k.head)
+    × StandOnHead t states text new k.head
 
 -- what all runs come to that go through what the layers stand for
 abbrev pub FreshThrough : FlatGrammar → Bytes → PackedStack → FreshOutcome → Type 0
@@ -128,7 +131,7 @@ ComesByLayers t text old new h (Stuck place) =
     FreshThrough t.grammar text (packed_of old h) (stuck_outcome place)
 ComesByLayers t text old new h Deep = SomeIsTooDeep t.grammar text
 ComesByLayers t text old new h (Forks k) =
-    LeadThrough t.grammar text (packed_of old h) (packed_of new k)
+    LeadThrough t.grammar text (packed_of old h) (packed_of new k.head)
 
 -- ---- under way. It serves private clauses and proofs alone.
 
@@ -161,7 +164,8 @@ EndsFrom t text old new h (Stuck place) =
 EndsFrom t text old new h Deep = PackedIsTooDeep t.grammar text (packed_of old h)
     × (AreAlone (packed_of old h).stack → ComesTooDeep t.grammar text (config_of old h))
 EndsFrom t text old new h (Forks k) =
-    (k ≡ h) × (new ≡ old) × IsFork t.grammar text (config_of old h)
+    (k.head ≡ h) × (new ≡ old) × IsFork t.grammar text (config_of old h)
+    × IsTokenAhead t text old h k.found
 
 -- a move of the only stack that is the only step leads from one head to another
 pub record LeadsOn (t : ParseTable) (text : Bytes) (old new : List (List Layer)) (h k : StackHead)

@@ -4,7 +4,7 @@
 //! but where it is reduced alone. A node has the state below it where its caller says that its move
 //! is the only one and all that it is made of has states, and how many bytes were examined for all
 //! of that. `reparse` is the parser over one stack: a text and offered nodes go in; what the text
-//! comes to comes out, or the stack at which several moves stay.
+//! comes to comes out, or the stack at which several moves stay, with the token that it sees.
 #![tactic(auto)]
 
 mod accepting;
@@ -33,7 +33,7 @@ pub use head::StackHead;
 pub use laws::{states_are_named, steps_fall, tokens_are_known};
 pub use looking::look;
 pub use reducing::reduce;
-pub use reparsed::Reparsed;
+pub use reparsed::{Fork, Reparsed};
 pub use reparsing::reparse;
 pub use setting::{ParseSetting, parse_setting};
 pub use shifting::{pass, shift};

@@ -17,7 +17,7 @@ use crate::found::FoundToken;
 use crate::head::StackHead;
 use crate::laws::{laws_hold, only_laws_hold, sound_laws_hold};
 use crate::reducing::reduce;
-use crate::reparsed::{Going, Reparsed};
+use crate::reparsed::{Fork, Going, Reparsed};
 use crate::setting::ParseSetting;
 use crate::shifting::{pass, shift};
 use spec_reuse::same_token_again;
@@ -122,7 +122,7 @@ fn follow(
             let going = act(alloc, table, setting, graph, head, found, action)?;
             Ok(going)
         }
-        Choice::Several => Ok(Going::Ended(Reparsed::Forks(head))),
+        Choice::Several => Ok(Going::Ended(Reparsed::Forks(Fork { head, found }))),
     }
 }
 

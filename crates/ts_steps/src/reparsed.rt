@@ -4,6 +4,13 @@ use crate::found::FoundToken;
 use crate::head::StackHead;
 use ts_node::Node;
 
+/// A stack on whose token several moves stay, and that token.
+#[derive(Clone, Copy)]
+pub struct Fork {
+    pub head: StackHead,
+    pub found: FoundToken,
+}
+
 /// What a parse over one stack comes to.
 #[derive(Drop)]
 pub enum Reparsed {
@@ -13,8 +20,8 @@ pub enum Reparsed {
     Stuck(u32),
     /// A node would be deeper than 1,000.
     Deep,
-    /// Several moves stay on the token that this stack sees.
-    Forks(StackHead),
+    /// Several moves stay on the token that a stack sees.
+    Forks(Fork),
 }
 
 /// What a move comes to: the next stack, or the end of the parse.

@@ -158,10 +158,11 @@ fn seen_again(
 /// What a text comes to from a stack on, for a parser that keeps one stack alone, and takes over
 /// the nodes that it is offered, and behind a repetition the elements. If what is offered is
 /// honest, this is what all runs from that stack come to, and the tree is sound. Where several
-/// moves stay on a token it stops, and tells the stack to which these runs lead. Each place is
-/// asked for a node once at most, and of a node that is taken over the first token alone is lexed;
-/// of elements that are taken over no token is. So it is of all readings for which the layers of
-/// the stack stand; where one of these stands for deeper trees than its own, nothing is taken over.
+/// moves stay on a token it stops, and tells the stack to which these runs lead, and the token. The
+/// token that the first stack sees may be known, and is not lexed again then. Each place is asked
+/// for a node once at most, and of a node that is taken over the first token alone is lexed; of
+/// elements that are taken over no token is. So it is of all readings for which the layers of the
+/// stack stand; where one of these stands for deeper trees than its own, nothing is taken over.
 ///
 /// # Errors
 ///
@@ -175,10 +176,13 @@ pub fn reparse<'t, L: Tokens, O: Offers<'t>>(
     offers: &mut O,
     graph: &mut Graph,
     start: StackHead,
+    known: Option<FoundToken>,
 ) -> Result<Reparsed, AllocError>
     requires made { L.made_for lexer.old table.now }
     requires setting { IsParseSetting table.now (length (L.Text.bytes text.now)) setting.now }
     requires live { IsOwnHead table.now (length (L.Text.bytes text.now)) graph.old start }
+    requires known { (f : AnyFound) → known ≡ Some f
+        → IsTokenAhead table.now (L.Text.bytes text.now) graph.old start f }
     requires asked { O.least offers.old ≤ start.place }
     requires own { (place state : ℕ) (t : Tree) → O.gives offers.old place state t
         → IsOffered table.now.grammar t }
@@ -189,7 +193,7 @@ pub fn reparse<'t, L: Tokens, O: Offers<'t>>(
         → O.gives offers.old place state t) }
     ensures lends { OnOk result ((place state symbol : ℕ) (s : Stretch)
         → O.lends offers.new place state symbol s → O.lends offers.old place state symbol s) }
-    ensures least { IfOk result (OnFork (λ k. O.least offers.new ≤ k.place)) }
+    ensures least { IfOk result (OnFork (λ k. O.least offers.new ≤ k.head.place)) }
     ensures forks { IfOk result (OnFork (λ k. IsForkFrom table.now (L.Text.bytes text.now)
         graph.old graph.new start k)) }
     ensures own { IfOk result (IsOwnResult table.now) }
@@ -214,7 +218,7 @@ pub fn reparse<'t, L: Tokens, O: Offers<'t>>(
     table.stands();
     unit_ranks();
     let mut head = start;
-    let mut ahead: Option<FoundToken> = None;
+    let mut ahead = known;
     loop {
         let lexed = look_once(table, lexer, text, graph, head, ahead);
         match take(table, offers, graph, head, &lexed, setting.size)? {

@@ -8,15 +8,16 @@ use Rattle.ts_glr.specs.Seeing.{AreSeen}
 use Rattle.ts_glr.specs.Weights.{live_weight}
 use Rattle.ts_glr.specs.Joining.{IsTakenOut}
 use Rattle.ts_glr.proofs.ForkLemmas.{no_form, begins, first_deep, all_own, some_end, all_over, head_own, rest_live, one_left, taken_deep, joins_falls, joins, follows_falls, follows}
-use Rattle.ts_glr.proofs.SeenLemmas.{none_seen, seen_stay}
-use Rattle.ts_glr.proofs.SettleLemmas.{settled_one}
+use Rattle.ts_glr.proofs.SeenLemmas.{alone_seen, known_recalled, seen_stay}
+use Rattle.ts_glr.proofs.SettleLemmas.{settled_comes}
 use Rattle.ts_glr.proofs.forking.follow_all.Goals as goal
 
 pub advance-requires-clause-form : goal.advance-requires-clause-form
 advance-requires-clause-form g c = no_form c.args.table.now.grammar c.args.readings.now.best c.requires.best
 
 pub advance-requires-clause-seen : goal.advance-requires-clause-seen
-advance-requires-clause-seen g c = none_seen c.args.table.now (g.L.Text.Content.bytes c.args.text.now) c.args.readings.now.graph c.clear.new.self.items c.clear.ensures.items
+advance-requires-clause-seen g c =
+    alone_seen c.args.table.now (g.L.Text.Content.bytes c.args.text.now) c.args.readings.now.graph c.see_alone.new.seen.items c.args.start c.args.found c.in_ok-see_alone.ensures c.requires.own.live c.requires.sees
 
 pub returns-then-ends_deep-clause-follows : goal.returns-then-ends_deep-clause-follows
 returns-then-ends_deep-clause-follows g c =
@@ -53,7 +54,8 @@ settle-requires-clause-spans g c =
 pub returns-then-is_left_alone-clause-follows : goal.returns-then-is_left_alone-clause-follows
 returns-then-is_left_alone-clause-follows g c =
     let text = g.L.Text.Content.bytes c.args.text.now in
-    settled_one c.args.table.now text c.args.readings.now.graph c.loop-head.readings.graph c.settle.new.graph c.args.readings.now.stuck c.loop-head.readings.stuck c.next_head.new.live.items c.loop-head.readings.best c.args.start c.in-Some.head c.in_ok-left.left c.in_ok-left.ensures
+    settled_comes c.args.table.now text c.args.readings.now.graph c.loop-head.readings.graph c.settle.new.graph c.args.readings.now.stuck c.loop-head.readings.stuck c.next_head.new.live.items c.loop-head.readings.best c.args.start c.in-Some.head c.in_ok-left.left c.in_ok-left.ensures c.recall-known.result
+    (known_recalled c.args.table.now text c.loop-head.readings.graph c.loop-head.readings.seen.items c.recall-known.new.seen.items c.in-Some.head c.recall-known.result c.recall-known.ensures c.loop-head.invariant.seen)
     (one_left c.packing_laws_hold.ensures c.steps_fall.ensures c.args.table.now c.stands.ensures.fit text c.args.readings.now.graph c.args.readings.now.stuck c.args.start c.requires.own c.loop-head.readings.graph c.loop-head.readings.stuck c.loop-head.readings.live.items c.loop-head.readings.best c.loop-head.invariant.follows c.next_head.new.live.items c.in-Some.head c.in-Some.ensures (c.is_left_alone.ensures.live c.if-is_left_alone.true) (c.is_left_alone.ensures.best c.if-is_left_alone.true))
 
 pub returns-then-not-spend-clause-grows : goal.returns-then-not-spend-clause-grows

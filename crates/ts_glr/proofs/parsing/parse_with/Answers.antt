@@ -1,4 +1,5 @@
-use Rattle.std.proofs.Common.{refl, subst, ℕ, ◌≤◌, length, arith}
+use Rattle.std.proofs.Common.{◌≡◌, refl, subst, ℕ, ◌≤◌, length, Option, Some, None, arith}
+use Rattle.ts_steps.specs.declared.found.FoundToken.{FoundToken}
 use Rattle.ts_steps.specs.Settings.{IsParseSetting}
 use Rattle.ts_steps.specs.Reparsing.{IsForkFrom}
 use Rattle.ts_glr.proofs.ParseLemmas.{own_start, start_rests, accepts_sound, stuck_at, too_deep, fork_rests, own_root, at_fork, leaves_one, ends_all, turn_falls}
@@ -13,6 +14,7 @@ loop-kept-init g c =
       gives = λ place state t given. given;
       lends = λ place state symbol s given. given;
       own = own_start c.args.table.now (length text) c.readings_of-readings.result.graph c.readings_of-readings.ensures.graph;
+      known = λ f e. absurd (let q : ◌≡◌ {A = Option FoundToken} None (Some f) = e in cc);
       empty = c.readings_of-readings.ensures.live;
       best = c.readings_of-readings.ensures.best;
       kept = tt;
@@ -29,10 +31,13 @@ reparse-requires g c κs = (
       (
         c.loop-kept.invariant.own,
         (
-          c.loop-kept.invariant.least,
+          c.loop-kept.invariant.known,
           (
-            (λ place state t given. c.requires.own place state t (c.loop-kept.invariant.gives place state t given)),
-            λ place state symbol s given. c.requires.lent place state symbol s (c.loop-kept.invariant.lends place state symbol s given),
+            c.loop-kept.invariant.least,
+            (
+              (λ place state t given. c.requires.own place state t (c.loop-kept.invariant.gives place state t given)),
+              λ place state symbol s given. c.requires.lent place state symbol s (c.loop-kept.invariant.lends place state symbol s given),
+            ),
           ),
         ),
       ),
@@ -53,6 +58,11 @@ follow_fork-requires-clause-fork g c =
     let text = g.L.Text.Content.bytes c.args.text.now in
     (at_fork (λ k. IsForkFrom c.args.table.now text c.loop-kept.readings.graph c.reparse.new.graph c.loop-kept.head k) c.in_ok-root.field-0 c.in-Forks.fork c.in-Forks.is c.in_ok-root.ensures.forks).fork
 
+pub follow_fork-requires-clause-sees : goal.follow_fork-requires-clause-sees
+follow_fork-requires-clause-sees g c =
+    let text = g.L.Text.Content.bytes c.args.text.now in
+    (at_fork (λ k. IsForkFrom c.args.table.now text c.loop-kept.readings.graph c.reparse.new.graph c.loop-kept.head k) c.in_ok-root.field-0 c.in-Forks.fork c.in-Forks.is c.in_ok-root.ensures.forks).sees
+
 pub follow_fork-requires-clause-kept : goal.follow_fork-requires-clause-kept
 follow_fork-requires-clause-kept g c = c.loop-kept.invariant.kept
 
@@ -66,30 +76,31 @@ pub loop-kept-smaller : goal.loop-kept-smaller
 loop-kept-smaller g c =
     let text = g.L.Text.Content.bytes c.args.text.now in
     let fork = at_fork (λ k. IsForkFrom c.args.table.now text c.loop-kept.readings.graph c.reparse.new.graph c.loop-kept.head k) c.in_ok-root.field-0 c.in-Forks.fork c.in-Forks.is c.in_ok-root.ensures.forks in
-    let left = leaves_one c.args.table.now text c.reparse.new.graph c.follow_fork.new.readings.graph c.loop-kept.readings.stuck c.follow_fork.new.readings.stuck c.follow_fork.new.readings.live.items c.follow_fork.new.readings.best c.in-Forks.fork c.in_ok-next-in-Forks.field-0 c.in_ok-next-in-Forks.ensures.follows c.in-One.next c.in-One.is in
-    turn_falls c.args.table.now text c.loop-kept.readings.graph c.reparse.new.graph c.follow_fork.new.readings.graph c.loop-kept.head c.in-Forks.fork c.in-One.next fork left.lighter
+    let left = leaves_one c.args.table.now text c.reparse.new.graph c.follow_fork.new.readings.graph c.loop-kept.readings.stuck c.follow_fork.new.readings.stuck c.follow_fork.new.readings.live.items c.follow_fork.new.readings.best c.in-Forks.fork.head c.in_ok-next-in-Forks.field-0 c.in_ok-next-in-Forks.ensures.follows c.in-One.next c.in-One.ahead c.in-One.is in
+    turn_falls c.args.table.now text c.loop-kept.readings.graph c.reparse.new.graph c.follow_fork.new.readings.graph c.loop-kept.head c.in-One.next c.in-Forks.fork fork left.0.lighter
 
 pub loop-kept-preserved : goal.loop-kept-preserved
 loop-kept-preserved g c =
     let text = g.L.Text.Content.bytes c.args.text.now in
-    let left = leaves_one c.args.table.now text c.reparse.new.graph c.follow_fork.new.readings.graph c.loop-kept.readings.stuck c.follow_fork.new.readings.stuck c.follow_fork.new.readings.live.items c.follow_fork.new.readings.best c.in-Forks.fork c.in_ok-next-in-Forks.field-0 c.in_ok-next-in-Forks.ensures.follows c.in-One.next c.in-One.is in
-    let near : g.O.Offers.least c.reparse.new.offers ≤ c.in-Forks.fork.place = at_fork (λ k. g.O.Offers.least c.reparse.new.offers ≤ k.place) c.in_ok-root.field-0 c.in-Forks.fork c.in-Forks.is c.in_ok-root.ensures.least in
-    let far = left.far in
+    let left = leaves_one c.args.table.now text c.reparse.new.graph c.follow_fork.new.readings.graph c.loop-kept.readings.stuck c.follow_fork.new.readings.stuck c.follow_fork.new.readings.live.items c.follow_fork.new.readings.best c.in-Forks.fork.head c.in_ok-next-in-Forks.field-0 c.in_ok-next-in-Forks.ensures.follows c.in-One.next c.in-One.ahead c.in-One.is in
+    let near : g.O.Offers.least c.reparse.new.offers ≤ c.in-Forks.fork.head.place = at_fork (λ k. g.O.Offers.least c.reparse.new.offers ≤ k.head.place) c.in_ok-root.field-0 c.in-Forks.fork c.in-Forks.is c.in_ok-root.ensures.least in
+    let far = left.0.far in
     record {
       made = c.in_ok-next-in-Forks.ensures.made;
       least = omega (arith, near, far);
       gives = λ place state t given. c.loop-kept.invariant.gives place state t (c.in_ok-root.ensures.gives place state t given);
       lends = λ place state symbol s given. c.loop-kept.invariant.lends place state symbol s (c.in_ok-root.ensures.lends place state symbol s given);
-      own = left.own;
-      empty = left.empty;
-      best = left.none;
+      own = left.0.own;
+      known = left.1;
+      empty = left.0.empty;
+      best = left.0.none;
       kept = c.in_ok-next-in-Forks.ensures.kept;
       rests = λ states are honest lent.
           let before = c.loop-kept.invariant.rests states are honest lent in
           let result = c.in_ok-root.ensures.fresh states are (λ place state t given. honest place state t (c.loop-kept.invariant.gives place state t given)) (λ place state symbol s given. lent place state symbol s (c.loop-kept.invariant.lends place state symbol s given)) before.1 in
           let layers = c.in_ok-root.ensures.layers states are (λ place state t given. honest place state t (c.loop-kept.invariant.gives place state t given)) (λ place state symbol s given. lent place state symbol s (c.loop-kept.invariant.lends place state symbol s given)) before.1 in
           let fork = fork_rests c.packing_laws_hold.ensures c.args.table.now c.stands.ensures.fit states text c.loop-kept.readings.graph c.reparse.new.graph c.loop-kept.head c.loop-kept.readings.stuck c.in_ok-root.field-0 result layers before.0 c.in-Forks.fork c.in-Forks.is in
-          (left.rests fork.0, left.stand states are fork.1);
+          (left.0.rests fork.0, left.0.stand states are fork.1);
     }
 
 pub returns-in-Accepted-clause-form : goal.returns-in-Accepted-clause-form
@@ -124,16 +135,16 @@ returns-in-Deep-clause-fresh g c states are honest lent =
 
 pub returns-in-Over-clause-form : goal.returns-in-Over-clause-form
 returns-in-Over-clause-form g c =
-    (ends_all c.args.table.now (g.L.Text.Content.bytes c.args.text.now) c.reparse.new.graph c.follow_fork.new.readings.graph c.loop-kept.readings.stuck c.follow_fork.new.readings.stuck c.follow_fork.new.readings.live.items c.follow_fork.new.readings.best c.in-Forks.fork c.in_ok-next-in-Forks.field-0 c.in_ok-next-in-Forks.ensures.follows c.in-Over.outcome c.in-Over.is).form
+    (ends_all c.args.table.now (g.L.Text.Content.bytes c.args.text.now) c.reparse.new.graph c.follow_fork.new.readings.graph c.loop-kept.readings.stuck c.follow_fork.new.readings.stuck c.follow_fork.new.readings.live.items c.follow_fork.new.readings.best c.in-Forks.fork.head c.in_ok-next-in-Forks.field-0 c.in_ok-next-in-Forks.ensures.follows c.in-Over.outcome c.in-Over.is).form
 
 pub returns-in-Over-clause-own : goal.returns-in-Over-clause-own
 returns-in-Over-clause-own g c =
-    (ends_all c.args.table.now (g.L.Text.Content.bytes c.args.text.now) c.reparse.new.graph c.follow_fork.new.readings.graph c.loop-kept.readings.stuck c.follow_fork.new.readings.stuck c.follow_fork.new.readings.live.items c.follow_fork.new.readings.best c.in-Forks.fork c.in_ok-next-in-Forks.field-0 c.in_ok-next-in-Forks.ensures.follows c.in-Over.outcome c.in-Over.is).own
+    (ends_all c.args.table.now (g.L.Text.Content.bytes c.args.text.now) c.reparse.new.graph c.follow_fork.new.readings.graph c.loop-kept.readings.stuck c.follow_fork.new.readings.stuck c.follow_fork.new.readings.live.items c.follow_fork.new.readings.best c.in-Forks.fork.head c.in_ok-next-in-Forks.field-0 c.in_ok-next-in-Forks.ensures.follows c.in-Over.outcome c.in-Over.is).own
 
 pub returns-in-Over-clause-fresh : goal.returns-in-Over-clause-fresh
 returns-in-Over-clause-fresh g c states are honest lent =
     let text = g.L.Text.Content.bytes c.args.text.now in
-    let all = ends_all c.args.table.now text c.reparse.new.graph c.follow_fork.new.readings.graph c.loop-kept.readings.stuck c.follow_fork.new.readings.stuck c.follow_fork.new.readings.live.items c.follow_fork.new.readings.best c.in-Forks.fork c.in_ok-next-in-Forks.field-0 c.in_ok-next-in-Forks.ensures.follows c.in-Over.outcome c.in-Over.is in
+    let all = ends_all c.args.table.now text c.reparse.new.graph c.follow_fork.new.readings.graph c.loop-kept.readings.stuck c.follow_fork.new.readings.stuck c.follow_fork.new.readings.live.items c.follow_fork.new.readings.best c.in-Forks.fork.head c.in_ok-next-in-Forks.field-0 c.in_ok-next-in-Forks.ensures.follows c.in-Over.outcome c.in-Over.is in
     let before = c.loop-kept.invariant.rests states are honest lent in
     let result = c.in_ok-root.ensures.fresh states are (λ place state t given. honest place state t (c.loop-kept.invariant.gives place state t given)) (λ place state symbol s given. lent place state symbol s (c.loop-kept.invariant.lends place state symbol s given)) before.1 in
     let layers = c.in_ok-root.ensures.layers states are (λ place state t given. honest place state t (c.loop-kept.invariant.gives place state t given)) (λ place state symbol s given. lent place state symbol s (c.loop-kept.invariant.lends place state symbol s given)) before.1 in

@@ -8,6 +8,7 @@ use Rattle.ts_steps.specs.LiveHeads.{config_of, packed_of}
 use Rattle.ts_reductions.specs.Lines.{IsSetting}
 use Rattle.ts_steps.specs.Heads.{AreStatesOf, IsOwnHead, StandOnHead}
 use Rattle.ts_steps.specs.Reparsing.{AreHonest, AreHonestlyLent}
+use Rattle.ts_glr.specs.Forks.{SeesKnown}
 use Rattle.ts_glr.specs.Turns.{turn_weight}
 use Rattle.ts_glr.proofs.parsing.parse_with.Given as goal
 
@@ -18,6 +19,7 @@ invariant-loop-kept g l = record {
   gives : (place state : ℕ) (t : Tree) → g.O.Offers.gives l.offers place state t → g.O.Offers.gives l.initial.offers place state t;
   lends : (place state symbol : ℕ) (s : Stretch) → g.O.Offers.lends l.offers place state symbol s → g.O.Offers.lends l.initial.offers place state symbol s;
   own : IsOwnHead l.table (length (g.L.Text.Content.bytes l.text)) l.readings.graph l.head;
+  known : SeesKnown l.table (g.L.Text.Content.bytes l.text) l.readings.graph l.head l.known;
   empty : l.readings.live.items ≡ [];
   best : l.readings.best ≡ None;
   kept : IfSome l.kept (IsSetting l.table (length (g.L.Text.Content.bytes l.text)));

@@ -1,6 +1,7 @@
 use Rattle.std.proofs.Common.{◌≡◌, sym, subst, ℕ, [], length, Option, None, arith}
 use Rattle.std.specs.Prelude.{IfSome}
 use Rattle.ts_steps.specs.Heads.{IsOwnHead}
+use Rattle.ts_steps.specs.Looking.{IsTokenAhead}
 use Rattle.ts_reductions.specs.Lines.{IsSetting}
 use Rattle.ts_glr.specs.declared.forking.Forked.{Forked}
 use Rattle.ts_glr.specs.declared.readings.Readings.{Readings}
@@ -23,7 +24,7 @@ pub returns-in-Some-clause-follows : goal.returns-in-Some-clause-follows
 returns-in-Some-clause-follows g c =
     let text = g.L.Text.Content.bytes c.args.text.now in
     let new = c.follow_graph.new.readings in
-    subst (λ (o : Option Forked). IfSome o (ComesTo c.args.table.now text c.args.readings.now.graph new.graph c.args.readings.now.stuck new.stuck new.live.items new.best c.args.start)) c.in-Some.is c.in_ok-found.ensures.follows
+    subst (λ (o : Option Forked). IfSome o (ComesTo c.args.table.now text c.args.readings.now.graph new.graph c.args.readings.now.stuck new.stuck new.live.items new.best c.args.start)) c.in-Some.is c.in_ok-crossed.ensures.follows
 
 pub returns-in-Some-clause-kept : goal.returns-in-Some-clause-kept
 returns-in-Some-clause-kept g c = subst (λ (n : ℕ). IsSetting c.args.table.now n c.in_ok-lines.lines) c.requires.setting.size_is c.in_ok-lines.ensures
@@ -31,19 +32,24 @@ returns-in-Some-clause-kept g c = subst (λ (n : ℕ). IsSetting c.args.table.no
 pub follow_plain-requires-clause-own : goal.follow_plain-requires-clause-own
 follow_plain-requires-clause-own g c =
     let text = g.L.Text.Content.bytes c.args.text.now in
-    subst (λ (r : Readings). IsOwnHead c.args.table.now (length text) r.graph c.args.start) (sym (c.in_ok-found.ensures.kept c.in-None.is)) c.requires.own
+    subst (λ (r : Readings). IsOwnHead c.args.table.now (length text) r.graph c.args.start) (sym (c.in_ok-crossed.ensures.kept c.in-None.is)) c.requires.own
+
+pub follow_plain-requires-clause-sees : goal.follow_plain-requires-clause-sees
+follow_plain-requires-clause-sees g c =
+    let text = g.L.Text.Content.bytes c.args.text.now in
+    subst (λ (r : Readings). IsTokenAhead c.args.table.now text r.graph c.args.start c.args.found) (sym (c.in_ok-crossed.ensures.kept c.in-None.is)) c.requires.sees
 
 pub follow_plain-requires-clause-alone : goal.follow_plain-requires-clause-alone
-follow_plain-requires-clause-alone g c = subst (λ (r : Readings). r.live.items ≡ []) (sym (c.in_ok-found.ensures.kept c.in-None.is)) c.requires.alone
+follow_plain-requires-clause-alone g c = subst (λ (r : Readings). r.live.items ≡ []) (sym (c.in_ok-crossed.ensures.kept c.in-None.is)) c.requires.alone
 
 pub follow_plain-requires-clause-best : goal.follow_plain-requires-clause-best
-follow_plain-requires-clause-best g c = subst (λ (r : Readings). r.best ≡ None) (sym (c.in_ok-found.ensures.kept c.in-None.is)) c.requires.best
+follow_plain-requires-clause-best g c = subst (λ (r : Readings). r.best ≡ None) (sym (c.in_ok-crossed.ensures.kept c.in-None.is)) c.requires.best
 
 pub returns-in_ok-forked-in-None-clause-follows : goal.returns-in_ok-forked-in-None-clause-follows
 returns-in_ok-forked-in-None-clause-follows g c =
     let text = g.L.Text.Content.bytes c.args.text.now in
     let new = c.follow_plain.new.readings in
-    subst (λ (r : Readings). ComesTo c.args.table.now text r.graph new.graph r.stuck new.stuck new.live.items new.best c.args.start c.in_ok-forked-in-None.forked) (c.in_ok-found.ensures.kept c.in-None.is) c.in_ok-forked-in-None.ensures.follows
+    subst (λ (r : Readings). ComesTo c.args.table.now text r.graph new.graph r.stuck new.stuck new.live.items new.best c.args.start c.in_ok-forked-in-None.forked) (c.in_ok-crossed.ensures.kept c.in-None.is) c.in_ok-forked-in-None.ensures.follows
 
 pub returns-in_ok-forked-in-None-clause-kept : goal.returns-in_ok-forked-in-None-clause-kept
 returns-in_ok-forked-in-None-clause-kept g c = subst (λ (n : ℕ). IsSetting c.args.table.now n c.in_ok-lines.lines) c.requires.setting.size_is c.in_ok-lines.ensures

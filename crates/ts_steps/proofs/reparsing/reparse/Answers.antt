@@ -207,7 +207,7 @@ loop-next-init g c = record {
   weight = omega arith;
   stands = λ states are honest lent first. record { meet = c.only_runs_meet.ensures.same c.args.table.now.grammar (g.L.Text.Content.bytes c.args.text.now) (config_of c.args.graph.now c.args.start); stand = first };
   layers = λ states are honest lent first met. gone_none c.pack_laws_hold.ensures c.args.table.now.grammar c.stands.ensures.fit (g.L.Text.Content.bytes c.args.text.now) c.args.graph.now c.args.start met;
-  known = none_known (IsTokenAhead c.args.table.now (g.L.Text.Content.bytes c.args.text.now) c.args.graph.now c.args.start);
+  known = c.requires.known;
 }
 
 pub returns-in-Ended-clause-fresh : goal.returns-in-Ended-clause-fresh
@@ -222,8 +222,8 @@ pub returns-in-Ended-clause-forks : goal.returns-in-Ended-clause-forks
 returns-in-Ended-clause-forks g c =
     let text = g.L.Text.Content.bytes c.args.text.now in
     let long = sym (c.requires.setting.size_is) in
-    ends_fork c.args.table.now text (λ stacks k. IsForkFrom c.args.table.now text c.args.graph.now stacks c.args.start k) c.loop-next.graph c.go_on.new.graph c.loop-next.head c.in-Ended.result
-    (λ several. record { own = c.loop-next.invariant.live; later = c.loop-next.invariant.later; weight = c.loop-next.invariant.weight; fork = several })
+    ends_fork c.args.table.now text (λ stacks k f. IsForkFrom c.args.table.now text c.args.graph.now stacks c.args.start (record { head = k; found = f })) c.loop-next.graph c.go_on.new.graph c.loop-next.head c.in-Ended.result
+    (λ f several sees. record { own = c.loop-next.invariant.live; later = c.loop-next.invariant.later; weight = c.loop-next.invariant.weight; fork = several; sees = sees })
     (ends_at c.args.table.now text c.loop-next.graph c.take.new.graph c.go_on.new.graph c.loop-next.head c.in-Ended.result c.in_ok-next-in-None.field-0 (c.in_ok-next.ensures.kept c.in-None.is) c.in-Ended.is
     (c.in_ok-next-in-None.ensures text long (sees_kept c.args.table.now text c.loop-next.graph c.take.new.graph c.loop-next.head c.look_once-lexed.result (c.in_ok-next.ensures.kept c.in-None.is) c.look_once-lexed.ensures.sees)))
 
@@ -231,7 +231,7 @@ pub returns-in-Ended-clause-least : goal.returns-in-Ended-clause-least
 returns-in-Ended-clause-least g c =
     let text = g.L.Text.Content.bytes c.args.text.now in
     let long = sym (c.requires.setting.size_is) in
-    ends_fork c.args.table.now text (λ stacks k. g.O.Offers.least c.take.new.offers ≤ k.place) c.loop-next.graph c.go_on.new.graph c.loop-next.head c.in-Ended.result (λ several. c.in_ok-next.ensures.least)
+    ends_fork c.args.table.now text (λ stacks k f. g.O.Offers.least c.take.new.offers ≤ k.place) c.loop-next.graph c.go_on.new.graph c.loop-next.head c.in-Ended.result (λ f several sees. c.in_ok-next.ensures.least)
     (ends_at c.args.table.now text c.loop-next.graph c.take.new.graph c.go_on.new.graph c.loop-next.head c.in-Ended.result c.in_ok-next-in-None.field-0 (c.in_ok-next.ensures.kept c.in-None.is) c.in-Ended.is
     (c.in_ok-next-in-None.ensures text long (sees_kept c.args.table.now text c.loop-next.graph c.take.new.graph c.loop-next.head c.look_once-lexed.result (c.in_ok-next.ensures.kept c.in-None.is) c.look_once-lexed.ensures.sees)))
 
