@@ -9,7 +9,7 @@ use Rattle.spec_graph.specs.declared.graph.Link.{Link}
 use Rattle.spec_graph.specs.Links.{IsWay}
 use Rattle.spec_crossing.specs.Leaving.{IsOneWay, EndsWithToken}
 use Rattle.ts_gss.specs.declared.layer.Layer.{Layer}
-use Rattle.ts_gss.specs.Stacks.{packed_layer, stack_at}
+use Rattle.ts_gss.specs.Stacks.{packed_layer, stack_at, IsOneStack}
 use Rattle.ts_graph.specs.declared.view.GraphView.{GraphView}
 use Rattle.ts_graph.specs.Down.{links_down, place_at}
 use Rattle.ts_graph.specs.Ways.{AreAt}
@@ -39,10 +39,12 @@ layers_of heads [] = []
 layers_of heads (l ∷ way) =
     packed_layer l.tree (state_at heads l.above) l.depth ∷ layers_of heads way
 
--- the stack of the head has the layers of the way down from a head of the graph, and its place
+-- The stack of the head has the layers of the way down from a head of the graph, and its place. It
+-- is alone, with those below it.
 pub record IsLeft (g : GraphView) (h : ℕ) (way : List Link) (stacks : List (List Layer))
     (k : StackHead) : Type 0 where
   pub there : k.top < length stacks
+  pub one : IsOneStack stacks k.top
   pub stack : stack_at stacks k.top ≡ layers_of g.heads way
   pub place : k.place ≡ place_at g.heads h
 

@@ -3,7 +3,7 @@
 ghost use Rattle.std.specs.Prelude.{◌≡◌, ◌<◌, ◌∷◌, ℕ, true, false, List, length, slice_get, Some, IfOk, MatchOption};
 ghost use Rattle.spec_graph.specs.declared.graph.Link.{Link};
 ghost use Rattle.spec_graph.specs.Laying.{Parsing};
-ghost use Rattle.ts_gss.specs.Stacks.{packed_layer, stack_at};
+ghost use Rattle.ts_gss.specs.Stacks.{packed_layer, stack_at, IsOneStack};
 ghost use Rattle.ts_graph.specs.Ways.{AreAt};
 ghost use Rattle.ts_reductions.specs.SoundLinks.{IsSoundFor};
 ghost use Rattle.ts_crossing.specs.Leaving.{IsStack, HasNoStack, state_at, IsLeft, IsAlone, IsOnlyDown, IsTokenTree, IsLastToken};
@@ -153,6 +153,7 @@ fn push_link(
     requires link { link < length graph.now.links }
     requires below { below < length stacks.old }
     ensures there { IfOk result (λ top. top < length stacks.new) }
+    ensures one { IfOk result (λ top. IsOneStack stacks.old below → IsOneStack stacks.new top) }
     ensures stack { IfOk result (λ top. (l : Link) → slice_get graph.now.links link ≡ Some l
         → stack_at stacks.new top
         ≡ packed_layer l.tree (state_at graph.now.heads l.above) l.depth

@@ -20,7 +20,7 @@ use Rattle.ts_table.specs.declared.view.ParseTable.{ParseTable}
 use Rattle.ts_table.specs.Tables.{IsTable}
 use Rattle.ts_table.specs.Ranks.{unit_rank}
 use Rattle.ts_gss.specs.declared.layer.Layer.{Layer}
-use Rattle.ts_gss.specs.Stacks.{stack_at, trees_on, AreExact}
+use Rattle.ts_gss.specs.Stacks.{stack_at, trees_on, AreExact, LieInOne, IsOneStack}
 use Rattle.ts_graph.specs.declared.view.GraphView.{GraphView}
 use Rattle.ts_graph.specs.Ways.{AreAt}
 use Rattle.ts_reductions.specs.declared.setting.Setting.{Setting}
@@ -140,9 +140,9 @@ module _ (laws : LeftLaws) (over : OverLaws) (t : ParseTable) (table : IsTable t
   lighter : turn_weight t.grammar (length text) (config_of l.stacks l.head) < turn_weight t.grammar (length text) (config_of stacks start)
   lighter = turn_far t.grammar ranks (length text) (config_of stacks start) (config_of l.stacks l.head) far own.live.stack.within low
 
-  pub left_one : ((q : ℕ) → IsPastStuck before q → IsPastStuck stuck q) → ((q : ℕ) → IsPastStuck spread.ends.stuck q → IsPastStuck stuck q) → ((q : ℕ) → stuck ≡ Some q → (before ≡ Some q) ⊎ (spread.ends.stuck ≡ Some q))
+  leaves : ((q : ℕ) → IsPastStuck before q → IsPastStuck stuck q) → ((q : ℕ) → IsPastStuck spread.ends.stuck q → IsPastStuck stuck q) → ((q : ℕ) → stuck ≡ Some q → (before ≡ Some q) ⊎ (spread.ends.stuck ≡ Some q))
       → LeavesOne t text stacks l.stacks before stuck [] None start l.head
-  left_one one other known = record {
+  leaves one other known = record {
     own = own;
     far = (let f = far in omega (arith, f));
     lighter = lighter;
@@ -154,6 +154,10 @@ module _ (laws : LeftLaws) (over : OverLaws) (t : ParseTable) (table : IsTable t
         laws.rests t text p.base spread.graph w.head w.numbers l.stacks l.head sound there w.stack w.is (config_of first h) p.begun p.most p.can.whole.ranks spread.place p.can.whole.whole past alone before stuck account (all.back.rests before r);
     stand = λ states are stand. laws.stand t text p.base spread.graph w.head w.numbers l.stacks l.head sound there w.stack w.is table states are (p.stand states are (all.back.stand states are stand));
   }
+
+  pub left_one : ((q : ℕ) → IsPastStuck before q → IsPastStuck stuck q) → ((q : ℕ) → IsPastStuck spread.ends.stuck q → IsPastStuck stuck q) → ((q : ℕ) → stuck ≡ Some q → (before ≡ Some q) ⊎ (spread.ends.stuck ≡ Some q))
+      → LeavesOne t text stacks l.stacks before stuck [] None start l.head × IsOneStack l.stacks l.head.top
+  left_one one other known = (leaves one other known, w.is.one)
 
 -- ---- the outcome
 
@@ -254,11 +258,12 @@ pub has_it : {X : Type 0} (P : X → Type 0) (o : Option X) (x : X) → o ≡ So
 has_it {X = X} P o x is h = subst (λ (y : Option X). IfSome y P) is h
 
 module _ (t : ParseTable) (text : Bytes) (first : List (List Layer)) (before : Option ℕ) (h : StackHead) (x : Crossed) (crosses : Crosses t text first before h x) where
-  pub one_by : (l : Left) (stuck : Option ℕ) (live : List StackHead) (best : Option Tree) → x ≡ One l stuck → live ≡ [] → best ≡ None → LeavesOne t text first l.stacks before stuck live best h l.head × SeesKnown t text l.stacks l.head None
+  pub one_by : (l : Left) (stuck : Option ℕ) (live : List StackHead) (best : Option Tree) → x ≡ One l stuck → live ≡ [] → best ≡ None → LeavesOne t text first l.stacks before stuck live best h l.head × SeesKnown t text l.stacks l.head None × (LieInOne first h.top → IsOneStack l.stacks l.head.top)
   one_by l stuck live best is empty none =
       let w = subst (λ (y : Crossed). Crosses t text first before h y) is crosses in (
-        record { own = w.own; far = w.far; lighter = w.lighter; empty = empty; none = none; rests = w.rests; stand = w.stand },
-        λ f e. absurd (let q : ◌≡◌ {A = Option FoundToken} None (Some f) = e in cc),
+        record { own = w.0.own; far = w.0.far; lighter = w.0.lighter; empty = empty; none = none; rests = w.0.rests; stand = w.0.stand },
+        (λ f e. absurd (let q : ◌≡◌ {A = Option FoundToken} None (Some f) = e in cc)),
+        λ lie. w.1,
       )
 
   pub told_by : (out : Outcome) → x ≡ Told out → EndsAll t text first before h out

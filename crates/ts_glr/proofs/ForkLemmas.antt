@@ -16,6 +16,7 @@ use Rattle.ts_table.specs.declared.view.ParseTable.{ParseTable}
 use Rattle.ts_table.specs.Tables.{most_actions}
 use Rattle.ts_gss.specs.declared.layer.Layer.{Layer}
 use Rattle.ts_gss.specs.Stacks.{stack_at, trees_on}
+use Rattle.ts_gss.proofs.OneLemmas.{lie_more}
 use Rattle.ts_steps.specs.declared.found.FoundToken.{FoundToken}
 use Rattle.ts_steps.specs.declared.head.StackHead.{StackHead}
 use Rattle.ts_steps.specs.Good.{EachTree}
@@ -341,6 +342,7 @@ module _ (t : ParseTable) (text : Bytes) (first mid : List (List Layer)) (h : St
       stand = λ states are stand. w.0.stand states are (stands states stand);
     },
     w.1,
+    λ lie. w.2 (lie_more first grows.0 mid h.top own.live.there grows.1 lie),
   )
   comes_from stacks before stuck live best (Over out) w = record {
     form = w.form;

@@ -13,6 +13,7 @@ use Rattle.spec_packing.specs.Packing.{WasMet}
 use Rattle.spec_crossing.specs.Resting.{IsPastStuck, PackedRests}
 use Rattle.ts_table.specs.declared.view.ParseTable.{ParseTable}
 use Rattle.ts_gss.specs.declared.layer.Layer.{Layer}
+use Rattle.ts_gss.specs.Stacks.{LieInOne, IsOneStack}
 use Rattle.ts_steps.specs.declared.found.FoundToken.{FoundToken}
 use Rattle.ts_steps.specs.declared.head.StackHead.{StackHead}
 use Rattle.ts_steps.specs.Good.{EachTree}
@@ -83,7 +84,7 @@ at_fork P r k is on = subst (λ (x : Reparsed). OnFork P x) is on
 -- ---- several stacks
 
 module _ (t : ParseTable) (text : Bytes) (first stacks : List (List Layer)) (before stuck : Option ℕ) (live : List StackHead) (best : Option Tree) (h : StackHead) (o : Forked) (comes : ComesTo t text first stacks before stuck live best h o) where
-  pub leaves_one : (k : StackHead) (known : Option FoundToken) → o ≡ One k known → LeavesOne t text first stacks before stuck live best h k × SeesKnown t text stacks k known
+  pub leaves_one : (k : StackHead) (known : Option FoundToken) → o ≡ One k known → LeavesOne t text first stacks before stuck live best h k × SeesKnown t text stacks k known × (LieInOne first h.top → IsOneStack stacks k.top)
   leaves_one k known is = subst (λ (x : Forked). ComesTo t text first stacks before stuck live best h x) is comes
 
   pub ends_all : (out : Outcome) → o ≡ Over out → EndsAll t text first before h out

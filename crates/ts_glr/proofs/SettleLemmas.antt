@@ -14,11 +14,12 @@ use Rattle.spec_forced.specs.Forced.{IsDecided}
 use Rattle.spec_forced.specs.Sound.{States, StandOnStack}
 use Rattle.ts_table.specs.declared.view.ParseTable.{ParseTable}
 use Rattle.ts_gss.specs.declared.layer.Layer.{Layer}
-use Rattle.ts_gss.specs.Stacks.{packed_layer, stack_at, state_on, depth_on, tree_on, trees_on, under_top}
+use Rattle.ts_gss.specs.Stacks.{packed_layer, stack_at, state_on, depth_on, tree_on, trees_on, under_top, LieInOne, IsOneStack}
+use Rattle.ts_gss.proofs.OneLemmas.{lie_more}
 use Rattle.ts_steps.specs.declared.found.FoundToken.{FoundToken}
 use Rattle.ts_steps.specs.declared.head.StackHead.{StackHead}
 use Rattle.ts_steps.specs.Good.{EachTree}
-use Rattle.ts_steps.specs.LiveHeads.{config_of, packed_layers, packed_of, read_on, IsGoodStack}
+use Rattle.ts_steps.specs.LiveHeads.{config_of, packed_layers, packed_of, read_on, IsGoodStack, GainsStacks}
 use Rattle.ts_steps.specs.Heads.{IsMadeNode, IsOwnWithin, IsOwnHead}
 use Rattle.ts_steps.specs.Looking.{IsTokenAhead}
 use Rattle.ts_steps.proofs.StackLemmas.{stack_new}
@@ -27,15 +28,13 @@ use Rattle.ts_glr.specs.declared.forking.Forked.TheVariants.{One}
 use Rattle.ts_glr.specs.Forks.{LeavesOne, SeesKnown, ComesTo}
 use Rattle.ts_glr.specs.Settling.{layers_of, IsSettled}
 use Rattle.ts_glr.specs.Turns.{turn_weight}
-use Rattle.ts_glr.proofs.JoinLemmas.{trees_step, spans_step}
 
 -- ---- lifting
 
--- the stack of the head is these layers on another, which ends at the place
-pub record Lifting (stacks : List (List Layer)) (h : StackHead) (tops : List Top) (under place : ℕ) : Type 0 where
+-- the stack is these layers on another
+pub record Lifting (stacks : List (List Layer)) (head : ℕ) (tops : List Top) (under : ℕ) : Type 0 where
   pub there : under < length stacks
-  pub spans : all_spans (trees_on (stack_at stacks under)) ≡ place
-  pub laid : stack_at stacks h.top ≡ layers_of tops ++ stack_at stacks under
+  pub laid : stack_at stacks head ≡ layers_of tops ++ stack_at stacks under
 
 layer_step : (s below : List Layer) (x : Tree) (state depth : ℕ) → Some x ≡ tree_on s → state ≡ state_on s → Some depth ≡ depth_on s → below ≡ under_top s → s ≡ packed_layer x state depth ∷ below
 layer_step [] below x state depth e n d u = absurd (let f : Some x ≡ None = e in cc)
@@ -49,21 +48,17 @@ layer_step (l ∷ s) below x state depth e n d u =
 pub layers_more : (tops : List Top) (x : Top) (s : List Layer) → layers_of (tops ++ x ∷ []) ++ s ≡ layers_of tops ++ packed_layer x.node x.state x.depth ∷ s
 layers_more tops x s = ap (λ (l : List Layer). l ++ s) (map-append (λ (t : Top). packed_layer t.node t.state t.depth) tops (x ∷ [])) ∙ append_assoc (layers_of tops) (packed_layer x.node x.state x.depth ∷ []) s
 
-pub lifting_more : (stacks : List (List Layer)) (h : StackHead) (tops new : List Top) (under place below q state depth : ℕ) (x y : Tree) → Lifting stacks h tops under place → Some x ≡ tree_on (stack_at stacks under) → state ≡ state_on (stack_at stacks under) → Some depth ≡ depth_on (stack_at stacks under)
-    → stack_at stacks below ≡ under_top (stack_at stacks under) → below < under → q ≡ place - (pad_of x + size_of x) → y ≡ x → new ≡ tops ++ record { node = y; state = state; depth = depth } ∷ [] → Lifting stacks h new below q
-lifting_more stacks h tops new under place below q state depth x y l e n d u lower eq same is =
-    let a = trees_step (stack_at stacks under) (stack_at stacks below) x e u in
-    let sum : all_spans (trees_on (stack_at stacks under)) ≡ span_of x + all_spans (trees_on (stack_at stacks below)) = ap all_spans a ∙ spans_step x (trees_on (stack_at stacks below)) in
-    record {
-      there = omega (arith, lower, l.there);
-      spans = omega (arith, sum, l.spans, eq);
-      laid = l.laid ∙ ap (λ (s : List Layer). layers_of tops ++ s) (layer_step (stack_at stacks under) (stack_at stacks below) x state depth e n d u)
-          ∙ sym (layers_more tops (record { node = x; state = state; depth = depth }) (stack_at stacks below)) ∙ ap (λ (z : Tree). layers_of (tops ++ record { node = z; state = state; depth = depth } ∷ []) ++ stack_at stacks below) (sym same)
-          ∙ ap (λ (ts : List Top). layers_of ts ++ stack_at stacks below) (sym is);
-    }
+pub lifting_more : (stacks : List (List Layer)) (head : ℕ) (tops new : List Top) (under below state depth : ℕ) (x y : Tree) → Lifting stacks head tops under → Some x ≡ tree_on (stack_at stacks under) → state ≡ state_on (stack_at stacks under) → Some depth ≡ depth_on (stack_at stacks under)
+    → stack_at stacks below ≡ under_top (stack_at stacks under) → below < under → y ≡ x → new ≡ tops ++ record { node = y; state = state; depth = depth } ∷ [] → Lifting stacks head new below
+lifting_more stacks head tops new under below state depth x y l e n d u lower same is = record {
+  there = omega (arith, lower, l.there);
+  laid = l.laid ∙ ap (λ (s : List Layer). layers_of tops ++ s) (layer_step (stack_at stacks under) (stack_at stacks below) x state depth e n d u)
+      ∙ sym (layers_more tops (record { node = x; state = state; depth = depth }) (stack_at stacks below)) ∙ ap (λ (z : Tree). layers_of (tops ++ record { node = z; state = state; depth = depth } ∷ []) ++ stack_at stacks below) (sym same)
+      ∙ ap (λ (ts : List Top). layers_of ts ++ stack_at stacks below) (sym is);
+}
 
-pub lifting_begins : (stacks : List (List Layer)) (h : StackHead) (tops : List Top) → tops ≡ [] → h.top < length stacks → all_spans (trees_on (stack_at stacks h.top)) ≡ h.place → Lifting stacks h tops h.top h.place
-lifting_begins stacks h tops none there spans = record { there = there; spans = spans; laid = ap (λ (ts : List Top). layers_of ts ++ stack_at stacks h.top) (sym none) }
+pub lifting_begins : (stacks : List (List Layer)) (head : ℕ) (tops : List Top) → tops ≡ [] → head < length stacks → Lifting stacks head tops head
+lifting_begins stacks head tops none there = record { there = there; laid = ap (λ (ts : List Top). layers_of ts ++ stack_at stacks head) (sym none) }
 
 -- ---- laying
 
@@ -140,5 +135,10 @@ module _ (t : ParseTable) (text : Bytes) (first old new : List (List Layer)) (be
         some = a.some;
       }
 
-  pub settled_comes : (known : Option FoundToken) → SeesKnown t text old k known → LeavesOne t text first old before stuck live best h k → ComesTo t text first new before stuck live best h (One settled known)
-  settled_comes known sees l = (settled_one l, λ f e. settled_ahead f (sees f e))
+  -- the first stacks were there already
+  settled_alone : GainsStacks first old → h.top < length first → (LieInOne old h.top → IsOneStack new settled.top) → LieInOne first h.top → IsOneStack new settled.top
+  settled_alone grows there alone lie = alone (lie_more first grows.0 old h.top there grows.1 lie)
+
+  pub settled_comes : (known : Option FoundToken) → SeesKnown t text old k known → GainsStacks first old → h.top < length first → (LieInOne old h.top → IsOneStack new settled.top)
+      → LeavesOne t text first old before stuck live best h k → ComesTo t text first new before stuck live best h (One settled known)
+  settled_comes known sees grows there alone l = (settled_one l, (λ f e. settled_ahead f (sees f e)), settled_alone grows there alone)

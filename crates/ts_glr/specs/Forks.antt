@@ -9,6 +9,7 @@ use Rattle.spec_crossing.specs.Resting.{PackedRests}
 use Rattle.ts_table.specs.declared.view.ParseTable.{ParseTable}
 use Rattle.ts_table.specs.Tables.{most_actions}
 use Rattle.ts_gss.specs.declared.layer.Layer.{Layer}
+use Rattle.ts_gss.specs.Stacks.{LieInOne, IsOneStack}
 use Rattle.ts_steps.specs.declared.found.FoundToken.{FoundToken}
 use Rattle.ts_steps.specs.declared.head.StackHead.{StackHead}
 use Rattle.ts_steps.specs.LiveHeads.{config_of, packed_of}
@@ -73,5 +74,6 @@ abbrev pub ComesTo : ParseTable → Bytes → List (List Layer) → List (List L
     → Option ℕ → List StackHead → Option Tree → StackHead → Forked → Type 0
 ComesTo t text first stacks before stuck live best h (One k known) =
     LeavesOne t text first stacks before stuck live best h k × SeesKnown t text stacks k known
+    × (LieInOne first h.top → IsOneStack stacks k.top)
 ComesTo t text first stacks before stuck live best h (Over out) =
     EndsAll t text first before h out

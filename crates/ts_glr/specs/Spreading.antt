@@ -8,7 +8,7 @@ use Rattle.spec_graph.specs.Laying.{IsBegun}
 use Rattle.spec_crossing.specs.Resting.{PackedRests}
 use Rattle.ts_table.specs.declared.view.ParseTable.{ParseTable}
 use Rattle.ts_gss.specs.declared.layer.Layer.{Layer}
-use Rattle.ts_gss.specs.Stacks.{stack_at, state_on}
+use Rattle.ts_gss.specs.Stacks.{stack_at, state_on, IsOneStack}
 use Rattle.ts_steps.specs.declared.head.StackHead.{StackHead}
 use Rattle.ts_steps.specs.LiveHeads.{config_of, packed_of}
 use Rattle.ts_steps.specs.Heads.{AreStatesOf, StandOnHead}
@@ -119,4 +119,5 @@ abbrev pub Crosses : ParseTable → Bytes → List (List Layer) → Option ℕ �
     → Type 0
 Crosses t text first before h (One l stuck) =
     LeavesOne t text first l.stacks before stuck [] None h l.head
+    × IsOneStack l.stacks l.head.top
 Crosses t text first before h (Told out) = EndsAll t text first before h out

@@ -1,5 +1,5 @@
 -- Stacks as lists of layers, the topmost first.
-use Rattle.std.specs.Prelude.{◌≡◌, ℕ, Bool, false, List, [], ◌∷◌, map, slice_get, Option, Some, None, unwrap_or}
+use Rattle.std.specs.Prelude.{◌≡◌, ℕ, ◌<◌, suc, Bool, false, List, [], ◌∷◌, length, map, slice_get, Option, Some, None, unwrap_or}
 use Rattle.spec_trees.specs.declared.tree.Tree.{Tree}
 use Rattle.spec_trees.specs.Trees.{is_extra_node, tree_depth}
 use Rattle.ts_gss.specs.declared.layer.Layer.{Layer}
@@ -58,3 +58,14 @@ under_top (l ∷ layers) = layers
 abbrev pub begins_with_extra : List Layer → Bool
 begins_with_extra [] = false
 begins_with_extra (l ∷ layers) = is_extra_node l.tree
+
+-- The stacks up to this one lie each on that of the number before, and the first of them is empty.
+pub record LieInOne (stacks : List (List Layer)) (top : ℕ) : Type 0 where
+  pub lowest : stack_at stacks 0 ≡ []
+  pub each : (k : ℕ) → k < top
+      → (l : Layer) × (stack_at stacks (suc k) ≡ l ∷ stack_at stacks k)
+
+-- and there are no others
+pub record IsOneStack (stacks : List (List Layer)) (top : ℕ) : Type 0 where
+  pub count : length stacks ≡ suc top
+  pub lie : LieInOne stacks top

@@ -2,7 +2,7 @@
 //! with the node on top comes out.
 ghost use Rattle.std.specs.Prelude.{◌≡◌, ℕ, ◌<◌, ◌≤◌, ◌+◌, ◌++◌, ◌∷◌, [], ◌-◌, true, false, length, slice_get, take, Some, IfOk, IfErr};
 ghost use Rattle.spec_trees.specs.Trees.{maximum};
-ghost use Rattle.ts_gss.specs.Stacks.{stack_at, AreExact, packed_layer, layer_with, state_on, depth_on, depths_on, tree_on, under_top, begins_with_extra, layer_of};
+ghost use Rattle.ts_gss.specs.Stacks.{stack_at, AreExact, packed_layer, layer_with, state_on, depth_on, depths_on, tree_on, under_top, begins_with_extra, layer_of, IsOneStack};
 
 use std::alloc::{AllocError, Global};
 use std::marker::Model;
@@ -119,6 +119,7 @@ impl Graph {
     /// Whether a stack is empty.
     pub fn is_empty(&self, head: usize) -> bool
         requires { head < length self.now }
+        ensures first { result ≡ true → head ≡ 0 }
         ensures empty { result ≡ true → stack_at self.now head ≡ [] }
         ensures some { result ≡ false → 0 < length (stack_at self.now head) }
     {
@@ -201,6 +202,8 @@ impl Graph {
         ensures head { IfOk result (λ head. head ≡ length self.old) }
         ensures pushed { IfOk result (λ head. self.new
             ≡ self.old ++ (layer_with node state ∷ stack_at self.old below) ∷ []) }
+        ensures one { IfOk result (λ head. IsOneStack self.old below
+            → IsOneStack self.new head) }
         ensures kept { IfErr result (λ e. self.new ≡ self.old) }
     {
         let depth = node.depth();
@@ -226,6 +229,8 @@ impl Graph {
         ensures head { IfOk result (λ head. head ≡ length self.old) }
         ensures pushed { IfOk result (λ head. self.new
             ≡ self.old ++ (packed_layer node state depth ∷ stack_at self.old below) ∷ []) }
+        ensures one { IfOk result (λ head. IsOneStack self.old below
+            → IsOneStack self.new head) }
         ensures kept { IfErr result (λ e. self.new ≡ self.old) }
     {
         let own = depth == node.depth();

@@ -141,8 +141,9 @@ impl Graph {
         ensures depths { IfOk result (λ taken. AreDepthsOf
             (depths_of (length taken.nodes.items) (stack_at self.old head))
             taken.first taken.others) }
-        ensures stack { IfOk result
-            (λ taken. stack_at self.new taken.below ≡ stack_at self.old taken.below) }
+        ensures same { IfOk result (λ taken. (k : ℕ) → k ≤ taken.below
+            → stack_at self.new k ≡ stack_at self.old k) }
+        ensures low { IfOk result (λ taken. taken.below ≤ head) }
         ensures there { IfOk result (λ taken. taken.below < length self.new) }
     {
         let mut taken = self.spare(alloc);

@@ -22,7 +22,7 @@ use Rattle.spec_forced.specs.Sound.{States, IsSound}
 use Rattle.ts_table.specs.declared.view.ParseTable.{ParseTable}
 use Rattle.ts_table.specs.Tables.{IsTable, IsStateOf, ActsBy, actions_of}
 use Rattle.ts_gss.specs.declared.layer.Layer.{Layer}
-use Rattle.ts_gss.specs.Stacks.{stack_at, state_on, trees_on}
+use Rattle.ts_gss.specs.Stacks.{stack_at, state_on, trees_on, IsOneStack}
 use Rattle.ts_steps.specs.declared.head.StackHead.{StackHead}
 use Rattle.ts_steps.specs.declared.found.FoundToken.{FoundToken}
 use Rattle.ts_steps.specs.MoveLaws.{Laws}
@@ -111,37 +111,40 @@ module _ (laws : Laws) (t : ParseTable) (size : ℕ) (old : List (List Layer)) (
     pub goes_shift : (next : ℕ) → Acts (Shift next ∷ []) → config_of new k ≡ pushed (config_of old h) (token_tree f.token f.pad f.size) → packed_of new k ≡ packed_with (packed_of old h) (token_tree f.token f.pad f.size)
         → ((u : ParseTable) (n : ℕ) → IsOwnHead u n old h → LiesAhead n h.place f → IsToken u.grammar f.token.0 → IsStateOf u (f.token.0 ∷ read_on old h) next → IsOwnHead u n new k)
         → ((u : ParseTable) (states : States) (w : Bytes) → IsTable u → AreStatesOf u states → IsOwnHead u (length w) old h → IsMoveAhead u w old h (record { found = f; only = true }) shift → StandOnHead u states w old h → StandOnHead u states w new k)
-        → GoesTo t text old new h (On k)
-    goes_shift next is config layers live stand = record {
+        → (IsOneStack old h.top → IsOneStack new k.top) → GoesTo t text old new h (On k)
+    goes_shift next is config layers live stand one = record {
       own = live t (length text) mine (lies_ahead t (length text) text old h f refl (shift_token next is).0 a) (shift_token next is) (shift_of t (read_on old h) f.token.0 next (acts_by (Shift next) is));
       step = shift_only laws alone t text old new h k f a (only_by (Shift next) is) config;
       layers = shift_steps laws alone t text old new h k f a (only_by (Shift next) is).stays layers;
       exact = pushed_exact laws alone t text old new h k f a (token_tree f.token f.pad f.size) layers;
+      one = one;
       stand = λ states are s. stand t states text table are mine (move_ahead (Shift next) is) s;
     }
 
     pub goes_pass : Acts [] → config_of new k ≡ pushed (config_of old h) (as_extra (token_tree f.token f.pad f.size)) → packed_of new k ≡ packed_with (packed_of old h) (as_extra (token_tree f.token f.pad f.size))
         → ((u : ParseTable) (n : ℕ) → IsOwnHead u n old h → LiesAhead n h.place f → IsToken u.grammar f.token.0 → IsOwnHead u n new k)
         → ((u : ParseTable) (states : States) (w : Bytes) → IsTable u → AreStatesOf u states → IsOwnHead u (length w) old h → IsExtraAhead u w old h f → StandOnHead u states w old h → StandOnHead u states w new k)
-        → GoesTo t text old new h (On k)
-    goes_pass none config layers live stand =
+        → (IsOneStack old h.top → IsOneStack new k.top) → GoesTo t text old new h (On k)
+    goes_pass none config layers live stand one =
         let e = pass_token none text a in
         let idle : HasMove t.grammar (read_on old h) f.token.0 → ⊥ = no_move laws t (read_on old h) (state_on (stack_at old h.top)) f.token.0 table state none in record {
           own = live t (length text) mine (lies_ahead t (length text) text old h f refl e.1.0 a) e.1;
           step = pass_only laws alone t text old new h k f a e.0 idle config;
           layers = pass_steps laws alone t text old new h k f a e.0 idle layers;
           exact = pushed_exact laws alone t text old new h k f a (as_extra (token_tree f.token f.pad f.size)) layers;
+          one = one;
           stand = λ states are s. stand t states text table are mine (record { decided = a.decided; extra = e.0; idle = idle }) s;
         }
 
     pub goes_reduce : (number : ℕ) → Acts (Reduce number ∷ []) → IsReducedTo t size number old new h (Some k) → IsOwnHead t size new k
         → ((states : States) (w : Bytes) → length w ≡ size → AreStatesOf t states → IsMoveAhead t w old h (record { found = f; only = true }) (reduce number) → StandOnHead t states w old h → StandOnHead t states w new k)
-        → LeadsOn t text old new h k
-    goes_reduce number is done live stand = record {
+        → (IsOneStack old h.top → IsOneStack new k.top) → LeadsOn t text old new h k
+    goes_reduce number is done live stand one = record {
       own = subst (λ (n : ℕ). IsOwnHead t n new k) (sym long) live;
       step = reduce_only laws alone t text old new h k f a size number (only_by (Reduce number) is) done;
       layers = reduce_steps laws alone t text old new h k f a size number (only_by (Reduce number) is) done;
       exact = reduced_exact laws alone t text old new h k f a size number done;
+      one = one;
       stand = λ states are s. stand states text long are (move_ahead (Reduce number) is) s;
     }
 
@@ -168,12 +171,13 @@ module _ (laws : Laws) (t : ParseTable) (size : ℕ) (old : List (List Layer)) (
 
     pub goes_reduced : (sound : SoundLaws) (again : SameToken) (o : Option StackHead) (number : ℕ) → o ≡ Some k → Acts (Reduce number ∷ []) → IsReducedTo t size number old new h o → IfSome o (IsOwnHead t size new)
         → IfSome o (λ q. (states : States) (w : Bytes) → length w ≡ size → AreStatesOf t states → IsMoveAhead t w old h (record { found = f; only = true }) (reduce number) → StandOnHead t states w old h → StandOnHead t states w new q)
-        → GoesTo t text old new h (Reduced k f)
-    goes_reduced sound again o number some is done live stand =
+        → IfSome o (λ q. IsOneStack old h.top → IsOneStack new q.top) → GoesTo t text old new h (Reduced k f)
+    goes_reduced sound again o number some is done live stand one =
         let d : IsReducedTo t size number old new h (Some k) = subst (λ (x : Option StackHead). IsReducedTo t size number old new h x) some done in
         let own : IsOwnHead t size new k = subst (λ (x : Option StackHead). IfSome x (IsOwnHead t size new)) some live in (
           goes_reduce number is d own
-              (subst (λ (x : Option StackHead). IfSome x (λ q. (states : States) (w : Bytes) → length w ≡ size → AreStatesOf t states → IsMoveAhead t w old h (record { found = f; only = true }) (reduce number) → StandOnHead t states w old h → StandOnHead t states w new q)) some stand),
+              (subst (λ (x : Option StackHead). IfSome x (λ q. (states : States) (w : Bytes) → length w ≡ size → AreStatesOf t states → IsMoveAhead t w old h (record { found = f; only = true }) (reduce number) → StandOnHead t states w old h → StandOnHead t states w new q)) some stand)
+              (subst (λ (x : Option StackHead). IfSome x (λ q. IsOneStack old h.top → IsOneStack new q.top)) some one),
           token_again sound again number is d own,
         )
 

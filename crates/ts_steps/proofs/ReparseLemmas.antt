@@ -20,7 +20,7 @@ use Rattle.ts_table.specs.Tables.{IsTable, IsStateOf}
 use Rattle.ts_table.specs.Ranks.{unit_rank, AreUnitRanks}
 use Rattle.ts_lexer.specs.declared.lexed.Lexed.{Lexed}
 use Rattle.ts_gss.specs.declared.layer.Layer.{Layer}
-use Rattle.ts_gss.specs.Stacks.{stack_at, trees_on, state_on}
+use Rattle.ts_gss.specs.Stacks.{stack_at, trees_on, state_on, IsOneStack}
 use Rattle.ts_steps.specs.declared.head.StackHead.{StackHead}
 use Rattle.ts_steps.specs.declared.found.FoundToken.{FoundToken}
 use Rattle.ts_steps.specs.declared.lengthening.ListEnd.{ListEnd}
@@ -203,3 +203,7 @@ some_has P (Some k) p = p
 
 pub has_some : (P : Type 0) (o : Option StackHead) (k : StackHead) → o ≡ Some k → IfSome o (λ q. P) → P
 has_some P o k some p = subst (λ (x : Option StackHead). IfSome x (λ q. P)) some p
+
+-- one stack alone stays so on the head that there is
+pub has_one : (old new : List (List Layer)) (top : ℕ) (o : Option StackHead) (k : StackHead) → o ≡ Some k → IfSome o (λ q. IsOneStack old top → IsOneStack new q.top) → IsOneStack old top → IsOneStack new k.top
+has_one old new top o k some kept = subst (λ (x : Option StackHead). IfSome x (λ q. IsOneStack old top → IsOneStack new q.top)) some kept

@@ -15,7 +15,7 @@ use Rattle.spec_forced.specs.OnlyRuns.{IsOnlyStep, OnlyRun, Meet, IsFork, FreshB
 use Rattle.spec_forced.specs.Sound.{States, IsSound, IsHonest, IsHonestStretch}
 use Rattle.ts_table.specs.declared.view.ParseTable.{ParseTable}
 use Rattle.ts_gss.specs.declared.layer.Layer.{Layer}
-use Rattle.ts_gss.specs.Stacks.{stack_at, state_on}
+use Rattle.ts_gss.specs.Stacks.{stack_at, state_on, IsOneStack}
 use Rattle.ts_steps.specs.declared.head.StackHead.{StackHead}
 use Rattle.ts_steps.specs.Good.{EachTree}
 use Rattle.ts_steps.specs.LiveHeads.{config_of, packed_of, read_on, AreAlone}
@@ -74,6 +74,7 @@ pub record IsForkFrom (t : ParseTable) (text : Bytes) (old new : List (List Laye
   pub weight : config_weight t.grammar (length text) (config_of new k.head)
       ≤ config_weight t.grammar (length text) (config_of old h)
   pub fork : IsFork t.grammar text (config_of new k.head)
+  pub one : IsOneStack old h.top → IsOneStack new k.head.top
   pub sees : IsTokenAhead t text new k.head k.found
 
 -- What is so of the result, whatever was offered: a tree is one that a parser of the grammar made,
@@ -174,6 +175,7 @@ pub record LeadsOn (t : ParseTable) (text : Bytes) (old new : List (List Layer))
   pub step : IsOnlyStep t.grammar text (config_of old h) (config_of new k)
   pub layers : PackedStepsOn t.grammar text (packed_of old h) (packed_of new k)
   pub exact : AreAlone (packed_of old h).stack → AreAlone (packed_of new k).stack
+  pub one : IsOneStack old h.top → IsOneStack new k.top
   pub stand : (states : States) → AreStatesOf t states → StandOnHead t states text old h
       → StandOnHead t states text new k
 

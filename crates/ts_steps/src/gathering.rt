@@ -110,7 +110,9 @@ fn gather_off(
     requires live { (t : ParseTable) × (size : ℕ) × (size ≤ most_span)
         × IsLiveHead t size graph.old head × (head.place + ahead ≤ suc size) }
     ensures below { IfOk result (λ r. r.below < length graph.new) }
-    ensures stack { IfOk result (λ r. stack_at graph.new r.below ≡ stack_at graph.old r.below) }
+    ensures low { IfOk result (λ r. r.below < length graph.old) }
+    ensures same { IfOk result (λ r. (k : ℕ) → k ≤ r.below
+        → stack_at graph.new k ≡ stack_at graph.old k) }
     ensures gathered { IfOk result (λ r. (t : ParseTable) (size : ℕ)
         → IsLiveHead t size graph.old head → head.place + ahead ≤ suc size
         → IsGatheredBy t size (stack_at graph.old head.top) head.place count ahead r
@@ -137,7 +139,9 @@ pub(crate) fn gather_for(
     requires live { (t : ParseTable) × (size : ℕ) × (size ≤ most_span)
         × IsLiveHead t size graph.old head × (head.place + ahead ≤ suc size) }
     ensures below { IfOk result (λ r. r.below < length graph.new) }
-    ensures stack { IfOk result (λ r. stack_at graph.new r.below ≡ stack_at graph.old r.below) }
+    ensures low { IfOk result (λ r. r.below < length graph.old) }
+    ensures same { IfOk result (λ r. (k : ℕ) → k ≤ r.below
+        → stack_at graph.new k ≡ stack_at graph.old k) }
     ensures kept { alone ≡ false → graph.new ≡ graph.old }
     ensures deep { IfOk result
         (λ r. most_depth ≤ max r.first r.others → graph.new ≡ graph.old) }

@@ -7,7 +7,7 @@ ghost use Rattle.spec_trees.specs.Trees.{all_spans, elements_of, span_of};
 ghost use Rattle.spec_trees.specs.Made.{most_span, IsNode};
 ghost use Rattle.ts_node.specs.Standing.{IsPartOf};
 ghost use Rattle.ts_table.specs.declared.view.ParseTable.{ParseTable};
-ghost use Rattle.ts_gss.specs.Stacks.{stack_at, state_on, layer_with, under_top, AreExact};
+ghost use Rattle.ts_gss.specs.Stacks.{stack_at, state_on, layer_with, under_top, AreExact, IsOneStack};
 ghost use Rattle.ts_offer.specs.Answers.{stretch_of};
 ghost use Rattle.ts_steps.specs.LiveHeads.{IsLiveHead};
 ghost use Rattle.ts_steps.specs.Heads.{IsOwnHead};
@@ -107,6 +107,8 @@ fn replace_top(graph: &mut Graph, head: usize, node: Node) -> Result<usize, Allo
     ensures stack { IfOk result (λ top. stack_at graph.new top
         ≡ layer_with node (state_on (stack_at graph.old head))
         ∷ under_top (stack_at graph.old head)) }
+    ensures one { IfOk result (λ top. (last : ℕ) → IsOneStack graph.old last
+        → IsOneStack graph.new top) }
 {
     let state = graph.state(head);
     let below = graph.below(head);
@@ -133,6 +135,8 @@ fn lengthen_list(
     requires lent { IsLent table.now.grammar section.now }
     requires part { (u : Tree) × IsNode u × IsPartOf u section.now }
     ensures kept { IfOk result (λ o. o ≡ None → graph.new ≡ graph.old) }
+    ensures one { IfOk result (λ o. IfSome o (λ k. IsOneStack graph.old head.top
+        → IsOneStack graph.new k.top)) }
     ensures done { IfOk result (λ o. IfSome o
         (IsLengthened table.now size graph.old graph.new head end section.now)) }
 {
@@ -190,6 +194,8 @@ pub(crate) fn take_elements<'t, O: Offers<'t>>(
     ensures lends { (place state symbol : ℕ) (s : Stretch)
         → O.lends offers.new place state symbol s → O.lends offers.old place state symbol s }
     ensures kept { IfOk result (λ o. o ≡ None → graph.new ≡ graph.old) }
+    ensures one { IfOk result (λ o. IfSome o (λ k. IsOneStack graph.old head.top
+        → IsOneStack graph.new k.top)) }
     ensures taken { IfOk result (λ o. IfSome o (λ k. (e : AnyEnd) × (s : Stretch)
         × O.lends offers.old e.place e.state e.symbol.0 s
         × IsLengthened table.now size graph.old graph.new head e s k)) }

@@ -1,6 +1,6 @@
 //! Reductions of a stack: the number of a production goes in, and the head of the new stack comes
 //! out, or that the node is too deep.
-ghost use Rattle.std.specs.Prelude.{◌≡◌, ℕ, ◌+◌, ◌<◌, ◌≤◌, ◌∷◌, ◌++◌, ◌↔◌, suc, false, true, List, length, map, reverse, slice_get, IfOk, IfSome, IsTrue, None, OnOk, Some};
+ghost use Rattle.std.specs.Prelude.{◌≡◌, ℕ, ◌+◌, ◌<◌, ◌≤◌, ◌∷◌, ◌++◌, ◌↔◌, suc, false, true, List, length, map, reverse, slice_get, take, IfOk, IfSome, IsTrue, None, OnOk, Some};
 ghost use Rattle.ts_base.specs.Bytes.{Bytes};
 ghost use Rattle.spec_tables.specs.Actions.{Act, reduce as reducing_by};
 ghost use Rattle.spec_trees.specs.Trees.{all_spans, span_of};
@@ -9,7 +9,7 @@ ghost use Rattle.spec_runs.specs.Moves.{StandsBefore};
 ghost use Rattle.spec_forced.specs.Sound.{States};
 ghost use Rattle.ts_table.specs.declared.view.ParseTable.{ParseTable};
 ghost use Rattle.ts_table.specs.Tables.{IsStateOf};
-ghost use Rattle.ts_gss.specs.Stacks.{stack_at, begins_with_extra, trees_on};
+ghost use Rattle.ts_gss.specs.Stacks.{stack_at, begins_with_extra, trees_on, IsOneStack};
 ghost use Rattle.ts_steps.specs.LiveHeads.{packed_tree, packed_own, packed_layers, IsGoodStack, read_on, GainsStacks, CanLay, CanPut, IsReducedTo};
 ghost use Rattle.ts_steps.specs.Settings.{IsParseSetting};
 ghost use Rattle.ts_steps.specs.Heads.{AreStatesOf, IsOwnHead, StandOnHead, IsMoveAhead};
@@ -35,6 +35,7 @@ fn lay(graph: &mut Graph, below: usize, extras: &[Node], state: u16) -> Result<u
     requires { below < length graph.old }
     ensures there { IfOk result (λ top. top < length graph.new) }
     ensures grows { OnOk result (GainsStacks graph.old graph.new) }
+    ensures one { IfOk result (λ top. IsOneStack graph.old below → IsOneStack graph.new top) }
     ensures trees { IfOk result (λ top. trees_on (stack_at graph.new top)
         ≡ reverse extras.now ++ trees_on (stack_at graph.old below)) }
     ensures layers { IfOk result (λ top. packed_layers (stack_at graph.new top)
@@ -80,6 +81,7 @@ fn put(
         × StandsBefore table.now.grammar (filling (trees_on (stack_at graph.old below))) left.0 }
     ensures there { IfOk result (λ top. top < length graph.new) }
     ensures grows { OnOk result (GainsStacks graph.old graph.new) }
+    ensures one { IfOk result (λ top. IsOneStack graph.old below → IsOneStack graph.new top) }
     ensures trees { IfOk result (λ top. trees_on (stack_at graph.new top)
         ≡ reverse extras.now ++ node ∷ trees_on (stack_at graph.old below)) }
     ensures layers { IfOk result (λ top. packed_layers (stack_at graph.new top)
@@ -111,6 +113,7 @@ fn cut_alone(graph: &mut Graph, below: usize, alone: bool)
     requires { below < length graph.old }
     ensures there { below < length graph.new }
     ensures stack { stack_at graph.new below ≡ stack_at graph.old below }
+    ensures cut { alone ≡ true → graph.new ≡ take (below + 1) graph.old }
     ensures kept { alone ≡ false → graph.new ≡ graph.old }
 {
     if alone {
@@ -140,6 +143,8 @@ fn reduce_top(
     requires line { slice_get setting.now.lines number ≡ Some line }
     requires one { line.steps ≡ 1 }
     requires plain { begins_with_extra (stack_at graph.old head.top) ≡ false }
+    ensures one { IfOk result (λ o. IfSome o (λ h. IsOneStack graph.old head.top
+        → IsOneStack graph.new h.top)) }
     ensures done { IfOk result (λ o. IsReducedTo table.now setting.now.size number graph.old
         graph.new head o) }
     ensures kept { IfOk result (λ o. o ≡ None → graph.new ≡ graph.old) }
@@ -193,6 +198,8 @@ fn reduce_listed(
     requires some { 0 < ahead.found.extent }
     requires ahead { head.place + ahead.found.extent ≤ suc setting.now.size }
     ensures grows { alone ≡ false → OnOk result (GainsStacks graph.old graph.new) }
+    ensures one { alone ≡ true → IfOk result (λ o. IfSome o (λ h. IsOneStack graph.old head.top
+        → IsOneStack graph.new h.top)) }
     ensures done { IfOk result (λ o. IsReducedTo table.now setting.now.size number graph.old
         graph.new head o) }
     ensures kept { IfOk result (λ o. o ≡ None → graph.new ≡ graph.old) }
@@ -269,6 +276,8 @@ pub fn reduce(
     requires some { 0 < ahead.found.extent }
     requires ahead { head.place + ahead.found.extent ≤ suc setting.now.size }
     ensures grows { alone ≡ false → OnOk result (GainsStacks graph.old graph.new) }
+    ensures one { alone ≡ true → IfOk result (λ o. IfSome o (λ h. IsOneStack graph.old head.top
+        → IsOneStack graph.new h.top)) }
     ensures done { IfOk result (λ o. IsReducedTo table.now setting.now.size number graph.old
         graph.new head o) }
     ensures kept { IfOk result (λ o. o ≡ None → graph.new ≡ graph.old) }

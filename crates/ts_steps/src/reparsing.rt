@@ -8,7 +8,7 @@ ghost use Rattle.spec_trees.specs.Made.{most_span};
 ghost use Rattle.spec_forced.specs.Sound.{States};
 ghost use Rattle.spec_packing.specs.Packing.{WasMet};
 ghost use Rattle.spec_runs.specs.Configurations.{HasMove};
-ghost use Rattle.ts_gss.specs.Stacks.{stack_at, state_on, AreExact};
+ghost use Rattle.ts_gss.specs.Stacks.{stack_at, state_on, AreExact, IsOneStack};
 ghost use Rattle.ts_steps.specs.declared.found.FoundToken.{FoundToken as AnyFound};
 ghost use Rattle.ts_steps.specs.LiveHeads.{packed_of, read_on};
 ghost use Rattle.ts_table.specs.Tables.{actions_of};
@@ -79,6 +79,8 @@ fn take<'t, O: Offers<'t>>(
     ensures lends { (place state symbol : ℕ) (s : Stretch)
         → O.lends offers.new place state symbol s → O.lends offers.old place state symbol s }
     ensures kept { IfOk result (λ o. o ≡ None → graph.new ≡ graph.old) }
+    ensures one { IfOk result (λ o. IfSome o (λ k. IsOneStack graph.old head.top
+        → IsOneStack graph.new k.top)) }
     ensures taken { IfOk result (λ o. IfSome o (λ k. (node : Tree)
         × O.gives offers.old head.place (state_on (stack_at graph.old head.top)) node
         × IsTakenFrom table.now size graph.old graph.new head node k)) }

@@ -9,7 +9,7 @@ ghost use Rattle.spec_packing.specs.Packing.{packed_with};
 ghost use Rattle.spec_forced.specs.Sound.{States};
 ghost use Rattle.ts_table.specs.declared.view.ParseTable.{ParseTable};
 ghost use Rattle.ts_table.specs.Tables.{IsTable, IsStateOf};
-ghost use Rattle.ts_gss.specs.Stacks.{stack_at, state_on};
+ghost use Rattle.ts_gss.specs.Stacks.{stack_at, state_on, IsOneStack};
 ghost use Rattle.ts_steps.specs.LiveHeads.{config_of, packed_of, read_on, GainsStacks, LiesAhead};
 ghost use Rattle.ts_steps.specs.Heads.{AreStatesOf, state_where, IsOwnHead, StandOnHead, IsPutOn, IsMoveAhead, IsExtraAhead};
 
@@ -45,6 +45,7 @@ pub fn shift(
     requires there { head.top < length graph.old }
     requires room { (size : ℕ) × (size ≤ most_span) × LiesAhead size head.place ahead.found }
     ensures grows { OnOk result (GainsStacks graph.old graph.new) }
+    ensures one { IfOk result (λ h. IsOneStack graph.old head.top → IsOneStack graph.new h.top) }
     ensures put { IfOk result (λ h. IsPutOn graph.old graph.new head h
         (leaf_of ahead.found.token.0 ahead.found.pad ahead.found.size ahead.found.extent
         (state_where ahead.only (state_on (stack_at graph.old head.top)))) state) }
@@ -85,6 +86,7 @@ pub fn pass(graph: &mut Graph, head: StackHead, found: FoundToken) -> Result<Sta
     requires there { head.top < length graph.old }
     requires room { (size : ℕ) × (size ≤ most_span) × LiesAhead size head.place found }
     ensures grows { OnOk result (GainsStacks graph.old graph.new) }
+    ensures one { IfOk result (λ h. IsOneStack graph.old head.top → IsOneStack graph.new h.top) }
     ensures put { IfOk result (λ h. IsPutOn graph.old graph.new head h
         (as_extra (leaf_of found.token.0 found.pad found.size found.extent
         (Some (state_on (stack_at graph.old head.top)))))

@@ -7,7 +7,7 @@ ghost use Rattle.spec_trees.specs.Trees.{symbol_of, is_settled, pad_of, node_ext
 ghost use Rattle.spec_trees.specs.Made.{filling, most_span};
 ghost use Rattle.spec_forced.specs.Sound.{States, IsHonest};
 ghost use Rattle.ts_table.specs.Tables.{IsStateOf};
-ghost use Rattle.ts_gss.specs.Stacks.{stack_at, state_on, trees_on};
+ghost use Rattle.ts_gss.specs.Stacks.{stack_at, state_on, trees_on, IsOneStack};
 ghost use Rattle.ts_steps.specs.LiveHeads.{GainsStacks, HaveStates};
 ghost use Rattle.ts_steps.specs.Heads.{AreStatesOf, IsOwnWithin, IsMadeNode, IsOwnHead, StandOnHead, BeginsWithChild, CanTake, IsTaken};
 
@@ -114,6 +114,8 @@ pub fn take_over(
     requires own { IsOwnWithin table.now.grammar node.now }
     ensures grows { OnOk result (GainsStacks graph.old graph.new) }
     ensures kept { IfOk result (λ o. o ≡ None → graph.new ≡ graph.old) }
+    ensures one { IfOk result (λ o. IfSome o (λ k. IsOneStack graph.old head.top
+        → IsOneStack graph.new k.top)) }
     ensures taken { IfOk result (λ o. MatchOption o
         ((state : ℕ) → CanTake table.now size graph.old head node.now state → ⊥)
         (IsTaken table.now size graph.old graph.new head node.now)) }

@@ -16,3 +16,6 @@ returns-clause-stack c = λ l at.
     (c.in_ok-node.ensures ∙ c.node.ensures l at)
     (state_of_head c.args.graph.now.heads c.link.result.above c.head-above.result c.head-above.ensures ∙ ap (λ (n : ℕ). state_at c.args.graph.now.heads n) (c.link.ensures.above l at))
     (c.link-depth.ensures.depth l at)
+
+pub returns-clause-one : goal.returns-clause-one
+returns-clause-one c one = c.in_ok-top.ensures.one one

@@ -41,21 +41,17 @@ next_head-requires g c =
     let text = g.L.Text.Content.bytes c.args.text.now in
     (c.args.table.now, length text, all_own c.packing_laws_hold.ensures c.steps_fall.ensures c.args.table.now c.stands.ensures.fit text c.args.readings.now.graph c.args.readings.now.stuck c.args.start c.requires.own c.loop-head.readings.graph c.loop-head.readings.stuck c.loop-head.readings.live.items c.loop-head.readings.best c.loop-head.invariant.follows)
 
-pub settle-requires-clause-there : goal.settle-requires-clause-there
-settle-requires-clause-there g c =
+pub settle-requires : goal.settle-requires
+settle-requires g c =
     let text = g.L.Text.Content.bytes c.args.text.now in
     (head_own c.packing_laws_hold.ensures c.steps_fall.ensures c.args.table.now c.stands.ensures.fit text c.args.readings.now.graph c.args.readings.now.stuck c.args.start c.requires.own c.loop-head.readings.graph c.loop-head.readings.stuck c.loop-head.readings.live.items c.loop-head.readings.best c.loop-head.invariant.follows c.next_head.new.live.items c.in-Some.head c.in-Some.ensures).0.live.there
-
-pub settle-requires-clause-spans : goal.settle-requires-clause-spans
-settle-requires-clause-spans g c =
-    let text = g.L.Text.Content.bytes c.args.text.now in
-    (head_own c.packing_laws_hold.ensures c.steps_fall.ensures c.args.table.now c.stands.ensures.fit text c.args.readings.now.graph c.args.readings.now.stuck c.args.start c.requires.own c.loop-head.readings.graph c.loop-head.readings.stuck c.loop-head.readings.live.items c.loop-head.readings.best c.loop-head.invariant.follows c.next_head.new.live.items c.in-Some.head c.in-Some.ensures).0.live.stack.spans
 
 pub returns-then-is_left_alone-clause-follows : goal.returns-then-is_left_alone-clause-follows
 returns-then-is_left_alone-clause-follows g c =
     let text = g.L.Text.Content.bytes c.args.text.now in
-    settled_comes c.args.table.now text c.args.readings.now.graph c.loop-head.readings.graph c.settle.new.graph c.args.readings.now.stuck c.loop-head.readings.stuck c.next_head.new.live.items c.loop-head.readings.best c.args.start c.in-Some.head c.in_ok-left.left c.in_ok-left.ensures c.recall-known.result
+    settled_comes c.args.table.now text c.args.readings.now.graph c.loop-head.readings.graph c.settle.new.graph c.args.readings.now.stuck c.loop-head.readings.stuck c.next_head.new.live.items c.loop-head.readings.best c.args.start c.in-Some.head c.in_ok-left.left c.in_ok-left.ensures.settled c.recall-known.result
     (known_recalled c.args.table.now text c.loop-head.readings.graph c.loop-head.readings.seen.items c.recall-known.new.seen.items c.in-Some.head c.recall-known.result c.recall-known.ensures c.loop-head.invariant.seen)
+    c.loop-head.invariant.grows c.requires.own.live.there c.in_ok-left.ensures.one
     (one_left c.packing_laws_hold.ensures c.steps_fall.ensures c.args.table.now c.stands.ensures.fit text c.args.readings.now.graph c.args.readings.now.stuck c.args.start c.requires.own c.loop-head.readings.graph c.loop-head.readings.stuck c.loop-head.readings.live.items c.loop-head.readings.best c.loop-head.invariant.follows c.next_head.new.live.items c.in-Some.head c.in-Some.ensures (c.is_left_alone.ensures.live c.if-is_left_alone.true) (c.is_left_alone.ensures.best c.if-is_left_alone.true))
 
 pub returns-then-not-spend-clause-grows : goal.returns-then-not-spend-clause-grows

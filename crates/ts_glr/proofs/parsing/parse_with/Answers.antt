@@ -1,4 +1,7 @@
-use Rattle.std.proofs.Common.{◌≡◌, refl, subst, ℕ, ◌≤◌, length, Option, Some, None, arith}
+use Rattle.std.proofs.Common.{◌≡◌, sym, refl, subst, ℕ, ◌≤◌, List, length, Option, Some, None, arith}
+use Rattle.ts_gss.specs.declared.layer.Layer.{Layer}
+use Rattle.ts_gss.specs.Stacks.{IsOneStack}
+use Rattle.ts_gss.proofs.OneLemmas.{one_first}
 use Rattle.ts_steps.specs.declared.found.FoundToken.{FoundToken}
 use Rattle.ts_steps.specs.Settings.{IsParseSetting}
 use Rattle.ts_steps.specs.Reparsing.{IsForkFrom}
@@ -14,6 +17,7 @@ loop-kept-init g c =
       gives = λ place state t given. given;
       lends = λ place state symbol s given. given;
       own = own_start c.args.table.now (length text) c.readings_of-readings.result.graph c.readings_of-readings.ensures.graph;
+      one = subst (λ (ss : List (List Layer)). IsOneStack ss 0) (sym c.readings_of-readings.ensures.graph) one_first;
       known = λ f e. absurd (let q : ◌≡◌ {A = Option FoundToken} None (Some f) = e in cc);
       empty = c.readings_of-readings.ensures.live;
       best = c.readings_of-readings.ensures.best;
@@ -91,6 +95,7 @@ loop-kept-preserved g c =
       gives = λ place state t given. c.loop-kept.invariant.gives place state t (c.in_ok-root.ensures.gives place state t given);
       lends = λ place state symbol s given. c.loop-kept.invariant.lends place state symbol s (c.in_ok-root.ensures.lends place state symbol s given);
       own = left.0.own;
+      one = left.2 ((at_fork (λ k. IsForkFrom c.args.table.now text c.loop-kept.readings.graph c.reparse.new.graph c.loop-kept.head k) c.in_ok-root.field-0 c.in-Forks.fork c.in-Forks.is c.in_ok-root.ensures.forks).one c.loop-kept.invariant.one).lie;
       known = left.1;
       empty = left.0.empty;
       best = left.0.none;

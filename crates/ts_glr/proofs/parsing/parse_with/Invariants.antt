@@ -4,6 +4,7 @@ use Rattle.spec_trees.specs.declared.tree.Tree.{Tree}
 use Rattle.spec_trees.specs.declared.tree.Stretch.{Stretch}
 use Rattle.spec_forced.specs.Sound.{States}
 use Rattle.spec_crossing.specs.Resting.{PackedRests}
+use Rattle.ts_gss.specs.Stacks.{IsOneStack}
 use Rattle.ts_steps.specs.LiveHeads.{config_of, packed_of}
 use Rattle.ts_reductions.specs.Lines.{IsSetting}
 use Rattle.ts_steps.specs.Heads.{AreStatesOf, IsOwnHead, StandOnHead}
@@ -19,6 +20,7 @@ invariant-loop-kept g l = record {
   gives : (place state : ℕ) (t : Tree) → g.O.Offers.gives l.offers place state t → g.O.Offers.gives l.initial.offers place state t;
   lends : (place state symbol : ℕ) (s : Stretch) → g.O.Offers.lends l.offers place state symbol s → g.O.Offers.lends l.initial.offers place state symbol s;
   own : IsOwnHead l.table (length (g.L.Text.Content.bytes l.text)) l.readings.graph l.head;
+  one : IsOneStack l.readings.graph l.head.top;
   known : SeesKnown l.table (g.L.Text.Content.bytes l.text) l.readings.graph l.head l.known;
   empty : l.readings.live.items ≡ [];
   best : l.readings.best ≡ None;

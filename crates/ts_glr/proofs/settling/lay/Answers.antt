@@ -6,7 +6,7 @@ use Rattle.ts_glr.proofs.SettleLemmas.{laying_more, none_left, all_laid, one_les
 use Rattle.ts_glr.proofs.settling.lay.Goals as goal
 
 pub loop-layer-init : goal.loop-layer-init
-loop-layer-init c = record { laying = record { there = c.requires; laid = refl }; grows = grows_none c.args.graph.now }
+loop-layer-init c = record { laying = record { there = c.requires; laid = refl }; one = λ one. one; grows = grows_none c.args.graph.now }
 
 pub push_packed-requires : goal.push_packed-requires
 push_packed-requires c = c.loop-layer.invariant.laying.there
@@ -21,6 +21,7 @@ loop-layer-preserved c =
     record {
       laying = laying_more c.loop-layer.graph c.push_packed.new.self c.loop-layer.tops.items c.pop.new.self.items c.loop-layer.top c.in_ok-top.top x (layers_of c.args.tops.items ++ stack_at c.args.graph.now c.args.under) c.loop-layer.invariant.laying c.in-Some.ensures.items
           c.in_ok-top.ensures.head c.in_ok-top.ensures.pushed;
+      one = λ one. c.in_ok-top.ensures.one (c.loop-layer.invariant.one one);
       grows = grows_more c.args.graph.now c.loop-layer.graph c.push_packed.new.self c.loop-layer.invariant.grows (layer ∷ [], c.in_ok-top.ensures.pushed);
     }
 
@@ -34,3 +35,6 @@ returns-clause-stack c =
 
 pub returns-clause-grows : goal.returns-clause-grows
 returns-clause-grows c = c.loop-layer.invariant.grows
+
+pub returns-clause-one : goal.returns-clause-one
+returns-clause-one c one = c.loop-layer.invariant.one one

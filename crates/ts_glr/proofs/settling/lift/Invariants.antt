@@ -1,8 +1,8 @@
 use Rattle.ts_glr.proofs.SettleLemmas.{Lifting}
 use Rattle.ts_glr.proofs.settling.lift.Given as goal
 
-abbrev pub invariant-loop-place : goal.invariant-loop-place
-invariant-loop-place l = Lifting l.graph l.fn.head l.tops.items l.under l.place
+abbrev pub invariant-loop-tops : goal.invariant-loop-tops
+invariant-loop-tops l = Lifting l.graph l.fn.head l.tops.items l.under
 
-abbrev pub decreases-loop-place : goal.decreases-loop-place
-decreases-loop-place l = l.under
+abbrev pub decreases-loop-tops : goal.decreases-loop-tops
+decreases-loop-tops l = l.under

@@ -1,4 +1,4 @@
-use Rattle.std.proofs.Common.{sym, subst, ℕ, ◌≤◌, List, length}
+use Rattle.std.proofs.Common.{sym, subst, ℕ, ◌≤◌, List, length, arith}
 use Rattle.ts_gss.specs.Stacks.{stack_at}
 use Rattle.ts_gss.specs.Paths.{depths_of, AreDepthsOf}
 use Rattle.ts_steps.specs.Reducing.{IsGatheredBy}
@@ -39,3 +39,13 @@ returns-clause-gathered c t size live room =
     let layers = layers_taken stack under below lifted extras children c.args.count c.with_seen.result.first c.with_seen.result.others live.stack.depths c.in_ok-extras.ensures.extras c.in_ok-taken.ensures.nodes c.turn.ensures depths in
     subst (λ (n : ℕ). IsGatheredBy t size stack c.args.head.place c.args.count c.args.ahead c.with_seen.result (stack_at c.args.graph.now n)) (sym r.below)
     (all_gathered t size c.args.head.place c.args.count stack under below lifted extras children c.args.ahead c.with_seen.result p room c.requires.some r.extras r.children r.covers r.lifted r.past r.most r.stated layers)
+
+pub returns-clause-same : goal.returns-clause-same
+returns-clause-same c k low = c.in_ok-taken.ensures.same k (subst (λ (n : ℕ). k ≤ n) c.with_seen.ensures.below low)
+
+pub returns-clause-low : goal.returns-clause-low
+returns-clause-low c =
+    let is = c.with_seen.ensures.below in
+    let low = c.in_ok-taken.ensures.low in
+    let there = c.in_ok-extras.ensures.there in
+    omega (arith, is, low, there)

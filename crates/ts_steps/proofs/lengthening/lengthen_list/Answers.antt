@@ -20,3 +20,6 @@ returns-in_ok-top-in-Some-clause-done c =
     c.requires.part.0 c.requires.part.1 c.requires.part.2 c.in-Some.extent c.node-list.result.now c.node-list.ensures c.in-Some.ensures c.state.result c.state.ensures
     c.replace_top.new.graph c.in_ok-top-in-Some.top (c.args.end.place + c.bytes.result) c.in_ok-longer-in-Some.longer c.in_ok-top-in-Some.ensures.there c.in_ok-longer-in-Some.ensures c.in_ok-top-in-Some.ensures.stack
     (ap (λ (n : ℕ). c.args.end.place + n) c.bytes.ensures)
+
+pub returns-in_ok-top-in-Some-clause-one : goal.returns-in_ok-top-in-Some-clause-one
+returns-in_ok-top-in-Some-clause-one c one = c.in_ok-top-in-Some.ensures.one c.args.head.top one

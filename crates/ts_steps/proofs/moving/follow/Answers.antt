@@ -13,7 +13,7 @@ pub returns-in_ok-next-in-Nothing : goal.returns-in_ok-next-in-Nothing
 returns-in_ok-next-in-Nothing c text long ahead =
     let none = subst (λ (n : ℕ). actions_of c.args.table.now n c.args.found.token.0 ≡ []) c.state.ensures (sym c.actions.ensures.list ∙ c.in-Nothing.ensures) in
     goes_pass c.laws_hold.ensures c.args.table.now c.args.setting.now.size c.args.graph.now c.args.head c.args.found c.stands.ensures c.requires.live c.only_laws_hold.ensures c.pass.new.graph c.in_ok-next-in-Nothing.next text long ahead none
-    c.in_ok-next-in-Nothing.ensures.config c.in_ok-next-in-Nothing.ensures.layers c.in_ok-next-in-Nothing.ensures.live c.in_ok-next-in-Nothing.ensures.stand
+    c.in_ok-next-in-Nothing.ensures.config c.in_ok-next-in-Nothing.ensures.layers c.in_ok-next-in-Nothing.ensures.live c.in_ok-next-in-Nothing.ensures.stand c.in_ok-next-in-Nothing.ensures.one
 
 pub returns-in-Several : goal.returns-in-Several
 returns-in-Several c text long ahead =

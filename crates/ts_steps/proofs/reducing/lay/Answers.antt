@@ -12,6 +12,7 @@ use Rattle.ts_steps.proofs.reducing.lay.Goals as goal
 pub loop-extra-init : goal.loop-extra-init
 loop-extra-init c = record {
   there = c.requires;
+  one = λ one. one;
   grows = grows_none c.args.graph.now;
   trees = refl;
   layers = refl;
@@ -28,6 +29,7 @@ loop-extra-preserved c =
     let d = dropped c.args.extras.now c.loop-extra.extra-index c.extra-item.result c.loop-extra-test.true c.extra-item.is in
     record {
       there = pushed_there c.loop-extra.graph c.push.new.self c.loop-extra.top c.in_ok-top.top c.extra-item.result c.args.state p;
+      one = λ one. c.in_ok-top.ensures.one (i.one one);
       grows = grows_more c.args.graph.now c.loop-extra.graph c.push.new.self i.grows (pushes_grow c.loop-extra.graph c.push.new.self c.loop-extra.top c.in_ok-top.top c.extra-item.result c.args.state p);
       trees = trees_more c.loop-extra.graph c.push.new.self c.loop-extra.top c.in_ok-top.top c.extra-item.result (drop c.loop-extra.extra-index c.args.extras.now) (drop (c.loop-extra.extra-index + 1) c.args.extras.now) (reverse c.args.extras.now ++ trees_on (stack_at c.args.graph.now c.args.below)) c.args.state p d i.trees;
       layers = mapped_more (λ (l : Layer). packed_tree l.tree l.depth) packed_own (λ x state. refl) c.loop-extra.graph c.push.new.self c.loop-extra.top c.in_ok-top.top c.extra-item.result (drop c.loop-extra.extra-index c.args.extras.now) (drop (c.loop-extra.extra-index + 1) c.args.extras.now)
@@ -51,3 +53,6 @@ pub returns-clause-good : goal.returns-clause-good
 returns-clause-good c t size place can =
     laid_ends t size (place + all_spans c.args.extras.now) (stack_at c.loop-extra.graph c.loop-extra.top) c.args.state (drop c.loop-extra.extra-index c.args.extras.now)
     (drop_all c.loop-extra.extra-index c.args.extras.now (let h = c.loop-extra-test.false in omega arith)) (c.loop-extra.invariant.good t size place can)
+
+pub returns-clause-one : goal.returns-clause-one
+returns-clause-one c one = c.loop-extra.invariant.one one

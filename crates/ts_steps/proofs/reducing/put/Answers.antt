@@ -47,3 +47,6 @@ returns-clause-good c size place base can =
     (record { top_is = c.in_ok-base.ensures.head; new_is = c.in_ok-base.ensures.pushed }) base can (c.next_state-state.ensures (filling (trees_on (stack_at c.args.graph.now c.args.below))) st) in
     let sum : place + span_of c.args.node + all_spans c.args.extras.now ≡ place + (span_of c.args.node + all_spans c.args.extras.now) = omega arith in
     subst (λ (n : ℕ). IsGoodStack c.args.table.now size (stack_at c.lay.new.graph c.in_ok-top.top) n) sum (c.in_ok-top.ensures.good c.args.table.now size (place + span_of c.args.node) lay)
+
+pub returns-clause-one : goal.returns-clause-one
+returns-clause-one c one = c.in_ok-top.ensures.one (c.in_ok-base.ensures.one one)

@@ -3,7 +3,7 @@ use Rattle.spec_trees.specs.declared.tree.Tree.{Tree}
 use Rattle.ts_gss.specs.declared.layer.Layer.{Layer}
 use Rattle.spec_trees.specs.Trees.{span_of, all_spans}
 use Rattle.spec_packing.specs.Packing.{packed_depths}
-use Rattle.ts_gss.specs.Stacks.{stack_at, trees_on, state_on}
+use Rattle.ts_gss.specs.Stacks.{stack_at, trees_on, state_on, IsOneStack}
 use Rattle.ts_steps.specs.LiveHeads.{read_on, packed_tree, packed_own, packed_layers, IsGoodStack, CanPut, GainsStacks}
 use Rattle.ts_steps.proofs.StackLemmas.{grows_none}
 use Rattle.spec_trees.specs.Made.{most_depth}
@@ -13,6 +13,7 @@ use Rattle.ts_steps.proofs.LayerLemmas.{own_less, deep_some}
 use Rattle.ts_steps.proofs.PutLemmas.{enough, stands, stands_still, can_reduce}
 use Rattle.ts_steps.proofs.MadeLemmas.{line_there, line_at, small_at, can_at, made_is}
 use Rattle.ts_steps.proofs.ReduceLemmas.{without, state_has, done_none, done_some, done_own, done_put, done_stands}
+use Rattle.ts_gss.proofs.OneLemmas.{one_cut}
 use Rattle.ts_steps.proofs.reducing.reduce_listed.Goals as goal
 
 pub get-line-requires : goal.get-line-requires
@@ -64,7 +65,7 @@ put-requires-clause-stands c =
     let small = small_at t s.size s c.requires.setting c.args.number c.values_are_small.ensures in
     let gat = (c.in_ok-extras.ensures.gathered t s.size c.requires.live.live c.requires.ahead).gathered in
     let before = stands c.laws_hold.ensures t s.size c.args.number c.requires.stays.0 old h l c.requires.stays.1 line small c.in_ok-extras.field-0.extras.items c.in_ok-extras.field-0.children.items c.in_ok-extras.field-0.extent (stack_at old c.in_ok-extras.field-0.below) gat in
-    stands_still t l.left.0 (stack_at old c.in_ok-extras.field-0.below) (stack_at c.keep.new.self c.in_ok-extras.field-0.below) (ap (λ (s : List (List Layer)). stack_at s c.in_ok-extras.field-0.below) c.keep.ensures ∙ c.cut_alone.ensures.stack ∙ c.in_ok-extras.ensures.stack) (s.size, _, gat.base, before)
+    stands_still t l.left.0 (stack_at old c.in_ok-extras.field-0.below) (stack_at c.keep.new.self c.in_ok-extras.field-0.below) (ap (λ (s : List (List Layer)). stack_at s c.in_ok-extras.field-0.below) c.keep.ensures ∙ c.cut_alone.ensures.stack ∙ c.in_ok-extras.ensures.same c.in_ok-extras.field-0.below (omega arith)) (s.size, _, gat.base, before)
 
 pub returns-in-None-clause-done : goal.returns-in-None-clause-done
 returns-in-None-clause-done c =
@@ -107,13 +108,13 @@ returns-clause-done c =
     let top = c.in_ok-top-in-Some.top in
     let new = c.put.new.graph in
     let trees : trees_on (stack_at new top) ≡ reverse extras ++ u ∷ trees_on below =
-    c.in_ok-top-in-Some.ensures.trees ∙ ap (λ (x : List Layer). reverse c.as_slice-behind.result.now ++ u ∷ trees_on x) (ap (λ (s : List (List Layer)). stack_at s c.in_ok-extras.field-0.below) c.keep.ensures ∙ c.cut_alone.ensures.stack ∙ c.in_ok-extras.ensures.stack) ∙ ap (λ (es : List Tree). reverse es ++ u ∷ trees_on below) slice in
+    c.in_ok-top-in-Some.ensures.trees ∙ ap (λ (x : List Layer). reverse c.as_slice-behind.result.now ++ u ∷ trees_on x) (ap (λ (s : List (List Layer)). stack_at s c.in_ok-extras.field-0.below) c.keep.ensures ∙ c.cut_alone.ensures.stack ∙ c.in_ok-extras.ensures.same c.in_ok-extras.field-0.below (omega arith)) ∙ ap (λ (es : List Tree). reverse es ++ u ∷ trees_on below) slice in
     let good : (place : ℕ) → IsGoodStack t s.size below place → CanPut t s.size place l.left.0 u (depth_by l.lengthens r.first r.others) extras → IsGoodStack t s.size (stack_at new top) (place + (span_of u + all_spans extras)) = λ place base can.
     subst (λ (es : List Tree). IsGoodStack t s.size (stack_at new top) (place + (span_of u + all_spans es))) slice
-    (c.in_ok-top-in-Some.ensures.good s.size place (subst (λ (x : List Layer). IsGoodStack t s.size x place) (sym (ap (λ (s : List (List Layer)). stack_at s c.in_ok-extras.field-0.below) c.keep.ensures ∙ c.cut_alone.ensures.stack ∙ c.in_ok-extras.ensures.stack)) base) (subst (λ (es : List Tree). CanPut t s.size place l.left.0 u c.in-Some.depth es) (sym slice) (subst (λ (n : ℕ). CanPut t s.size place l.left.0 u n extras) (sym c.in-Some.ensures.0) can))) in
+    (c.in_ok-top-in-Some.ensures.good s.size place (subst (λ (x : List Layer). IsGoodStack t s.size x place) (sym (ap (λ (s : List (List Layer)). stack_at s c.in_ok-extras.field-0.below) c.keep.ensures ∙ c.cut_alone.ensures.stack ∙ c.in_ok-extras.ensures.same c.in_ok-extras.field-0.below (omega arith))) base) (subst (λ (es : List Tree). CanPut t s.size place l.left.0 u c.in-Some.depth es) (sym slice) (subst (λ (n : ℕ). CanPut t s.size place l.left.0 u n extras) (sym c.in-Some.ensures.0) can))) in
     let lies : packed_layers (stack_at new top) ≡ map packed_own (reverse extras) ++ packed_tree u (depth_by l.lengthens r.first r.others) ∷ packed_layers below =
     c.in_ok-top-in-Some.ensures.layers
-    ∙ ap (λ (x : List Layer). map packed_own (reverse c.as_slice-behind.result.now) ++ packed_tree u c.in-Some.depth ∷ packed_layers x) (ap (λ (s : List (List Layer)). stack_at s c.in_ok-extras.field-0.below) c.keep.ensures ∙ c.cut_alone.ensures.stack ∙ c.in_ok-extras.ensures.stack)
+    ∙ ap (λ (x : List Layer). map packed_own (reverse c.as_slice-behind.result.now) ++ packed_tree u c.in-Some.depth ∷ packed_layers x) (ap (λ (s : List (List Layer)). stack_at s c.in_ok-extras.field-0.below) c.keep.ensures ∙ c.cut_alone.ensures.stack ∙ c.in_ok-extras.ensures.same c.in_ok-extras.field-0.below (omega arith))
     ∙ ap (λ (es : List Tree). map packed_own (reverse es) ++ packed_tree u c.in-Some.depth ∷ packed_layers below) slice
     ∙ ap (λ (n : ℕ). map packed_own (reverse extras) ++ packed_tree u n ∷ packed_layers below) c.in-Some.ensures.0 in
     done_some c.laws_hold.ensures t s.size c.args.number c.requires.stays.0 old h l c.requires.stays.1 line small extras children extent below all.gathered c.stands.ensures c.requires.setting.short r.first r.others all.layers state u w.0 fits new top c.in_ok-top-in-Some.ensures.there trees good lies
@@ -141,10 +142,10 @@ returns-clause-live c =
     let top = c.in_ok-top-in-Some.top in
     let new = c.put.new.graph in
     let trees : trees_on (stack_at new top) ≡ reverse extras ++ u ∷ trees_on below =
-    c.in_ok-top-in-Some.ensures.trees ∙ ap (λ (x : List Layer). reverse c.as_slice-behind.result.now ++ u ∷ trees_on x) (ap (λ (s : List (List Layer)). stack_at s c.in_ok-extras.field-0.below) c.keep.ensures ∙ c.cut_alone.ensures.stack ∙ c.in_ok-extras.ensures.stack) ∙ ap (λ (es : List Tree). reverse es ++ u ∷ trees_on below) slice in
+    c.in_ok-top-in-Some.ensures.trees ∙ ap (λ (x : List Layer). reverse c.as_slice-behind.result.now ++ u ∷ trees_on x) (ap (λ (s : List (List Layer)). stack_at s c.in_ok-extras.field-0.below) c.keep.ensures ∙ c.cut_alone.ensures.stack ∙ c.in_ok-extras.ensures.same c.in_ok-extras.field-0.below (omega arith)) ∙ ap (λ (es : List Tree). reverse es ++ u ∷ trees_on below) slice in
     let good : (place : ℕ) → IsGoodStack t s.size below place → CanPut t s.size place l.left.0 u (depth_by l.lengthens r.first r.others) extras → IsGoodStack t s.size (stack_at new top) (place + (span_of u + all_spans extras)) = λ place base can.
     subst (λ (es : List Tree). IsGoodStack t s.size (stack_at new top) (place + (span_of u + all_spans es))) slice
-    (c.in_ok-top-in-Some.ensures.good s.size place (subst (λ (x : List Layer). IsGoodStack t s.size x place) (sym (ap (λ (s : List (List Layer)). stack_at s c.in_ok-extras.field-0.below) c.keep.ensures ∙ c.cut_alone.ensures.stack ∙ c.in_ok-extras.ensures.stack)) base) (subst (λ (es : List Tree). CanPut t s.size place l.left.0 u c.in-Some.depth es) (sym slice) (subst (λ (n : ℕ). CanPut t s.size place l.left.0 u n extras) (sym c.in-Some.ensures.0) can))) in
+    (c.in_ok-top-in-Some.ensures.good s.size place (subst (λ (x : List Layer). IsGoodStack t s.size x place) (sym (ap (λ (s : List (List Layer)). stack_at s c.in_ok-extras.field-0.below) c.keep.ensures ∙ c.cut_alone.ensures.stack ∙ c.in_ok-extras.ensures.same c.in_ok-extras.field-0.below (omega arith))) base) (subst (λ (es : List Tree). CanPut t s.size place l.left.0 u c.in-Some.depth es) (sym slice) (subst (λ (n : ℕ). CanPut t s.size place l.left.0 u n extras) (sym c.in-Some.ensures.0) can))) in
     done_own c.laws_hold.ensures t s.size c.args.number c.requires.stays.0 old h l c.requires.stays.1 line small extras children extent below all.gathered c.stands.ensures c.requires.setting.short r.first r.others all.layers state u w.0 fits new top c.in_ok-top-in-Some.ensures.there trees good c.requires.live.own c.requires.live.made
 
 pub returns-clause-put : goal.returns-clause-put
@@ -170,12 +171,12 @@ returns-clause-put c =
     let top = c.in_ok-top-in-Some.top in
     let new = c.put.new.graph in
     let trees : trees_on (stack_at new top) ≡ reverse extras ++ u ∷ trees_on below =
-    c.in_ok-top-in-Some.ensures.trees ∙ ap (λ (x : List Layer). reverse c.as_slice-behind.result.now ++ u ∷ trees_on x) (ap (λ (s : List (List Layer)). stack_at s c.in_ok-extras.field-0.below) c.keep.ensures ∙ c.cut_alone.ensures.stack ∙ c.in_ok-extras.ensures.stack) ∙ ap (λ (es : List Tree). reverse es ++ u ∷ trees_on below) slice in
+    c.in_ok-top-in-Some.ensures.trees ∙ ap (λ (x : List Layer). reverse c.as_slice-behind.result.now ++ u ∷ trees_on x) (ap (λ (s : List (List Layer)). stack_at s c.in_ok-extras.field-0.below) c.keep.ensures ∙ c.cut_alone.ensures.stack ∙ c.in_ok-extras.ensures.same c.in_ok-extras.field-0.below (omega arith)) ∙ ap (λ (es : List Tree). reverse es ++ u ∷ trees_on below) slice in
     let good : (place : ℕ) → IsGoodStack t s.size below place → CanPut t s.size place l.left.0 u (depth_by l.lengthens r.first r.others) extras → IsGoodStack t s.size (stack_at new top) (place + (span_of u + all_spans extras)) = λ place base can.
     subst (λ (es : List Tree). IsGoodStack t s.size (stack_at new top) (place + (span_of u + all_spans es))) slice
-    (c.in_ok-top-in-Some.ensures.good s.size place (subst (λ (x : List Layer). IsGoodStack t s.size x place) (sym (ap (λ (s : List (List Layer)). stack_at s c.in_ok-extras.field-0.below) c.keep.ensures ∙ c.cut_alone.ensures.stack ∙ c.in_ok-extras.ensures.stack)) base) (subst (λ (es : List Tree). CanPut t s.size place l.left.0 u c.in-Some.depth es) (sym slice) (subst (λ (n : ℕ). CanPut t s.size place l.left.0 u n extras) (sym c.in-Some.ensures.0) can))) in
+    (c.in_ok-top-in-Some.ensures.good s.size place (subst (λ (x : List Layer). IsGoodStack t s.size x place) (sym (ap (λ (s : List (List Layer)). stack_at s c.in_ok-extras.field-0.below) c.keep.ensures ∙ c.cut_alone.ensures.stack ∙ c.in_ok-extras.ensures.same c.in_ok-extras.field-0.below (omega arith))) base) (subst (λ (es : List Tree). CanPut t s.size place l.left.0 u c.in-Some.depth es) (sym slice) (subst (λ (n : ℕ). CanPut t s.size place l.left.0 u n extras) (sym c.in-Some.ensures.0) can))) in
     let with = without c.args.ahead.only c.in_ok-extras.field-0.stated c.is_without_choice-only.result l.steps children extras c.is_without_choice-only.ensures all.stated in
-    done_put c.laws_hold.ensures t s.size c.args.number c.requires.stays.0 old h l c.requires.stays.1 line small extras children extent below all.gathered c.stands.ensures c.requires.setting.short r.first r.others all.layers state u w.0 fits new top c.in_ok-top-in-Some.ensures.there trees good c.args.ahead c.is_without_choice-only.result all.covers (c.state_below-state.ensures ∙ ap (λ (x : List Layer). state_where c.is_without_choice-only.result (state_on x)) c.in_ok-extras.ensures.stack) with
+    done_put c.laws_hold.ensures t s.size c.args.number c.requires.stays.0 old h l c.requires.stays.1 line small extras children extent below all.gathered c.stands.ensures c.requires.setting.short r.first r.others all.layers state u w.0 fits new top c.in_ok-top-in-Some.ensures.there trees good c.args.ahead c.is_without_choice-only.result all.covers (c.state_below-state.ensures ∙ ap (λ (x : List Layer). state_where c.is_without_choice-only.result (state_on x)) (c.in_ok-extras.ensures.same c.in_ok-extras.field-0.below (omega arith))) with
 
 pub returns-clause-stand : goal.returns-clause-stand
 returns-clause-stand c states text long are ahead stand =
@@ -200,13 +201,13 @@ returns-clause-stand c states text long are ahead stand =
     let top = c.in_ok-top-in-Some.top in
     let new = c.put.new.graph in
     let trees : trees_on (stack_at new top) ≡ reverse extras ++ u ∷ trees_on below =
-    c.in_ok-top-in-Some.ensures.trees ∙ ap (λ (x : List Layer). reverse c.as_slice-behind.result.now ++ u ∷ trees_on x) (ap (λ (s : List (List Layer)). stack_at s c.in_ok-extras.field-0.below) c.keep.ensures ∙ c.cut_alone.ensures.stack ∙ c.in_ok-extras.ensures.stack) ∙ ap (λ (es : List Tree). reverse es ++ u ∷ trees_on below) slice in
+    c.in_ok-top-in-Some.ensures.trees ∙ ap (λ (x : List Layer). reverse c.as_slice-behind.result.now ++ u ∷ trees_on x) (ap (λ (s : List (List Layer)). stack_at s c.in_ok-extras.field-0.below) c.keep.ensures ∙ c.cut_alone.ensures.stack ∙ c.in_ok-extras.ensures.same c.in_ok-extras.field-0.below (omega arith)) ∙ ap (λ (es : List Tree). reverse es ++ u ∷ trees_on below) slice in
     let good : (place : ℕ) → IsGoodStack t s.size below place → CanPut t s.size place l.left.0 u (depth_by l.lengthens r.first r.others) extras → IsGoodStack t s.size (stack_at new top) (place + (span_of u + all_spans extras)) = λ place base can.
     subst (λ (es : List Tree). IsGoodStack t s.size (stack_at new top) (place + (span_of u + all_spans es))) slice
-    (c.in_ok-top-in-Some.ensures.good s.size place (subst (λ (x : List Layer). IsGoodStack t s.size x place) (sym (ap (λ (s : List (List Layer)). stack_at s c.in_ok-extras.field-0.below) c.keep.ensures ∙ c.cut_alone.ensures.stack ∙ c.in_ok-extras.ensures.stack)) base) (subst (λ (es : List Tree). CanPut t s.size place l.left.0 u c.in-Some.depth es) (sym slice) (subst (λ (n : ℕ). CanPut t s.size place l.left.0 u n extras) (sym c.in-Some.ensures.0) can))) in
+    (c.in_ok-top-in-Some.ensures.good s.size place (subst (λ (x : List Layer). IsGoodStack t s.size x place) (sym (ap (λ (s : List (List Layer)). stack_at s c.in_ok-extras.field-0.below) c.keep.ensures ∙ c.cut_alone.ensures.stack ∙ c.in_ok-extras.ensures.same c.in_ok-extras.field-0.below (omega arith))) base) (subst (λ (es : List Tree). CanPut t s.size place l.left.0 u c.in-Some.depth es) (sym slice) (subst (λ (n : ℕ). CanPut t s.size place l.left.0 u n extras) (sym c.in-Some.ensures.0) can))) in
     let with = without c.args.ahead.only c.in_ok-extras.field-0.stated c.is_without_choice-only.result l.steps children extras c.is_without_choice-only.ensures all.stated in
     done_stands c.laws_hold.ensures t s.size c.args.number c.requires.stays.0 old h l c.requires.stays.1 line small extras children extent below all.gathered c.stands.ensures c.requires.setting.short r.first r.others all.layers state u w.0 fits new top c.in_ok-top-in-Some.ensures.there trees good c.sound_laws_hold.ensures states text are c.args.ahead all.covers ahead
-    (λ n e. state_has c.args.ahead.only c.is_without_choice-only.result l.steps (state_on below) n state children extras (c.state_below-state.ensures ∙ ap (λ (x : List Layer). state_where c.is_without_choice-only.result (state_on x)) c.in_ok-extras.ensures.stack) with e) stand
+    (λ n e. state_has c.args.ahead.only c.is_without_choice-only.result l.steps (state_on below) n state children extras (c.state_below-state.ensures ∙ ap (λ (x : List Layer). state_where c.is_without_choice-only.result (state_on x)) (c.in_ok-extras.ensures.same c.in_ok-extras.field-0.below (omega arith))) with e) stand
 
 pub returns-in-None-clause-grows : goal.returns-in-None-clause-grows
 returns-in-None-clause-grows c beside = subst (λ (s : List (List Layer)). GainsStacks c.args.graph.now s) (sym (c.gather_for.ensures.kept beside)) (grows_none c.args.graph.now)
@@ -217,3 +218,8 @@ returns-in-None-clause-kept c none =
 
 pub returns-clause-grows : goal.returns-clause-grows
 returns-clause-grows c beside = subst (λ (s : List (List Layer)). GainsStacks s c.put.new.graph) (c.keep.ensures ∙ c.cut_alone.ensures.kept beside ∙ c.gather_for.ensures.kept beside) c.in_ok-top-in-Some.ensures.grows
+
+pub returns-clause-one : goal.returns-clause-one
+returns-clause-one c alone one =
+    let cut = one_cut c.args.graph.now c.gather_for.new.graph c.cut_alone.new.graph c.args.head.top c.in_ok-extras.field-0.below one.lie (omega (arith, c.in_ok-extras.ensures.low, one.count)) c.in_ok-extras.ensures.below c.in_ok-extras.ensures.same (c.cut_alone.ensures.cut alone) in
+    c.in_ok-top-in-Some.ensures.one (subst (λ (ss : List (List Layer)). IsOneStack ss c.in_ok-extras.field-0.below) (sym c.keep.ensures) cut)

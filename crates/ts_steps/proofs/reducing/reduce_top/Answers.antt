@@ -12,6 +12,7 @@ use Rattle.ts_steps.proofs.PutLemmas.{enough, stands, stands_still, can_reduce}
 use Rattle.ts_steps.proofs.MadeLemmas.{line_at, small_at, can_at, made_is}
 use Rattle.ts_steps.proofs.ReduceLemmas.{without, state_has, done_none, done_some, done_own, done_put, done_stands}
 use Rattle.ts_steps.proofs.TopLemmas.{some_read, top_tree}
+use Rattle.ts_gss.proofs.OneLemmas.{one_cut}
 use Rattle.ts_steps.proofs.reducing.reduce_top.Goals as goal
 
 pub seen_on_top-seen-requires-clause-one : goal.seen_on_top-seen-requires-clause-one
@@ -106,8 +107,8 @@ returns-in-None-clause-done c =
     done_none c.laws_hold.ensures t s.size c.args.number c.requires.stays.0 old h l c.requires.stays.1 line small extras children extent below all.gathered c.stands.ensures c.requires.setting.short
     c.seen_on_top-seen.result.depth 0 all.layers state c.args.graph.now c.in-None.ensures
 
-pub returns-clause-done : goal.returns-clause-done
-returns-clause-done c =
+pub returns-in_ok-top-in-Some-clause-done : goal.returns-in_ok-top-in-Some-clause-done
+returns-in_ok-top-in-Some-clause-done c =
     let t = c.args.table.now in
     let s = c.args.setting.now in
     let old = c.args.graph.now in
@@ -135,8 +136,8 @@ returns-clause-done c =
     c.in_ok-top-in-Some.ensures.layers ∙ ap (λ (x : List Layer). packed_tree u c.in-Some.depth ∷ packed_layers x) same ∙ ap (λ (n : ℕ). packed_tree u n ∷ packed_layers below) c.in-Some.ensures.0 in
     done_some c.laws_hold.ensures t s.size c.args.number c.requires.stays.0 old h l c.requires.stays.1 line small extras children extent below all.gathered c.stands.ensures c.requires.setting.short c.seen_on_top-seen.result.depth 0 all.layers state u w.0 fits new top c.in_ok-top-in-Some.ensures.there trees good lies
 
-pub returns-clause-live : goal.returns-clause-live
-returns-clause-live c =
+pub returns-in_ok-top-in-Some-clause-live : goal.returns-in_ok-top-in-Some-clause-live
+returns-in_ok-top-in-Some-clause-live c =
     let t = c.args.table.now in
     let s = c.args.setting.now in
     let old = c.args.graph.now in
@@ -162,8 +163,8 @@ returns-clause-live c =
     c.in_ok-top-in-Some.ensures.good s.size place (subst (λ (x : List Layer). IsGoodStack t s.size x place) (sym same) base) (subst (λ (n : ℕ). CanPut t s.size place l.left.0 u n extras) (sym c.in-Some.ensures.0) can) in
     done_own c.laws_hold.ensures t s.size c.args.number c.requires.stays.0 old h l c.requires.stays.1 line small extras children extent below all.gathered c.stands.ensures c.requires.setting.short c.seen_on_top-seen.result.depth 0 all.layers state u w.0 fits new top c.in_ok-top-in-Some.ensures.there trees good c.requires.live.own c.requires.live.made
 
-pub returns-clause-put : goal.returns-clause-put
-returns-clause-put c =
+pub returns-in_ok-top-in-Some-clause-put : goal.returns-in_ok-top-in-Some-clause-put
+returns-in_ok-top-in-Some-clause-put c =
     let t = c.args.table.now in
     let s = c.args.setting.now in
     let old = c.args.graph.now in
@@ -190,8 +191,8 @@ returns-clause-put c =
     let with = without c.args.ahead.only c.seen_on_top-seen.result.stated c.is_without_choice-only.result l.steps children extras c.is_without_choice-only.ensures all.stated in
     done_put c.laws_hold.ensures t s.size c.args.number c.requires.stays.0 old h l c.requires.stays.1 line small extras children extent below all.gathered c.stands.ensures c.requires.setting.short c.seen_on_top-seen.result.depth 0 all.layers state u w.0 fits new top c.in_ok-top-in-Some.ensures.there trees good c.args.ahead c.is_without_choice-only.result all.covers c.state_below-state.ensures with
 
-pub returns-clause-stand : goal.returns-clause-stand
-returns-clause-stand c states text long are ahead stand =
+pub returns-in_ok-top-in-Some-clause-stand : goal.returns-in_ok-top-in-Some-clause-stand
+returns-in_ok-top-in-Some-clause-stand c states text long are ahead stand =
     let t = c.args.table.now in
     let s = c.args.setting.now in
     let old = c.args.graph.now in
@@ -218,3 +219,12 @@ returns-clause-stand c states text long are ahead stand =
     let with = without c.args.ahead.only c.seen_on_top-seen.result.stated c.is_without_choice-only.result l.steps children extras c.is_without_choice-only.ensures all.stated in
     done_stands c.laws_hold.ensures t s.size c.args.number c.requires.stays.0 old h l c.requires.stays.1 line small extras children extent below all.gathered c.stands.ensures c.requires.setting.short c.seen_on_top-seen.result.depth 0 all.layers state u w.0 fits new top c.in_ok-top-in-Some.ensures.there trees good c.sound_laws_hold.ensures states text are c.args.ahead all.covers ahead
     (λ n e. state_has c.args.ahead.only c.is_without_choice-only.result l.steps (state_on below) n state children extras c.state_below-state.ensures with e) stand
+
+pub returns-in_ok-top-in-Some-clause-one : goal.returns-in_ok-top-in-Some-clause-one
+returns-in_ok-top-in-Some-clause-one c one =
+    let low = c.seen_on_top-seen.ensures.lower in
+    let left = c.take_node-child.ensures.there in
+    let cut = one_cut c.args.graph.now c.take_node-child.new.self c.cut.new.self c.args.head.top c.seen_on_top-seen.result.below one.lie (omega (arith, low)) (omega (arith, low, left))
+    (λ k le. c.take_node-child.ensures.kept k (omega (arith, low, le)))
+    c.cut.ensures.cut in
+    c.in_ok-top-in-Some.ensures.one cut

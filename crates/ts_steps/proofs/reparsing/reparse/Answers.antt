@@ -6,7 +6,7 @@ use Rattle.ts_steps.specs.LiveHeads.{config_of, packed_of}
 use Rattle.ts_steps.specs.Heads.{IsOwnHead}
 use Rattle.ts_steps.specs.Looking.{IsTokenAhead}
 use Rattle.ts_steps.specs.Reparsing.{IsForkFrom, StandsFor}
-use Rattle.ts_steps.proofs.ReparseLemmas.{stands_on, stands_taken, ends_result, ends_fork, step_falls, taken_falls, taken_place, step_place, taken_some, goes_on, goes_reduced_on, goes_kept, ends_at, none_known, sees_kept, lengthened_some, lengthened_falls, stands_lengthened, has_some}
+use Rattle.ts_steps.proofs.ReparseLemmas.{stands_on, stands_taken, ends_result, ends_fork, step_falls, taken_falls, taken_place, step_place, taken_some, goes_on, goes_reduced_on, goes_kept, ends_at, none_known, sees_kept, lengthened_some, lengthened_falls, stands_lengthened, has_some, has_one}
 use Rattle.ts_steps.proofs.LayerLemmas.{exact_alone}
 use Rattle.ts_steps.proofs.ThroughLemmas.{gone_none, gone_on, gone_over, gone_result}
 use Rattle.ts_steps.proofs.reparsing.reparse.Goals as goal
@@ -34,6 +34,7 @@ loop-next-preserved-in-Some g c =
       gives = λ place at t given. c.loop-next.invariant.gives place at t (c.in_ok-next.ensures.gives place at t given);
       lends = λ place at symbol s given. c.loop-next.invariant.lends place at symbol s (c.in_ok-next.ensures.lends place at symbol s given);
       live = w.2.taken.live;
+      one = λ one. has_one c.loop-next.graph c.take.new.graph h.top c.in_ok-next.field-0 c.in-Some.next c.in-Some.is c.in_ok-next.ensures.one (c.loop-next.invariant.one one);
       later = (let before = c.loop-next.invariant.later in omega (arith, before, far));
       weight = (let fall = taken_falls c.laws_hold.ensures c.args.table.now c.stands.ensures.fit (c.unit_ranks.ensures c.args.table.now.grammar c.stands.ensures.fit) text c.loop-next.graph c.take.new.graph h c.in-Some.next c.loop-next.invariant.live w.0 w.2 in let most = c.loop-next.invariant.weight in omega (arith, fall, most));
       stands = λ states are honest lent first.
@@ -74,6 +75,7 @@ loop-next-preserved-in-On g c =
       gives = λ place at t given. c.loop-next.invariant.gives place at t (c.in_ok-next.ensures.gives place at t given);
       lends = λ place at symbol s given. c.loop-next.invariant.lends place at symbol s (c.in_ok-next.ensures.lends place at symbol s given);
       live = go.own;
+      one = λ one. go.one (c.loop-next.invariant.one one);
       later = (let before = c.loop-next.invariant.later in omega (arith, before, far));
       weight = (let fall = step_falls c.laws_hold.ensures c.args.table.now c.stands.ensures.fit (c.unit_ranks.ensures c.args.table.now.grammar c.stands.ensures.fit) text c.loop-next.graph c.go_on.new.graph h c.in-On.next c.loop-next.invariant.live go.step in let most = c.loop-next.invariant.weight in omega (arith, fall, most));
       stands = λ states are honest lent first. stands_on c.only_runs_meet.ensures.joined c.only_runs_meet.ensures.step c.args.table.now states text (config_of c.args.graph.now c.args.start) c.loop-next.graph c.go_on.new.graph h c.in-On.next (c.loop-next.invariant.stands states are honest lent first) go.step (go.stand states are);
@@ -133,6 +135,7 @@ loop-next-preserved-in-Some-2 g c =
       gives = λ place at t given. c.loop-next.invariant.gives place at t (c.in_ok-next.ensures.gives place at t (c.in_ok-longer-in-Reduced.ensures.gives place at t given));
       lends = λ place at symbol s given. c.loop-next.invariant.lends place at symbol s (c.in_ok-next.ensures.lends place at symbol s (c.in_ok-longer-in-Reduced.ensures.lends place at symbol s given));
       live = w.3.own;
+      one = λ one. has_one c.go_on.new.graph c.take_elements.new.graph c.in-Reduced.next.top c.in_ok-longer-in-Reduced.field-0 c.in-Some-2.longer c.in-Some-2.is c.in_ok-longer-in-Reduced.ensures.one (led.0.one (c.loop-next.invariant.one one));
       later = (
           let before = c.loop-next.invariant.later in
           let first = step_place c.args.table.now text c.loop-next.graph c.go_on.new.graph h c.in-Reduced.next led.0.step in
@@ -186,6 +189,7 @@ loop-next-preserved g c =
       gives = λ place at t given. c.loop-next.invariant.gives place at t (c.in_ok-next.ensures.gives place at t (c.in_ok-longer-in-Reduced.ensures.gives place at t given));
       lends = λ place at symbol s given. c.loop-next.invariant.lends place at symbol s (c.in_ok-next.ensures.lends place at symbol s (c.in_ok-longer-in-Reduced.ensures.lends place at symbol s given));
       live = go.0.own;
+      one = λ one. go.0.one (c.loop-next.invariant.one one);
       later = (let before = c.loop-next.invariant.later in let far = step_place c.args.table.now text c.loop-next.graph c.take_elements.new.graph h c.in-Reduced.next go.0.step in omega (arith, before, far));
       weight = (let fall = step_falls c.laws_hold.ensures c.args.table.now c.stands.ensures.fit (c.unit_ranks.ensures c.args.table.now.grammar c.stands.ensures.fit) text c.loop-next.graph c.take_elements.new.graph h c.in-Reduced.next c.loop-next.invariant.live go.0.step in let most = c.loop-next.invariant.weight in omega (arith, fall, most));
       stands = λ states are honest lent first. stands_on c.only_runs_meet.ensures.joined c.only_runs_meet.ensures.step c.args.table.now states text (config_of c.args.graph.now c.args.start) c.loop-next.graph c.take_elements.new.graph h c.in-Reduced.next (c.loop-next.invariant.stands states are honest lent first) go.0.step (go.0.stand states are);
@@ -203,6 +207,7 @@ loop-next-init g c = record {
   gives = λ place at t given. given;
   lends = λ place at symbol s given. given;
   live = c.requires.live;
+  one = λ one. one;
   later = omega arith;
   weight = omega arith;
   stands = λ states are honest lent first. record { meet = c.only_runs_meet.ensures.same c.args.table.now.grammar (g.L.Text.Content.bytes c.args.text.now) (config_of c.args.graph.now c.args.start); stand = first };
@@ -223,7 +228,7 @@ returns-in-Ended-clause-forks g c =
     let text = g.L.Text.Content.bytes c.args.text.now in
     let long = sym (c.requires.setting.size_is) in
     ends_fork c.args.table.now text (λ stacks k f. IsForkFrom c.args.table.now text c.args.graph.now stacks c.args.start (record { head = k; found = f })) c.loop-next.graph c.go_on.new.graph c.loop-next.head c.in-Ended.result
-    (λ f several sees. record { own = c.loop-next.invariant.live; later = c.loop-next.invariant.later; weight = c.loop-next.invariant.weight; fork = several; sees = sees })
+    (λ f several sees. record { own = c.loop-next.invariant.live; later = c.loop-next.invariant.later; weight = c.loop-next.invariant.weight; fork = several; one = c.loop-next.invariant.one; sees = sees })
     (ends_at c.args.table.now text c.loop-next.graph c.take.new.graph c.go_on.new.graph c.loop-next.head c.in-Ended.result c.in_ok-next-in-None.field-0 (c.in_ok-next.ensures.kept c.in-None.is) c.in-Ended.is
     (c.in_ok-next-in-None.ensures text long (sees_kept c.args.table.now text c.loop-next.graph c.take.new.graph c.loop-next.head c.look_once-lexed.result (c.in_ok-next.ensures.kept c.in-None.is) c.look_once-lexed.ensures.sees)))
 

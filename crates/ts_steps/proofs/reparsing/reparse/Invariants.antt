@@ -3,6 +3,7 @@ use Rattle.spec_trees.specs.declared.tree.Tree.{Tree}
 use Rattle.spec_trees.specs.declared.tree.Stretch.{Stretch}
 use Rattle.spec_forced.specs.Sound.{States}
 use Rattle.spec_packing.specs.Packing.{WasMet}
+use Rattle.ts_gss.specs.Stacks.{IsOneStack}
 use Rattle.ts_steps.specs.declared.found.FoundToken.{FoundToken}
 use Rattle.ts_steps.specs.LiveHeads.{config_of, packed_of}
 use Rattle.ts_steps.specs.Heads.{AreStatesOf, IsOwnHead, StandOnHead}
@@ -19,6 +20,7 @@ invariant-loop-next g l = record {
   gives : (place state : ℕ) (t : Tree) → g.O.Offers.gives l.offers place state t → g.O.Offers.gives l.initial.offers place state t;
   lends : (place state symbol : ℕ) (s : Stretch) → g.O.Offers.lends l.offers place state symbol s → g.O.Offers.lends l.initial.offers place state symbol s;
   live : IsOwnHead l.table (length (g.L.Text.Content.bytes l.text)) l.graph l.head;
+  one : IsOneStack l.initial.graph l.fn.start.top → IsOneStack l.graph l.head.top;
   later : l.fn.start.place ≤ l.head.place;
   weight : config_weight l.table.grammar (length (g.L.Text.Content.bytes l.text)) (config_of l.graph l.head) ≤ config_weight l.table.grammar (length (g.L.Text.Content.bytes l.text)) (config_of l.initial.graph l.fn.start);
   stands : (states : States) → AreStatesOf l.table states → AreHonest l.table.grammar states (g.L.Text.Content.bytes l.text) (g.O.Offers.gives l.initial.offers)

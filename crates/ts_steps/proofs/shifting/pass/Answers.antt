@@ -55,3 +55,6 @@ pub returns-clause-stand : goal.returns-clause-stand
 returns-clause-stand c t states text table are live move stand =
     pass_stands c.sound_laws_hold.ensures t states text c.args.graph.now c.push.new.self c.args.head c.args.found c.state-state.result c.state-state.result c.in_ok-top.top c.as_extra-node.result
     (record { top_is = c.in_ok-top.ensures.head; new_is = c.in_ok-top.ensures.pushed }) (c.as_extra-node.ensures ∙ ap as_extra c.leaf-leaf.ensures.node) c.state-state.ensures table are live move stand
+
+pub returns-clause-one : goal.returns-clause-one
+returns-clause-one c one = c.in_ok-top.ensures.one one

@@ -54,3 +54,6 @@ returns-clause-stand c t states text table are live move stand =
     let f = c.args.ahead.found in
     shift_stands c.sound_laws_hold.ensures t states text c.args.graph.now c.push.new.self c.args.head c.args.ahead (state_on (stack_at c.args.graph.now c.args.head.top)) c.args.state c.in_ok-top.top c.leaf-node.result
     (record { top_is = c.in_ok-top.ensures.head; new_is = c.in_ok-top.ensures.pushed }) (c.leaf-node.ensures.node ∙ ap (λ (o : Option ℕ). leaf_of f.token.0 f.pad f.size f.extent o) c.state_below-below.ensures) refl table are live move stand
+
+pub returns-clause-one : goal.returns-clause-one
+returns-clause-one c one = c.in_ok-top.ensures.one one

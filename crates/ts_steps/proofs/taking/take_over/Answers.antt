@@ -27,3 +27,6 @@ returns-in_ok-top-in-Some-clause-stand c states text long are honest stand =
       new_is = subst (λ (x : Tree). c.push.new.self ≡ c.args.graph.now ++ (layer_with x c.in-Some.state ∷ stack_at c.args.graph.now c.args.head.top) ∷ []) c.in_ok-owner-in-Some.ensures c.in_ok-top-in-Some.ensures.pushed;
     } in
     taken_stands c.sound_laws_hold.ensures c.args.table.now c.args.size states text c.args.graph.now c.push.new.self c.args.head c.args.node.now c.in-Some.state c.in_ok-top-in-Some.top p c.requires.live c.stands.ensures are honest stand
+
+pub returns-in_ok-top-in-Some-clause-one : goal.returns-in_ok-top-in-Some-clause-one
+returns-in_ok-top-in-Some-clause-one c one = c.in_ok-top-in-Some.ensures.one one

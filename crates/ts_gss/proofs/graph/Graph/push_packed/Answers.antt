@@ -1,6 +1,7 @@
 use Rattle.std.proofs.Common.{sym, subst, arith}
 use Rattle.ts_gss.specs.Cells.{NoneIsDeeper}
 use Rattle.ts_gss.proofs.CellLemmas.{lie_pushed, shallow_more, exact_more, count_more, head_pushed, stack_pushed}
+use Rattle.ts_gss.proofs.OneLemmas.{one_more}
 use Rattle.ts_gss.proofs.graph.Graph.push_packed.Goals as goal
 
 pub invariant_of-self-2 : goal.invariant_of-self-2
@@ -20,6 +21,9 @@ returns-clause-head c =
 pub returns-clause-pushed : goal.returns-clause-pushed
 returns-clause-pushed c =
     stack_pushed c.self.inside.cells.items c.args.self.now c.self.view_is c.push.new.self.items (record { node = c.args.node; below = c.args.below; depth = c.args.depth; state = c.args.state }) c.in_ok-push.ensures.items
+
+pub returns-clause-one : goal.returns-clause-one
+returns-clause-one c one = one_more c.args.self.now _ c.args.below _ _ one (returns-clause-head c) (returns-clause-pushed c)
 
 pub exact_with-self-inside-requires : goal.exact_with-self-inside-requires
 exact_with-self-inside-requires c =

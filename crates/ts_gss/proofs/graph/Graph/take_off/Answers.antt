@@ -13,6 +13,7 @@ loop-wanting-init c =
     let e = c.spare-taken.ensures.kept in
     record {
       within = subst (λ (s : List (List Layer)). c.args.head < length s) (sym e) c.requires.there;
+      low = omega arith;
       same = λ k low. ap (λ (s : List (List Layer)). stack_at s k) e;
       taking = take_begins (stack_at c.args.self.now c.args.head) c.args.count c.spare-taken.result.items c.spare-taken.ensures.empty c.requires.enough;
       depths = depths_begin (stack_at c.args.self.now c.args.head) c.spare-taken.result.items c.spare-taken.ensures.empty;
@@ -45,6 +46,7 @@ loop-wanting-preserved c =
     let node : c.node.result.now ≡ cell.node = cc in
     record {
       within = let n = ap (λ (s : List (List Layer)). length s) left ∙ length-take-le at c.loop-wanting.self (omega arith) in omega arith;
+      low = (let far = i.low in let lower = c.take_top-node.ensures.lower in omega (arith, far, lower));
       same = λ k below.
           ap (λ (s : List (List Layer)). stack_at s k) left
           ∙ stack_within c.loop-wanting.self at k (omega arith) (omega arith)
@@ -63,8 +65,8 @@ pub returns-clause-nodes : goal.returns-clause-nodes
 returns-clause-nodes c =
     take_ends (stack_at c.args.self.now c.args.head) (stack_at c.args.self.now c.loop-wanting.at) c.args.count c.loop-wanting.wanting c.loop-wanting.taken.items c.turn.new.nodes.items c.loop-wanting.invariant.taking c.loop-wanting-test.false c.turn.ensures
 
-pub returns-clause-stack : goal.returns-clause-stack
-returns-clause-stack c = c.loop-wanting.invariant.same c.loop-wanting.at (omega arith)
+pub returns-clause-same : goal.returns-clause-same
+returns-clause-same c k low = c.loop-wanting.invariant.same k low
 
 pub returns-clause-depths : goal.returns-clause-depths
 returns-clause-depths c =

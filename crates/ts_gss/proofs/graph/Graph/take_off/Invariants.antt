@@ -6,6 +6,7 @@ use Rattle.ts_gss.proofs.graph.Graph.take_off.Given as goal
 abbrev pub invariant-loop-wanting : goal.invariant-loop-wanting
 invariant-loop-wanting l = record {
   within : l.at < length l.self;
+  low : l.at ≤ l.head;
   same : (k : ℕ) → k ≤ l.at → stack_at l.self k ≡ stack_at l.fn.self k;
   taking : Taking (stack_at l.fn.self l.head) l.count l.taken.items (stack_at l.fn.self l.at) l.wanting;
   depths : AreDepthsOf (depths_of (length l.taken.items) (stack_at l.fn.self l.head)) l.first l.others;
