@@ -2,7 +2,7 @@
 //! stack goes in; the one that is left comes out, or what the text comes to, or that it took many
 //! steps.
 ghost use Rattle.std.specs.Prelude.{◌≡◌, [], true, length, None, IfOk, IfSome};
-ghost use Rattle.ts_glr.specs.Forks.{ComesTo};
+ghost use Rattle.ts_glr.specs.Forks.{EndsAll, ComesTo};
 ghost use Rattle.ts_glr.specs.Outcomes.{EndsAs};
 ghost use Rattle.ts_steps.specs.LiveHeads.{GainsStacks};
 ghost use Rattle.ts_steps.specs.Settings.{IsParseSetting};
@@ -51,25 +51,18 @@ fn is_left_alone(readings: &Readings) -> bool
     readings.live.is_empty() && readings.best.is_none()
 }
 
-/// Takes one off the steps that are left, where there is a limit, and tells whether one was left.
-fn spend(left: &mut Option<u32>) -> bool
-    ensures { left.old ≡ None → (result ≡ true) × (left.new ≡ None) }
-{
-    match *left {
-        None => true,
-        Some(count) => {
-            if count == 0 {
-                return false;
-            }
-            *left = Some(count - 1);
-            true
-        }
+/// Takes one off the steps that are left, and tells whether one was left.
+fn spend(left: &mut u32) -> bool {
+    if *left == 0 {
+        return false;
     }
+    *left -= 1;
+    true
 }
 
 /// Follows all ways to read a text from a stack on, which sees this token, until one stack is left,
-/// before any tree is accepted, or there is none. None where there is a limit, and no more steps
-/// were left; all stacks stay then.
+/// before any tree is accepted, or there is none. None where no more steps were left; all stacks
+/// stay then.
 pub(crate) fn follow_all<L: Tokens>(
     alloc: Global,
     table: &Table,
@@ -79,7 +72,7 @@ pub(crate) fn follow_all<L: Tokens>(
     readings: &mut Readings,
     start: StackHead,
     found: FoundToken,
-    limit: Option<u32>,
+    limit: u32,
 ) -> Result<Option<Forked>, AllocError>
     requires made { L.made_for lexer.old table.now }
     requires setting { IsParseSetting table.now (length (L.Text.bytes text.now)) setting.now }
@@ -93,7 +86,6 @@ pub(crate) fn follow_all<L: Tokens>(
         readings.new.live.items readings.new.best start)) }
     ensures grows { IfOk result (λ o. o ≡ None
         → GainsStacks readings.old.graph readings.new.graph) }
-    ensures whole { limit ≡ None → IfOk result (λ o. o ≡ None → ⊥) }
 {
     laws_hold();
     packing_laws_hold();
@@ -124,4 +116,44 @@ pub(crate) fn follow_all<L: Tokens>(
         }
     }
     Ok(Some(Forked::Over(outcome(readings))))
+}
+
+/// Follows all ways to read a text from a stack on, which sees this token, each by itself, to their
+/// ends. This is for a text of nothing: each way is one reduction then, and acceptance.
+pub(crate) fn follow_each<L: Tokens>(
+    alloc: Global,
+    table: &Table,
+    setting: &ParseSetting,
+    lexer: &mut L,
+    text: &L::Text,
+    readings: &mut Readings,
+    start: StackHead,
+    found: FoundToken,
+) -> Result<Outcome, AllocError>
+    requires made { L.made_for lexer.old table.now }
+    requires setting { IsParseSetting table.now (length (L.Text.bytes text.now)) setting.now }
+    requires own { IsOwnHead table.now (length (L.Text.bytes text.now)) readings.old.graph start }
+    requires sees { IsTokenAhead table.now (L.Text.bytes text.now) readings.old.graph start found }
+    requires alone { readings.old.live.items ≡ [] }
+    requires best { readings.old.best ≡ None }
+    ensures made { L.made_for lexer.new table.now }
+    ensures ends { IfOk result (EndsAll table.now (L.Text.bytes text.now) readings.old.graph
+        readings.old.stuck start) }
+{
+    laws_hold();
+    packing_laws_hold();
+    table.stands();
+    steps_fall();
+    see_alone(&mut readings.seen, start, found)?;
+    let ends_deep = advance(alloc, table, setting, lexer, text, readings, start)?;
+    if ends_deep {
+        return Ok(Outcome::Deep);
+    }
+    while let Some(head) = next_head(&readings.graph, &mut readings.live) {
+        let deep = advance(alloc, table, setting, lexer, text, readings, head)?;
+        if deep {
+            return Ok(Outcome::Deep);
+        }
+    }
+    Ok(outcome(readings))
 }

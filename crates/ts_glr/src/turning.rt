@@ -13,7 +13,7 @@ ghost use Rattle.ts_places.specs.Nothing.{IsOfNothing};
 ghost use Rattle.ts_glr.specs.Forks.{ComesTo};
 
 use crate::crossing::{Crossed, cross};
-use crate::forking::{Forked, follow_all};
+use crate::forking::{Forked, follow_all, follow_each};
 use crate::readings::Readings;
 use std::alloc::{AllocError, Global};
 use ts_lexer::Tokens;
@@ -100,37 +100,6 @@ fn follow_graph<L: Tokens>(
     }
 }
 
-/// Follows all ways on plain stacks, without a limit. On a text of nothing each of them is one
-/// reduction, and acceptance.
-fn follow_plain<L: Tokens>(
-    alloc: Global,
-    table: &Table,
-    setting: &ParseSetting,
-    lexer: &mut L,
-    text: &L::Text,
-    readings: &mut Readings,
-    start: StackHead,
-    found: FoundToken,
-) -> Result<Forked, AllocError>
-    requires made { L.made_for lexer.old table.now }
-    requires setting { IsParseSetting table.now (length (L.Text.bytes text.now)) setting.now }
-    requires own { IsOwnHead table.now (length (L.Text.bytes text.now)) readings.old.graph start }
-    requires sees { IsTokenAhead table.now (L.Text.bytes text.now) readings.old.graph start found }
-    requires alone { readings.old.live.items ≡ [] }
-    requires best { readings.old.best ≡ None }
-    ensures made { L.made_for lexer.new table.now }
-    ensures follows { IfOk result (ComesTo table.now (L.Text.bytes text.now) readings.old.graph
-        readings.new.graph readings.old.stuck readings.new.stuck readings.new.live.items
-        readings.new.best start) }
-{
-    match follow_all(
-        alloc, table, setting, lexer, text, readings, start, found, None,
-    )? {
-        Some(forked) => Ok(forked),
-        None => unreachable!(),
-    }
-}
-
 /// Follows all ways on the graph of stacks, and on plain stacks where the text is of nothing.
 fn follow_long<L: Tokens>(
     alloc: Global,
@@ -165,8 +134,8 @@ fn follow_long<L: Tokens>(
     match crossed {
         Some(forked) => Ok(forked),
         None => {
-            let forked = follow_plain(alloc, table, setting, lexer, text, readings, start, found)?;
-            Ok(forked)
+            let out = follow_each(alloc, table, setting, lexer, text, readings, start, found)?;
+            Ok(Forked::Over(out))
         }
     }
 }
@@ -203,9 +172,9 @@ pub(crate) fn follow_fork<L: Tokens>(
 {
     let Fork { head, found } = fork;
     let before = readings.stuck;
-    let some = Some(MOST_STEPS);
+    let limit = MOST_STEPS;
     match follow_all(
-        alloc, table, setting, lexer, text, readings, head, found, some,
+        alloc, table, setting, lexer, text, readings, head, found, limit,
     )? {
         Some(forked) => Ok(forked),
         None => {

@@ -1,4 +1,4 @@
-use Rattle.std.proofs.Common.{◌∙◌, sym, subst, true≢false, ◌<◌, List, length}
+use Rattle.std.proofs.Common.{◌∙◌, sym, subst, ◌<◌, List, length}
 use Rattle.ts_gss.specs.declared.layer.Layer.{Layer}
 use Rattle.ts_steps.specs.declared.head.StackHead.{StackHead}
 use Rattle.ts_steps.specs.LiveHeads.{GainsStacks}
@@ -31,7 +31,6 @@ loop-head-init g c =
       made = c.in_ok-ends_deep.ensures.made;
       grows = c.in_ok-ends_deep.ensures.grows;
       seen = c.in_ok-ends_deep.ensures.seen;
-      whole = λ none. none;
       follows = begins c.packing_laws_hold.ensures c.steps_fall.ensures c.args.table.now c.stands.ensures.fit text c.args.readings.now.graph c.args.readings.now.stuck c.args.start c.requires.own c.advance.new.readings.graph c.args.readings.now.live.items c.advance.new.readings.live.items c.args.readings.now.best c.advance.new.readings.best c.advance.new.readings.stuck c.requires.alone c.requires.best c.in_ok-ends_deep.ensures.grows c.in_ok-ends_deep.ensures.form
           (c.in_ok-ends_deep.ensures.done c.if-ends_deep.false);
     }
@@ -57,9 +56,6 @@ returns-then-is_left_alone-clause-follows g c =
 pub returns-then-not-spend-clause-grows : goal.returns-then-not-spend-clause-grows
 returns-then-not-spend-clause-grows g c = λ none. c.loop-head.invariant.grows
 
-pub returns-then-not-spend-clause-whole : goal.returns-then-not-spend-clause-whole
-returns-then-not-spend-clause-whole g c = λ endless none. true≢false (sym (c.spend.ensures (c.loop-head.invariant.whole endless)).0 ∙ c.if-not-spend.true)
-
 pub join-requires : goal.join-requires
 join-requires g c =
     let text = g.L.Text.Content.bytes c.args.text.now in
@@ -78,7 +74,6 @@ loop-head-preserved-then-joined g c =
       made = c.loop-head.invariant.made;
       grows = grows_more c.args.readings.now.graph c.loop-head.readings.graph c.join.new.graph c.loop-head.invariant.grows c.in_ok-joined.ensures.grows;
       seen = seen_stay c.args.table.now text c.loop-head.readings.graph c.join.new.graph c.loop-head.readings.seen.items c.in_ok-joined.ensures.grows c.loop-head.invariant.seen;
-      whole = λ none. (c.spend.ensures (c.loop-head.invariant.whole none)).1;
       follows = joins c.packing_laws_hold.ensures c.steps_fall.ensures c.args.table.now c.stands.ensures.fit text c.args.readings.now.graph c.args.readings.now.stuck c.args.start c.requires.own c.loop-head.readings.graph c.loop-head.readings.stuck c.loop-head.readings.live.items c.loop-head.readings.best c.loop-head.invariant.follows c.next_head.new.live.items c.in-Some.head c.in-Some.ensures c.laws_hold.ensures.keeps c.join.new.graph c.join.new.live.items c.in_ok-joined.ensures.grows (c.in_ok-joined.ensures.joined c.if-joined.true);
     }
 
@@ -130,7 +125,6 @@ loop-head-preserved g c =
       seen = c.in_ok-deep.ensures.seen;
       grows = grows_more c.args.readings.now.graph c.loop-head.readings.graph c.advance-in-Some.new.readings.graph c.loop-head.invariant.grows
           (subst (λ (ss : List (List Layer)). GainsStacks ss c.advance-in-Some.new.readings.graph) alone.1 c.in_ok-deep.ensures.grows);
-      whole = λ none. (c.spend.ensures (c.loop-head.invariant.whole none)).1;
       follows = follows c.packing_laws_hold.ensures c.steps_fall.ensures c.args.table.now c.stands.ensures.fit text c.args.readings.now.graph c.args.readings.now.stuck c.args.start c.requires.own c.join.new.graph c.loop-head.readings.stuck c.loop-head.readings.live.items c.loop-head.readings.best f c.join.new.live.items c.in-Some.head k c.advance-in-Some.new.readings.graph c.advance-in-Some.new.readings.live.items c.advance-in-Some.new.readings.best c.advance-in-Some.new.readings.stuck c.in_ok-deep.ensures.grows (c.in_ok-deep.ensures.done c.if-deep.false) c.in_ok-deep.ensures.form;
     }
 

@@ -1,4 +1,4 @@
-use Rattle.std.proofs.Common.{◌≡◌, length, None}
+use Rattle.std.proofs.Common.{length}
 use Rattle.ts_steps.specs.LiveHeads.{GainsStacks}
 use Rattle.ts_glr.specs.Forks.{Following}
 use Rattle.ts_glr.specs.Seeing.{AreSeen}
@@ -10,7 +10,6 @@ invariant-loop-head g l = record {
   made : g.L.Tokens.made_for l.lexer l.table;
   grows : GainsStacks l.fn.readings.graph l.readings.graph;
   seen : AreSeen l.table (g.L.Text.Content.bytes l.text) l.readings.graph l.readings.seen.items;
-  whole : l.fn.limit ≡ None → l.left ≡ None;
   follows : Following l.table (g.L.Text.Content.bytes l.text) l.fn.readings.graph l.readings.graph l.fn.readings.stuck l.readings.stuck l.readings.live.items l.readings.best l.fn.start;
 }
 

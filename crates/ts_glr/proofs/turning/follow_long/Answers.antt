@@ -5,7 +5,7 @@ use Rattle.ts_steps.specs.Looking.{IsTokenAhead}
 use Rattle.ts_reductions.specs.Lines.{IsSetting}
 use Rattle.ts_glr.specs.declared.forking.Forked.{Forked}
 use Rattle.ts_glr.specs.declared.readings.Readings.{Readings}
-use Rattle.ts_glr.specs.Forks.{ComesTo}
+use Rattle.ts_glr.specs.Forks.{EndsAll, ComesTo}
 use Rattle.ts_glr.proofs.turning.follow_long.Goals as goal
 
 pub take_setting-requires-clause-short : goal.take_setting-requires-clause-short
@@ -29,27 +29,26 @@ returns-in-Some-clause-follows g c =
 pub returns-in-Some-clause-kept : goal.returns-in-Some-clause-kept
 returns-in-Some-clause-kept g c = subst (λ (n : ℕ). IsSetting c.args.table.now n c.in_ok-lines.lines) c.requires.setting.size_is c.in_ok-lines.ensures
 
-pub follow_plain-requires-clause-own : goal.follow_plain-requires-clause-own
-follow_plain-requires-clause-own g c =
+pub follow_each-requires-clause-own : goal.follow_each-requires-clause-own
+follow_each-requires-clause-own g c =
     let text = g.L.Text.Content.bytes c.args.text.now in
     subst (λ (r : Readings). IsOwnHead c.args.table.now (length text) r.graph c.args.start) (sym (c.in_ok-crossed.ensures.kept c.in-None.is)) c.requires.own
 
-pub follow_plain-requires-clause-sees : goal.follow_plain-requires-clause-sees
-follow_plain-requires-clause-sees g c =
+pub follow_each-requires-clause-sees : goal.follow_each-requires-clause-sees
+follow_each-requires-clause-sees g c =
     let text = g.L.Text.Content.bytes c.args.text.now in
     subst (λ (r : Readings). IsTokenAhead c.args.table.now text r.graph c.args.start c.args.found) (sym (c.in_ok-crossed.ensures.kept c.in-None.is)) c.requires.sees
 
-pub follow_plain-requires-clause-alone : goal.follow_plain-requires-clause-alone
-follow_plain-requires-clause-alone g c = subst (λ (r : Readings). r.live.items ≡ []) (sym (c.in_ok-crossed.ensures.kept c.in-None.is)) c.requires.alone
+pub follow_each-requires-clause-alone : goal.follow_each-requires-clause-alone
+follow_each-requires-clause-alone g c = subst (λ (r : Readings). r.live.items ≡ []) (sym (c.in_ok-crossed.ensures.kept c.in-None.is)) c.requires.alone
 
-pub follow_plain-requires-clause-best : goal.follow_plain-requires-clause-best
-follow_plain-requires-clause-best g c = subst (λ (r : Readings). r.best ≡ None) (sym (c.in_ok-crossed.ensures.kept c.in-None.is)) c.requires.best
+pub follow_each-requires-clause-best : goal.follow_each-requires-clause-best
+follow_each-requires-clause-best g c = subst (λ (r : Readings). r.best ≡ None) (sym (c.in_ok-crossed.ensures.kept c.in-None.is)) c.requires.best
 
-pub returns-in_ok-forked-in-None-clause-follows : goal.returns-in_ok-forked-in-None-clause-follows
-returns-in_ok-forked-in-None-clause-follows g c =
+pub returns-in_ok-out-in-None-clause-follows : goal.returns-in_ok-out-in-None-clause-follows
+returns-in_ok-out-in-None-clause-follows g c =
     let text = g.L.Text.Content.bytes c.args.text.now in
-    let new = c.follow_plain.new.readings in
-    subst (λ (r : Readings). ComesTo c.args.table.now text r.graph new.graph r.stuck new.stuck new.live.items new.best c.args.start c.in_ok-forked-in-None.forked) (c.in_ok-crossed.ensures.kept c.in-None.is) c.in_ok-forked-in-None.ensures.follows
+    subst (λ (r : Readings). EndsAll c.args.table.now text r.graph r.stuck c.args.start c.in_ok-out-in-None.out) (c.in_ok-crossed.ensures.kept c.in-None.is) c.in_ok-out-in-None.ensures.ends
 
-pub returns-in_ok-forked-in-None-clause-kept : goal.returns-in_ok-forked-in-None-clause-kept
-returns-in_ok-forked-in-None-clause-kept g c = subst (λ (n : ℕ). IsSetting c.args.table.now n c.in_ok-lines.lines) c.requires.setting.size_is c.in_ok-lines.ensures
+pub returns-in_ok-out-in-None-clause-kept : goal.returns-in_ok-out-in-None-clause-kept
+returns-in_ok-out-in-None-clause-kept g c = subst (λ (n : ℕ). IsSetting c.args.table.now n c.in_ok-lines.lines) c.requires.setting.size_is c.in_ok-lines.ensures
