@@ -1,12 +1,10 @@
 -- A parse that follows one stack, or all of several, by turns: what holds at its start, after each turn, and at its end.
 use Rattle.std.proofs.Common.{◌≡◌, sym, refl, subst, ℕ, ◌<◌, ◌≤◌, ◌⊎◌, List, [], ◌∷◌, Option, Some, None, length, arith}
 use Rattle.ts_base.specs.Bytes.{Bytes}
-use Rattle.ts_core.specs.declared.flat.FlatGrammar.{FlatGrammar}
 use Rattle.spec_tables.specs.Fit.{Fit}
 use Rattle.spec_trees.specs.declared.tree.Tree.{Tree}
 use Rattle.spec_trees.specs.Trees.{children_of, state_of}
 use Rattle.spec_trees.specs.Choice.{IsInForm}
-use Rattle.spec_runs.specs.Configurations.{Configuration}
 use Rattle.spec_runs.specs.Outcomes.{Fresh, deep_outcome, tree_outcome, stuck_outcome}
 use Rattle.spec_forced.specs.Sound.{States, IsSound}
 use Rattle.spec_packing.specs.Packing.{WasMet}

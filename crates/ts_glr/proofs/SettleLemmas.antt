@@ -1,17 +1,17 @@
 -- A stack that is left, laid anew.
-use Rattle.std.proofs.Common.{◌≡◌, ◌∙◌, sym, ap, refl, subst, ℕ, ◌+◌, ◌-◌, ◌<◌, ◌≤◌, List, [], ◌∷◌, ◌++◌, append_assoc, append-nil, length, length-append, map, take, drop, Option, Some, None, true, ◌⊎◌, suc, arith}
+use Rattle.std.proofs.Common.{◌≡◌, ◌∙◌, sym, ap, refl, subst, ℕ, ◌+◌, ◌-◌, ◌<◌, ◌≤◌, List, [], ◌∷◌, ◌++◌, append_assoc, length, length-append, map, take, drop, Option, Some, None, true, ◌⊎◌, suc, arith}
 use Rattle.std.proofs.lemmas.List.{map-append}
 use Rattle.ts_base.specs.Bytes.{Bytes}
 use Rattle.spec_grammar.specs.Symbols.{is_extra}
 use Rattle.spec_lexing.specs.Lexing.{token}
 use Rattle.spec_trees.specs.declared.tree.Tree.{Tree}
-use Rattle.spec_trees.specs.Trees.{pad_of, size_of, span_of, all_spans, bare}
+use Rattle.spec_trees.specs.Trees.{bare}
 use Rattle.spec_trees.specs.Made.{filling}
 use Rattle.spec_runs.specs.Configurations.{Configuration, HasMove}
 use Rattle.spec_packing.specs.Packing.{PackedStack}
 use Rattle.spec_crossing.specs.Resting.{PackedRests}
 use Rattle.spec_forced.specs.Forced.{IsDecided}
-use Rattle.spec_forced.specs.Sound.{States, StandOnStack}
+use Rattle.spec_forced.specs.Sound.{StandOnStack}
 use Rattle.ts_table.specs.declared.view.ParseTable.{ParseTable}
 use Rattle.ts_gss.specs.declared.layer.Layer.{Layer}
 use Rattle.ts_gss.specs.Stacks.{packed_layer, stack_at, state_on, depth_on, tree_on, trees_on, under_top, LieInOne, IsOneStack}
@@ -20,7 +20,7 @@ use Rattle.ts_steps.specs.declared.found.FoundToken.{FoundToken}
 use Rattle.ts_steps.specs.declared.head.StackHead.{StackHead}
 use Rattle.ts_steps.specs.Good.{EachTree}
 use Rattle.ts_steps.specs.LiveHeads.{config_of, packed_layers, packed_of, read_on, IsGoodStack, GainsStacks}
-use Rattle.ts_steps.specs.Heads.{IsMadeNode, IsOwnWithin, IsOwnHead}
+use Rattle.ts_steps.specs.Heads.{IsMadeNode, IsOwnWithin}
 use Rattle.ts_steps.specs.Looking.{IsTokenAhead}
 use Rattle.ts_steps.proofs.StackLemmas.{stack_new}
 use Rattle.ts_glr.specs.declared.settling.Top.{Top}

@@ -1,5 +1,5 @@
 -- Readings for which the layers of a stack stand: what they come to where the stack goes on by its only moves.
-use Rattle.std.proofs.Common.{◌≡◌, ◌∙◌, sym, ap, refl, subst, ℕ, ◌<◌, ◌≤◌, ◌⊎◌, inl, inr, ⊎_elim, List, [], ◌∷◌, map, arith}
+use Rattle.std.proofs.Common.{◌≡◌, ◌∙◌, sym, ap, refl, subst, ℕ, ◌⊎◌, inl, inr, ⊎_elim, List, [], ◌∷◌, map, arith}
 use Rattle.ts_base.specs.Bytes.{Bytes}
 use Rattle.ts_core.specs.declared.flat.FlatGrammar.{FlatGrammar}
 use Rattle.ts_core.specs.declared.symbol.Symbol.{Symbol}
@@ -11,15 +11,15 @@ use Rattle.spec_trees.specs.Trees.{bare}
 use Rattle.spec_trees.specs.Made.{as_extra}
 use Rattle.spec_trees.specs.Choice.{Better}
 use Rattle.spec_runs.specs.Configurations.{Configuration, starting, stack_symbols, token_tree, HasMove, NextIs}
-use Rattle.spec_runs.specs.Runs.{CanMove, StepsOn, Run, run_here, run_on, IsReached, ComesTooDeep, AcceptsTree, StopsAt}
-use Rattle.spec_runs.specs.Outcomes.{FreshOutcome, SomeIsTooDeep, tree_outcome, stuck_outcome, deep_outcome}
+use Rattle.spec_runs.specs.Runs.{CanMove, Run, run_here, run_on, IsReached, ComesTooDeep, AcceptsTree, StopsAt}
+use Rattle.spec_runs.specs.Outcomes.{FreshOutcome, tree_outcome, stuck_outcome, deep_outcome}
 use Rattle.spec_forced.specs.OnlyRuns.{IsOnlyStep, OnlyRun, only_here, only_on, Meet, IsFork, EndAlike, FreshFrom}
-use Rattle.spec_packing.specs.Replacing.{Replaces, AllReplace}
-use Rattle.spec_packing.specs.Serving.{ServesFor, AllServe, ServesConfiguration, ComesToServe}
-use Rattle.spec_packing.specs.Packing.{PackedTree, PackedStack, packed_trees, packed_alone, own_config, stack_alone, CoversTree, AllCover, Packs, WasMet, GoesThrough, packed_with, IsPackedReduction, PackedStepsOn, shift_packed, pass_packed, reduce_packed, PackedIsTooDeep}
+use Rattle.spec_packing.specs.Replacing.{AllReplace}
+use Rattle.spec_packing.specs.Serving.{AllServe, ServesConfiguration, ComesToServe}
+use Rattle.spec_packing.specs.Packing.{PackedTree, PackedStack, packed_trees, packed_alone, own_config, stack_alone, AllCover, Packs, WasMet, GoesThrough, packed_with, IsPackedReduction, PackedStepsOn, shift_packed, pass_packed, reduce_packed, PackedIsTooDeep}
 use Rattle.ts_table.specs.declared.view.ParseTable.{ParseTable}
 use Rattle.ts_gss.specs.declared.layer.Layer.{Layer}
-use Rattle.ts_gss.specs.Stacks.{stack_at, trees_on}
+use Rattle.ts_gss.specs.Stacks.{stack_at}
 use Rattle.ts_steps.specs.declared.head.StackHead.{StackHead}
 use Rattle.ts_steps.specs.declared.reparsed.Reparsed.{Reparsed}
 use Rattle.ts_steps.specs.declared.reparsed.Reparsed.TheVariants.{Accepted, Stuck, Deep, Forks}

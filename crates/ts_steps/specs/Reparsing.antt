@@ -5,7 +5,7 @@ use Rattle.ts_core.specs.declared.flat.FlatGrammar.{FlatGrammar}
 use Rattle.spec_tables.specs.Actions.{Move, accept}
 use Rattle.spec_trees.specs.declared.tree.Tree.{Tree}
 use Rattle.spec_trees.specs.declared.tree.Stretch.{Stretch}
-use Rattle.spec_trees.specs.Trees.{children_of, is_settled, state_of, span_of, all_spans, bare}
+use Rattle.spec_trees.specs.Trees.{children_of, is_settled, state_of, span_of, all_spans}
 use Rattle.spec_trees.specs.Choice.{IsInForm}
 use Rattle.spec_runs.specs.Configurations.{Configuration, HasMove}
 use Rattle.spec_runs.specs.Runs.{CanMove, Run, ComesTooDeep, AcceptsTree, StopsAt}

@@ -1,7 +1,4 @@
-use Rattle.std.proofs.Common.{List, length}
-use Rattle.ts_steps.specs.declared.head.StackHead.{StackHead}
-use Rattle.ts_glr.specs.Seeing.{AreSeen}
-use Rattle.ts_glr.specs.Weights.{live_weight}
+use Rattle.std.proofs.Common.{length}
 use Rattle.ts_glr.proofs.ForkLemmas.{no_form, begins, first_deep, all_own, some_end, all_over, head_own, taken_deep, follows_falls, follows}
 use Rattle.ts_glr.proofs.SeenLemmas.{alone_seen}
 use Rattle.ts_glr.proofs.forking.follow_each.Goals as goal
