@@ -1,6 +1,5 @@
 -- The graph that is kept as cells stays sound by one more head, one more link, and a packed one.
 use Rattle.std.proofs.Common.{◌≡◌, ◌∙◌, sym, ap, refl, subst, ℕ, zero, suc, ◌<◌, ◌≤◌, ◌⊎◌, inl, inr, Bool, true, false, true≢false, List, [], ◌∷◌, ◌++◌, length, length-append, take, set, slice_get, Option, Some, None, nat_eq, arith}
-use Rattle.std.specs.List.{Contains}
 use Rattle.std.specs.Option.{option_map_or}
 use Rattle.std.proofs.Math.ListN.{length-set}
 use Rattle.std.proofs.lemmas.Bool.{eq-eqb, eqb-true}
@@ -13,7 +12,7 @@ use Rattle.ts_graph.specs.declared.graph.Cell.{Cell}
 use Rattle.ts_graph.specs.Down.{numbers_down, links_down, links_from, place_at, IsBetween, HasNone, HoldsEachOnce}
 use Rattle.ts_graph.specs.declared.view.GraphView.{GraphView}
 use Rattle.ts_graph.specs.Cells.{link_of, links_of, graph_of, IsSound}
-use Rattle.ts_graph.proofs.ListLemmas.{mapped_at, at_mapped, contained_at}
+use Rattle.ts_graph.proofs.ListLemmas.{mapped_at, at_mapped}
 use Rattle.ts_graph.proofs.DownLemmas.{down_none, down_more, down_other, from_push, from_push_all, down_same, from_same, aboves}
 
 -- ---- no head, and one more head
@@ -41,10 +40,9 @@ module _ (heads : List Head) (newest : List (Option ℕ)) (cells : List Cell) (s
   place_grown : (head : Head) (h : ℕ) → h < length heads → place_at (heads ++ head ∷ []) h ≡ place_at heads h
   place_grown head h low = ap (λ (o : Option Head). option_map_or (λ (x : Head). x.place) o 0) (in_prefix heads (head ∷ []) h low)
 
-  pub sound_head : (head : Head) (new : List Head) → new ≡ heads ++ head ∷ [] → length heads < length newest → (Contains heads head → ⊥) → IsSound new newest cells
-  sound_head head new is low absent = subst (λ (xs : List Head). IsSound xs newest cells) (sym is) record {
+  pub sound_head : (head : Head) (new : List Head) → new ≡ heads ++ head ∷ [] → length heads < length newest → IsSound new newest cells
+  sound_head head new is low = subst (λ (xs : List Head). IsSound xs newest cells) (sym is) record {
     each_once = record {
-      once = λ i j x e f. by i j x (push_cases heads head i x e) (push_cases heads head j x f);
       above_there = λ k l at. let a = s.each_once.above_there k l at in omega (arith, length-append heads (head ∷ []));
       below_there = λ k l at. let a = s.each_once.below_there k l at in omega (arith, length-append heads (head ∷ []));
       falls = λ k l at.
@@ -58,24 +56,14 @@ module _ (heads : List Head) (newest : List (Option ℕ)) (cells : List Cell) (s
     room = omega (arith, length-append heads (head ∷ []));
     begins = s.begins;
   }
-    where
-      not_there : (i : ℕ) (x : Head) → slice_get heads i ≡ Some x → head ≡ x → ⊥
-      not_there i x at e = absent (contained_at heads i head (at ∙ ap (λ (y : Head). Some y) (sym e)))
-
-      by : (i j : ℕ) (x : Head) → ((i < length heads) × (slice_get heads i ≡ Some x)) ⊎ ((i ≡ length heads) × (head ≡ x))
-          → ((j < length heads) × (slice_get heads j ≡ Some x)) ⊎ ((j ≡ length heads) × (head ≡ x)) → i ≡ j
-      by i j x (inl v) (inl w) = s.each_once.once i j x v.1 w.1
-      by i j x (inl v) (inr w) = absurd (not_there i x v.1 w.1)
-      by i j x (inr v) (inl w) = absurd (not_there j x w.1 v.1)
-      by i j x (inr v) (inr w) = v.0 ∙ sym w.0
 
 pub sound_open : (heads : List Head) (newest spots : List (Option ℕ)) (cells : List Cell) → IsSound heads newest cells → (head : Head) (new : List Head)
-    → spots ≡ newest ++ None ∷ [] → new ≡ heads ++ head ∷ [] → (Contains heads head → ⊥) → IsSound new spots cells
-sound_open heads newest spots cells s head new is more absent =
+    → spots ≡ newest ++ None ∷ [] → new ≡ heads ++ head ∷ [] → IsSound new spots cells
+sound_open heads newest spots cells s head new is more =
     let room = s.room in
     let long : length spots ≡ length (newest ++ None ∷ []) = ap (λ (xs : List (Option ℕ)). length xs) is in
     let low : length heads < length spots = omega (arith, length-append newest (None ∷ [])) in
-    sound_head heads spots cells (sound_room heads newest cells s spots is) head new more low absent
+    sound_head heads spots cells (sound_room heads newest cells s spots is) head new more low
 
 -- ---- one more link
 
@@ -151,7 +139,6 @@ module _ (heads : List Head) (newest : List (Option ℕ)) (cells : List Cell) (c
 
   each : HoldsEachOnce heads (links_of cells ++ link_of c ∷ [])
   each = record {
-    once = s.each_once.once;
     above_there = λ k l at. by_above k l (push_cases (links_of cells) (link_of c) k l at);
     below_there = λ k l at. by_below k l (push_cases (links_of cells) (link_of c) k l at);
     falls = λ k l at. by_place k l (push_cases (links_of cells) (link_of c) k l at);
@@ -251,7 +238,6 @@ module _ (cells : List Cell) (k : ℕ) (c d : Cell) (at : slice_get cells k ≡ 
     pub sound_pack : IsSound heads newest (set cells k d)
     sound_pack = record {
       each_once = record {
-        once = s.each_once.once;
         above_there = λ i l is. let m = link_old i l is in let e = m.2 in let low = s.each_once.above_there i m.0 m.1 in omega arith;
         below_there = λ i l is. let m = link_old i l is in let e = m.3 in let low = s.each_once.below_there i m.0 m.1 in omega arith;
         falls = λ i l is.

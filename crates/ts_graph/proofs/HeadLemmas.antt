@@ -1,63 +1,96 @@
--- A head is found by its number, and a new one is put at the end.
-use Rattle.std.proofs.Common.{◌≡◌, ◌∙◌, sym, ap, refl, subst, ℕ, Bool, true, false, true≢false, ◌||◌, List, [], ◌∷◌, ◌++◌, length, slice_get, get_or, Option, Some, None, is_some, inl, inr, position}
-use Rattle.std.specs.Prelude.{if◌then◌else◌, MatchOption}
-use Rattle.std.specs.Bool.{Decides}
-use Rattle.std.specs.List.{Contains, list_any}
-use Rattle.std.proofs.lemmas.Bool.Decides.{Decides-and, Decides-like, Decides-eqb}
-use Rattle.std.proofs.lemmas.List.Quantifiers.{position-Some}
+-- Heads in rows: one is found by its number, a new one is put at the end, and what is kept beside
+-- them changes.
+use Rattle.std.proofs.Common.{◌≡◌, ◌∙◌, sym, ap, refl, subst, ℕ, ◌<◌, inr, Bool, List, [], ◌∷◌, ◌++◌, length, set, get_or, slice_get, Option, Some, None, arith}
+use Rattle.std.proofs.Math.Seq.{map-set_same}
+use Rattle.std.proofs.lemmas.List.{length-map, map-append, map-set}
 use Rattle.std.proofs.lemmas.Option.{slice_get_read, slice_get_within}
-use Rattle.indexmap.specs.IndexSet.{insert_key}
 use Rattle.ts_base.proofs.PlaceLemmas.{in_prefix}
 use Rattle.spec_graph.specs.declared.graph.Head.{Head}
-use Rattle.spec_graph.specs.contracts.graph.HeadPartialEq.TheImpl as derived
-use Rattle.ts_graph.specs.Down.{KeepNumbers}
-use Rattle.ts_graph.proofs.ListLemmas.{Has, has_contained, contained_has}
+use Rattle.spec_graph.specs.declared.graph.Link.{Link}
+use Rattle.ts_graph.specs.declared.graph.Row.{Row}
+use Rattle.ts_graph.specs.declared.graph.Cell.{Cell}
+use Rattle.ts_graph.specs.declared.view.GraphView.{GraphView}
+use Rattle.ts_graph.specs.Cells.{heads_of, newest_of, links_of, graph_of, IsSound, IsKept}
+use Rattle.ts_graph.specs.Down.{links_down, links_from, KeepNumbers, OpensAt}
+use Rattle.ts_graph.proofs.ListLemmas.{at_mapped}
+use Rattle.ts_graph.proofs.CellLemmas.{sound_open}
+use Rattle.ts_graph.proofs.KeptLemmas.{kept_open}
 
--- two heads are equal
-abbrev pub head_eq : Head → Head → Bool
-head_eq = (derived.eq-value).it
+-- ---- a head by its number
 
-abbrev head_of : ℕ → ℕ → Head
-head_of state place = record { state = state; place = place }
+module _ (rows : List Row) (links : List Link) (g : GraphView) (view : graph_of (heads_of rows) links ≡ g) where
+  pub many : length g.heads ≡ length rows
+  many = sym (ap (λ (x : GraphView). length x.heads) view) ∙ length-map rows (λ (r : Row). r.head)
 
-pub head_decides : (a b : Head) → Decides (head_eq a b) (a ≡ b)
-head_decides a b = Decides-like (head_eq a b)
-    (λ w. ap (λ (n : ℕ). head_of n a.place) w.0 ∙ ap (λ (n : ℕ). head_of b.state n) w.1)
-    (λ e. (ap (λ (h : Head). h.state) e, ap (λ (h : Head). h.place) e))
-    (Decides-and _ _ (Decides-eqb a.state b.state) (Decides-eqb a.place b.place))
+  pub row_there : (k : ℕ) (row : Row) → k < length rows → row ≡ get_or rows k row → slice_get rows k ≡ Some row
+  row_there k row low is = slice_get_read rows (length rows) k row refl low is
 
-or_true : (a b : Bool) → b ≡ true → (a || b) ≡ true
-or_true true b e = refl
-or_true false b e = e
+  pub row_head : (k : ℕ) (row : Row) → k < length rows → row ≡ get_or rows k row → slice_get g.heads k ≡ Some row.head
+  row_head k row low is = subst (λ (x : GraphView). slice_get x.heads k ≡ Some row.head) view (at_mapped (λ (r : Row). r.head) rows k row (row_there k row low is))
 
-any_has : (heads : List Head) (head : Head) → Has heads head → list_any (head_eq head) heads ≡ true
-any_has [] head h = absurd h
-any_has (x ∷ heads) head (inl e) = ap (λ (b : Bool). b || list_any (head_eq head) heads) ((head_decides head x).1 (sym e))
-any_has (x ∷ heads) head (inr h) = or_true (head_eq head x) (list_any (head_eq head) heads) (any_has heads head h)
+-- ---- one more head
 
-pub found : (heads : List Head) (head : Head) (o : Option ℕ) → o ≡ position (head_eq head) heads → is_some o ≡ list_any (head_eq head) heads → MatchOption o (Contains heads head → ⊥) (λ n. slice_get heads n ≡ Some head)
-found heads head None at some = λ h. true≢false (sym (any_has heads head (has_contained heads head h)) ∙ sym some)
-found heads head (Some n) at some =
-    let p = position-Some (head_eq head) heads n head (sym at) in
-    slice_get_read heads (length heads) n head refl p.0 ((head_decides head (get_or heads n head)).0 p.1)
+pub heads_pushed : (rows : List Row) (row : Row) → heads_of (rows ++ row ∷ []) ≡ heads_of rows ++ row.head ∷ []
+heads_pushed rows row = map-append (λ (r : Row). r.head) rows (row ∷ [])
 
-has_any : (heads : List Head) (head : Head) → list_any (head_eq head) heads ≡ true → Has heads head
-has_any [] head e = absurd (true≢false (sym e))
-has_any (x ∷ heads) head e = by (head_eq head x) refl (λ f. has_any heads head (sym (ap (λ (b : Bool). b || list_any (head_eq head) heads) f) ∙ e))
-  where
-    by : (b : Bool) → head_eq head x ≡ b → (head_eq head x ≡ false → Has heads head) → Has (x ∷ heads) head
-    by true f rest = inl (sym ((head_decides head x).0 f))
-    by false f rest = inr (rest f)
-
--- a head that is not there goes last
-pub inserted : (heads new : List Head) (head : Head) → new ≡ insert_key head_eq heads head → (Contains heads head → ⊥) → new ≡ heads ++ head ∷ []
-inserted heads new head is absent = by (list_any (head_eq head) heads) refl
-  where
-    by : (b : Bool) → list_any (head_eq head) heads ≡ b → new ≡ heads ++ head ∷ []
-    by true e = absurd (absent (contained_has heads head (has_any heads head e)))
-    by false e = is ∙ ap (λ (b : Bool). if b then heads else heads ++ head ∷ []) e
+pub newest_pushed : (rows : List Row) (row : Row) → newest_of (rows ++ row ∷ []) ≡ newest_of rows ++ row.newest ∷ []
+newest_pushed rows row = map-append (λ (r : Row). r.newest) rows (row ∷ [])
 
 pub stay_more : (heads new : List Head) (head : Head) → new ≡ heads ++ head ∷ [] → KeepNumbers heads new
 stay_more heads new head is h x at =
     subst (λ (xs : List Head). slice_get xs h ≡ Some x) (sym is)
     (in_prefix heads (head ∷ []) h (slice_get_within heads h x at) ∙ at)
+
+-- the last of more heads
+last_at : (heads : List Head) (head : Head) → slice_get (heads ++ head ∷ []) (length heads) ≡ Some head
+last_at [] head = refl
+last_at (x ∷ heads) head = last_at heads head
+
+pub opens_last : (heads new : List Head) (head : Head) (number : ℕ) → new ≡ heads ++ head ∷ [] → number ≡ length heads → OpensAt heads new head number
+opens_last heads new head number is at = record {
+  at = subst (λ (xs : List Head). slice_get xs number ≡ Some head) (sym is)
+      (subst (λ (n : ℕ). slice_get (heads ++ head ∷ []) n ≡ Some head) (sym at) (last_at heads head));
+  added = inr (is, at);
+}
+
+-- ---- what is kept beside the heads
+
+pub heads_set : (rows : List Row) (k : ℕ) (row d : Row) → row.head ≡ (get_or rows k d).head → heads_of (set rows k row) ≡ heads_of rows
+heads_set rows k row d same = map-set_same (λ (r : Row). r.head) rows k row d same
+
+pub newest_same : (rows : List Row) (k : ℕ) (row d : Row) → row.newest ≡ (get_or rows k d).newest → newest_of (set rows k row) ≡ newest_of rows
+newest_same rows k row d same = map-set_same (λ (r : Row). r.newest) rows k row d same
+
+pub newest_set : (rows : List Row) (k : ℕ) (row : Row) (o : Option ℕ) → row.newest ≡ o → newest_of (set rows k row) ≡ set (newest_of rows) k o
+newest_set rows k row o is = map-set (λ (r : Row). r.newest) rows k row ∙ ap (λ (x : Option ℕ). set (newest_of rows) k x) is
+
+-- ---- what holds of the kept graph
+
+module _ (rows : List Row) (cells : List Cell) (s : IsSound (heads_of rows) (newest_of rows) cells) where
+  pub row_newest : (g : GraphView) → graph_of (heads_of rows) (links_of cells) ≡ g → (k : ℕ) (row : Row) → k < length rows → row ≡ get_or rows k row → links_from g.links k row.newest ≡ links_down g.links k
+  row_newest g view k row low is =
+      subst (λ (x : GraphView). links_from x.links k row.newest ≡ links_down x.links k) view
+      (s.begins k row.newest (at_mapped (λ (r : Row). r.newest) rows k row (row_there rows (links_of cells) g view k row low is)))
+
+  -- one more head, whatever is beside it
+  module _ (row : Row) (mid new : List Row) (is : mid ≡ rows ++ row ∷ []) (heads_are : heads_of new ≡ heads_of mid) (newest_are : newest_of new ≡ newest_of mid) where
+    pub added_heads : heads_of new ≡ heads_of rows ++ row.head ∷ []
+    added_heads = heads_are ∙ ap (λ (rs : List Row). heads_of rs) is ∙ heads_pushed rows row
+
+    pub sound_added : row.newest ≡ None → IsSound (heads_of new) (newest_of new) cells
+    sound_added none =
+        sound_open (heads_of rows) (newest_of rows) (newest_of new) cells s row.head (heads_of new)
+        (newest_are ∙ ap (λ (rs : List Row). newest_of rs) is ∙ newest_pushed rows row ∙ ap (λ (o : Option ℕ). newest_of rows ++ o ∷ []) none) added_heads
+
+    pub kept_added : (extras : Bool) → IsKept (heads_of rows) cells extras → IsKept (heads_of new) cells extras
+    kept_added extras kept = kept_open (heads_of rows) cells extras s.each_once kept row.head (heads_of new) added_heads
+
+-- a newer link
+module _ (rows : List Row) (k : ℕ) (row d : Row) (same : row.head ≡ (get_or rows k d).head) (cells : List Cell) where
+  pub sound_set : (n : ℕ) → row.newest ≡ Some n → IsSound (heads_of rows) (set (newest_of rows) k (Some n)) cells → IsSound (heads_of (set rows k row)) (newest_of (set rows k row)) cells
+  sound_set n is s =
+      subst (λ (hs : List Head). IsSound hs (newest_of (set rows k row)) cells) (sym (heads_set rows k row d same))
+      (subst (λ (ns : List (Option ℕ)). IsSound (heads_of rows) ns cells) (sym (newest_set rows k row (Some n) is)) s)
+
+  pub kept_set : (extras : Bool) → IsKept (heads_of rows) cells extras → IsKept (heads_of (set rows k row)) cells extras
+  kept_set extras kept = subst (λ (hs : List Head). IsKept hs cells extras) (sym (heads_set rows k row d same)) kept

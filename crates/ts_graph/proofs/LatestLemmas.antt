@@ -8,22 +8,20 @@ use Rattle.std.specs.Option.{option_map_or}
 use Rattle.std.proofs.Math.Nat.{one-le-pow, pow-le-pow_right, pow-suc, mul-le-mul_right, mul_comm, suc-mul, zero-mul}
 use Rattle.std.proofs.lemmas.List.{length-map}
 use Rattle.std.proofs.lemmas.List.Elements.{Contains-append_left, Contains-append_right, Contains-append_cases, Contains-push_cases}
-use Rattle.spec_trees.specs.declared.tree.Tree.{Tree}
-use Rattle.spec_trees.specs.Trees.{is_extra_node}
-use Rattle.spec_trees.specs.Made.{EndsFilled}
 use Rattle.spec_graph.specs.declared.graph.Head.{Head}
 use Rattle.spec_graph.specs.declared.graph.Link.{Link}
-use Rattle.spec_graph.specs.Links.{IsWay, way_trees}
+use Rattle.spec_graph.specs.Links.{IsWay}
 use Rattle.ts_graph.specs.declared.latest.Spot.{Spot}
 use Rattle.ts_graph.specs.Down.{numbers_down, number_if, links_down, links_from, place_at, HoldsEachOnce}
-use Rattle.ts_graph.specs.Ways.{EndsBy, IsLatestEnd}
+use Rattle.ts_graph.specs.Ways.{TakesFilled, EndsBy, IsLatestEnd}
 use Rattle.ts_graph.specs.Parts.{below_at, wanting_past}
 use Rattle.ts_graph.specs.Latest.{spot_of, spot_past, past, Finds, Meets, Leaves, IsMet, CanGoDown, weight, GoesDown}
-use Rattle.ts_graph.proofs.ListLemmas.{Has, has_contained, contained_has, has_at, at_has, has_mapped, mapped_has}
-use Rattle.ts_graph.proofs.DownLemmas.{aboves, down_has, down_is}
+use Rattle.ts_graph.proofs.ListLemmas.{Has, has_contained, contained_has, has_mapped, mapped_has}
+use Rattle.ts_graph.proofs.DownLemmas.{aboves, down_has}
 use Rattle.ts_graph.proofs.BetweenLemmas.{GoDown, go_above, go_next, go_rest}
 use Rattle.ts_graph.proofs.PartLemmas.{below_is, behind_is}
-use Rattle.ts_graph.proofs.WayLemmas.{filled, one, filled_first, no_extra, wants, ends_rest, none_ends, way_falls}
+use Rattle.ts_graph.proofs.WayLemmas.{ends_rest, none_ends, way_falls}
+use Rattle.ts_graph.proofs.OnlyLemmas.{takes_on, takes_over}
 
 -- ---- lists
 
@@ -62,21 +60,6 @@ not_later zero place other = absurd (true≢false (sym (other (omega arith))))
 not_later (suc best) zero other = omega arith
 not_later (suc best) (suc place) other = let r = not_later best place (λ low. other (omega (arith, low))) in omega (arith, r)
 
--- ---- the lowest tree
-
-ends_first : (t : Tree) (ts : List Tree) → EndsFilled ts → (ts ≡ [] → is_extra_node t ≡ false) → EndsFilled (t ∷ ts)
-ends_first t [] ends alone [] last e = let f : t ∷ [] ≡ last ∷ [] = e in let same : t ≡ last = cc in subst (λ (u : Tree). is_extra_node u ≡ false) same (alone refl)
-ends_first t [] ends alone (x ∷ []) last e = absurd (let f : t ∷ [] ≡ x ∷ last ∷ [] = e in cc)
-ends_first t [] ends alone (x ∷ y ∷ before) last e = absurd (let f : t ∷ [] ≡ x ∷ y ∷ (before ++ last ∷ []) = e in cc)
-ends_first t (u ∷ us) ends alone [] last e = absurd (let f : t ∷ u ∷ us ≡ last ∷ [] = e in cc)
-ends_first t (u ∷ us) ends alone (x ∷ before) last e =
-    let f : t ∷ (u ∷ us) ≡ x ∷ (before ++ last ∷ []) = e in
-    let rest : u ∷ us ≡ before ++ last ∷ [] = cc in
-    ends before last rest
-
-ends_behind : (t : Tree) (ts : List Tree) → EndsFilled (t ∷ ts) → EndsFilled ts
-ends_behind t ts ends before last e = ends (t ∷ before) last (ap (λ (us : List Tree). t ∷ us) e)
-
 -- ---- what a link leads to
 
 module _ (heads : List Head) (links : List Link) (most : ℕ) where
@@ -85,57 +68,25 @@ module _ (heads : List Head) (links : List Link) (most : ℕ) where
   over_link k l n p at some e = record {
     taken = l ∷ e.taken;
     below = e.below;
-    takes = record {
-      way = (contained_has links l (has_at links k l at), refl, subst (λ (h : ℕ). IsWay links h e.taken e.below) (below_is links k l at) e.takes.way);
-      filled =
-          let a = filled_first l e.taken in
-          let b = e.takes.filled in
-          let w = wants links k l n at some in
-          omega arith;
-      ends = ends_first l.tree (way_trees e.taken) e.takes.ends (λ none. alone e.taken none e.takes.filled);
-    };
+    takes = takes_on links k l n e.below e.taken at some (subst (λ (h : ℕ). TakesFilled links h (wanting_past links n k) e.taken e.below) (below_is links k l at) e.takes);
     at = e.at;
     low = e.low;
   }
-    where
-      alone : (t : List Link) → way_trees t ≡ [] → filled t ≡ wanting_past links n k → is_extra_node l.tree ≡ false
-      alone [] none count =
-          let w = wants links k l n at some in
-          let zeros : wanting_past links n k ≡ 0 = sym count in
-          no_extra l (omega arith)
-      alone (m ∷ t) none count = absurd (let f : m.tree ∷ way_trees t ≡ [] = none in cc)
 
   -- each way that wants some trees goes over a link
   pub by_link : (h n p : ℕ) → 0 < n → EndsBy heads links h n most p → (k : ℕ) × Has (links_down links h) k × EndsBy heads links (below_at links k) (wanting_past links n k) most p
-  by_link h n p some e = by e.taken refl
-    where
-      by : (t : List Link) → e.taken ≡ t → (k : ℕ) × Has (links_down links h) k × EndsBy heads links (below_at links k) (wanting_past links n k) most p
-      by [] is =
-          absurd (let a : filled e.taken ≡ 0 = ap (λ (u : List Link). filled u) is in
-          let b = e.takes.filled in
-          omega arith)
-      by (l ∷ t) is =
-          let way : IsWay links h (l ∷ t) e.below = subst (λ (u : List Link). IsWay links h u e.below) is e.takes.way in
-          let k = at_has links l (has_contained links l way.0) in
-          let count : filled e.taken ≡ filled (l ∷ t) = ap (λ (u : List Link). filled u) is in
-          let a = filled_first l t in
-          let b = e.takes.filled in
-          let w = wants links k.0 l n k.1 some in
-          let ends : EndsFilled (l.tree ∷ way_trees t) = subst (λ (u : List Link). EndsFilled (way_trees u)) is e.takes.ends in (
-            k.0,
-            down_is links h k.0 l k.1 way.1,
-            record {
-              taken = t;
-              below = e.below;
-              takes = record {
-                way = subst (λ (x : ℕ). IsWay links x t e.below) (sym (below_is links k.0 l k.1)) way.2;
-                filled = omega arith;
-                ends = ends_behind l.tree (way_trees t) ends;
-              };
-              at = e.at;
-              low = e.low;
-            },
-          )
+  by_link h n p some e =
+      let o = takes_over links h n e.below e.taken some e.takes in (
+        o.number,
+        o.down,
+        record {
+          taken = o.rest;
+          below = e.below;
+          takes = subst (λ (x : ℕ). TakesFilled links x (wanting_past links n o.number) o.rest e.below) (sym (below_is links o.number o.link o.at)) o.takes;
+          at = e.at;
+          low = e.low;
+        },
+      )
 
   -- where no tree is wanting, the way ends
   pub ends_here : (h p : ℕ) → EndsBy heads links h 0 most p → p ≡ place_at heads h

@@ -1,10 +1,11 @@
 pub mod ListLemmas
 pub mod DownLemmas
 pub mod CellLemmas
-pub mod HeadLemmas
 pub mod BetweenLemmas
 pub mod PackLemmas
 pub mod PartLemmas
 pub mod WayLemmas
+pub mod OnlyLemmas
 pub mod LatestLemmas
 pub mod KeptLemmas
+pub mod HeadLemmas

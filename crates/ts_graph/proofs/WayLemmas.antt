@@ -35,7 +35,7 @@ at_same links (k ∷ ns) (l ∷ t) (m ∷ u) a b =
     let rest = at_same links ns t u a.1 b.1 in
     ap (λ (x : Link). x ∷ t) first ∙ ap (λ (xs : List Link). m ∷ xs) rest
 
-at_more : (links : List Link) (ns : List ℕ) (t : List Link) (k : ℕ) (l : Link) → AreAt links ns t → slice_get links k ≡ Some l → AreAt links (ns ++ k ∷ []) (t ++ l ∷ [])
+pub at_more : (links : List Link) (ns : List ℕ) (t : List Link) (k : ℕ) (l : Link) → AreAt links ns t → slice_get links k ≡ Some l → AreAt links (ns ++ k ∷ []) (t ++ l ∷ [])
 at_more links [] [] k l a e = (e, tt)
 at_more links [] (m ∷ t) k l a e = absurd a
 at_more links (n ∷ ns) [] k l a e = absurd a

@@ -3,9 +3,18 @@ use Rattle.std.specs.Prelude.{◌≡◌, ℕ, ◌≤◌, Bool, false, List, leng
 use Rattle.spec_trees.specs.Trees.{is_extra_node}
 use Rattle.spec_graph.specs.declared.graph.Head.{Head}
 use Rattle.spec_graph.specs.declared.graph.Link.{Link}
+use Rattle.ts_graph.specs.declared.graph.Row.{Row}
 use Rattle.ts_graph.specs.declared.graph.Cell.{Cell}
 use Rattle.ts_graph.specs.declared.view.GraphView.{GraphView}
 use Rattle.ts_graph.specs.Down.{links_down, links_from, place_at, HoldsEachOnce}
+
+-- the heads of rows
+abbrev pub heads_of : List Row → List Head
+heads_of rows = map (λ (r : Row). r.head) rows
+
+-- the newest link down from each of them
+abbrev pub newest_of : List Row → List (Option ℕ)
+newest_of rows = map (λ (r : Row). r.newest) rows
 
 -- the link of a cell
 abbrev pub link_of : Cell → Link

@@ -1,5 +1,5 @@
 -- The links that lead down from a head, and what holds of every graph.
-use Rattle.std.specs.Prelude.{◌≡◌, ℕ, ◌+◌, ◌<◌, max, List, [], ◌∷◌, ◌++◌, length, map, take, slice_get, Option, Some, None, if◌then◌else◌, nat_eq}
+use Rattle.std.specs.Prelude.{◌≡◌, ℕ, ◌+◌, ◌<◌, ◌⊎◌, max, List, [], ◌∷◌, ◌++◌, length, map, take, slice_get, Option, Some, None, if◌then◌else◌, nat_eq}
 use Rattle.std.specs.Option.{option_map_or}
 use Rattle.spec_trees.specs.declared.tree.Tree.{Tree}
 use Rattle.spec_trees.specs.Choice.{Better}
@@ -68,11 +68,14 @@ abbrev pub KeepNumbers : List Head → List Head → Type 0
 KeepNumbers heads new =
     (h : ℕ) (head : Head) → slice_get heads h ≡ Some head → slice_get new h ≡ Some head
 
--- There is one head for each state and place, and at most one link between two heads. Links have
--- their heads, and the one below stands at an earlier place.
+-- The head of this number was there, or was put at the end.
+pub record OpensAt (heads new : List Head) (head : Head) (number : ℕ) : Type 0 where
+  pub at : slice_get new number ≡ Some head
+  pub added : (new ≡ heads) ⊎ ((new ≡ heads ++ head ∷ []) × (number ≡ length heads))
+
+-- There is at most one link between two heads. Links have their heads, and the one below stands at
+-- an earlier place.
 pub record HoldsEachOnce (heads : List Head) (links : List Link) : Type 0 where
-  pub once : (i j : ℕ) (head : Head) → slice_get heads i ≡ Some head
-      → slice_get heads j ≡ Some head → i ≡ j
   pub above_there : (k : ℕ) (l : Link) → slice_get links k ≡ Some l → l.above < length heads
   pub below_there : (k : ℕ) (l : Link) → slice_get links k ≡ Some l → l.below < length heads
   pub falls : (k : ℕ) (l : Link) → slice_get links k ≡ Some l

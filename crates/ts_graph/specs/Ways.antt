@@ -22,6 +22,14 @@ pub record TakesFilled (links : List Link) (h count : ℕ) (taken : List Link) (
   pub filled : length (filling (way_trees taken)) ≡ count
   pub ends : EndsFilled (way_trees taken)
 
+-- the only such way, by the numbers of its links
+pub record IsOnlyWay (links : List Link) (h count : ℕ) (numbers : List ℕ) (b : ℕ) : Type 0 where
+  pub taken : List Link
+  pub at : AreAt links numbers taken
+  pub takes : TakesFilled links h count taken b
+  pub only : (other : List Link) (end : ℕ) → TakesFilled links h count other end
+      → (other ≡ taken) × (end ≡ b)
+
 -- all such ways by the numbers of their links, each once
 pub record ListsWays (links : List Link) (h count : ℕ) (ways : List Way) : Type 0 where
   pub each : (w : Way) → Contains ways w

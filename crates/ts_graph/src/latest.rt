@@ -1,7 +1,7 @@
 //! The latest end of the ways down from a head: a head, a count and a place go in, and out comes
 //! the latest place, no later than that one, at which a way with so many trees ends. No way is
 //! listed.
-ghost use Rattle.std.specs.Prelude.{ℕ, ◌<◌, ◌≤◌, ◌↔◌, length, IfOk, OnOk, IsTrue, MatchOption};
+ghost use Rattle.std.specs.Prelude.{◌≡◌, ℕ, ◌<◌, ◌≤◌, ◌↔◌, length, IfOk, OnOk, IsTrue, MatchOption};
 ghost use Rattle.ts_graph.specs.Ways.{EndsBy, IsLatestEnd};
 ghost use Rattle.ts_graph.specs.Latest.{spot_past, past, CanGoDown, GoesDown, IsMet, Leaves, Meets};
 
@@ -25,15 +25,45 @@ fn is_later(place: u32, best: Option<u32>) -> bool
     }
 }
 
+/// A place that is `most` or earlier.
+fn at_most(place: u32, most: u32) -> Option<u32>
+    ensures { MatchOption result (most < place) (λ p. (p ≡ place) × (place ≤ most)) }
+{
+    if place > most { None } else { Some(place) }
+}
+
 impl Graph {
     /// The latest place, `most` or earlier, at which one of the ways down from a head ends, of
-    /// those that `ways` lists, and none where there is none. It takes memory for heads on the ways
-    /// alone, and goes on from no head that stands no later than the best place so far.
+    /// those that `ways` lists, and none where there is none. It takes memory only where there are
+    /// several ways: for heads on them.
     ///
     /// # Errors
     ///
     /// `AllocError` where memory runs out.
     pub fn latest_end(
+        &self,
+        alloc: Global,
+        head: usize,
+        count: usize,
+        most: u32,
+    ) -> Result<Option<u32>, AllocError>
+        requires { head < length self.now.heads }
+        ensures { IfOk result (λ found. MatchOption found
+            ((place : ℕ) → EndsBy self.now.heads self.now.links head count most place → ⊥)
+            (λ place. IsLatestEnd self.now.heads self.now.links head count most place)) }
+    {
+        match self.only_end(head, count) {
+            Some(below) => Ok(at_most(self.head(below).place, most)),
+            None => {
+                let best = self.latest_of_all(alloc, head, count, most)?;
+                Ok(best)
+            }
+        }
+    }
+
+    /// The same where there are several ways. It goes on from no head that stands no later than the
+    /// best place so far.
+    fn latest_of_all(
         &self,
         alloc: Global,
         head: usize,
@@ -71,7 +101,7 @@ impl Graph {
         ensures spots { OnOk result
             (GoesDown self.now.heads self.now.links spots.old.items spot spots.new.items) }
     {
-        let _ = &self.heads;
+        let _ = &self.rows;
         if !is_later(self.head(spot.head).place, before) {
             return Ok(before);
         }
@@ -103,7 +133,7 @@ impl Graph {
         ensures spots { OnOk result
             (IsMet spots.old.items (spot_past self.now.links wanting link) spots.new.items) }
     {
-        let _ = &self.heads;
+        let _ = &self.rows;
         let head = self.link(link).below;
         if !is_later(self.head(head).place, before) {
             return Ok(before);
@@ -126,7 +156,7 @@ impl Graph {
             spots.old.items spot before spots.new.items best) }
         ensures spots { OnOk result (IsMet spots.old.items spot spots.new.items) }
     {
-        let _ = &self.heads;
+        let _ = &self.rows;
         let place = self.head(spot.head).place;
         if !is_later(place, before) {
             return Ok(before);

@@ -1,4 +1,4 @@
-//! The stacks of a parser as one graph, in which each head and each link stands once: heads, and
+//! The stacks of a parser as one graph, in which each link stands once: heads, and
 //! trees between heads, go in; out come the links that lead down from a head, the ways down that a
 //! reduction takes, and where they end.
 #![tactic(auto)]

@@ -1,13 +1,13 @@
 //! Links between heads: a tree between two heads goes in, as a new link or packed into the one that
 //! is there, and the links that lead down from a head come out, the newest first.
-ghost use Rattle.std.specs.Prelude.{◌≡◌, ℕ, ◌<◌, ◌≤◌, ◌||◌, ◌++◌, ◌∷◌, [], length, take, slice_get, Some, OnOk, OnErr, IsTrue, MatchOption};
+ghost use Rattle.std.specs.Prelude.{◌≡◌, ℕ, ◌<◌, ◌≤◌, ◌||◌, ◌++◌, ◌∷◌, [], length, take, slice_get, Some, OnOk, OnErr, IsTrue, IfSome, MatchOption};
 ghost use Rattle.spec_trees.specs.Choice.{AreOfOneGrammar};
 ghost use Rattle.spec_graph.specs.declared.graph.Link.{Link};
 ghost use Rattle.ts_graph.specs.Cells.{link_of};
 ghost use Rattle.ts_graph.specs.Bounds.{IsBound, LeadNoLower, AllPast};
 ghost use Rattle.ts_graph.specs.Down.{link_with, links_down, links_from, place_at, HasNone, IsBetween, IsPacked};
 
-use crate::graph::{Cell, Graph};
+use crate::graph::{Cell, Graph, Row};
 use std::alloc::AllocError;
 use ts_node::Node;
 use ts_order::better;
@@ -25,6 +25,18 @@ fn either(first: bool, second: bool) -> bool
     ensures { result ≡ (first || second) }
 {
     first || second
+}
+
+/// A row with a newer link.
+fn with_newest(row: Row, link: usize) -> Row
+    ensures head { result.head ≡ row.head }
+    ensures newest { result.newest ≡ Some link }
+{
+    Row {
+        head: row.head,
+        newest: Some(link),
+        beside: row.beside,
+    }
 }
 
 impl Graph {
@@ -66,14 +78,6 @@ impl Graph {
         &self.cell(link).node
     }
 
-    /// The newest link that leads down from a head.
-    pub fn first_down(&self, head: usize) -> Option<usize>
-        requires { head < length self.now.heads }
-        ensures { links_from self.now.links head result ≡ links_down self.now.links head }
-    {
-        self.newest[head]
-    }
-
     /// The newest of the earlier links that lead down from the same head as this one.
     pub fn next_down(&self, link: usize) -> Option<usize>
         requires { link < length self.now.links }
@@ -82,6 +86,35 @@ impl Graph {
             ≡ links_down (take link self.now.links) l.above }
     {
         self.cell(link).earlier
+    }
+
+    /// Whether no earlier link leads down from the same head as this one.
+    fn is_alone(&self, link: usize) -> bool
+        requires { link < length self.now.links }
+        ensures { IsTrue result → (l : Link) → slice_get self.now.links link ≡ Some l
+            → links_down (take link self.now.links) l.above ≡ [] }
+    {
+        match self.next_down(link) {
+            None => true,
+            Some(_) => false,
+        }
+    }
+
+    /// The only link that leads down from a head, and none where there are more or none.
+    pub(crate) fn only_down(&self, head: usize) -> Option<usize>
+        requires { head < length self.now.heads }
+        ensures { IfSome result (λ link. links_down self.now.links head ≡ link ∷ []) }
+    {
+        match self.first_down(head) {
+            None => None,
+            Some(link) => {
+                if self.is_alone(link) {
+                    Some(link)
+                } else {
+                    None
+                }
+            }
+        }
     }
 
     /// The lowest of a place and of those to which the links from one on lead down.
@@ -105,7 +138,7 @@ impl Graph {
         requires { link < length self.now.links }
         ensures { IsTrue result → AllPast self.now.heads self.now.links place wanting link }
     {
-        let _ = &self.heads;
+        let _ = &self.rows;
         if self.extras {
             return false;
         }
@@ -167,7 +200,7 @@ impl Graph {
             earlier,
             lowest,
         })?;
-        self.newest[above] = Some(number);
+        self.rows[above] = with_newest(self.rows[above], number);
         self.extras = extras;
         Ok(())
     }

@@ -8,14 +8,20 @@ use ts_node::Node;
 #[test]
 fn a_way_leads_down(rt: HostRuntime) -> Result<(), Fail> {
     let alloc = rt.alloc();
-    let mut graph = Graph::new(alloc);
-    let bottom = graph.open(Head { state: 0, place: 0 })?;
-    let top = graph.open(Head { state: 7, place: 3 })?;
+    let mut graph = Graph::with_room(alloc, 3)?;
+    let bottom = graph.open(Head { state: 0, place: 0 }, None)?;
+    let top = graph.open(Head { state: 7, place: 3 }, None)?;
+    let other = graph.open(Head { state: 8, place: 3 }, Some(top))?;
+    assert_eq!(rt; graph.open(Head { state: 7, place: 3 }, Some(other))?, top);
+    assert_eq!(rt; graph.count(), 3);
     let None = graph.between(top, bottom) else {
         panic!(rt; "a link before one was put there")
     };
     graph.push(top, bottom, Node::leaf(Symbol(2), 0, 3, 4, None), 1)?;
     assert_eq!(rt; graph.between(top, bottom), Some(0));
+    let mut numbers = Vec::new(alloc);
+    assert_eq!(rt; graph.only_way(top, 1, &mut numbers)?, Some(bottom));
+    assert_eq!(rt; numbers[0], 0);
     assert_eq!(rt; graph.ways(alloc, top, 1)?.len(), 1);
     assert_eq!(rt; graph.ways_to(alloc, top, 1, 0)?.len(), 1);
     assert_eq!(rt; graph.latest_end(alloc, top, 1, 3)?, Some(0));

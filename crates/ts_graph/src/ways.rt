@@ -1,7 +1,7 @@
 //! Ways down from a head: a head and a count go in, and out come all ways down from it with so many
 //! trees that are no extras, the lowest tree being one of them, or those that end at a place alone.
-ghost use Rattle.std.specs.Prelude.{◌≡◌, ℕ, ◌<◌, ◌++◌, [], All, length, false, IfOk, OnOk, IsTrue};
-ghost use Rattle.ts_graph.specs.Ways.{ListsWays, ListsWaysTo};
+ghost use Rattle.std.specs.Prelude.{◌≡◌, ℕ, ◌<◌, ◌++◌, [], List as AnyList, All, length, false, IfSome, IfOk, OnOk, IsTrue};
+ghost use Rattle.ts_graph.specs.Ways.{IsOnlyWay, ListsWays, ListsWaysTo};
 ghost use Rattle.ts_graph.specs.Bounds.{NoneLeads};
 ghost use Rattle.ts_graph.specs.Parts.{way_of, part_of, below_at, wanting_past, next_of, nexts_of, all_nexts, done_of, undone_of, done_to, undone_to, all_done, all_undone, leads, CanGoOn, ListsWaysIn};
 
@@ -51,6 +51,60 @@ fn no_way(alloc: Global, head: usize, wanting: usize) -> Part
 }
 
 impl Graph {
+    /// The head where the only way down ends that has so many trees which are no extras, the lowest
+    /// being one, and the numbers of its links, the topmost first. None where several links lead
+    /// down from a head on the way, or none does.
+    ///
+    /// # Errors
+    ///
+    /// `AllocError` where memory runs out.
+    pub fn only_way(
+        &self,
+        head: usize,
+        count: usize,
+        numbers: &mut Vec<usize>,
+    ) -> Result<Option<usize>, AllocError>
+        requires { head < length self.now.heads }
+        ensures only { IfOk result (λ found. IfSome found (λ below.
+            IsOnlyWay self.now.links head count numbers.new.items below)) }
+        ensures there { IfOk result
+            (λ found. IfSome found (λ below. below < length self.now.heads)) }
+    {
+        let _ = &self.rows;
+        numbers.clear();
+        let mut at = head;
+        let mut wanting = count;
+        while wanting > 0 {
+            let Some(link) = self.only_down(at) else {
+                return Ok(None);
+            };
+            numbers.push(link)?;
+            wanting = self.still_wanting(wanting, link);
+            at = self.link(link).below;
+        }
+        Ok(Some(at))
+    }
+
+    /// The head where that way ends.
+    pub(crate) fn only_end(&self, head: usize, count: usize) -> Option<usize>
+        requires { head < length self.now.heads }
+        ensures only { IfSome result (λ below. (numbers : AnyList ℕ)
+            × IsOnlyWay self.now.links head count numbers below) }
+        ensures there { IfSome result (λ below. below < length self.now.heads) }
+    {
+        let _ = &self.rows;
+        let mut at = head;
+        let mut wanting = count;
+        while wanting > 0 {
+            let Some(link) = self.only_down(at) else {
+                return None;
+            };
+            wanting = self.still_wanting(wanting, link);
+            at = self.link(link).below;
+        }
+        Some(at)
+    }
+
     /// All ways down from a head with so many trees that are no extras, of which the lowest is one.
     /// Extras before and between them are links of the way too. Each way is listed once.
     ///
@@ -98,7 +152,7 @@ impl Graph {
         ensures { IfOk result
             (λ ways. ListsWaysIn self.now.heads self.now.links head count place ways.items) }
     {
-        let _ = &self.heads;
+        let _ = &self.rows;
         let mut done = Vec::new(alloc);
         let mut undone = Vec::new(alloc);
         self.take_in(place, no_way(alloc, head, count), &mut undone, &mut done)?;
@@ -233,7 +287,7 @@ impl Graph {
         ensures { result ≡ leads self.now.heads place (below_at self.now.links link)
             (wanting_past self.now.links wanting link) }
     {
-        let _ = &self.heads;
+        let _ = &self.rows;
         let below = self.link(link).below;
         if self.stands_below(place, below) {
             return false;

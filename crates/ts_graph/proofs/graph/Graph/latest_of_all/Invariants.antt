@@ -1,7 +1,7 @@
 use Rattle.std.specs.List.{Contains}
 use Rattle.ts_graph.specs.declared.latest.Spot.{Spot}
 use Rattle.ts_graph.specs.Latest.{Finds, CanGoDown, weight}
-use Rattle.ts_graph.proofs.graph.Graph.latest_end.Given as goal
+use Rattle.ts_graph.proofs.graph.Graph.latest_of_all.Given as goal
 
 abbrev pub invariant-loop-spot : goal.invariant-loop-spot
 invariant-loop-spot l = record {
