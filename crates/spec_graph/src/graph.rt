@@ -2,8 +2,8 @@
 
 use spec_trees::Tree;
 
-/// A state at a place of the text, in bytes. There is one head for both.
-#[derive(Clone, Copy, Debug, PartialEq, Eq, Hash, Drop)]
+/// A state at a place of the text, in bytes.
+#[derive(Clone, Copy, Debug, PartialEq, Eq, Drop)]
 pub struct Head {
     pub state: u16,
     pub place: u32,
