@@ -1,6 +1,6 @@
 -- Heads in rows: one is found by its number, a new one is put at the end, and what is kept beside
 -- them changes.
-use Rattle.std.proofs.Common.{◌≡◌, ◌∙◌, sym, ap, refl, subst, ℕ, ◌<◌, inr, Bool, List, [], ◌∷◌, ◌++◌, length, set, get_or, slice_get, Option, Some, None, arith}
+use Rattle.std.proofs.Common.{◌≡◌, ◌∙◌, sym, ap, refl, subst, ℕ, ◌<◌, inr, Bool, List, [], ◌∷◌, ◌++◌, length, set, get_or, slice_get, Option, Some, None}
 use Rattle.std.proofs.Math.Seq.{map-set_same}
 use Rattle.std.proofs.lemmas.List.{length-map, map-append, map-set}
 use Rattle.std.proofs.lemmas.Option.{slice_get_read, slice_get_within}

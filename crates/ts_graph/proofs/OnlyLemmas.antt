@@ -13,7 +13,7 @@ use Rattle.ts_graph.specs.Ways.{AreAt, TakesFilled, IsOnlyWay, EndsBy, IsLatestE
 use Rattle.ts_graph.specs.Parts.{wanting_past}
 use Rattle.ts_graph.proofs.ListLemmas.{Has, has_contained, contained_has, has_at, at_has}
 use Rattle.ts_graph.proofs.DownLemmas.{down_has, down_is}
-use Rattle.ts_graph.proofs.WayLemmas.{filled, one, filled_first, no_extra, wants, ends_rest, none_ends, at_more}
+use Rattle.ts_graph.proofs.WayLemmas.{filled, filled_first, no_extra, wants, ends_rest, none_ends, at_more}
 
 -- ---- the lowest tree
 

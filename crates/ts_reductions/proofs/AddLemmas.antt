@@ -1,5 +1,5 @@
 -- What is made, put together.
-use Rattle.std.proofs.Common.{◌≡◌, ◌∙◌, sym, ap, refl, subst, ℕ, ◌⊎◌, inl, inr, ⊎_elim, Bool, true, false, List, [], ◌∷◌, ◌++◌, append-nil, append_assoc, length, take, get_or, zero, suc, ◌+◌, ◌<◌, ◌≤◌, slice_get, Option, Some, None, MatchOption, arith}
+use Rattle.std.proofs.Common.{◌≡◌, ◌∙◌, sym, ap, refl, subst, ℕ, ◌⊎◌, inl, inr, ⊎_elim, Bool, true, false, List, [], ◌∷◌, ◌++◌, append-nil, append_assoc, length, take, get_or, zero, suc, ◌+◌, ◌<◌, ◌≤◌, slice_get, Option, Some, None, IfSome, MatchOption, arith}
 use Rattle.std.specs.List.{Contains}
 use Rattle.std.proofs.lemmas.List.{take_more, take_all}
 use Rattle.std.proofs.lemmas.List.Elements.{Contains-get_or, Contains-append_left, Contains-append_right, Contains-append_cases, Contains-push, Contains-push_cases}
@@ -12,19 +12,17 @@ use Rattle.spec_graph.specs.declared.graph.Link.{Link}
 use Rattle.ts_graph.specs.declared.view.GraphView.{GraphView}
 use Rattle.ts_graph.specs.declared.ways.Way.{Way}
 use Rattle.ts_graph.specs.Down.{place_at}
-use Rattle.ts_graph.specs.Ways.{AreAt, TakesFilled, ListsWaysTo}
+use Rattle.ts_graph.specs.Ways.{AreAt, TakesFilled, IsOnlyWay, ListsWaysTo}
 use Rattle.ts_table.specs.declared.view.ParseTable.{ParseTable}
 use Rattle.ts_table.specs.Tables.{actions_of}
 use Rattle.ts_table.specs.Ranks.{unit_rank}
 use Rattle.ts_base.specs.Bytes.{Bytes}
 use Rattle.ts_reductions.specs.declared.batch.Batch.{Batch}
-use Rattle.ts_reductions.specs.declared.lines.Line.{Line}
 use Rattle.ts_reductions.specs.declared.setting.Setting.{Setting}
-use Rattle.ts_reductions.specs.Lines.{IsLine}
 use Rattle.ts_reductions.specs.declared.made.Made.{Made}
 use Rattle.ts_reductions.specs.declared.top.Top.{Top}
 use Rattle.ts_reductions.specs.Sound.{Base}
-use Rattle.ts_reductions.specs.Asking.{HasReduction, IsAsked, IsMadeFor, IsAskedDeep, IsReadyAt, IsReady, AreMade, SomeAreDeep, Adds, OnWay, ByNumber, ByAction, ByTop, ByTops}
+use Rattle.ts_reductions.specs.Asking.{IsOfKey, IsAsked, IsMadeFor, IsAskedDeep, IsReadyAt, IsReady, AreMade, SomeAreDeep, Adds, OnWay, ByNumber, ByAction, ByTop, ByTops}
 use Rattle.ts_reductions.proofs.GatherLemmas.{at_one}
 
 -- the case of an option
@@ -33,6 +31,9 @@ in_some {X = X} A B o x is m = subst (λ (p : Option X). MatchOption p A B) is m
 
 pub in_none : {X : Type 0} (A : Type 0) (B : X → Type 0) (o : Option X) → o ≡ None → MatchOption o A B → A
 in_none {X = X} A B o is m = subst (λ (p : Option X). MatchOption p A B) is m
+
+pub in_told : {X : Type 0} (P : X → Type 0) (o : Option X) (x : X) → o ≡ Some x → IfSome o P → P x
+in_told {X = X} P o x is told = subst (λ (p : Option X). IfSome p P) is told
 
 none_in : {X : Type 0} (x : X) → Contains [] x → ⊥
 none_in x h = let low = h.1 in omega (arith, low)
@@ -278,37 +279,60 @@ module _ (t : ParseTable) (size : ℕ) (g : GraphView) (k : Batch) (old : List M
       all_actions t size g k old top head actions new at is (subst (λ (l : List Action). Adds t size g k (ByActions top l) old new true) (take_all i actions past) a)
 
   -- the ways of a reduction by a production of the key's rank
-  module _ (top : Top) (number : ℕ) (has : HasReduction t g top number) (l : Line) (line : IsLine t.grammar number l) (ranked : unit_rank t.grammar l.left.0 ≡ k.rank) (all : List Way) (lists : ListsWaysTo g.heads g.links top.head l.steps k.begins all) where
-    asked_on : (way : List Link) (b : ℕ) → TakesFilled g.links top.head l.steps way b → place_at g.heads b ≡ k.begins → IsAsked t g k top number way b
+  module _ (top : Top) (number count : ℕ) (o : IsOfKey t g k top number count) where
+    asked_on : (way : List Link) (b : ℕ) → TakesFilled g.links top.head count way b → place_at g.heads b ≡ k.begins → IsAsked t g k top number way b
     asked_on way b takes begins = record {
-      head = has.head;
-      at = has.at;
-      acts = has.acts;
-      left = l.left.0;
-      production = line.production;
-      is = line.at;
-      ranked = ranked;
-      takes = subst (λ (n : ℕ). TakesFilled g.links top.head n way b) line.steps takes;
+      head = o.has.head;
+      at = o.has.at;
+      acts = o.has.acts;
+      left = o.left;
+      production = o.production;
+      is = o.is;
+      ranked = o.ranked;
+      takes = subst (λ (n : ℕ). TakesFilled g.links top.head n way b) o.steps takes;
       begins = begins;
     }
 
-    same_steps : (left : ℕ) (p : Production) → production_at t.grammar number ≡ Some (left, p) → length p.steps ≡ l.steps
+    same_steps : (left : ℕ) (p : Production) → production_at t.grammar number ≡ Some (left, p) → length p.steps ≡ count
     same_steps left p at =
-        let f : ◌≡◌ {A = Option (ℕ × Production)} (Some (l.left.0, line.production)) (Some (left, p)) = sym line.at ∙ at in
-        let both : ◌≡◌ {A = ℕ × Production} (l.left.0, line.production) (left, p) = cc in
-        ap (λ (x : ℕ × Production). length x.1.steps) (sym both) ∙ sym line.steps
+        let f : ◌≡◌ {A = Option (ℕ × Production)} (Some (o.left, o.production)) (Some (left, p)) = sym o.is ∙ at in
+        let both : ◌≡◌ {A = ℕ × Production} (o.left, o.production) (left, p) = cc in
+        ap (λ (x : ℕ × Production). length x.1.steps) (sym both) ∙ sym o.steps
 
-    pub ways_end : (i : ℕ) (new : List Made) → length all ≤ i → Adds t size g k (OnWays g.links top number (take i all)) old new true → Adds t size g k (ByNumber top number) old new true
-    ways_end i new past a = all_ways t size g k old top number l.steps all new lists same_steps (subst (λ (ws : List Way). Adds t size g k (OnWays g.links top number ws) old new true) (take_all i all past) a)
+    module _ (all : List Way) (lists : ListsWaysTo g.heads g.links top.head count k.begins all) where
+      pub ways_end : (i : ℕ) (new : List Made) → length all ≤ i → Adds t size g k (OnWays g.links top number (take i all)) old new true → Adds t size g k (ByNumber top number) old new true
+      ways_end i new past a = all_ways t size g k old top number count all new lists same_steps (subst (λ (ws : List Way). Adds t size g k (OnWays g.links top number ws) old new true) (take_all i all past) a)
 
-    module _ (i : ℕ) (x : Way) (low : i < length all) (is : x ≡ get_or all i x) where
-      pub way_listed : (taken : List Link) × AreAt g.links x.links taken × TakesFilled g.links top.head l.steps taken x.below × (place_at g.heads x.below ≡ k.begins)
-      way_listed = lists.each x (item_in all all i x low is refl)
+      module _ (i : ℕ) (x : Way) (low : i < length all) (is : x ≡ get_or all i x) where
+        pub way_listed : (taken : List Link) × AreAt g.links x.links taken × TakesFilled g.links top.head count taken x.below × (place_at g.heads x.below ≡ k.begins)
+        way_listed = lists.each x (item_in all all i x low is refl)
 
-      pub meant : IsAsked t g k top number way_listed.0 x.below
-      meant = asked_on way_listed.0 x.below way_listed.2 way_listed.3
+        pub meant : IsAsked t g k top number way_listed.0 x.below
+        meant = asked_on way_listed.0 x.below way_listed.2 way_listed.3
 
-      pub ways_on : (mid new : List Made) → Adds t size g k (OnWays g.links top number (take i all)) old mid true → Adds t size g k (OnWay top number way_listed.0 x.below) mid new true → Adds t size g k (OnWays g.links top number (take (i + 1) all)) old new true
-      ways_on mid new a b =
-          subst (λ (ws : List Way). Adds t size g k (OnWays g.links top number ws) old new true) (one_taken all i x low is)
-          (more_ways t size g k old top number (take i all) x way_listed.0 mid new way_listed.1 a b)
+        pub ways_on : (mid new : List Made) → Adds t size g k (OnWays g.links top number (take i all)) old mid true → Adds t size g k (OnWay top number way_listed.0 x.below) mid new true → Adds t size g k (OnWays g.links top number (take (i + 1) all)) old new true
+        ways_on mid new a b =
+            subst (λ (ws : List Way). Adds t size g k (OnWays g.links top number ws) old new true) (one_taken all i x low is)
+            (more_ways t size g k old top number (take i all) x way_listed.0 mid new way_listed.1 a b)
+
+    -- its only way
+    module _ (links : List ℕ) (b : ℕ) (w : IsOnlyWay g.links top.head count links b) where
+      pub meant_only : place_at g.heads b ≡ k.begins → IsAsked t g k top number w.taken b
+      meant_only begins = asked_on w.taken b w.takes begins
+
+      asked_only : (u : Top) (n : ℕ) (way : List Link) (c : ℕ) → ByNumber top number u n way c → IsAsked t g k u n way c → (way ≡ w.taken) × (c ≡ b) × (place_at g.heads c ≡ k.begins)
+      asked_only u n way c h asked =
+          let a = subst (λ (m : ℕ). IsAsked t g k top m way c) h.1 (subst (λ (y : Top). IsAsked t g k y n way c) h.0 asked) in
+          let e = w.only way c (subst (λ (m : ℕ). TakesFilled g.links top.head m way c) (same_steps a.left a.production a.is) a.takes) in
+          (e.0, e.1, a.begins)
+
+      pub none_only : (place_at g.heads b ≡ k.begins → ⊥) → Adds t size g k (ByNumber top number) old old true
+      none_only other =
+          adds_none t size g k (ByNumber top number) old
+          (λ u n way c h asked. let e = asked_only u n way c h asked in other (ap (λ (x : ℕ). place_at g.heads x) (sym e.1) ∙ e.2))
+
+      pub one_only : (new : List Made) (all : Bool) → Adds t size g k (OnWay top number w.taken b) old new all → Adds t size g k (ByNumber top number) old new all
+      one_only new true a =
+          adds_as t size g k (OnWay top number w.taken b) (ByNumber top number) old new (λ u n way c h. (h.0, h.1))
+          (λ u n way c h asked. let e = asked_only u n way c h asked in (h.0, h.1, e.0, e.1)) a
+      one_only new false d = deep_way t size g k old top number w.taken b d

@@ -1,5 +1,5 @@
 -- Walking over the links of a way.
-use Rattle.std.proofs.Common.{◌≡◌, ◌∙◌, sym, ap, refl, subst, ℕ, zero, suc, ◌+◌, ◌-◌, ◌<◌, ◌≤◌, max, true, false, List, [], ◌∷◌, ◌++◌, append-nil, append_assoc, length, take, drop, reverse, get_or, slice_get, Some, arith}
+use Rattle.std.proofs.Common.{◌≡◌, ◌∙◌, sym, ap, refl, subst, ℕ, zero, suc, ◌+◌, ◌-◌, ◌<◌, ◌≤◌, max, true, false, List, [], ◌∷◌, ◌++◌, append-nil, append_assoc, length, map, take, drop, reverse, get_or, slice_get, Some, arith}
 use Rattle.std.proofs.lemmas.List.{reverse-append, drop_all}
 use Rattle.spec_trees.specs.declared.tree.Tree.{Tree}
 use Rattle.spec_trees.specs.Trees.{is_extra_node, maximum}
@@ -100,18 +100,19 @@ pub trees_end : (way : List Link) (i : ℕ) (nodes new : List Tree) → length w
 trees_end way i nodes new le before is =
     is ∙ ap (λ (ts : List Tree). reverse ts) (sym (append-nil nodes) ∙ ap (λ (w : List Link). nodes ++ way_trees w) (sym (drop_all i way le)) ∙ before)
 
--- the trees of the links from one on, the lowest first, with the tree of one more
-pub trees_first : (way : List Link) (size : ℕ) (nodes : List Tree) → length way ≤ size → nodes ≡ [] → nodes ≡ reverse (way_trees (drop size way))
-trees_first way size nodes all is = is ∙ sym (ap (λ (w : List Link). reverse (way_trees w)) (drop_all size way all))
+-- what a list has of the links from a place on, the lowest first
+module _ {X : Type 0} (f : Link → X) where
+  pub up_first : (way : List Link) (size : ℕ) (xs : List X) → length way ≤ size → xs ≡ [] → xs ≡ reverse (map f (drop size way))
+  up_first way size xs all is = is ∙ sym (ap (λ (w : List Link). reverse (map f w)) (drop_all size way all))
 
-pub trees_next : (way : List Link) (left : ℕ) (l : Link) (nodes new : List Tree) (t : Tree) → drop (left - 1) way ≡ l ∷ drop ((left - 1) + 1) way → 0 < left → t ≡ l.tree → new ≡ nodes ++ t ∷ [] → nodes ≡ reverse (way_trees (drop left way))
-    → new ≡ reverse (way_trees (drop (left - 1) way))
-trees_next way left l nodes new t rest some same is before =
-    let same_place : (left - 1) + 1 ≡ left = omega (arith, some) in
-    let whole : drop (left - 1) way ≡ l ∷ drop left way = rest ∙ ap (λ (n : ℕ). l ∷ drop n way) same_place in
-    is ∙ ap (λ (ts : List Tree). ts ++ t ∷ []) before ∙ ap (λ (u : Tree). reverse (way_trees (drop left way)) ++ u ∷ []) same
-    ∙ sym (reverse-append (l.tree ∷ []) (way_trees (drop left way)))
-    ∙ sym (ap (λ (w : List Link). reverse (way_trees w)) whole)
+  pub up_next : (way : List Link) (left : ℕ) (l : Link) (xs new : List X) (x : X) → drop (left - 1) way ≡ l ∷ drop ((left - 1) + 1) way → 0 < left → x ≡ f l → new ≡ xs ++ x ∷ [] → xs ≡ reverse (map f (drop left way))
+      → new ≡ reverse (map f (drop (left - 1) way))
+  up_next way left l xs new x rest some same is before =
+      let same_place : (left - 1) + 1 ≡ left = omega (arith, some) in
+      let whole : drop (left - 1) way ≡ l ∷ drop left way = rest ∙ ap (λ (n : ℕ). l ∷ drop n way) same_place in
+      is ∙ ap (λ (ys : List X). ys ++ x ∷ []) before ∙ ap (λ (y : X). reverse (map f (drop left way)) ++ y ∷ []) same
+      ∙ sym (reverse-append (f l ∷ []) (map f (drop left way)))
+      ∙ sym (ap (λ (w : List Link). reverse (map f w)) whole)
 
 -- ---- depths
 

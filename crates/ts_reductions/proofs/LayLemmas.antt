@@ -3,7 +3,7 @@ use Rattle.std.proofs.Common.{◌≡◌, ◌∙◌, sym, ap, refl, subst, ℕ, s
 use Rattle.std.specs.List.{Contains}
 use Rattle.std.proofs.lemmas.Option.{slice_get_within}
 use Rattle.std.proofs.lemmas.Bool.{cases_order}
-use Rattle.std.proofs.lemmas.List.Elements.{Contains-append_left, Contains-append_right, Contains-append_cases, Contains-push, Contains-push_cases}
+use Rattle.std.proofs.lemmas.List.Elements.{Contains-append_left, Contains-push, Contains-push_cases}
 use Rattle.ts_base.proofs.PlaceLemmas.{push_cases}
 use Rattle.spec_trees.specs.declared.tree.Tree.{Tree}
 use Rattle.spec_trees.specs.Trees.{pad_of, size_of, span_of, node_extent, tree_depth, bare}
@@ -15,31 +15,12 @@ use Rattle.spec_graph.specs.Laying.{Parsing, Lays}
 use Rattle.spec_graph.specs.Replacing.{AreAlike, Replaces, ReplacesBoth}
 use Rattle.spec_graph.specs.Links.{IsAt, IsWay, IsLinked}
 use Rattle.ts_graph.specs.declared.view.GraphView.{GraphView}
-use Rattle.ts_graph.specs.Down.{KeepNumbers, HoldsEachOnce, IsBetween, IsPacked, link_with, place_at}
+use Rattle.ts_graph.specs.Down.{KeepNumbers, OpensAt, IsBetween, IsPacked, link_with, place_at}
 use Rattle.ts_reductions.specs.LayingLaws.{LayingLaws}
 use Rattle.ts_reductions.specs.SoundLinks.{bare_link, bare_links, IsHeld}
 use Rattle.ts_reductions.specs.Laying.{CanLayOn, HasTree, head_at, WasThere, IsLaid}
-use Rattle.ts_reductions.proofs.MemberLemmas.{none_contained, only_one, first_contained, contained_at, at_contained, read_at}
+use Rattle.ts_reductions.proofs.MemberLemmas.{contained_at, at_contained, read_at}
 use Rattle.ts_reductions.proofs.GrowLemmas.{LinksStay, bare_member, member_bare, place_is_at, same_place, at_stays, linked_stays, way_stays}
-
--- two heads are one, or they are not
-same_head : (a b : Head) → (a ≡ b) ⊎ (a ≡ b → ⊥)
-same_head a b = by (cases_order a.state b.state) (cases_order a.place b.place)
-  where
-    by : (a.state ≡ b.state) ⊎ ((a.state < b.state) ⊎ (b.state < a.state)) → (a.place ≡ b.place) ⊎ ((a.place < b.place) ⊎ (b.place < a.place)) → (a ≡ b) ⊎ (a ≡ b → ⊥)
-    by (inl e) (inl f) = inl (ap (λ (n : ℕ). head_at n a.place) e ∙ ap (λ (n : ℕ). head_at b.state n) f)
-    by (inl e) (inr lt) = inr (λ same. let p = ap (λ (h : Head). h.place) same in ⊎_elim (λ (l : a.place < b.place). omega (arith, l, p)) (λ (m : b.place < a.place). omega (arith, m, p)) lt)
-    by (inr lt) f = inr (λ same. let p = ap (λ (h : Head). h.state) same in ⊎_elim (λ (l : a.state < b.state). omega (arith, l, p)) (λ (m : b.state < a.state). omega (arith, m, p)) lt)
-
--- a head is in a list, or is not
-is_head_in : (heads : List Head) (head : Head) → Contains heads head ⊎ (Contains heads head → ⊥)
-is_head_in [] head = inr (none_contained head)
-is_head_in (x ∷ heads) head = by (same_head x head) (is_head_in heads head)
-  where
-    by : (x ≡ head) ⊎ (x ≡ head → ⊥) → Contains heads head ⊎ (Contains heads head → ⊥) → Contains (x ∷ heads) head ⊎ (Contains (x ∷ heads) head → ⊥)
-    by (inl e) rest = inl (subst (λ (h : Head). Contains (x ∷ heads) h) e (first_contained x heads))
-    by (inr no_first) (inl w) = inl (Contains-append_right (x ∷ []) heads head w)
-    by (inr no_first) (inr no_later) = inr (λ h. ⊎_elim (λ (w : Contains (x ∷ []) head). no_first (only_one x head w)) no_later (Contains-append_cases (x ∷ []) heads head h))
 
 module _ (laws : LayingLaws) (Q : Parsing) (old : GraphView) (below : ℕ) (tree : Tree) (depth state : ℕ) (can : CanLayOn Q old below tree depth state) (heads : List Head) (above : ℕ) (stay : KeepNumbers old.heads heads)
     (at : slice_get heads above ≡ Some (head_at state (can.from + span_of tree))) where
@@ -401,26 +382,18 @@ pub record Opened (old mid : GraphView) (below above state place to : ℕ) (tree
   pub to_is : to ≡ place + span_of tree
   pub stay : KeepNumbers old.heads mid.heads
   pub same : mid.links ≡ old.links
-  pub at : slice_get mid.heads above ≡ Some (head_at state to)
-  pub there : Contains old.heads (head_at state to) → mid ≡ old
-  pub added : (Contains old.heads (head_at state to) → ⊥) → mid.heads ≡ old.heads ++ head_at state to ∷ []
-  pub once : HoldsEachOnce mid.heads mid.links
+  pub opens : OpensAt old.heads mid.heads (head_at state to) above
 
 -- the same from what the calls tell
 pub opened : (old mid : GraphView) (below above state : ℕ) (head : Head) (tree : Tree) (pad size : ℕ) → slice_get old.heads below ≡ Some head → pad ≡ pad_of tree → size ≡ size_of tree
-    → KeepNumbers old.heads mid.heads → mid.links ≡ old.links → slice_get mid.heads above ≡ Some (head_at state (head.place + (pad + size)))
-    → (Contains old.heads (head_at state (head.place + (pad + size))) → mid ≡ old)
-    → ((Contains old.heads (head_at state (head.place + (pad + size))) → ⊥) → mid.heads ≡ old.heads ++ head_at state (head.place + (pad + size)) ∷ [])
-    → HoldsEachOnce mid.heads mid.links → Opened old mid below above state head.place (head.place + (pad + size)) tree
-opened old mid below above state head tree pad size is p z stay same at there added once = record {
+    → KeepNumbers old.heads mid.heads → mid.links ≡ old.links → OpensAt old.heads mid.heads (head_at state (head.place + (pad + size))) above
+    → Opened old mid below above state head.place (head.place + (pad + size)) tree
+opened old mid below above state head tree pad size is p z stay same opens = record {
   place_is = sym (place_is_at old.heads below head is);
   to_is = omega (arith, p, z);
   stay = stay;
   same = same;
-  at = at;
-  there = there;
-  added = added;
-  once = once;
+  opens = opens;
 }
 
 module _ (laws : LayingLaws) (Q : Parsing) (old mid : GraphView) (below above : ℕ) (tree : Tree) (depth state place to : ℕ) (o : Opened old mid below above state place to tree) (can : CanLayOn Q old below tree depth state) where
@@ -428,18 +401,18 @@ module _ (laws : LayingLaws) (Q : Parsing) (old mid : GraphView) (below above : 
   opened_from = o.place_is ∙ place_is_at old.heads below can.at.head can.at.is ∙ can.at.place_is
 
   at_from : slice_get mid.heads above ≡ Some (head_at state (can.from + span_of tree))
-  at_from = subst (λ (n : ℕ). slice_get mid.heads above ≡ Some (head_at state n)) (o.to_is ∙ ap (λ (n : ℕ). n + span_of tree) opened_from) o.at
+  at_from = subst (λ (n : ℕ). slice_get mid.heads above ≡ Some (head_at state n)) (o.to_is ∙ ap (λ (n : ℕ). n + span_of tree) opened_from) o.opens.at
 
   only : (h : ℕ) (head : Head) → slice_get mid.heads h ≡ Some head → (slice_get old.heads h ≡ Some head) ⊎ (h ≡ above)
-  only h head is = by (is_head_in old.heads (head_at state to))
+  only h head is = by o.opens.added
     where
-      last : ((h < length old.heads) × (slice_get old.heads h ≡ Some head)) ⊎ ((h ≡ length old.heads) × (head_at state to ≡ head)) → (slice_get old.heads h ≡ Some head) ⊎ (h ≡ above)
-      last (inl w) = inl w.1
-      last (inr w) = inr (o.once.once h above head is (o.at ∙ ap (λ (x : Head). Some x) w.1))
+      last : above ≡ length old.heads → ((h < length old.heads) × (slice_get old.heads h ≡ Some head)) ⊎ ((h ≡ length old.heads) × (head_at state to ≡ head)) → (slice_get old.heads h ≡ Some head) ⊎ (h ≡ above)
+      last at (inl w) = inl w.1
+      last at (inr w) = inr (w.0 ∙ sym at)
 
-      by : Contains old.heads (head_at state to) ⊎ (Contains old.heads (head_at state to) → ⊥) → (slice_get old.heads h ≡ Some head) ⊎ (h ≡ above)
-      by (inl w) = inl (subst (λ (g : GraphView). slice_get g.heads h ≡ Some head) (o.there w) is)
-      by (inr none) = last (push_cases old.heads (head_at state to) h head (subst (λ (hs : List Head). slice_get hs h ≡ Some head) (o.added none) is))
+      by : (mid.heads ≡ old.heads) ⊎ ((mid.heads ≡ old.heads ++ head_at state to ∷ []) × (above ≡ length old.heads)) → (slice_get old.heads h ≡ Some head) ⊎ (h ≡ above)
+      by (inl none) = inl (subst (λ (hs : List Head). slice_get hs h ≡ Some head) none is)
+      by (inr w) = last w.1 (push_cases old.heads (head_at state to) h head (subst (λ (hs : List Head). slice_get hs h ≡ Some head) w.0 is))
 
   pub below_there : below < length mid.heads
   below_there = slice_get_within mid.heads below can.at.head (o.stay below can.at.head can.at.is)

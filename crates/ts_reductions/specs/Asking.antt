@@ -20,7 +20,8 @@ use Rattle.spec_graph.specs.Keys.{Key}
 use Rattle.spec_graph.specs.Links.{IsAt, way_trees, depths_of}
 use Rattle.ts_graph.specs.declared.view.GraphView.{GraphView}
 use Rattle.ts_graph.specs.Down.{place_at}
-use Rattle.ts_graph.specs.Ways.{TakesFilled}
+use Rattle.ts_graph.specs.declared.ways.Way.{Way}
+use Rattle.ts_graph.specs.Ways.{TakesFilled, IsOnlyWay, ListsWaysTo}
 use Rattle.ts_table.specs.declared.view.ParseTable.{ParseTable}
 use Rattle.ts_table.specs.Tables.{goto_of, actions_of}
 use Rattle.ts_table.specs.Ranks.{unit_rank}
@@ -211,3 +212,31 @@ ByTop top = λ u n w c. (u ≡ top)
 -- those of all of these heads
 abbrev pub ByTops : List Top → Top → ℕ → List Link → ℕ → Type 0
 ByTops tops = λ u n w c. Contains tops u
+
+-- ---- one reduction. It serves private clauses and proofs alone.
+
+-- It stays on the token that the head sees, and its production, which has so many steps, is one of
+-- the key's rank.
+pub record IsOfKey (t : ParseTable) (g : GraphView) (k : Batch) (top : Top) (number count : ℕ)
+    : Type 0 where
+  pub has : HasReduction t g top number
+  pub left : ℕ
+  pub production : Production
+  pub is : production_at t.grammar number ≡ Some (left, production)
+  pub steps : count ≡ length production.steps
+  pub ranked : unit_rank t.grammar left ≡ k.rank
+
+-- and these are all its ways down to where the key begins
+pub record HasWays (t : ParseTable) (g : GraphView) (k : Batch) (top : Top) (number : ℕ)
+    (ways : List Way) : Type 0 where
+  pub count : ℕ
+  pub reduction : IsOfKey t g k top number count
+  pub lists : ListsWaysTo g.heads g.links top.head count k.begins ways
+
+-- and this is its only way down
+pub record HasOneWay (t : ParseTable) (g : GraphView) (k : Batch) (top : Top) (number : ℕ)
+    (links : List ℕ) (b : ℕ) : Type 0 where
+  pub count : ℕ
+  pub reduction : IsOfKey t g k top number count
+  pub only : IsOnlyWay g.links top.head count links b
+  pub there : b < length g.heads

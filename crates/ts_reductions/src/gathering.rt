@@ -1,6 +1,6 @@
 //! What lies on a way: the numbers of its links go in, the topmost first, and their trees come out,
 //! how many of them are the extras above the children, and how deep the node over the children is.
-ghost use Rattle.std.specs.Prelude.{◌≡◌, ◌<◌, ◌≤◌, List, length, reverse, IfOk};
+ghost use Rattle.std.specs.Prelude.{◌≡◌, ◌<◌, ◌≤◌, List as AnyList, length, reverse, map, IfOk, OnOk};
 ghost use Rattle.spec_trees.specs.Trees.{maximum};
 ghost use Rattle.spec_trees.specs.Made.{most_depth};
 ghost use Rattle.spec_graph.specs.declared.graph.Link.{Link as AnyLink};
@@ -10,13 +10,14 @@ ghost use Rattle.ts_reductions.specs.Asking.{outer_of};
 ghost use Rattle.ts_reductions.specs.Depths.{depth_when, AreShallow};
 
 use std::alloc::{AllocError, Global};
+use ts_core::List;
 use ts_graph::Graph;
 use ts_node::Node;
 
 /// How many extras lie above the children.
 pub(crate) fn lifted(graph: &Graph, numbers: &[usize]) -> usize
-    requires { (way : List AnyLink) × AreAt graph.now.links numbers.now way }
-    ensures { (way : List AnyLink) → AreAt graph.now.links numbers.now way
+    requires { (way : AnyList AnyLink) × AreAt graph.now.links numbers.now way }
+    ensures { (way : AnyList AnyLink) → AreAt graph.now.links numbers.now way
         → result ≡ length (outer_of way) }
 {
     let mut count = 0;
@@ -29,30 +30,49 @@ pub(crate) fn lifted(graph: &Graph, numbers: &[usize]) -> usize
     count
 }
 
-/// The trees, the lowest first.
+/// Puts the trees into a list in the place of others, the lowest first.
 pub(crate) fn trees_up(
-    alloc: Global,
     graph: &Graph,
     numbers: &[usize],
-) -> Result<Vec<Node>, AllocError>
-    requires { (way : List AnyLink) × AreAt graph.now.links numbers.now way }
-    ensures { IfOk result (λ nodes. (way : List AnyLink) → AreAt graph.now.links numbers.now way
-        → nodes.items ≡ reverse (way_trees way)) }
+    nodes: &mut Vec<Node>,
+) -> Result<(), AllocError>
+    requires { (way : AnyList AnyLink) × AreAt graph.now.links numbers.now way }
+    ensures { OnOk result ((way : AnyList AnyLink) → AreAt graph.now.links numbers.now way
+        → nodes.new.items ≡ reverse (way_trees way)) }
 {
-    let mut nodes = Vec::with_capacity(alloc, numbers.len())?;
+    nodes.clear();
     let mut left = numbers.len();
     while left > 0 {
         left -= 1;
         nodes.push(graph.node(numbers[left]).try_clone()?)?;
     }
-    Ok(nodes)
+    Ok(())
+}
+
+/// The heads below the links, the lowest first.
+pub(crate) fn heads_up(
+    alloc: Global,
+    graph: &Graph,
+    numbers: &[usize],
+) -> Result<List<usize>, AllocError>
+    requires { (way : AnyList AnyLink) × AreAt graph.now.links numbers.now way }
+    ensures { IfOk result (λ heads. (way : AnyList AnyLink) → AreAt graph.now.links numbers.now way
+        → heads ≡ reverse (map (λ (l : AnyLink). l.below) way)) }
+{
+    let mut heads = Vec::with_capacity(alloc, numbers.len())?;
+    let mut left = numbers.len();
+    while left > 0 {
+        left -= 1;
+        heads.push(graph.link(numbers[left]).below)?;
+    }
+    Ok(List::from_vec(heads))
 }
 
 /// The greatest depth of the links, 0 where there is none.
 fn deepest(graph: &Graph, numbers: &[usize]) -> u32
-    requires { (way : List AnyLink) × AreAt graph.now.links numbers.now way
+    requires { (way : AnyList AnyLink) × AreAt graph.now.links numbers.now way
         × AreShallow way }
-    ensures depth { (way : List AnyLink) → AreAt graph.now.links numbers.now way
+    ensures depth { (way : AnyList AnyLink) → AreAt graph.now.links numbers.now way
         → result ≡ maximum (depths_of way) }
     ensures shallow { result ≤ most_depth }
 {
@@ -66,10 +86,10 @@ fn deepest(graph: &Graph, numbers: &[usize]) -> u32
 /// How deep the node over what lies on a way is. A repetition that is lengthened is its first
 /// child, the lowest, and gives its children to the new one.
 pub(crate) fn depth_over(graph: &Graph, numbers: &[usize], lengthens: bool) -> u32
-    requires way { (way : List AnyLink) × AreAt graph.now.links numbers.now way
+    requires way { (way : AnyList AnyLink) × AreAt graph.now.links numbers.now way
         × AreShallow way }
     requires some { 0 < length numbers.now }
-    ensures { (way : List AnyLink) → AreAt graph.now.links numbers.now way
+    ensures { (way : AnyList AnyLink) → AreAt graph.now.links numbers.now way
         → result ≡ depth_when lengthens (reverse (depths_of way)) }
 {
     if lengthens {

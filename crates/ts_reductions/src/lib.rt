@@ -14,6 +14,7 @@ mod made;
 mod making;
 mod ranks;
 mod reducing;
+mod room;
 mod setting;
 mod top;
 
@@ -21,5 +22,6 @@ pub use batch::Batch;
 pub use laying::lay;
 pub use made::Piece;
 pub use reducing::{Reduced, reduce_all};
+pub use room::Room;
 pub use setting::{Setting, Wanted, setting_of};
 pub use top::Top;

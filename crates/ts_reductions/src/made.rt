@@ -18,4 +18,8 @@ pub(crate) struct Made {
     pub below: usize,
     pub piece: Piece,
     pub extras: List<Node>,
+    /// The head at which the reduction stays: it stands where all of these end. And where each but
+    /// the last of them ends, a head that stands there.
+    pub top: usize,
+    pub under: List<usize>,
 }

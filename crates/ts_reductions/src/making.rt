@@ -8,7 +8,6 @@ ghost use Rattle.ts_node.specs.Standing.{CanBeReduced};
 use crate::laws::node_laws_hold;
 use crate::setting::Setting;
 use std::alloc::{AllocError, Global};
-use ts_core::List;
 use ts_node::{Node, reduce};
 
 /// How many bytes nodes take, one after another.
@@ -72,22 +71,14 @@ pub(crate) fn node_of(
     alloc: Global,
     setting: &Setting,
     number: u32,
-    children: List<Node>,
+    children: &mut Vec<Node>,
     extent: u32,
 ) -> Result<Node, AllocError>
-    requires { CanBeReduced setting.now.productions number extent None children }
+    requires { CanBeReduced setting.now.productions number extent None children.old.items }
     ensures { IfOk result
-        (λ node. node ≡ reduced setting.now.productions number extent None children) }
+        (λ node. node ≡ reduced setting.now.productions number extent None children.old.items) }
 {
     node_laws_hold();
-    let mut children = children.into_vec();
-    let node = reduce(
-        alloc,
-        &setting.productions,
-        number,
-        &mut children,
-        extent,
-        None,
-    )?;
+    let node = reduce(alloc, &setting.productions, number, children, extent, None)?;
     Ok(node)
 }

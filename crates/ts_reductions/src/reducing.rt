@@ -10,6 +10,7 @@ use crate::asking::make_all;
 use crate::batch::Batch;
 use crate::laws::{laws_hold, node_laws_hold, own_laws_hold};
 use crate::laying::lay_all;
+use crate::room::Room;
 use crate::setting::Setting;
 use crate::top::Top;
 use std::alloc::{AllocError, Global};
@@ -38,6 +39,7 @@ pub fn reduce_all(
     graph: &mut Graph,
     batch: Batch,
     tops: &[Top],
+    room: &mut Room,
 ) -> Result<Reduced, AllocError>
     requires { (text : Bytes) × (base : AnyBase)
         × IsReady table.now text base setting.now graph.old batch tops.now }
@@ -49,11 +51,11 @@ pub fn reduce_all(
     node_laws_hold();
     own_laws_hold();
     table.stands();
-    match make_all(alloc, table, setting, graph, batch, tops)? {
-        None => Ok(Reduced::TooDeep),
-        Some(mades) => {
-            lay_all(graph, mades.as_slice())?;
-            Ok(Reduced::Done)
-        }
+    let lists = &mut room.lists;
+    let mades = &mut room.mades;
+    if !make_all(alloc, table, setting, graph, batch, tops, lists, mades)? {
+        return Ok(Reduced::TooDeep);
     }
+    lay_all(graph, mades.as_slice())?;
+    Ok(Reduced::Done)
 }

@@ -1,4 +1,4 @@
-use Rattle.std.proofs.Common.{◌∙◌, ap, Option, ℕ}
+use Rattle.std.proofs.Common.{◌∙◌, ap}
 use Rattle.ts_graph.specs.declared.graph.Row.{Row}
 use Rattle.ts_graph.proofs.HeadLemmas.{heads_set, newest_same}
 use Rattle.ts_graph.proofs.graph.set_beside.Goals as goal

@@ -1,12 +1,12 @@
 use Rattle.std.proofs.Common.{sym, subst, Bool, true, false, List, [], length, get_or, refl, arith}
 use Rattle.ts_reductions.specs.declared.made.Made.{Made}
 use Rattle.ts_reductions.specs.Asking.{Adds, ByTop, ByTops}
-use Rattle.ts_reductions.proofs.AddLemmas.{read_any, no_top, item_in, no_tops, tops_on, tops_end, deep_top, all_made, ready_at}
+use Rattle.ts_reductions.proofs.AddLemmas.{read_any, no_top, item_in, no_tops, tops_on, tops_end, deep_top, ready_at}
 use Rattle.ts_reductions.proofs.asking.make_all.Goals as goal
 
 pub loop-top-init : goal.loop-top-init
 loop-top-init c = λ text base ready.
-    subst (λ (l : List Made). Adds c.args.table.now (length text) c.args.graph.now c.args.batch (ByTops []) [] l true) (sym c.new-mades.ensures.items) (no_tops c.args.table.now (length text) c.args.graph.now c.args.batch [])
+    subst (λ (l : List Made). Adds c.args.table.now (length text) c.args.graph.now c.args.batch (ByTops []) [] l true) (sym c.clear.ensures.items) (no_tops c.args.table.now (length text) c.args.graph.now c.args.batch [])
 
 pub add_top-requires : goal.add_top-requires
 add_top-requires c =
@@ -31,5 +31,4 @@ loop-top-preserved c = λ text base ready.
 
 pub returns : goal.returns
 returns c = λ text base ready.
-    all_made c.args.table.now (length text) c.args.graph.now c.args.batch (ByTops c.args.tops.now) c.loop-top.mades.items
-    (tops_end c.args.table.now (length text) c.args.graph.now c.args.batch [] c.args.tops.now c.loop-top.top-index c.loop-top.mades.items (let h = c.loop-top-test.false in omega arith) (c.loop-top.invariant text base ready))
+    tops_end c.args.table.now (length text) c.args.graph.now c.args.batch [] c.args.tops.now c.loop-top.top-index c.loop-top.mades.items (let h = c.loop-top-test.false in omega arith) (c.loop-top.invariant text base ready)

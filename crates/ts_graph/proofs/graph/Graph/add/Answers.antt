@@ -1,6 +1,4 @@
 use Rattle.std.proofs.Common.{◌∙◌, ap, refl, ◌++◌, ◌∷◌, []}
-use Rattle.spec_graph.specs.declared.graph.Head.{Head}
-use Rattle.std.specs.Prelude.{List}
 use Rattle.ts_graph.specs.declared.view.GraphView.{GraphView}
 use Rattle.ts_graph.proofs.HeadLemmas.{added_heads, sound_added, kept_added}
 use Rattle.ts_graph.proofs.graph.Graph.add.Goals as goal

@@ -1,4 +1,4 @@
-use Rattle.std.proofs.Common.{◌≡◌, sym, subst, ℕ, [], take, Option}
+use Rattle.std.proofs.Common.{◌≡◌, sym, subst, ℕ, take, Option}
 use Rattle.ts_graph.specs.Down.{links_down, links_from}
 use Rattle.ts_graph.proofs.graph.Graph.is_alone.Goals as goal
 

@@ -1,4 +1,4 @@
-use Rattle.std.proofs.Common.{◌≡◌, sym, subst, ℕ, ◌<◌, ◌++◌, ◌∷◌, [], List, arith}
+use Rattle.std.proofs.Common.{sym, subst, ℕ, ◌<◌, ◌++◌, ◌∷◌, [], arith}
 use Rattle.ts_graph.specs.declared.view.GraphView.{GraphView}
 use Rattle.ts_graph.specs.Down.{place_at, HoldsEachOnce}
 use Rattle.ts_graph.proofs.OnlyLemmas.{only_first, only_on, only_last, down_link, down_there, down_falls}

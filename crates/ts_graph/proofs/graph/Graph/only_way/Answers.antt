@@ -1,7 +1,6 @@
-use Rattle.std.proofs.Common.{◌≡◌, sym, ap, subst, ℕ, ◌<◌, List, arith}
+use Rattle.std.proofs.Common.{sym, subst, ℕ, ◌<◌, List, arith}
 use Rattle.ts_graph.specs.declared.view.GraphView.{GraphView}
 use Rattle.ts_graph.specs.Down.{place_at, HoldsEachOnce}
-use Rattle.ts_graph.specs.Parts.{wanting_past}
 use Rattle.ts_graph.proofs.OnlyLemmas.{GoesOnly, only_first, only_on, only_last, down_link, down_there, down_falls}
 use Rattle.ts_graph.proofs.graph.Graph.only_way.Goals as goal
 

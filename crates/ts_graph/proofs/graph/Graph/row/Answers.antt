@@ -1,5 +1,5 @@
-use Rattle.std.proofs.Common.{◌∙◌, sym, arith}
-use Rattle.ts_graph.specs.Cells.{heads_of, links_of}
+use Rattle.std.proofs.Common.{arith}
+use Rattle.ts_graph.specs.Cells.{links_of}
 use Rattle.ts_graph.proofs.HeadLemmas.{many, row_head, row_newest}
 use Rattle.ts_graph.proofs.graph.Graph.row.Goals as goal
 
