@@ -8,6 +8,7 @@ ghost use Rattle.ts_places.specs.Shifting.{AreAllSights};
 ghost use Rattle.ts_places.specs.Following.{CanPass, Passes, CanFollow, next_at, Follows};
 
 use crate::frontier::{Frontier, advance, those_at, those_past};
+use crate::kept::Kept;
 use crate::laws::place_laws_hold;
 use crate::looking::look_all;
 use crate::shifting::shift_all;
@@ -72,6 +73,8 @@ fn pass_place<L: Tokens>(
     graph: &mut Graph,
     place: u32,
     sights: &mut Sights,
+    waiting: &[usize],
+    kept: &mut Kept,
 ) -> Result<Reduced, AllocError>
     requires made { L.made_for lexer.old table.now }
     requires ready { (base : AnyBase) × (most : ℕ) × CanPass table.now (L.Text.bytes text.now)
@@ -86,10 +89,13 @@ fn pass_place<L: Tokens>(
     place_laws_hold();
     key_laws_hold();
     table.stands();
-    match sweep(alloc, table, setting, lexer, text, graph, place, sights)? {
+    let count = graph.count();
+    match sweep(
+        alloc, table, setting, lexer, text, graph, place, sights, kept,
+    )? {
         Reduced::TooDeep => Ok(Reduced::TooDeep),
         Reduced::Done => {
-            shift_all(table, graph, sights)?;
+            shift_all(table, graph, sights, waiting, count)?;
             Ok(Reduced::Done)
         }
     }
@@ -135,9 +141,10 @@ pub fn follow_place<L: Tokens>(
     place_laws_hold();
     let count = graph.count();
     let waiting = frontier.heads.as_slice();
-    let here = those_at(alloc, graph, waiting, place)?;
-    let past = those_past(alloc, graph, waiting, place)?;
-    let mut sights = look_at(alloc, table, lexer, text, graph, here.as_slice())?;
+    those_at(graph, waiting, place, &mut frontier.kept.heads)?;
+    those_past(graph, waiting, place, &mut frontier.past)?;
+    let here = frontier.kept.heads.as_slice();
+    let mut sights = look_at(alloc, table, lexer, text, graph, here)?;
     match pass_place(
         alloc,
         table,
@@ -147,9 +154,11 @@ pub fn follow_place<L: Tokens>(
         graph,
         place,
         &mut sights,
+        frontier.past.as_slice(),
+        &mut frontier.kept,
     )? {
         Reduced::Done => {
-            let next = as_next(advance(graph, count, place, past, frontier)?);
+            let next = as_next(advance(graph, count, place, frontier)?);
             Ok(Followed { sights, next })
         }
         Reduced::TooDeep => Ok(Followed {

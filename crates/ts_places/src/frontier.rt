@@ -5,14 +5,19 @@ ghost use Rattle.ts_graph.specs.declared.view.GraphView.{GraphView};
 ghost use Rattle.ts_graph.specs.Down.{KeepNumbers};
 ghost use Rattle.ts_places.specs.Frontiers.{AllStandFrom, AreOpen, AreThoseAt, AreThosePast, AddsPast, sooner, IsLeastPlace, IsNextOpen};
 
+use crate::kept::Kept;
 use crate::looking::heads_at;
 use std::alloc::{AllocError, Global};
+use std::mem::swap;
 use ts_graph::Graph;
 
 /// The heads that stand at a place or past it, by their numbers.
 #[derive(Drop)]
 pub struct Frontier {
     pub heads: Vec<usize>,
+    /// A list for those that wait behind a place. Its memory goes to and fro.
+    pub(crate) past: Vec<usize>,
+    pub(crate) kept: Kept,
 }
 
 /// Puts the heads that stand past a place, of those from a number on, to others.
@@ -41,49 +46,54 @@ fn add_past(
 pub fn frontier_at(alloc: Global, graph: &Graph, place: u32) -> Result<Frontier, AllocError>
     ensures { IfOk result (λ frontier. AreOpen graph.now place frontier.heads.items) }
 {
-    let mut heads = heads_at(alloc, graph, 0, place)?;
+    let mut heads = Vec::new(alloc);
+    heads_at(graph, 0, place, &mut heads)?;
     add_past(graph, 0, place, &mut heads)?;
-    Ok(Frontier { heads })
+    Ok(Frontier {
+        heads,
+        past: Vec::new(alloc),
+        kept: Kept::new(alloc),
+    })
 }
 
-/// Those of the heads that stand at a place.
+/// Puts those of the heads that stand at a place into a list in the place of others.
 pub(crate) fn those_at(
-    alloc: Global,
     graph: &Graph,
     heads: &[usize],
     place: u32,
-) -> Result<Vec<usize>, AllocError>
+    here: &mut Vec<usize>,
+) -> Result<(), AllocError>
     requires { AllStandFrom graph.now 0 heads.now }
-    ensures { IfOk result (λ here. AreThoseAt graph.now place heads.now here.items) }
+    ensures { OnOk result (AreThoseAt graph.now place heads.now here.new.items) }
 {
-    let mut here = Vec::new(alloc);
+    here.clear();
     for number in heads {
         if graph.head(*number).place != place {
             continue;
         }
         here.push(*number)?;
     }
-    Ok(here)
+    Ok(())
 }
 
-/// Those of the heads that stand past a place.
+/// Puts those of the heads that stand past a place into a list in the place of others.
 pub(crate) fn those_past(
-    alloc: Global,
     graph: &Graph,
     heads: &[usize],
     place: u32,
-) -> Result<Vec<usize>, AllocError>
+    past: &mut Vec<usize>,
+) -> Result<(), AllocError>
     requires { AllStandFrom graph.now 0 heads.now }
-    ensures { IfOk result (λ past. AreThosePast graph.now place heads.now past.items) }
+    ensures { OnOk result (AreThosePast graph.now place heads.now past.new.items) }
 {
-    let mut past = Vec::new(alloc);
+    past.clear();
     for number in heads {
         if graph.head(*number).place <= place {
             continue;
         }
         past.push(*number)?;
     }
-    Ok(past)
+    Ok(())
 }
 
 /// The lesser of two places, or the one that there is.
@@ -115,18 +125,18 @@ pub(crate) fn advance(
     graph: &Graph,
     count: usize,
     place: u32,
-    past: Vec<usize>,
     frontier: &mut Frontier,
 ) -> Result<Option<u32>, AllocError>
     requires { (old : GraphView) × (count ≡ length old.heads)
-        × KeepNumbers old.heads graph.now.heads × AreOpen old (suc place) past.items }
+        × KeepNumbers old.heads graph.now.heads
+        × AreOpen old (suc place) frontier.old.past.items }
     ensures { IfOk result (λ next. (old : GraphView) → count ≡ length old.heads
-        → KeepNumbers old.heads graph.now.heads → AreOpen old (suc place) past.items
+        → KeepNumbers old.heads graph.now.heads
+        → AreOpen old (suc place) frontier.old.past.items
         → IsNextOpen graph.now place frontier.new.heads.items next) }
 {
-    let mut heads = past;
-    add_past(graph, count, place, &mut heads)?;
-    let next = least_place(graph, heads.as_slice());
-    frontier.heads = heads;
+    add_past(graph, count, place, &mut frontier.past)?;
+    let next = least_place(graph, frontier.past.as_slice());
+    swap(&mut frontier.heads, &mut frontier.past);
     Ok(next)
 }

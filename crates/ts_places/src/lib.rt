@@ -12,6 +12,7 @@ mod end_laws;
 mod ends;
 mod following;
 mod frontier;
+mod kept;
 mod laws;
 mod looking;
 mod nothing;

@@ -1,40 +1,40 @@
 //! Looks at the heads of a place: the heads go in, and what each of them sees comes out, a token or
 //! the place at which it stops.
-ghost use Rattle.std.specs.Prelude.{ℕ, ◌++◌, List, IfOk, OnOk};
+ghost use Rattle.std.specs.Prelude.{ℕ, ◌++◌, List, OnOk};
 ghost use Rattle.ts_reductions.specs.Asking.{AreTops};
 ghost use Rattle.ts_reductions.specs.Sound.{IsSoundOver};
 ghost use Rattle.ts_places.specs.Looking.{IsHeadAt, AllStandAt, HasAllAt, AreHeadsAt, SeesThere, AreSights, AddsSight};
 
 use crate::shift_laws::look_laws_hold;
 use crate::sights::{Sights, Span};
-use std::alloc::{AllocError, Global};
+use std::alloc::AllocError;
 use ts_graph::Graph;
 use ts_lexer::{Lexed, Tokens};
 use ts_reductions::Top;
 use ts_table::Table;
 
-/// The heads that stand at a place, by their numbers, of those from a number on: all of them from
-/// 0 on, and those that came since there were so many heads.
+/// Puts the heads that stand at a place, by their numbers, of those from a number on, into a list in
+/// the place of others: all of them from 0 on, and those that came since there were so many heads.
 ///
 /// # Errors
 ///
 /// `AllocError` where memory runs out.
 pub(crate) fn heads_at(
-    alloc: Global,
     graph: &Graph,
     from: usize,
     place: u32,
-) -> Result<Vec<usize>, AllocError>
-    ensures { IfOk result (λ heads. AreHeadsAt graph.now from place heads.items) }
+    heads: &mut Vec<usize>,
+) -> Result<(), AllocError>
+    ensures { OnOk result (AreHeadsAt graph.now from place heads.new.items) }
 {
-    let mut heads = Vec::new(alloc);
+    heads.clear();
     for number in from..graph.count() {
         if graph.head(number).place != place {
             continue;
         }
         heads.push(number)?;
     }
-    Ok(heads)
+    Ok(())
 }
 
 /// What is lexed where a head stands, among the tokens that are valid in its state.

@@ -1,6 +1,7 @@
 //! Goes on over what is seen at the heads of a place: the graph and the tokens go in, and the graph
 //! with a leaf for each that is shifted, and for each extra that is passed, comes out.
-ghost use Rattle.std.specs.Prelude.{ℕ, ◌<◌, OnOk};
+ghost use Rattle.std.specs.Prelude.{◌≡◌, ℕ, ◌+◌, ◌<◌, ◌^◌, length, IfSome, OnOk};
+ghost use Rattle.ts_graph.specs.Down.{place_at};
 ghost use Rattle.ts_base.specs.Bytes.{Bytes};
 ghost use Rattle.ts_table.specs.declared.view.ParseTable.{ParseTable};
 ghost use Rattle.ts_reductions.specs.Sound.{Base as AnyBase};
@@ -42,8 +43,40 @@ fn way_on(actions: &[Action]) -> Onward
     Onward::Stay
 }
 
+/// Where a token ends that is seen at a place.
+fn end_of(place: u32, span: Span) -> u32
+    ensures { place + (span.pad + span.size) < 2 ^ 32 → result ≡ place + (span.pad + span.size) }
+{
+    place.saturating_add(span.pad).saturating_add(span.size)
+}
+
+/// A head at a place, if one is found there among some that wait and those that came since there
+/// were so many, the newest first.
+fn beside(graph: &Graph, waiting: &[usize], from: usize, place: u32) -> Option<usize>
+    ensures { IfSome result (λ head. (head < length graph.now.heads)
+        × (place_at graph.now.heads head ≡ place)) }
+{
+    for number in (from..graph.count()).rev() {
+        if graph.stands_at(number, place) {
+            return Some(number);
+        }
+    }
+    for number in waiting {
+        if graph.stands_at(*number, place) {
+            return Some(*number);
+        }
+    }
+    None
+}
+
 /// Lays the leaf of a token that is shifted on the head that sees it.
-fn shift(graph: &mut Graph, top: Top, span: Span, state: u16) -> Result<(), AllocError>
+fn shift(
+    graph: &mut Graph,
+    top: Top,
+    span: Span,
+    state: u16,
+    beside: Option<usize>,
+) -> Result<(), AllocError>
     requires { (t : ParseTable) × (text : Bytes) × (base : AnyBase) × (look : ℕ)
         × CanShift t text base graph.old look top span state }
     ensures { OnOk result ((t : ParseTable) (text : Bytes) (base : AnyBase) (look : ℕ)
@@ -59,12 +92,18 @@ fn shift(graph: &mut Graph, top: Top, span: Span, state: u16) -> Result<(), Allo
         depth: 1,
         state,
     };
-    lay(graph, top.head, piece)?;
+    lay(graph, top.head, piece, beside)?;
     Ok(())
 }
 
 /// Lays an extra that is passed on the head that sees it. The state stays.
-fn pass(graph: &mut Graph, top: Top, span: Span, state: u16) -> Result<(), AllocError>
+fn pass(
+    graph: &mut Graph,
+    top: Top,
+    span: Span,
+    state: u16,
+    beside: Option<usize>,
+) -> Result<(), AllocError>
     requires { (t : ParseTable) × (text : Bytes) × (base : AnyBase) × (look : ℕ)
         × CanPass t text base graph.old look top span state }
     ensures { OnOk result ((t : ParseTable) (text : Bytes) (base : AnyBase) (look : ℕ)
@@ -81,12 +120,20 @@ fn pass(graph: &mut Graph, top: Top, span: Span, state: u16) -> Result<(), Alloc
         depth: 1,
         state,
     };
-    lay(graph, top.head, piece)?;
+    lay(graph, top.head, piece, beside)?;
     Ok(())
 }
 
-/// Goes on over the token that a head sees.
-fn open(table: &Table, graph: &mut Graph, top: Top, span: Span) -> Result<(), AllocError>
+/// Goes on over the token that a head sees. The head behind it is sought beside one of those that
+/// wait, or that came since there were so many.
+fn open(
+    table: &Table,
+    graph: &mut Graph,
+    top: Top,
+    span: Span,
+    waiting: &[usize],
+    from: usize,
+) -> Result<(), AllocError>
     requires { (text : Bytes) × (base : AnyBase) × (look : ℕ)
         × CanOpen table.now text base graph.old look top span }
     ensures { OnOk result ((text : Bytes) (base : AnyBase) (look : ℕ)
@@ -96,13 +143,14 @@ fn open(table: &Table, graph: &mut Graph, top: Top, span: Span) -> Result<(), Al
     look_laws_hold();
     leaf_laws_hold();
     let head = graph.head(top.head);
+    let beside = beside(graph, waiting, from, end_of(head.place, span));
     match way_on(table.actions(head.state, top.token)) {
         Onward::Shift(state) => {
-            shift(graph, top, span, state)?;
+            shift(graph, top, span, state, beside)?;
             Ok(())
         }
         Onward::Pass => {
-            pass(graph, top, span, head.state)?;
+            pass(graph, top, span, head.state, beside)?;
             Ok(())
         }
         Onward::Stay => Ok(()),
@@ -110,12 +158,19 @@ fn open(table: &Table, graph: &mut Graph, top: Top, span: Span) -> Result<(), Al
 }
 
 /// Goes on over all tokens that the heads of a place see: a token that is shifted gets a leaf, and
-/// so does an extra that has no action there.
+/// so does an extra that has no action there. The heads behind them are sought beside those that
+/// wait, and those that came since there were so many.
 ///
 /// # Errors
 ///
 /// `AllocError` where memory runs out. Some of the leaves may be laid then.
-pub(crate) fn shift_all(table: &Table, graph: &mut Graph, sights: &Sights) -> Result<(), AllocError>
+pub(crate) fn shift_all(
+    table: &Table,
+    graph: &mut Graph,
+    sights: &Sights,
+    waiting: &[usize],
+    from: usize,
+) -> Result<(), AllocError>
     requires { (text : Bytes) × (base : AnyBase) × (look : ℕ)
         × AreAllSights table.now text base graph.old look sights.now }
     ensures { OnOk result ((text : Bytes) (base : AnyBase) (look : ℕ)
@@ -128,7 +183,7 @@ pub(crate) fn shift_all(table: &Table, graph: &mut Graph, sights: &Sights) -> Re
     let tops = sights.tops.as_slice();
     let spans = sights.spans.as_slice();
     for place in 0..tops.len() {
-        open(table, graph, tops[place], spans[place])?;
+        open(table, graph, tops[place], spans[place], waiting, from)?;
     }
     Ok(())
 }

@@ -10,6 +10,7 @@ ghost use Rattle.ts_places.specs.Passing.{first_key};
 ghost use Rattle.ts_places.specs.Shifting.{AreAllSights};
 ghost use Rattle.ts_places.specs.Sweeping.{CanSweep, IsWholeBy, IsSweptTo, SweepsOne, GoesOn, Sweeps};
 
+use crate::kept::Kept;
 use crate::looking::{heads_at, look_all};
 use crate::seeking::{Seek, next_key};
 use crate::sights::Sights;
@@ -34,7 +35,6 @@ pub(crate) enum Swept {
 
 /// Looks at the heads of a place that came since the graph had so many.
 fn look_new<L: Tokens>(
-    alloc: Global,
     table: &Table,
     lexer: &mut L,
     text: &L::Text,
@@ -42,6 +42,7 @@ fn look_new<L: Tokens>(
     from: usize,
     place: u32,
     sights: &mut Sights,
+    heads: &mut Vec<usize>,
 ) -> Result<(), AllocError>
     requires made { L.made_for lexer.old table.now }
     requires sound { IsSoundOver table.now (L.Text.bytes text.now) graph.now }
@@ -53,7 +54,7 @@ fn look_new<L: Tokens>(
         → AreAllSights table.now (L.Text.bytes text.now) base graph.now place sights.new) }
 {
     graph_laws_hold();
-    let heads = heads_at(alloc, graph, from, place)?;
+    heads_at(graph, from, place, heads)?;
     look_all(table, lexer, text, graph, heads.as_slice(), sights)?;
     Ok(())
 }
@@ -68,6 +69,7 @@ fn sweep_one<L: Tokens>(
     graph: &mut Graph,
     seek: Seek,
     sights: &mut Sights,
+    kept: &mut Kept,
 ) -> Result<Swept, AllocError>
     requires made { L.made_for lexer.old table.now }
     requires ready { (base : AnyBase) × CanSweep table.now (L.Text.bytes text.now) base
@@ -97,10 +99,12 @@ fn sweep_one<L: Tokens>(
         Some(key) => {
             let count = graph.count();
             let tops = sights.tops.as_slice();
-            match reduce_all(alloc, table, setting, graph, key, tops)? {
+            let room = &mut kept.room;
+            match reduce_all(alloc, table, setting, graph, key, tops, room)? {
                 Reduced::TooDeep => Ok(Swept::Deep),
                 Reduced::Done => {
-                    look_new(alloc, table, lexer, text, graph, count, seek.look, sights)?;
+                    let heads = &mut kept.heads;
+                    look_new(table, lexer, text, graph, count, seek.look, sights, heads)?;
                     Ok(Swept::Through(turn(key)))
                 }
             }
@@ -122,6 +126,7 @@ pub(crate) fn sweep<L: Tokens>(
     graph: &mut Graph,
     place: u32,
     sights: &mut Sights,
+    kept: &mut Kept,
 ) -> Result<Reduced, AllocError>
     requires made { L.made_for lexer.old table.now }
     requires ready { (base : AnyBase) × CanSweep table.now (L.Text.bytes text.now) base
@@ -139,7 +144,9 @@ pub(crate) fn sweep<L: Tokens>(
     let mut below = u64::MAX;
     loop {
         let seek = Seek { look: place, below };
-        match sweep_one(alloc, table, setting, lexer, text, graph, seek, sights)? {
+        match sweep_one(
+            alloc, table, setting, lexer, text, graph, seek, sights, kept,
+        )? {
             Swept::Over => return Ok(Reduced::Done),
             Swept::Through(next) => below = next,
             Swept::Deep => return Ok(Reduced::TooDeep),

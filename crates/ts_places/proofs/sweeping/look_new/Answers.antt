@@ -6,11 +6,11 @@ use Rattle.ts_places.proofs.sweeping.look_new.Goals as goal
 
 pub look_all-requires-clause-stand : goal.look_all-requires-clause-stand
 look_all-requires-clause-stand g c =
-    (c.args.place, listed_stand c.args.graph.now c.args.from c.args.place c.as_slice.result.now (subst (λ (l : List ℕ). AreHeadsAt c.args.graph.now c.args.from c.args.place l) (sym c.as_slice.ensures.value) c.in_ok-heads.ensures))
+    (c.args.place, listed_stand c.args.graph.now c.args.from c.args.place c.as_slice.result.now (subst (λ (l : List ℕ). AreHeadsAt c.args.graph.now c.args.from c.args.place l) (sym c.as_slice.ensures.value) c.in_ok-heads_at.ensures))
 
 pub returns-clause-sights : goal.returns-clause-sights
 returns-clause-sights g c = λ base old from_is keep sound a.
-    let are = subst (λ (l : List ℕ). AreHeadsAt c.args.graph.now c.args.from c.args.place l) (sym c.as_slice.ensures.value) c.in_ok-heads.ensures in
+    let are = subst (λ (l : List ℕ). AreHeadsAt c.args.graph.now c.args.from c.args.place l) (sym c.as_slice.ensures.value) c.in_ok-heads_at.ensures in
     record {
       sound = sound;
       late = a.late;
