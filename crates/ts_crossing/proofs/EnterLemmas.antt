@@ -1,5 +1,5 @@
 -- A graph that is made of a stack.
-use Rattle.std.proofs.Common.{◌≡◌, ◌∙◌, sym, ap, refl, subst, ℕ, zero, suc, ◌≤◌, List, [], ◌∷◌, ◌++◌, length, take, slice_get, Some, arith}
+use Rattle.std.proofs.Common.{◌≡◌, ◌∙◌, sym, ap, refl, subst, ℕ, zero, suc, ◌≤◌, ◌⊎◌, inl, inr, List, [], ◌∷◌, ◌++◌, length, take, slice_get, Some, arith}
 use Rattle.std.specs.List.{Contains}
 use Rattle.std.proofs.lemmas.List.{take_all}
 use Rattle.std.proofs.lemmas.Option.{slice_get_within}
@@ -22,6 +22,7 @@ use Rattle.ts_gss.specs.declared.layer.Layer.{Layer}
 use Rattle.ts_gss.specs.Stacks.{stack_at, trees_on, state_on}
 use Rattle.ts_graph.specs.declared.view.GraphView.{GraphView}
 use Rattle.ts_graph.specs.Cells.{graph_of}
+use Rattle.ts_graph.specs.Down.{OpensAt}
 use Rattle.ts_reductions.specs.SoundLinks.{bare_links, IsSoundFor}
 use Rattle.ts_reductions.specs.Laying.{head_at}
 use Rattle.ts_steps.specs.declared.head.StackHead.{StackHead}
@@ -39,10 +40,17 @@ use Rattle.ts_crossing.proofs.WalkLemmas.{LastDown, last_down}
 
 -- ---- the empty stack
 
-pub opened_heads : (old new : GraphView) → old ≡ graph_of [] [] → ((Contains old.heads (head_at 0 0) → ⊥) → new.heads ≡ old.heads ++ head_at 0 0 ∷ []) → new.heads ≡ head_at 0 0 ∷ []
-opened_heads old new is added =
-    let none : old.heads ≡ [] = ap (λ (g : GraphView). g.heads) is in
-    added (λ w. none_contained (head_at 0 0) (subst (λ (hs : List Head). Contains hs (head_at 0 0)) none w)) ∙ ap (λ (hs : List Head). hs ++ head_at 0 0 ∷ []) none
+pub opened_heads : (old new : GraphView) (number : ℕ) → old ≡ graph_of [] [] → OpensAt old.heads new.heads (head_at 0 0) number → new.heads ≡ head_at 0 0 ∷ []
+opened_heads old new number is opens = by opens.added
+  where
+    empty : old.heads ≡ []
+    empty = ap (λ (g : GraphView). g.heads) is
+
+    by : (new.heads ≡ old.heads) ⊎ ((new.heads ≡ old.heads ++ head_at 0 0 ∷ []) × (number ≡ length old.heads)) → new.heads ≡ head_at 0 0 ∷ []
+    by (inl same) =
+        let low = slice_get_within [] number (head_at 0 0) (subst (λ (hs : List Head). slice_get hs number ≡ Some (head_at 0 0)) (same ∙ empty) opens.at) in
+        absurd (omega (arith, low))
+    by (inr w) = w.0 ∙ ap (λ (hs : List Head). hs ++ head_at 0 0 ∷ []) empty
 
 pub opened_links : (old new : GraphView) → old ≡ graph_of [] [] → new.links ≡ old.links → new.links ≡ []
 opened_links old new is links = links ∙ ap (λ (g : GraphView). g.links) is
@@ -102,6 +110,7 @@ module _ (laws : EnterLaws) (t : ParseTable) (text : Bytes) (base : Base) (groun
       none = λ l there. absurd (no_link l there);
     };
     low = λ k head is. let z = at_zero k head is in omega (arith, z);
+    alone = λ k head is e. only_first k head is ∙ sym (only_first bottom (head_at 0 0) at);
   }
 
 -- ---- one stack after another

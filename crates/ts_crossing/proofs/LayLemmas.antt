@@ -18,7 +18,7 @@ use Rattle.ts_table.specs.Tables.{goto_of}
 use Rattle.ts_gss.specs.declared.layer.Layer.{Layer}
 use Rattle.ts_gss.specs.Stacks.{stack_at, trees_on, state_on, tree_on, under_top}
 use Rattle.ts_graph.specs.declared.view.GraphView.{GraphView}
-use Rattle.ts_graph.specs.Down.{HoldsEachOnce, place_at}
+use Rattle.ts_graph.specs.Down.{place_at}
 use Rattle.ts_reductions.specs.SoundLinks.{bare_links}
 use Rattle.ts_reductions.specs.Laying.{head_at, CanLayOn, IsLaid}
 use Rattle.ts_reductions.specs.Good.{IsGoodTree}
@@ -133,7 +133,7 @@ module _ (laws : EnterLaws) (t : ParseTable) (text : Bytes) (base : Base) (l : L
     };
   }
 
-  module _ (new : GraphView) (above : ℕ) (is : IsLaid P g new top (place_at g.heads top) l.tree (tree_depth l.tree) l.state above) (once : HoldsEachOnce new.heads new.links) where
+  module _ (new : GraphView) (above : ℕ) (is : IsLaid P g new top (place_at g.heads top) l.tree (tree_depth l.tree) l.state above) where
     abbrev end : ℕ
     end = all_spans (trees_on (l ∷ lower))
 
@@ -148,14 +148,17 @@ module _ (laws : EnterLaws) (t : ParseTable) (text : Bytes) (base : Base) (l : L
 
     -- the head of the state and the place below is the one on which the tree was laid
     is_top : (b : ℕ) (read : List ℕ) (place : ℕ) → (a : IsAt Q new.heads b read place) → place ≡ from → ShareState (goto_of t) (filling under) read → b ≡ top
-    is_top b read place a place_at_from share =
-        let first : share.0 ≡ state_on lower = lead_once (goto_of t) (filling under) share.0 (state_on lower) share.1 leads_low in
-        let second : share.0 ≡ a.head.state = lead_once (goto_of t) read share.0 a.head.state share.2 a.state in
-        let same : a.head ≡ head_at (state_on lower) from = heads_same a.head (state_on lower) from (sym second ∙ first) (a.place_is ∙ place_at_from) in
-        once.once b top (head_at (state_on lower) from) (a.is ∙ ap (λ (x : Head). Some x) same) (is.grows.stay top (head_at (state_on lower) from) laid.at)
+    is_top b read place a at_from share = by (is.only b a.head a.is)
       where
-        heads_same : (x : Head) (state place : ℕ) → x.state ≡ state → x.place ≡ place → x ≡ head_at state place
-        heads_same x state place e f = ap (λ (n : ℕ). head_at n x.place) e ∙ ap (λ (n : ℕ). head_at state n) f
+        by : (slice_get g.heads b ≡ Some a.head) ⊎ (b ≡ above) → b ≡ top
+        by (inl old) = laid.alone b a.head old (a.place_is ∙ at_from)
+        by (inr same) =
+            absurd (let e : Some a.head ≡ Some (head_at l.state end) = sym a.is ∙ ap (λ (n : ℕ). slice_get new.heads n) same ∙ at_above in
+            let there : a.head ≡ head_at l.state end = cc in
+            let high = ap (λ (x : Head). x.place) there in
+            let here = a.place_is in
+            let some = good.some in
+            omega (arith, high, here, at_from, some))
 
     stood_here : (b : ℕ) (read : List ℕ) (place : ℕ) → IsAt Q new.heads b read place → place ≡ from → ShareState (goto_of t) (filling under) read → HasLink Q new.heads (bare_links new.links) b u (place + span_of u) (filling (u ∷ []) ++ read)
     stood_here b read place a at_from share =
@@ -244,7 +247,12 @@ module _ (laws : EnterLaws) (t : ParseTable) (text : Bytes) (base : Base) (l : L
       own = new_own laws t text base l lower stands g top laid new above is;
       stand = new_stand laws t text base l lower stands g top laid new above is low_all;
       low = low_all;
+      alone = λ k head at e. top_alone k head e (is.only k head at);
     }
+      where
+        top_alone : (k : ℕ) (head : Head) → head.place ≡ end → (slice_get g.heads k ≡ Some head) ⊎ (k ≡ above) → k ≡ above
+        top_alone k head e (inl old) = absurd (let low = laid.low k head old in let some = good.some in omega (arith, low, e, some))
+        top_alone k head e (inr same) = same
 
 -- ---- the same as the code has it
 
@@ -262,7 +270,7 @@ module _ (laws : EnterLaws) (t : ParseTable) (text : Bytes) (base : Base) (stack
   pub top_can : CanLayOn (parsing_from t text base) g top node depth state
   top_can = can_by (stack_at stacks number) can.some can.stands can.laid node_is state_is
 
-  module _ (new : GraphView) (above : ℕ) (is : IsLaid (parsing_from t text base) g new top (place_at g.heads top) node depth state above) (once : HoldsEachOnce new.heads new.links) where
+  module _ (new : GraphView) (above : ℕ) (is : IsLaid (parsing_from t text base) g new top (place_at g.heads top) node depth state above) where
     laid_by : (layers : List Layer) → 0 < length layers → Stands t text base layers → LaidTo t text base (under_top layers) g top → Some node ≡ tree_on layers → state ≡ state_on layers → LaidTo t text base layers new above
     laid_by [] lt s laid n st = absurd (omega (arith, lt))
     laid_by (l ∷ lower) lt s laid n st =
@@ -271,7 +279,7 @@ module _ (laws : EnterLaws) (t : ParseTable) (text : Bytes) (base : Base) (stack
         layer_laid laws t text base l lower s g top laid new above
         (subst (λ (q : ℕ). IsLaid (parsing_from t text base) g new top (place_at g.heads top) l.tree (tree_depth l.tree) q above) st
         (subst (λ (d : ℕ). IsLaid (parsing_from t text base) g new top (place_at g.heads top) l.tree d state above) deep
-        (subst (λ (x : Tree). IsLaid (parsing_from t text base) g new top (place_at g.heads top) x depth state above) same is))) once
+        (subst (λ (x : Tree). IsLaid (parsing_from t text base) g new top (place_at g.heads top) x depth state above) same is)))
 
     pub top_laid : LaidTo t text base (stack_at stacks number) new above
     top_laid = laid_by (stack_at stacks number) can.some can.stands can.laid node_is state_is

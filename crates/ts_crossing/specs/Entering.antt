@@ -105,6 +105,8 @@ pub record LaidTo (t : ParseTable) (text : Bytes) (base : Base) (layers : List L
       (all_spans (trees_on layers))) g
   pub low : (k : ℕ) (head : Head) → slice_get g.heads k ≡ Some head
       → head.place ≤ all_spans (trees_on layers)
+  pub alone : (k : ℕ) (head : Head) → slice_get g.heads k ≡ Some head
+      → head.place ≡ all_spans (trees_on layers) → k ≡ top
 
 -- the topmost tree of a stack can be laid above those below it
 pub record CanLayTop (t : ParseTable) (text : Bytes) (base : Base) (stacks : List (List Layer))

@@ -17,6 +17,10 @@ use ts_gss::Graph as Stacks;
 use ts_reductions::{Piece, lay};
 use ts_steps::StackHead;
 
+/// How many heads and links there is room for beside those of the stack: a choice of moves that is
+/// settled by the token after the next has fewer.
+const MORE: usize = 24;
+
 /// A graph that was made of a stack, and the place from which it is followed: all heads stand there
 /// or before it.
 #[derive(Drop)]
@@ -82,8 +86,7 @@ fn lay_top(
         depth,
         state: stacks.state(number),
     };
-    let above = lay(graph, top, piece)?;
-    let _ = graph.count();
+    let above = lay(graph, top, piece, None)?;
     Ok(above)
 }
 
@@ -124,8 +127,8 @@ pub fn enter(alloc: Global, stacks: &Stacks, head: StackHead) -> Result<Entered,
     enter_laws_hold();
     let under = under_extras(stacks, head);
     let numbers = stacks_down(alloc, stacks, under)?;
-    let mut graph = Graph::new(alloc);
-    let bottom = graph.open(Head { state: 0, place: 0 })?;
+    let mut graph = Graph::with_room(alloc, numbers.len().saturating_add(MORE))?;
+    let bottom = graph.open(Head { state: 0, place: 0 }, None)?;
     lay_stacks(stacks, numbers.as_slice(), &mut graph, bottom)?;
     Ok(Entered {
         graph,

@@ -34,8 +34,8 @@ lay_stacks-requires c =
       stack_at c.args.stacks.now c.under_extras-under.result.top,
       can_stacks laws r.0 r.1 c.args.stacks.now c.args.head r.2 c.under_extras-under.result c.under_extras-under.ensures c.as_slice.result.now c.open.new.self c.in_ok-bottom.bottom
           (subst (λ (ks : List ℕ). AreDownTo c.args.stacks.now (stack_at c.args.stacks.now c.under_extras-under.result.top) ks []) (sym c.as_slice.ensures.value) c.in_ok-numbers.ensures)
-          (first_laid laws r.0 r.1 (entry laws r.0 r.1 c.args.stacks.now c.args.head r.2 c.under_extras-under.result c.under_extras-under.ensures) (entry_ground laws r.0 r.1 c.args.stacks.now c.args.head r.2 c.under_extras-under.result c.under_extras-under.ensures) r.2.table r.2.short c.open.new.self c.in_ok-bottom.bottom (opened_heads c.new-graph.result c.open.new.self c.new-graph.ensures c.in_ok-bottom.ensures.added)
-          (opened_links c.new-graph.result c.open.new.self c.new-graph.ensures c.in_ok-bottom.ensures.links) c.in_ok-bottom.ensures.number),
+          (first_laid laws r.0 r.1 (entry laws r.0 r.1 c.args.stacks.now c.args.head r.2 c.under_extras-under.result c.under_extras-under.ensures) (entry_ground laws r.0 r.1 c.args.stacks.now c.args.head r.2 c.under_extras-under.result c.under_extras-under.ensures) r.2.table r.2.short c.open.new.self c.in_ok-bottom.bottom (opened_heads c.in_ok-graph.graph c.open.new.self c.in_ok-bottom.bottom c.in_ok-graph.ensures c.in_ok-bottom.ensures.opened)
+          (opened_links c.in_ok-graph.graph c.open.new.self c.in_ok-graph.ensures c.in_ok-bottom.ensures.links) c.in_ok-bottom.ensures.opened.at),
     )
 
 pub returns : goal.returns
@@ -45,5 +45,5 @@ returns c = λ t text can.
     (c.in_ok-lay_stacks.ensures t text (entry laws t text c.args.stacks.now c.args.head can c.under_extras-under.result c.under_extras-under.ensures) (stack_at c.args.stacks.now c.under_extras-under.result.top)
     (can_stacks laws t text c.args.stacks.now c.args.head can c.under_extras-under.result c.under_extras-under.ensures c.as_slice.result.now c.open.new.self c.in_ok-bottom.bottom
     (subst (λ (ks : List ℕ). AreDownTo c.args.stacks.now (stack_at c.args.stacks.now c.under_extras-under.result.top) ks []) (sym c.as_slice.ensures.value) c.in_ok-numbers.ensures)
-    (first_laid laws t text (entry laws t text c.args.stacks.now c.args.head can c.under_extras-under.result c.under_extras-under.ensures) (entry_ground laws t text c.args.stacks.now c.args.head can c.under_extras-under.result c.under_extras-under.ensures) can.table can.short c.open.new.self c.in_ok-bottom.bottom (opened_heads c.new-graph.result c.open.new.self c.new-graph.ensures c.in_ok-bottom.ensures.added)
-    (opened_links c.new-graph.result c.open.new.self c.new-graph.ensures c.in_ok-bottom.ensures.links) c.in_ok-bottom.ensures.number)))
+    (first_laid laws t text (entry laws t text c.args.stacks.now c.args.head can c.under_extras-under.result c.under_extras-under.ensures) (entry_ground laws t text c.args.stacks.now c.args.head can c.under_extras-under.result c.under_extras-under.ensures) can.table can.short c.open.new.self c.in_ok-bottom.bottom (opened_heads c.in_ok-graph.graph c.open.new.self c.in_ok-bottom.bottom c.in_ok-graph.ensures c.in_ok-bottom.ensures.opened)
+    (opened_links c.in_ok-graph.graph c.open.new.self c.in_ok-graph.ensures c.in_ok-bottom.ensures.links) c.in_ok-bottom.ensures.opened.at)))

@@ -16,4 +16,3 @@ returns c = λ t text base can.
     top_laid c.enter_laws_hold.ensures t text base c.args.stacks.now c.args.number c.args.graph.now c.args.top can c.in_ok-node.node c.depth-depth.result c.state.result (ap (λ (u : Tree). Some u) c.in_ok-node.ensures ∙ c.node.ensures) c.depth-depth.ensures c.state.ensures
     c.lay.new.graph c.in_ok-above.above
     (c.in_ok-above.ensures (parsing_from t text base) (top_can c.enter_laws_hold.ensures t text base c.args.stacks.now c.args.number c.args.graph.now c.args.top can c.in_ok-node.node c.depth-depth.result c.state.result (ap (λ (u : Tree). Some u) c.in_ok-node.ensures ∙ c.node.ensures) c.depth-depth.ensures c.state.ensures))
-    c.count.ensures.once
