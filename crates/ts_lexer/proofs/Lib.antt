@@ -20,3 +20,4 @@ pub mod StateLemmas
 pub mod StayLemmas
 pub mod VerdictLemmas
 pub mod WayLemmas
+pub mod WithinLemmas

@@ -16,22 +16,14 @@ use Rattle.spec_lexing.specs.Seen.{HasFront, one_character}
 use Rattle.ts_automata.specs.Automata.{parts_of}
 use Rattle.ts_lexer.specs.declared.scanned.Match.{Match}
 use Rattle.ts_lexer.specs.declared.scanned.Progress.{Progress}
-use Rattle.ts_lexer.specs.Rules.{kind_of}
-use Rattle.ts_lexer.specs.Judged.{IsTokenPart, Offered, Wanted, IsPicked, IsPick, IsSeparatorPart, Knows}
+use Rattle.ts_lexer.specs.Judged.{Offered, Wanted, IsPick, IsSeparatorPart, Knows}
 use Rattle.ts_lexer.specs.Judged as judged
 use Rattle.ts_lexer.specs.declared.verdict.Verdict.{Verdict}
-use Rattle.ts_lexer.specs.Scanned.{PartMatches, IsFirstPlain, IsStep, Sofar, IsBetterMatch, IsScanned}
-use Rattle.ts_lexer.specs.Runs.{Reading, Running}
+use Rattle.ts_lexer.specs.Scanned.{PartMatches, IsFirstPlain, IsStep, Sofar, IsScanned}
+use Rattle.ts_lexer.specs.Runs.{Chosen, Reading, Running}
 use Rattle.ts_lexer.proofs.ChooseLemmas.{none_chosen, plain_best, keyword_best, both_best}
 use Rattle.ts_lexer.proofs.FrontLemmas.{part_of_separator}
 use Rattle.ts_lexer.proofs.RunLemmas.{Laws, all_seen, reach_is, end_longest, end_far, step, dead_longest, far, read_more}
-
--- what `chosen` says
-pub record Chosen (g : FlatGrammar) (p : Progress) (best : Option Match) : Type 0 where
-  pub plain : p.keyword ≡ None → best ≡ p.plain
-  pub keyword : (s : Symbol) → p.keyword ≡ Some s → p.plain ≡ None → best ≡ Some (record { symbol = s; size = p.word })
-  pub both : (j k : ℕ) (m : Match) (s : Symbol) (a b : TokenDef) → p.keyword ≡ Some s → p.plain ≡ Some m → IsTokenPart g j m.symbol a → IsTokenPart g k s b
-      → (n : Match) × (best ≡ Some n) × IsBetterMatch (kind_of a) m (kind_of b) (record { symbol = s; size = p.word }) n
 
 module _ (laws : Laws) (g : FlatGrammar) (valid : List Symbol) (first : Bool) (rest : Bytes) (R : List ℕ → Type 0) (tail : Bytes) (size : ℕ) (p : Progress)
     (run : Running R g valid first rest tail size p) (longest : (n : ℕ) → HasFront g valid rest n → n ≤ size) where

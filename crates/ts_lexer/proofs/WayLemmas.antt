@@ -1,5 +1,5 @@
 -- What is ready on each of the two ways.
-use Rattle.std.proofs.Common.{◌≡◌, ◌∙◌, sym, ap, refl, subst, ℕ, ◌<◌, Bool, List, length, Option, Some, get_or, slice_get}
+use Rattle.std.proofs.Common.{◌≡◌, ◌∙◌, sym, ap, refl, subst, ℕ, ◌<◌, Bool, List, length, Option, Some, None, get_or, slice_get}
 use Rattle.std.proofs.lemmas.Option.{slice_get_read}
 use Rattle.ts_core.specs.declared.flat.FlatGrammar.{FlatGrammar}
 use Rattle.ts_core.specs.declared.symbol.Symbol.{Symbol}
@@ -21,12 +21,10 @@ use Rattle.ts_automata.specs.Machine.{HasRead, state_count}
 use Rattle.ts_automata.specs.Walks.{HasCome}
 use Rattle.ts_base.specs.Bytes.{Bytes}
 use Rattle.ts_lexer.specs.declared.scanned.Run.{Run}
-use Rattle.ts_lexer.specs.declared.scanned.Scanned.{Scanned}
 use Rattle.ts_lexer.specs.declared.scanned.Read.{Read}
 use Rattle.ts_lexer.specs.declared.scanned.Read.TheVariants.{Ended, Open}
-use Rattle.ts_lexer.specs.Scanned.{IsScanned}
-use Rattle.ts_lexer.specs.Runs.{IsRun, IsReadOn, IfOpen}
-use Rattle.ts_lexer.specs.Ways.{AreTablesOf, AreNodesOf, IsWayOf, IsReadyOn, IsReadyFor, HasPairOn, HavePairsOn, IsSetOn, LeadsOn}
+use Rattle.ts_lexer.specs.Runs.{IsAll, IsRun, IsReadOn, IfOpen}
+use Rattle.ts_lexer.specs.Ways.{AreTablesOf, AreNodesOf, IsWayOf, IsReadyOn, IsReadyFor, HasPairOn, HasRowsOn, HavePairsOn, IsSetOn, LeadsOn}
 
 -- what was made of an automaton
 pub tables_read : (a : Automaton) (r : Reader) (m : SetTables) → r ≡ ReaderTables m → IsReader a r → m.automaton ≡ a
@@ -61,6 +59,15 @@ module _ (g : FlatGrammar) (valid : List Symbol) (way : Way) where
   pub listed : (lists : List (List Symbol)) (pairs : List (Option RowPair)) (list : ℕ) (pair : Option RowPair) → list < length pairs → pair ≡ get_or pairs list pair
       → slice_get lists list ≡ Some valid → HavePairsOn g way lists pairs → (p : RowPair) → pair ≡ Some p → HasPairOn g valid way p
   listed lists pairs list pair lt is at have p e = have list valid p at (slice_get_read pairs (length pairs) list pair refl lt is ∙ ap (λ (o : Option RowPair). Some o) e)
+
+-- the rows of a list, where there are any
+pub rows_ready : (g : FlatGrammar) (valid : List Symbol) (way : Way) (room : ℕ) (pair : Option RowPair) → IsWayOf g way room → ((p : RowPair) → pair ≡ Some p → HasPairOn g valid way p) → HasRowsOn g valid way pair
+rows_ready g valid (Tables t) room None made has = tt
+rows_ready g valid (Tables t) room (Some p) made has = (made, has p refl)
+rows_ready g valid (Nodes n) room pair made has = tt
+
+pub rows_on : (g : FlatGrammar) (valid : List Symbol) (way : Way) (pair : Option RowPair) (t : LexTables) (p : RowPair) → way ≡ Tables t → pair ≡ Some p → HasRowsOn g valid way pair → AreTablesOf g t × HasPair g valid t p
+rows_on g valid way pair t p is at rows = subst (λ (o : Option RowPair). HasRowsOn g valid (Tables t) o) at (subst (λ (w : Way). HasRowsOn g valid w pair) is rows)
 
 pub way_tables : (g : FlatGrammar) (way : Way) (room : ℕ) (t : LexTables) → way ≡ Tables t → IsWayOf g way room → AreTablesOf g t
 way_tables g way room t is h = subst (λ (w : Way). IsWayOf g w room) is h
@@ -110,8 +117,8 @@ pub first_nodes : (way : Way) (n : LexNodes) → way ≡ Nodes n → (set : ℕ)
 first_nodes way n is set = subst (λ (w : Way). IsSetOn w set) (sym is) tt
 
 -- what a reading that ended says, and one that is open
-pub ended : (R : ℕ → List ℕ → Type 0) (g : FlatGrammar) (valid : List Symbol) (first : Bool) (rest tail : Bytes) (read : Read) (s : Scanned) → read ≡ Ended s → IsReadOn R g valid first rest tail read → IsScanned g valid first rest s
-ended R g valid first rest tail read s is h = subst (λ (x : Read). IsReadOn R g valid first rest tail x) is h
+pub ended : (R : ℕ → List ℕ → Type 0) (g : FlatGrammar) (valid : List Symbol) (first : Bool) (rest tail : Bytes) (read : Read) (r : Run) → read ≡ Ended r → IsReadOn R g valid first rest tail read → IsAll g valid first rest r.progress r.size
+ended R g valid first rest tail read r is h = subst (λ (x : Read). IsReadOn R g valid first rest tail x) is h
 
 pub opened : (R : ℕ → List ℕ → Type 0) (g : FlatGrammar) (valid : List Symbol) (first : Bool) (rest tail : Bytes) (read : Read) (r : Run) → read ≡ Open r → IsReadOn R g valid first rest tail read → IsRun R g valid first rest tail r
 opened R g valid first rest tail read r is h = subst (λ (x : Read). IsReadOn R g valid first rest tail x) is h

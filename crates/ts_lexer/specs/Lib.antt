@@ -11,3 +11,4 @@ pub mod Scanned
 pub mod States
 pub mod Views
 pub mod Ways
+pub mod Within

@@ -1,5 +1,5 @@
 -- The two ways of lexing: by the tables of a machine, or from node to node.
-use Rattle.std.specs.Prelude.{◌≡◌, ℕ, ◌<◌, List, length, slice_get, Option, Some}
+use Rattle.std.specs.Prelude.{◌≡◌, ℕ, ◌<◌, List, length, slice_get, Option, Some, None}
 use Rattle.ts_core.specs.declared.flat.FlatGrammar.{FlatGrammar}
 use Rattle.ts_core.specs.declared.symbol.Symbol.{Symbol}
 use Rattle.ts_automata.specs.declared.walk.Walk.{Walk}
@@ -53,6 +53,13 @@ abbrev pub HavePairsOn : FlatGrammar → Way → List (List Symbol) → List (Op
 HavePairsOn g way lists pairs =
     (k : ℕ) (valid : List Symbol) (p : RowPair) → slice_get lists k ≡ Some valid
     → slice_get pairs k ≡ Some (Some p) → HasPairOn g valid way p
+
+-- the tables were made for the grammar, and the rows of these numbers are the valid tokens', if
+-- there are tables and rows
+abbrev pub HasRowsOn : FlatGrammar → List Symbol → Way → Option RowPair → Type 0
+HasRowsOn g valid (Tables t) None = Unit {0}
+HasRowsOn g valid (Tables t) (Some p) = AreTablesOf g t × HasPair g valid t p
+HasRowsOn g valid (Nodes n) p = Unit {0}
 
 -- the set is one of the tables'
 abbrev pub IsSetOn : Way → ℕ → Type 0

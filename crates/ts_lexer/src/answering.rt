@@ -1,7 +1,7 @@
 //! What was found behind the separators of a place in; the answer at that place out.
 ghost use Rattle.std.specs.Prelude.{◌≡◌, ◌+◌, ◌≤◌, ◌<◌, ◌^◌, ℕ, length};
 ghost use Rattle.ts_core.specs.declared.flat.FlatGrammar.{FlatGrammar as AnyGrammar};
-ghost use Rattle.std.specs.Prelude.{List, drop, IsTrue, ◌↔◌, true};
+ghost use Rattle.std.specs.Prelude.{List, drop, IsTrue, ◌↔◌, true, IfSome};
 ghost use Rattle.std.specs.List.{prefix_len};
 ghost use Rattle.std.specs.Str.{IsCharBoundary, IsUtf8};
 ghost use Rattle.ts_core.specs.declared.symbol.Symbol.{Symbol as AnySymbol};
@@ -9,13 +9,14 @@ ghost use Rattle.ts_automata.specs.Walks.{walk_room};
 ghost use Rattle.spec_lexing.specs.Seen.{is_inner as inner_byte};
 ghost use Rattle.ts_lexer.specs.Passed.{IsWithinText, found_by};
 ghost use Rattle.ts_lexer.specs.Answers.{IsLexedAnswer, SaysFound, extent_of};
-ghost use Rattle.ts_lexer.specs.Ways.{IsReadyFor};
+ghost use Rattle.ts_lexer.specs.Ways.{HasRowsOn, IsReadyFor};
 
 use crate::ahead::RowPair;
 use crate::lexed::Lexed;
 use crate::passing::{Passed, pass};
 use crate::view::View;
 use crate::ways::Way;
+use crate::within::pass_within;
 use ts_automata::Walk;
 use ts_core::Symbol;
 use ts_text::Text;
@@ -86,6 +87,38 @@ fn inside(text: &Text, place: u32) -> Lexed
         place,
         extent: inner_bytes(text, place),
     }
+}
+
+/// The answer at a place, if there are rows for the valid tokens, and the piece of the text in which
+/// the place lies has all that is looked at.
+#[inline(always)]
+pub(crate) fn answer_within(
+    way: &Way,
+    pair: Option<RowPair>,
+    text: &Text,
+    place: u32,
+) -> Option<Lexed>
+    requires within { place ≤ length text.now }
+    requires ready { (g : AnyGrammar) × (valid : List AnySymbol) × HasRowsOn g valid way.now pair }
+    ensures utf8 { IsUtf8 text.now }
+    ensures answer { (g : AnyGrammar) (valid : List AnySymbol) → HasRowsOn g valid way.now pair
+        → IfSome result (IsLexedAnswer g valid text.now place) }
+{
+    let size = text.len() - place;
+    let Way::Tables(tables) = way else {
+        return None;
+    };
+    let Some(pair) = pair else {
+        return None;
+    };
+    let Some(rest) = text.rest_at(place) else {
+        return None;
+    };
+    let (piece, _) = rest.split();
+    let Some(passed) = pass_within(tables, pair, piece) else {
+        return None;
+    };
+    Some(told(&passed, place, size))
 }
 
 /// The answer at a place.

@@ -1,6 +1,7 @@
 //! The token that is taken at a place: the best of those that are no keywords, and the best
 //! keyword, go in.
-ghost use Rattle.std.specs.Prelude.{◌≡◌, ◌↔◌, ◌<◌, ◌<ℤ◌, ◌⊎◌, ℕ, Some, None, IsTrue};
+ghost use Rattle.std.specs.Prelude.{◌≡◌, ◌↔◌, ◌<◌, ◌<ℤ◌, ◌⊎◌, ℕ, Bool, List, Some, None, IsTrue};
+ghost use Rattle.ts_base.specs.Bytes.{Bytes};
 ghost use Rattle.ts_core.specs.declared.flat.FlatGrammar.{FlatGrammar as AnyGrammar};
 ghost use Rattle.ts_core.specs.declared.flat.TokenDef.{TokenDef as AnyToken};
 ghost use Rattle.ts_core.specs.declared.symbol.Symbol.{Symbol as AnySymbol};
@@ -8,11 +9,12 @@ ghost use Rattle.ts_lexer.specs.declared.rules.Kind.{Kind as AnyKind};
 ghost use Rattle.ts_lexer.specs.declared.scanned.Match.{Match as AnyMatch};
 ghost use Rattle.ts_lexer.specs.Rules.{kind_of, IsRules, Over};
 ghost use Rattle.ts_lexer.specs.Judged.{IsTokenPart};
-ghost use Rattle.ts_lexer.specs.Scanned.{BeatsBy, IsBetterMatch};
+ghost use Rattle.ts_lexer.specs.Scanned.{BeatsBy, IsBetterMatch, IsScanned};
+ghost use Rattle.ts_lexer.specs.Runs.{IsAll};
 
 use crate::judging::kind_at;
 use crate::rules::{Kind, Rules, is_over};
-use crate::scanned::{Match, Progress};
+use crate::scanned::{Match, Progress, Scanned};
 
 /// Whether the first of two matches is taken before the second, or is that one.
 fn beats(a: &Kind, m: &Match, b: &Kind, n: &Match) -> bool
@@ -40,7 +42,7 @@ fn taken(rules: &Rules, m: Match, n: Match) -> Match
 }
 
 /// The token that is taken, of what was found.
-pub(crate) fn chosen(rules: &Rules, progress: &Progress) -> Option<Match>
+fn chosen(rules: &Rules, progress: &Progress) -> Option<Match>
     ensures plain { progress.now.keyword ≡ None → result ≡ progress.now.plain }
     ensures keyword { (s : AnySymbol) → progress.now.keyword ≡ Some s → progress.now.plain ≡ None
         → result ≡ Some (record { symbol = s; size = progress.now.word }) }
@@ -62,4 +64,17 @@ pub(crate) fn chosen(rules: &Rules, progress: &Progress) -> Option<Match>
         return Some(keyword);
     };
     Some(taken(rules, plain, keyword))
+}
+
+/// What is known, once all has been found and so many bytes were looked at.
+pub(crate) fn scanned(rules: &Rules, progress: &Progress, reach: usize) -> Scanned
+    ensures { (g : AnyGrammar) (valid : List AnySymbol) (first : Bool) (rest : Bytes)
+        → IsRules g rules.now → IsAll g valid first rest progress.now reach
+        → IsScanned g valid first rest result }
+{
+    Scanned {
+        best: chosen(rules, progress),
+        separator: progress.separator,
+        reach,
+    }
 }

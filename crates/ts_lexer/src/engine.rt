@@ -13,7 +13,7 @@ ghost use Rattle.ts_lexer.specs.Rules.{AreFew, IsRules};
 ghost use Rattle.ts_lexer.specs.Ways.{IsWayOf, IsReadyOn, HasPairOn};
 
 use crate::ahead::{LexTables, RowPair, list_at, pairs_of};
-use crate::answering::answer_at;
+use crate::answering::{answer_at, answer_within};
 use crate::lexed::Lexed;
 use crate::marking::{look, no_marks};
 use crate::rules::{Rules, rules_of};
@@ -157,8 +157,11 @@ impl Engine {
             → slice_get (contents_of self.old.lists.keys) list ≡ Some valid
             → IsLexedAnswer g valid text.now place result }
     {
-        let valid = list_at(&self.lists, list);
         let pair = self.pairs[list];
+        if let Some(lexed) = answer_within(&self.way, pair, text, place) {
+            return lexed;
+        }
+        let valid = list_at(&self.lists, list);
         prepare(&self.way, pair, &mut self.view, valid);
         answer_at(
             &self.way,

@@ -24,6 +24,7 @@ mod verdict;
 mod view;
 mod walking;
 mod ways;
+mod within;
 
 pub use laws::{one_lexed, same_tokens, tokens_of_states};
 pub use lexed::Lexed;

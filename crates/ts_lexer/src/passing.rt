@@ -45,10 +45,11 @@ fn at_end(rest: &Rest<'_>, valid: &[Symbol]) -> bool
 }
 
 /// The farther of two ends.
-fn farther(extent: usize, pad: usize, reach: usize) -> usize
-    ensures { pad + reach < 2 ^ 64 → result ≡ max extent (pad + reach) }
+pub(crate) fn farther(extent: usize, pad: usize, reach: usize) -> usize
+    requires { pad + reach < 2 ^ 64 }
+    ensures { result ≡ max extent (pad + reach) }
 {
-    extent.max(pad.saturating_add(reach))
+    extent.max(pad + reach)
 }
 
 /// Passes separators until a valid token stands at a place, or none is left.

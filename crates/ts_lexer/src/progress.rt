@@ -16,28 +16,29 @@ use crate::scanned::{Match, Progress};
 use crate::verdict::Verdict;
 use ts_core::Symbol;
 
-/// The token that is taken, with one that matches with more bytes than those before.
-fn longer(rules: &Rules, old: Option<Match>, pick: Option<Symbol>, size: usize) -> Option<Match>
-    ensures none { pick ≡ None → result ≡ old }
-    ensures first { (s : AnySymbol) → pick ≡ Some s → old ≡ None
-        → result ≡ Some (record { symbol = s; size = size }) }
+/// Notes a token that matches with more bytes than those before, where there is one.
+fn note_plain(rules: &Rules, plain: &mut Option<Match>, pick: Option<Symbol>, size: usize)
+    ensures none { pick ≡ None → plain.new ≡ plain.old }
+    ensures first { (s : AnySymbol) → pick ≡ Some s → plain.old ≡ None
+        → plain.new ≡ Some (record { symbol = s; size = size }) }
     ensures more { (g : AnyGrammar) (j k : ℕ) (m : AnyMatch) (s : AnySymbol) (a b : AnyToken)
-        → old ≡ Some m
+        → plain.old ≡ Some m
         → pick ≡ Some s → IsRules g rules.now → IsTokenPart g j m.symbol a → IsTokenPart g k s b
-        → (n : AnyMatch) × (result ≡ Some n)
+        → (n : AnyMatch) × (plain.new ≡ Some n)
         × IsLonger a b m (record { symbol = s; size = size }) n }
 {
     let Some(symbol) = pick else {
-        return old;
+        return;
     };
     let new = Match { symbol, size };
-    let Some(best) = old else {
-        return Some(new);
+    let Some(best) = *plain else {
+        *plain = Some(new);
+        return;
     };
     if kind_at(rules, symbol).prec < kind_at(rules, best.symbol).prec {
-        return old;
+        return;
     }
-    Some(new)
+    *plain = Some(new);
 }
 
 fn size_of(there: bool, new: usize, old: usize) -> usize
@@ -65,33 +66,22 @@ fn is_plain(verdict: &Verdict) -> bool
     !verdict.separator
 }
 
-/// What was found with one character more, or with more of them over which the verdict stayed,
-/// after which so many bytes have been read.
-pub(crate) fn advance(rules: &Rules, old: &Progress, verdict: &Verdict, size: usize) -> Progress
+/// Notes what was found with one character more, or with more of them over which the verdict
+/// stayed, after which so many bytes have been read.
+pub(crate) fn advance(rules: &Rules, progress: &mut Progress, verdict: &Verdict, size: usize)
     ensures silent { verdict.now.plain ≡ None → verdict.now.word ≡ false
-        → verdict.now.separator ≡ false → result ≡ old.now }
+        → verdict.now.separator ≡ false → progress.new ≡ progress.old }
     ensures sofar { (g : AnyGrammar) (valid : List AnySymbol) (first : Bool) (rest : Bytes)
         (bound : ℕ) (w : List ℕ)
         → IsRules g rules.now → IsStep g rest bound size w → Knows g valid first w verdict.now
-        → Sofar g valid first (PartMatches g rest) bound old.now
-        → Sofar g valid first (PartMatches g rest) size result }
+        → Sofar g valid first (PartMatches g rest) bound progress.old
+        → Sofar g valid first (PartMatches g rest) size progress.new }
 {
-    let plain = longer(rules, old.plain, verdict.plain, size);
+    note_plain(rules, &mut progress.plain, verdict.plain, size);
     if is_plain(verdict) {
-        return Progress {
-            plain,
-            word: old.word,
-            keyword: old.keyword,
-            separator: old.separator,
-        };
+        return;
     }
-    let word = size_of(verdict.word, size, old.word);
-    let keyword = keyword_of(verdict.word, verdict.keyword, old.keyword);
-    let separator = size_of(verdict.separator, size, old.separator);
-    Progress {
-        plain,
-        word,
-        keyword,
-        separator,
-    }
+    progress.word = size_of(verdict.word, size, progress.word);
+    progress.keyword = keyword_of(verdict.word, verdict.keyword, progress.keyword);
+    progress.separator = size_of(verdict.separator, size, progress.separator);
 }

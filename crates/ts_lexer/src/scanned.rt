@@ -22,6 +22,14 @@ pub(crate) struct Progress {
     pub separator: usize,
 }
 
+/// Nothing was found so far.
+pub(crate) const NOTHING: Progress = Progress {
+    plain: None,
+    word: 0,
+    keyword: None,
+    separator: 0,
+};
+
 /// What was found at a place.
 #[derive(Clone, Copy, Debug)]
 pub(crate) struct Scanned {
@@ -54,8 +62,8 @@ pub(crate) struct Run {
 /// What the reading of one piece more comes to.
 #[derive(Clone, Copy, Debug)]
 pub(crate) enum Read {
-    /// All is known of the place.
-    Ended(Scanned),
+    /// All has been found. The size is how many bytes were looked at.
+    Ended(Run),
     /// What follows the piece is read from here.
     Open(Run),
 }

@@ -14,25 +14,26 @@ ghost use Rattle.ts_lexer.specs.Runs.{IfOpen, IsRun, IsReadOn};
 ghost use Rattle.ts_lexer.specs.Ahead.{AreVerdicts, HasPair, IsReady};
 
 use crate::ahead::{LexTables, RowPair, row_at};
-use crate::choosing::chosen;
 use crate::judging::judge;
 use crate::progress::advance;
 use crate::rules::Rules;
-use crate::scanned::{Read, Run, Scanned, Turn};
+use crate::scanned::{Read, Run, Turn};
 use crate::verdict::Verdict;
 use crate::view::View;
 use spec_lexing::{a_front_has_fronts, beginnings, every_word_is_a_front, one_character_at_a_time};
 use ts_automata::Machine;
 
 /// The verdict on a set.
-fn verdict_at(row: &[Verdict], set: usize) -> Verdict
+pub(crate) fn verdict_at(row: &[Verdict], set: usize) -> &Verdict
     requires { set < length row.now }
-    ensures { slice_get row.now set ≡ Some result }
+    ensures { slice_get row.now set ≡ Some result.now }
 {
-    row[set]
+    &row[set]
 }
 
 /// Where the first character of a text leads, by a search for its class where it is not ASCII.
+#[cold]
+#[inline(never)]
 fn wide_turn(machine: &Machine, set: usize, text: &str) -> Turn
     requires set { set < state_count machine.now }
     requires some { 0 < length text.now }
@@ -48,7 +49,8 @@ fn wide_turn(machine: &Machine, set: usize, text: &str) -> Turn
 }
 
 /// Where the character at a place of a text leads.
-fn turn_at(machine: &Machine, set: usize, text: &str, place: usize) -> Turn
+#[inline(always)]
+pub(crate) fn turn_at(machine: &Machine, set: usize, text: &str, place: usize) -> Turn
     requires set { set < state_count machine.now }
     requires within { place < length text.now }
     requires utf8 { IsUtf8 (drop place text.now) }
@@ -123,15 +125,15 @@ fn read_by_row(machine: &Machine, rules: &Rules, row: &[Verdict], run: &Run, pie
         let turn = turn_at(machine, state, piece, place);
         let verdict = verdict_at(row, turn.to);
         if !verdict.lives {
-            return Read::Ended(Scanned {
-                best: chosen(rules, &progress),
-                separator: progress.separator,
-                reach: run.size + place + turn.len,
+            return Read::Ended(Run {
+                state,
+                size: run.size + place + turn.len,
+                progress,
             });
         }
         state = turn.to;
         place = end_of_stay(machine, state, bytes, place + turn.len);
-        progress = advance(rules, &progress, &verdict, run.size + place);
+        advance(rules, &mut progress, verdict, run.size + place);
     }
     Read::Open(Run {
         state,
@@ -169,15 +171,15 @@ fn read_by_nodes(
         let to = machine.next(state, c);
         let verdict = judge(rules, view, first, machine.automaton(), machine.members(to));
         if !verdict.lives {
-            return Read::Ended(Scanned {
-                best: chosen(rules, &progress),
-                separator: progress.separator,
-                reach: size + c.len_utf8(),
+            return Read::Ended(Run {
+                state,
+                size: size + c.len_utf8(),
+                progress,
             });
         }
         state = to;
         size += c.len_utf8();
-        progress = advance(rules, &progress, &verdict, size);
+        advance(rules, &mut progress, &verdict, size);
     }
     Read::Open(Run {
         state,
@@ -216,7 +218,7 @@ pub(crate) fn read_by_tables(
 }
 
 /// The row for the first place that is tried, or for a later one.
-fn row_for(tables: &LexTables, pair: RowPair, first: bool) -> &[Verdict]
+pub(crate) fn row_for(tables: &LexTables, pair: RowPair, first: bool) -> &[Verdict]
     requires { (g : AnyGrammar) × (valid : List AnySymbol) × HasPair g valid tables.now pair }
     ensures { (g : AnyGrammar) (valid : List AnySymbol) → HasPair g valid tables.now pair
         → AreVerdicts g valid first tables.now.machine result.now }

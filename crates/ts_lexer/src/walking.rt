@@ -12,11 +12,11 @@ ghost use Rattle.ts_lexer.specs.Runs.{IfOpen, IsRun, IsReadOn};
 ghost use Rattle.ts_lexer.specs.Ways.{AreNodesOf, IsWayOf, IsReadyFor, IsSetOn, LeadsOn};
 
 use crate::ahead::RowPair;
-use crate::choosing::chosen;
+use crate::choosing::scanned;
 use crate::judging::judge;
 use crate::progress::advance;
 use crate::rules::Rules;
-use crate::scanned::{Progress, Read, Run, Scanned};
+use crate::scanned::{NOTHING, Read, Run, Scanned};
 use crate::scanning::read_by_tables;
 use crate::view::View;
 use crate::ways::{LexNodes, Way};
@@ -53,14 +53,14 @@ fn read_by_walk(
         walk.step(&nodes.automaton, c);
         let verdict = judge(&nodes.rules, view, first, &nodes.automaton, walk.members());
         if !verdict.lives {
-            return Read::Ended(Scanned {
-                best: chosen(&nodes.rules, &progress),
-                separator: progress.separator,
-                reach: size + c.len_utf8(),
+            return Read::Ended(Run {
+                state: run.state,
+                size: size + c.len_utf8(),
+                progress,
             });
         }
         size += c.len_utf8();
-        progress = advance(&nodes.rules, &progress, &verdict, size);
+        advance(&nodes.rules, &mut progress, &verdict, size);
     }
     Read::Open(Run {
         state: run.state,
@@ -156,16 +156,12 @@ fn read_on(
         let (piece, later) = rest.split();
         let read = read_piece(way, pair, view, walk, first, &run, piece);
         match read {
-            Read::Ended(scanned) => return scanned,
+            Read::Ended(all) => return scanned(rules_on(way), &all.progress, all.size),
             Read::Open(more) => run = more,
         }
         rest = later;
     }
-    Scanned {
-        best: chosen(rules_on(way), &run.progress),
-        separator: run.progress.separator,
-        reach: run.size + 1,
-    }
+    scanned(rules_on(way), &run.progress, run.size + 1)
 }
 
 /// What stands at the beginning of what is left of a text, which is the first place that is tried
@@ -194,18 +190,13 @@ pub(crate) fn scan(
     let run = Run {
         state,
         size: 0,
-        progress: Progress {
-            plain: None,
-            word: 0,
-            keyword: None,
-            separator: 0,
-        },
+        progress: NOTHING,
     };
     let rest = rest.copied();
     let (piece, later) = rest.split();
     let read = read_piece(way, pair, view, walk, first, &run, piece);
     match read {
-        Read::Ended(scanned) => scanned,
+        Read::Ended(all) => scanned(rules_on(way), &all.progress, all.size),
         Read::Open(more) => read_on(way, pair, view, walk, first, &more, &later),
     }
 }

@@ -22,7 +22,7 @@ returns-in-Some-clause-passed c g r =
     let x = c.scan-here.ensures.scanned g c.args.valid.now (here_ready g c.args.valid.now c.args.way.now c.args.view.now c.args.pair _ _ c.passing.invariant.room r) in
     let b = best_at g c.args.valid.now c.passing.first c.passing.rest c.scan-here.result.best c.in-Some.found c.in-Some.is x.best in
     let within = reach_within g c.args.valid.now c.passing.rest c.scan-here.result.reach x.reach in
-    let far = c.farther-extent.ensures (let w = c.passing.invariant.whole in let s = c.requires.size in omega arith) in
+    let far = c.farther-extent.ensures in
     record {
       lex = take_lex g c.args.valid.now c.args.text.now c.passing.rest c.passing.first c.passing.pad c.passing.extent k c.scan-here.result x c.in-Some.found b;
       seen = subst (λ (n : ℕ). Seen g c.args.valid.now c.args.text.now n) (sym far)
@@ -36,7 +36,7 @@ returns-then-ended-clause-passed c g r =
     let e = c.at_end-ended.ensures.0 c.if-ended.true in
     let none = empty_of c.passing.rest e.0 in
     let within = reach_within g c.args.valid.now c.passing.rest c.scan-here.result.reach x.reach in
-    let far = c.farther-extent.ensures (let w = c.passing.invariant.whole in let s = c.requires.size in omega arith) in
+    let far = c.farther-extent.ensures in
     record {
       lex = end_lex g c.args.valid.now c.args.text.now c.passing.rest c.passing.first c.passing.pad c.passing.extent k c.scan-here.result x none e.1;
       seen = subst (λ (n : ℕ). Seen g c.args.valid.now c.args.text.now n) (sym far)
@@ -49,7 +49,7 @@ returns-then-here-eq0-clause-passed c g r =
     let x = c.scan-here.ensures.scanned g c.args.valid.now (here_ready g c.args.valid.now c.args.way.now c.args.view.now c.args.pair _ _ c.passing.invariant.room r) in
     let tokens = none_at g c.args.valid.now c.passing.first c.passing.rest c.scan-here.result.best c.in-None.is x.best in
     let within = reach_within g c.args.valid.now c.passing.rest c.scan-here.result.reach x.reach in
-    let far = c.farther-extent.ensures (let w = c.passing.invariant.whole in let s = c.requires.size in omega arith) in
+    let far = c.farther-extent.ensures in
     record {
       lex = stop_lex g c.args.valid.now c.args.text.now c.passing.rest c.passing.first c.passing.pad c.passing.extent k c.scan-here.result x tokens
           (λ none is. false≢true (sym c.if-ended.false ∙ c.at_end-ended.ensures.1 (ap (λ (l : Bytes). length l) none, is))) c.if-here-eq0.true;
@@ -57,6 +57,16 @@ returns-then-here-eq0-clause-passed c g r =
           (stop_seen g c.args.valid.now c.args.text.now c.passing.rest c.passing.first c.passing.pad c.passing.extent k c.scan-here.result x tokens
           (λ none is. false≢true (sym c.if-ended.false ∙ c.at_end-ended.ensures.1 (ap (λ (l : Bytes). length l) none, is))) c.if-here-eq0.true);
     }
+
+pub farther-extent-requires : goal.farther-extent-requires
+farther-extent-requires c =
+    let g = c.requires.ready.0 in
+    let r = c.requires.ready.1 in
+    let x = c.scan-here.ensures.scanned g c.args.valid.now (here_ready g c.args.valid.now c.args.way.now c.args.view.now c.args.pair _ _ c.passing.invariant.room r) in
+    let reach = reach_within g c.args.valid.now c.passing.rest c.scan-here.result.reach x.reach in
+    let whole = c.passing.invariant.whole in
+    let small = c.requires.size in
+    omega arith
 
 pub past-rest-requires : goal.past-rest-requires
 past-rest-requires c =
@@ -90,7 +100,7 @@ passing-preserved c =
           let reach = reach_within c.requires.ready.0 c.args.valid.now c.passing.rest c.scan-here.result.reach seen.reach in
           let whole = c.passing.invariant.whole in
           let near = c.passing.invariant.near in
-          let far = c.farther-extent.ensures (let s = c.requires.size in omega arith) in
+          let far = c.farther-extent.ensures in
           omega arith
           );
       passing = λ g r.
@@ -98,7 +108,7 @@ passing-preserved c =
           let x = c.scan-here.ensures.scanned g c.args.valid.now (here_ready g c.args.valid.now c.args.way.now c.args.view.now c.args.pair _ _ c.passing.invariant.room r) in
           let tokens = none_at g c.args.valid.now c.passing.first c.passing.rest c.scan-here.result.best c.in-None.is x.best in
           let within = reach_within g c.args.valid.now c.passing.rest c.scan-here.result.reach x.reach in
-          let far = c.farther-extent.ensures (let v = c.passing.invariant.whole in let s = c.requires.size in omega arith) in
+          let far = c.farther-extent.ensures in
           subst (λ (n : ℕ). Passing g c.args.valid.now c.args.text.now (drop c.scan-here.result.separator c.passing.rest) false (c.passing.pad + c.scan-here.result.separator) n) (sym far)
           (passing_more g c.args.valid.now c.args.text.now c.passing.rest c.passing.first c.passing.pad c.passing.extent k c.scan-here.result x tokens
           (λ none is. false≢true (sym c.if-ended.false ∙ c.at_end-ended.ensures.1 (ap (λ (l : Bytes). length l) none, is))) above);
@@ -112,7 +122,7 @@ returns-in-Some-clause-within c =
     let reach = reach_within g c.args.valid.now c.passing.rest c.scan-here.result.reach x.reach in
     let whole = c.passing.invariant.whole in
     let near = c.passing.invariant.near in
-    let far = c.farther-extent.ensures (let s = c.requires.size in omega arith) in
+    let far = c.farther-extent.ensures in
     let b = best_at g c.args.valid.now c.passing.first c.passing.rest c.scan-here.result.best c.in-Some.found c.in-Some.is x.best in
     let size = best_within g c.args.valid.now c.passing.first c.passing.rest c.in-Some.found.symbol c.in-Some.found.size b in
     record { pad = omega arith; extent = omega arith; found = omega arith }
@@ -125,7 +135,7 @@ returns-then-ended-clause-within c =
     let reach = reach_within g c.args.valid.now c.passing.rest c.scan-here.result.reach x.reach in
     let whole = c.passing.invariant.whole in
     let near = c.passing.invariant.near in
-    let far = c.farther-extent.ensures (let s = c.requires.size in omega arith) in
+    let far = c.farther-extent.ensures in
     record { pad = omega arith; extent = omega arith; found = omega arith }
 
 pub returns-then-here-eq0-clause-within : goal.returns-then-here-eq0-clause-within
@@ -136,7 +146,7 @@ returns-then-here-eq0-clause-within c =
     let reach = reach_within g c.args.valid.now c.passing.rest c.scan-here.result.reach x.reach in
     let whole = c.passing.invariant.whole in
     let near = c.passing.invariant.near in
-    let far = c.farther-extent.ensures (let s = c.requires.size in omega arith) in
+    let far = c.farther-extent.ensures in
     record { pad = omega arith; extent = omega arith; found = tt }
 
 pub scan-here-requires-clause-ready : goal.scan-here-requires-clause-ready

@@ -27,7 +27,7 @@ loop-c-init c = record {
 }
 
 pub returns-then-not-verdict-clause-read : goal.returns-then-not-verdict-clause-read
-returns-then-not-verdict-clause-read c g valid rest tail made view automaton before =
+returns-then-not-verdict-clause-read c g valid rest tail made view automaton before best chosen =
     let laws : Laws = record {
       front_prefix = c.a_front_has_fronts.ensures;
       word_front = c.every_word_is_a_front.ensures.word;
@@ -44,12 +44,11 @@ returns-then-not-verdict-clause-read c g valid rest tail made view automaton bef
     let read = c.next-to.ensures.stands run.characters run.read in
     let judged = subst (λ (a : Automaton). JudgesNodes g valid c.args.first a c.members.result.now c.judge-verdict.result) c.automaton.ensures (c.judge-verdict.ensures g valid made view) in
     let known = knows g m automaton _ c.next-to.result read c.members.result.now c.members.ensures valid c.args.first c.judge-verdict.result judged in
-    let o = c.chosen.ensures in
     let here = chars_rest c.loop-c.c-iterator in
     let there = chars_rest c.next.new.self in
     dead_at laws g valid c.args.first rest (λ w. HasRead m w c.loop-c.state) (here ++ tail) c.loop-c.size c.loop-c.progress run c.in-Some.c (there ++ tail)
     (spelled_before here there tail c.in-Some.c c.in-Some.ensures.steps.0) c.len_utf8.result c.len_utf8.ensures.value
-    c.judge-verdict.result known c.if-not-verdict.true c.chosen.result (record { plain = o.plain; keyword = o.keyword; both = λ j k x s a b e f p q. o.both g j k x s a b e f made p q })
+    c.judge-verdict.result known c.if-not-verdict.true best chosen
 
 pub loop-c-preserved : goal.loop-c-preserved
 loop-c-preserved c =
@@ -85,9 +84,9 @@ loop-c-preserved c =
           let there = chars_rest c.next.new.self in
           let spells = spelled_before here there tail c.in-Some.c c.in-Some.ensures.steps.0 in
           let step = step_at laws g valid c.args.first rest (λ w. HasRead m w c.loop-c.state) (here ++ tail) c.loop-c.size c.loop-c.progress run c.in-Some.c (there ++ tail) spells c.len_utf8-size.result c.len_utf8-size.ensures.value in
-          let sofar = c.advance-progress.ensures.sofar g valid c.args.first rest c.loop-c.size _ made step known run.sofar in
+          let sofar = c.advance.ensures.sofar g valid c.args.first rest c.loop-c.size _ made step known run.sofar in
           more_at laws g valid c.args.first rest (λ w. HasRead m w c.loop-c.state) (here ++ tail) c.loop-c.size c.loop-c.progress run c.in-Some.c (there ++ tail) spells c.len_utf8-size.result c.len_utf8-size.ensures.value
-          c.judge-verdict.result (λ w. HasRead m w c.next-to.result) c.advance-progress.result known c.if-not-verdict.false read sofar;
+          c.judge-verdict.result (λ w. HasRead m w c.next-to.result) c.advance.new.progress known c.if-not-verdict.false read sofar;
     }
 
 pub returns-clause-size : goal.returns-clause-size

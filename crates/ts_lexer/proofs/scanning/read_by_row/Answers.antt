@@ -34,7 +34,7 @@ returns-clause-read c g valid first rest tail rules rows is before =
     subst (λ (l : Bytes). Running (λ w. HasRead c.args.machine.now w c.reading.state) g valid first rest (l ++ tail) (c.args.run.now.size + c.reading.place) c.reading.progress) none run
 
 pub returns-then-not-verdict-clause-read : goal.returns-then-not-verdict-clause-read
-returns-then-not-verdict-clause-read c g valid first rest tail rules rows is before =
+returns-then-not-verdict-clause-read c g valid first rest tail rules rows is before best chosen =
     let laws : Laws = record {
       front_prefix = c.a_front_has_fronts.ensures;
       word_front = c.every_word_is_a_front.ensures.word;
@@ -49,11 +49,10 @@ returns-then-not-verdict-clause-read c g valid first rest tail rules rows is bef
     let run = c.reading.invariant.running g valid first rest tail rules rows is before in
     let m = c.args.machine.now in
     let t = c.turn_at-turn.ensures in
-    let known = row_knows g valid first m is c.args.row.now rows _ c.turn_at-turn.result.to c.verdict_at-verdict.result (t.leads run.characters run.read) c.verdict_at-verdict.ensures in
-    let o = c.chosen.ensures in
+    let known = row_knows g valid first m is c.args.row.now rows _ c.turn_at-turn.result.to c.verdict_at-verdict.result.now (t.leads run.characters run.read) c.verdict_at-verdict.ensures in
     dead_at laws g valid first rest (λ w. HasRead m w c.reading.state) (drop c.reading.place c.args.piece.now ++ tail) (c.args.run.now.size + c.reading.place) c.reading.progress run t.character (t.later ++ tail)
     (spelled_before (drop c.reading.place c.args.piece.now) t.later tail t.character t.spells) c.turn_at-turn.result.len t.len
-    c.verdict_at-verdict.result known c.if-not-verdict.true c.chosen.result (record { plain = o.plain; keyword = o.keyword; both = λ j k x s a b e f p q. o.both g j k x s a b e f rules p q })
+    c.verdict_at-verdict.result.now known c.if-not-verdict.true best chosen
 
 pub end_of_stay-place-requires-clause-from : goal.end_of_stay-place-requires-clause-from
 end_of_stay-place-requires-clause-from c =
@@ -97,8 +96,8 @@ reading-preserved c =
           let run = inv.running g valid first rest tail rules rows is started in
           let here = drop c.reading.place c.args.piece.now in
           let there = drop c.end_of_stay-place.result c.args.piece.now in
-          turned laws g valid first m is c.args.row.now rows c.turn_at-turn.result.to c.verdict_at-verdict.result c.verdict_at-verdict.ensures c.if-not-verdict.false rest
+          turned laws g valid first m is c.args.row.now rows c.turn_at-turn.result.to c.verdict_at-verdict.result.now c.verdict_at-verdict.ensures c.if-not-verdict.false rest
           (here ++ tail) (c.args.run.now.size + c.reading.place) (λ w. HasRead m w c.reading.state) c.reading.progress run t.character (t.later ++ tail) (spelled_before here t.later tail t.character t.spells) (t.leads run.characters run.read)
-          (there ++ tail) (stays_before m c.turn_at-turn.result.to t.later there tail stays) (c.args.run.now.size + c.end_of_stay-place.result) (same_sum c.args.piece.now tail c.args.run.now.size c.reading.place c.end_of_stay-place.result inv.within high) c.advance-progress.result
-          (λ w step known sofar. c.advance-progress.ensures.sofar g valid first rest (c.args.run.now.size + c.reading.place) w rules step known sofar);
+          (there ++ tail) (stays_before m c.turn_at-turn.result.to t.later there tail stays) (c.args.run.now.size + c.end_of_stay-place.result) (same_sum c.args.piece.now tail c.args.run.now.size c.reading.place c.end_of_stay-place.result inv.within high) c.advance.new.progress
+          (λ w step known sofar. c.advance.ensures.sofar g valid first rest (c.args.run.now.size + c.reading.place) w rules step known sofar);
     }

@@ -25,7 +25,7 @@ loop-c-init c = record {
 }
 
 pub returns-then-not-verdict-clause-read : goal.returns-then-not-verdict-clause-read
-returns-then-not-verdict-clause-read c g valid rest tail made view before =
+returns-then-not-verdict-clause-read c g valid rest tail made view before best chosen =
     let laws : Laws = record {
       front_prefix = c.a_front_has_fronts.ensures;
       word_front = c.every_word_is_a_front.ensures.word;
@@ -42,12 +42,11 @@ returns-then-not-verdict-clause-read c g valid rest tail made view before =
     let read = c.step.ensures.stands run.characters (c.loop-c.invariant.room ∙ made.size) run.read in
     let judged = c.judge-verdict.ensures g valid made.rules view in
     let known = walk_knows g a made.automaton _ c.step.new.self read c.members.result.now c.members.ensures valid c.args.first c.judge-verdict.result judged in
-    let o = c.chosen.ensures in
     let here = chars_rest c.loop-c.c-iterator in
     let there = chars_rest c.next.new.self in
     dead_at laws g valid c.args.first rest (λ w. HasCome a w c.loop-c.walk) (here ++ tail) c.loop-c.size c.loop-c.progress run c.in-Some.c (there ++ tail)
     (spelled_before here there tail c.in-Some.c c.in-Some.ensures.steps.0) c.len_utf8.result c.len_utf8.ensures.value
-    c.judge-verdict.result known c.if-not-verdict.true c.chosen.result (record { plain = o.plain; keyword = o.keyword; both = λ j k x s y z e f p q. o.both g j k x s y z e f made.rules p q })
+    c.judge-verdict.result known c.if-not-verdict.true best chosen
 
 pub loop-c-preserved : goal.loop-c-preserved
 loop-c-preserved c =
@@ -83,9 +82,9 @@ loop-c-preserved c =
           let there = chars_rest c.next.new.self in
           let spells = spelled_before here there tail c.in-Some.c c.in-Some.ensures.steps.0 in
           let step = step_at laws g valid c.args.first rest (λ w. HasCome a w c.loop-c.walk) (here ++ tail) c.loop-c.size c.loop-c.progress run c.in-Some.c (there ++ tail) spells c.len_utf8-size.result c.len_utf8-size.ensures.value in
-          let sofar = c.advance-progress.ensures.sofar g valid c.args.first rest c.loop-c.size _ made.rules step known run.sofar in
+          let sofar = c.advance.ensures.sofar g valid c.args.first rest c.loop-c.size _ made.rules step known run.sofar in
           more_at laws g valid c.args.first rest (λ w. HasCome a w c.loop-c.walk) (here ++ tail) c.loop-c.size c.loop-c.progress run c.in-Some.c (there ++ tail) spells c.len_utf8-size.result c.len_utf8-size.ensures.value
-          c.judge-verdict.result (λ w. HasCome a w c.step.new.self) c.advance-progress.result known c.if-not-verdict.false read sofar;
+          c.judge-verdict.result (λ w. HasCome a w c.step.new.self) c.advance.new.progress known c.if-not-verdict.false read sofar;
     }
 
 pub returns-clause-size : goal.returns-clause-size

@@ -68,8 +68,9 @@ returns-in-Ended-clause-scanned c g valid whole ready started =
     let inv = c.pieces.invariant in
     let before = subst (λ (l : Bytes). IsRun (LeadsOn c.args.way.now c.pieces.walk) g valid c.args.first whole l c.pieces.run) (sym c.split-later.ensures.whole) (inv.running g valid whole ready started) in
     let here = here_ready g valid c.args.way.now c.args.view.now c.args.pair _ _ inv.room ready in
-    ended (LeadsOn c.args.way.now c.read_piece-read.new.walk) g valid c.args.first whole c.split-later.result.1 c.read_piece-read.result c.in-Ended.scanned c.in-Ended.is
-    (c.read_piece-read.ensures.read g valid whole c.split-later.result.1 here before)
+    c.scanned.ensures g valid c.args.first whole (c.rules_on.ensures g _ ready.made)
+    (ended (LeadsOn c.args.way.now c.read_piece-read.new.walk) g valid c.args.first whole c.split-later.result.1 c.read_piece-read.result c.in-Ended.all c.in-Ended.is
+    (c.read_piece-read.ensures.read g valid whole c.split-later.result.1 here before))
 
 pub returns-clause-scanned : goal.returns-clause-scanned
 returns-clause-scanned c g valid whole ready started =
@@ -86,7 +87,5 @@ returns-clause-scanned c g valid whole ready started =
     } in
     let run = c.pieces.invariant.running g valid whole ready started in
     let none = c.is_empty.ensures.0 c.pieces-test.false in
-    let rules = c.rules_on.ensures g _ ready.made in
-    let o = c.chosen.ensures in
-    end_at laws g valid c.args.first whole (LeadsOn c.args.way.now c.pieces.walk c.pieces.run.state) c.pieces.rest c.pieces.run.size c.pieces.run.progress run none c.chosen.result
-    (record { plain = o.plain; keyword = o.keyword; both = λ j k x s a b e f p q. o.both g j k x s a b e f rules p q })
+    c.scanned-2.ensures g valid c.args.first whole (c.rules_on-2.ensures g _ ready.made)
+    (end_at laws g valid c.args.first whole (LeadsOn c.args.way.now c.pieces.walk c.pieces.run.state) c.pieces.rest c.pieces.run.size c.pieces.run.progress run none)

@@ -60,7 +60,8 @@ returns-in-Ended-clause-scanned c g valid ready =
     let begun = subst (λ (l : Bytes). Running (LeadsOn c.args.way.now c.first_set-state.new.walk c.first_set-state.result) g valid c.args.first c.args.rest.now l 0 none) (sym (c.split-later.ensures.whole ∙ c.copied-rest.ensures.same)) begins in
     let here = here_ready g valid c.args.way.now c.args.view.now c.args.pair _ _ c.first_set-state.ensures.room ready in
     let read = c.read_piece-read.ensures.read g valid c.args.rest.now c.split-later.result.1 here begun in
-    ended (LeadsOn c.args.way.now c.read_piece-read.new.walk) g valid c.args.first c.args.rest.now c.split-later.result.1 c.read_piece-read.result c.in-Ended.scanned c.in-Ended.is read
+    c.scanned.ensures g valid c.args.first c.args.rest.now (c.rules_on.ensures g _ ready.made)
+    (ended (LeadsOn c.args.way.now c.read_piece-read.new.walk) g valid c.args.first c.args.rest.now c.split-later.result.1 c.read_piece-read.result c.in-Ended.all c.in-Ended.is read)
 
 pub returns-in-Open-clause-scanned : goal.returns-in-Open-clause-scanned
 returns-in-Open-clause-scanned c g valid ready =
