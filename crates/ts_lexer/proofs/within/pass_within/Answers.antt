@@ -8,8 +8,8 @@ use Rattle.ts_lexer.proofs.within.pass_within.Goals as goal
 pub row_for-row-requires : goal.row_for-row-requires
 row_for-row-requires c = (c.requires.ready.0, c.requires.ready.1, c.requires.ready.3)
 
-pub row_for-row-requires-2 : goal.row_for-row-requires-2
-row_for-row-requires-2 c = (c.requires.ready.0, c.requires.ready.1, c.requires.ready.3)
+pub row_for-row-requires-in-passing : goal.row_for-row-requires-in-passing
+row_for-row-requires-in-passing c = (c.requires.ready.0, c.requires.ready.1, c.requires.ready.3)
 
 pub passing-init : goal.passing-init
 passing-init c = record {
@@ -64,7 +64,7 @@ passing-preserved c =
     let inside = separator_within r.0 r.1 piece k.0 c.passing.pad c.passing.extent inv.within here x inv.utf8 above in
     let close = reach_near r.0 r.1 piece k.0 c.passing.pad c.passing.extent inv.within here x in
     record {
-      count = (c.row_for-row-2.ensures r.0 r.1 r.3).count;
+      count = (c.row_for-row-in-passing.ensures r.0 r.1 r.3).count;
       within = inside;
       utf8 = separator_utf8 r.0 r.1 piece k.0 c.passing.pad c.passing.extent inv.within here x inv.utf8 above;
       near = (let near = inv.near in let far = c.farther-extent.ensures in omega arith);
@@ -72,14 +72,14 @@ passing-preserved c =
           let q = inv.passing g valid tail made has utf8 in
           let y = c.in-Some.ensures.scanned g valid q.0 tail made.rules q.1 made.automaton utf8 in (
             false,
-            c.row_for-row-2.ensures g valid has,
+            c.row_for-row-in-passing.ensures g valid has,
             subst (λ (n : ℕ). Passing g valid (piece ++ tail) (drop (c.passing.pad + here.separator) piece ++ tail) false (c.passing.pad + here.separator) n) (sym c.farther-extent.ensures)
                 (passed_more g valid piece q.0 c.passing.pad c.passing.extent inv.within here tail inv.near close q.2 y c.in-None.is c.in-Some.ensures.some above inside),
           );
     }
 
-pub returns-in-Some-2 : goal.returns-in-Some-2
-returns-in-Some-2 c g valid tail made has utf8 =
+pub returns-in-Some-best : goal.returns-in-Some-best
+returns-in-Some-best c g valid tail made has utf8 =
     let inv = c.passing.invariant in
     let r = c.requires.ready in
     let piece = c.args.piece.now in
@@ -89,8 +89,8 @@ returns-in-Some-2 c g valid tail made has utf8 =
     let close = reach_near r.0 r.1 piece k.0 c.passing.pad c.passing.extent inv.within here x in
     let q = inv.passing g valid tail made has utf8 in
     let y = c.in-Some.ensures.scanned g valid q.0 tail made.rules q.1 made.automaton utf8 in
-    subst (λ (n : ℕ). IsFoundIn g valid (piece ++ tail) (record { found = Some c.in-Some-2.found; pad = c.passing.pad; extent = n })) (sym c.farther-extent.ensures)
-    (taken g valid piece q.0 c.passing.pad c.passing.extent inv.within here tail inv.near close q.2 y c.in-Some-2.found c.in-Some-2.is)
+    subst (λ (n : ℕ). IsFoundIn g valid (piece ++ tail) (record { found = Some c.in-Some-best.found; pad = c.passing.pad; extent = n })) (sym c.farther-extent.ensures)
+    (taken g valid piece q.0 c.passing.pad c.passing.extent inv.within here tail inv.near close q.2 y c.in-Some-best.found c.in-Some-best.is)
 
 pub returns-then-here-eq0 : goal.returns-then-here-eq0
 returns-then-here-eq0 c g valid tail made has utf8 =

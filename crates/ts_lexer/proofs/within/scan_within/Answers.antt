@@ -1,4 +1,4 @@
-use Rattle.std.proofs.Common.{◌≡◌, sym, subst, ℕ, ◌+◌, ◌-◌, ◌<◌, ◌≤◌, ◌++◌, None, length, drop, arith}
+use Rattle.std.proofs.Common.{◌≡◌, sym, subst, ℕ, ◌+◌, ◌-◌, ◌<◌, ◌≤◌, ◌++◌, List, None, length, drop, arith}
 use Rattle.std.specs.Str.{IsUtf8}
 use Rattle.std.proofs.lemmas.Str.{IsUtf8-append}
 use Rattle.ts_base.specs.Bytes.{Bytes}
@@ -18,7 +18,7 @@ pub reading-init : goal.reading-init
 reading-init c = record {
   set = c.first-state.ensures.within;
   rises = omega arith;
-  within = (let lt = c.if-from-len.false in omega arith);
+  within = (let lt = c.if-from-piece.false in omega arith);
   utf8 = c.requires.utf8;
   turns = c.turn_at.ensures;
   running = λ g valid first tail rules rows is utf8.
@@ -34,7 +34,7 @@ reading-init c = record {
         one = c.one_character_at_a_time.ensures;
       } in
       let text = drop c.args.from c.args.piece.now ++ tail in
-      let R = λ w. HasRead c.args.machine.now w c.first-state.result in
+      let R = λ (w : List ℕ). HasRead c.args.machine.now w c.first-state.result in
       let none : Progress = record { plain = None; word = 0; keyword = None; separator = 0 } in
       let begun : 0 ≡ c.args.from - c.args.from = omega arith in
       subst (λ (n : ℕ). Running R g valid first text text n none) begun
