@@ -3,6 +3,7 @@ use Rattle.std.proofs.Common.{◌≡◌, ◌∙◌, sym, ap, refl, subst, ℕ, z
 use Rattle.std.specs.List.{Contains}
 use Rattle.ts_core.specs.declared.flat.Production.{Production}
 use Rattle.ts_core.specs.declared.symbol.Symbol.{Symbol}
+use Rattle.spec_grammar.specs.Symbols.{production_at}
 use Rattle.spec_lexing.specs.Lexing.{Found, token}
 use Rattle.spec_tables.specs.Fit.{Fit}
 use Rattle.spec_trees.specs.Made.{step_symbols}
@@ -120,6 +121,12 @@ module _ (P : Parsing) (facts : Facts P) where
       let rest : w.earlier ≡ earlier = append_cancel (reverse (step_symbols p)) w.earlier earlier (sym read_is ∙ r.read_is) in
       subst (λ (l : ℕ). StandsBefore P.grammar earlier l) same_left (subst (λ (e : List ℕ). StandsBefore P.grammar e w.left) rest w.before)
 
+  -- after a reduction by a production no more tokens have moves
+  narrows_by : (number left : ℕ) (p : Production) (earlier : List ℕ) → production_at P.grammar number ≡ Some (left, p) → IsNarrower P (reverse (step_symbols p) ++ earlier) (left ∷ earlier)
+  narrows_by number left p earlier at t move none =
+      facts.laws.some_move P.grammar (reverse (step_symbols p) ++ earlier) t _
+      (facts.laws.no_new_tokens P.grammar facts.fit number left t p earlier at move) none
+
   -- after a reduction no more tokens have moves
   pub narrows : (read : List ℕ) (place number left : ℕ) (p : Production) (earlier : List ℕ) → ReducesAt P read place number left p earlier → IsNarrower P read (left ∷ earlier)
   narrows read place number left p earlier r t move none =
@@ -148,6 +155,15 @@ module _ (P : Parsing) (facts : Facts P) where
           none = λ m. narrower s.0 m p.none;
         }
 
+    -- a token is seen too where fewer moves stay, if one of these does on it
+    sees_still : (n : ℕ) → LeadsTo P.goto other n → (place : ℕ) (s : Symbol) (pad size : ℕ) → HasMove P.grammar other s.0 → SeesAt P read place (token s pad size) → SeesAt P other place (token s pad size)
+    sees_still n l place s pad size move sees =
+        let v = facts.states.valid other n l in (
+          v.0,
+          v.1,
+          facts.laws.fewer_tokens P.grammar sees.0 v.0 (drop place P.text) s pad size (fewer sees.0 v.0 sees.1 v.1) ((v.1 s).1 (inl move)) sees.2,
+        )
+
   -- ---- lists of symbols that lead to one state
 
   module _ (read other : List ℕ) (share : ShareState P.goto read other) where
@@ -170,3 +186,14 @@ module _ (P : Parsing) (facts : Facts P) where
       extra = p.extra;
       none = λ m. p.none (move_back s.0 m);
     }
+
+  -- ---- behind a reduction
+
+  -- a token that was seen before it, if some move stays on it there
+  pub sees_again : (number left : ℕ) (p : Production) (earlier : List ℕ) → production_at P.grammar number ≡ Some (left, p) → (read now : List ℕ) (place pad size : ℕ) (s : Symbol) → ShareState P.goto read (reverse (step_symbols p) ++ earlier)
+      → ShareState P.goto (left ∷ earlier) now → HasMove P.grammar now s.0 → SeesAt P read place (token s pad size) → SeesAt P now place (token s pad size)
+  sees_again number left p earlier at read now place pad size s before behind move sees =
+      let above = sees_shared read (reverse (step_symbols p) ++ earlier) before place (token s pad size) sees in
+      let stays = move_back (left ∷ earlier) now behind s.0 move in
+      let over = sees_still (reverse (step_symbols p) ++ earlier) (left ∷ earlier) (narrows_by number left p earlier at) behind.0 behind.1 place s pad size stays above in
+      sees_shared (left ∷ earlier) now behind place (token s pad size) over

@@ -11,7 +11,7 @@ ghost use Rattle.spec_trees.specs.declared.tree.Tree.{Tree};
 ghost use Rattle.spec_trees.specs.Trees.{is_extra_node, span_of, all_spans, tree_depth, bare};
 ghost use Rattle.spec_trees.specs.Made.{form_of, filling, step_symbols, BeginsFilled, most_depth};
 ghost use Rattle.spec_trees.specs.Choice.{Better};
-ghost use Rattle.spec_runs.specs.Configurations.{Configuration, stack_symbols, AreExtras};
+ghost use Rattle.spec_runs.specs.Configurations.{Configuration, stack_symbols, AreExtras, HasMove};
 ghost use Rattle.spec_runs.specs.Moves.{StandsBefore};
 ghost use Rattle.spec_runs.specs.Runs.{Run, IsReached, ComesTooDeep, AcceptsTree, StopsAt};
 ghost use Rattle.spec_runs.specs.Outcomes.{SomeIsTooDeep, SomeAccepts, SomeStopsAt, IsBestTree, IsLastStop};
@@ -174,6 +174,19 @@ pub fn extras_are_passed()
         → (read other : List ℕ) (place : ℕ) (s : AnySymbol) (pad size : ℕ)
         → ShareState P.goto read other → PassesAt P read place s pad size
         → PassesAt P other place s pad size }
+{
+    laws_hold();
+}
+
+/// Behind a reduction a token is seen that was seen before it, if some move stays on it there.
+pub fn tokens_are_seen_again()
+    ensures { (P : Parsing) → Fit P.grammar → AreStates P.grammar P.goto
+        → (number left : ℕ) (p : Production) (earlier : List ℕ)
+        → production_at P.grammar number ≡ Some (left, p)
+        → (read now : List ℕ) (place pad size : ℕ) (s : AnySymbol)
+        → ShareState P.goto read (reverse (step_symbols p) ++ earlier)
+        → ShareState P.goto (left ∷ earlier) now → HasMove P.grammar now s.0
+        → SeesAt P read place (token s pad size) → SeesAt P now place (token s pad size) }
 {
     laws_hold();
 }

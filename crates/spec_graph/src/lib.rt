@@ -10,5 +10,6 @@ pub use graph::{Head, Link};
 pub use laws::{
     extras_are_passed, graphs_are_sound, graphs_tell_the_outcome, keys_follow, keys_pass,
     links_pack, new_heads_have_little, parts_come_first, reductions_are_due, reductions_are_laid,
-    runs_lay, stacks_are_grounded, trees_replace, whole_graphs_have_all, whole_to_the_next,
+    runs_lay, stacks_are_grounded, tokens_are_seen_again, trees_replace, whole_graphs_have_all,
+    whole_to_the_next,
 };
