@@ -1,5 +1,6 @@
 pub mod ListLemmas
 pub mod DownLemmas
+pub mod LeadLemmas
 pub mod CellLemmas
 pub mod BetweenLemmas
 pub mod PackLemmas

@@ -1,5 +1,5 @@
 -- The links that lead down from a head, and what holds of every graph.
-use Rattle.std.specs.Prelude.{◌≡◌, ℕ, ◌+◌, ◌<◌, ◌⊎◌, max, List, [], ◌∷◌, ◌++◌, length, map, take, slice_get, Option, Some, None, if◌then◌else◌, nat_eq}
+use Rattle.std.specs.Prelude.{◌≡◌, ℕ, ◌+◌, ◌<◌, ◌≤◌, ◌⊎◌, max, List, [], ◌∷◌, ◌++◌, length, map, take, slice_get, Option, Some, None, if◌then◌else◌, nat_eq}
 use Rattle.std.specs.Option.{option_map_or}
 use Rattle.spec_trees.specs.declared.tree.Tree.{Tree}
 use Rattle.spec_trees.specs.Choice.{Better}
@@ -56,6 +56,11 @@ pub record IsPacked (old : Link) (tree : Tree) (depth : ℕ) (new : Link) : Type
   pub better : Better tree old.tree → new.tree ≡ tree
   pub no_better : (Better tree old.tree → ⊥) → new.tree ≡ old.tree
   pub depth_is : new.depth ≡ max old.depth depth
+
+-- all links from a number on lead down from heads from another number on
+abbrev pub LeadFrom : List Link → ℕ → ℕ → Type 0
+LeadFrom links first head =
+    (k : ℕ) (l : Link) → slice_get links k ≡ Some l → first ≤ k → head ≤ l.above
 
 -- ---- every graph
 

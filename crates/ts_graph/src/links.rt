@@ -5,7 +5,7 @@ ghost use Rattle.spec_trees.specs.Choice.{AreOfOneGrammar};
 ghost use Rattle.spec_graph.specs.declared.graph.Link.{Link};
 ghost use Rattle.ts_graph.specs.Cells.{link_of};
 ghost use Rattle.ts_graph.specs.Bounds.{IsBound, LeadNoLower, AllPast};
-ghost use Rattle.ts_graph.specs.Down.{link_with, links_down, links_from, place_at, HasNone, IsBetween, IsPacked};
+ghost use Rattle.ts_graph.specs.Down.{link_with, links_down, links_from, place_at, HasNone, IsBetween, IsPacked, LeadFrom};
 
 use crate::graph::{Cell, Graph, Row};
 use std::alloc::AllocError;
@@ -40,6 +40,25 @@ fn with_newest(row: Row, link: usize) -> Row
 }
 
 impl Graph {
+    /// How many links there are.
+    pub fn link_count(&self) -> usize
+        ensures { result ≡ length self.now.links }
+    {
+        self.cells.len()
+    }
+
+    /// Whether all links from a number on lead down from heads from another number on.
+    pub fn lead_from(&self, links: usize, heads: usize) -> bool
+        ensures { IsTrue result → LeadFrom self.now.links links heads }
+    {
+        for link in links..self.link_count() {
+            if self.link(link).above < heads {
+                return false;
+            }
+        }
+        true
+    }
+
     /// A link as it is kept.
     fn cell(&self, link: usize) -> &Cell
         requires { link < length self.now.links }
