@@ -183,8 +183,8 @@ module _ (laws : ReductionLaws) (nodes : NodeLaws) (t : ParseTable) (table : IsT
 
         pub made_for : (ks : List Tree) → ks ≡ cs → (m : Made) → ((start limit : ℕ) → start + (all_spans cs + (all_spans xs + top.ahead)) ≤ limit → EndBy limit start cs → EndBy limit (start + all_spans cs) xs → start + extent ≤ limit)
             → (head : Head) → slice_get g.heads b ≡ Some head → goto_of t head.state l.left.0 ≡ Some m.piece.state
-            → m.below ≡ b → m.piece.node ≡ reduced s.productions number extent None ks → m.piece.depth ≡ depth → m.extras ≡ xs → IsMadeFor t (length text) g k top number way b m
-        made_for ks ks_are m most head head_is goes below_is node_is deep extras_are =
+            → m.below ≡ b → m.piece.node ≡ reduced s.productions number extent None ks → m.piece.depth ≡ depth → m.extras ≡ xs → m.top ≡ top → IsMadeFor t (length text) g k top number way b m
+        made_for ks ks_are m most head head_is goes below_is node_is deep extras_are top_is =
             let good = making.good_node laws nodes t table text s g k top number way b ready asked small_own extent own_covers own_past own_low in
             let own_node : m.piece.node ≡ reduced t.grammar number extent None (children_on way) =
             node_is ∙ ap (λ (f : FlatGrammar). reduced f number extent None ks) ready.setting.productions ∙ ap (λ (c : List Tree). reduced t.grammar number extent None c) (ks_are ∙ cs_are) in
@@ -211,4 +211,5 @@ module _ (laws : ReductionLaws) (nodes : NodeLaws) (t : ParseTable) (table : IsT
               depth_is = deep ∙ depth_so;
               shallow = omega (arith, deep, low);
               extras_are = extras_are ∙ xs_are;
+              top_is = top_is;
             }

@@ -88,12 +88,17 @@ tree_stays laws links links' stay below tree depth above h =
 pub grows_none : LayingLaws → (g : GraphView) → Grows g g
 grows_none laws g = record {
   stay = λ h head at. at;
+  kept = λ k l at. (l, at, refl, refl, refl);
   links = λ l there. (l, there, refl, refl, laws.same l.tree, (omega arith));
 }
 
 pub grows_on : LayingLaws → (a b c : GraphView) → Grows a b → Grows b c → Grows a c
 grows_on laws a b c f g = record {
   stay = numbers_stay a.heads b.heads c.heads f.stay g.stay;
+  kept = λ k l at.
+      let n = f.kept k l at in
+      let m = g.kept k n.0 n.1 in
+      (m.0, m.1, m.2 ∙ n.2, m.3 ∙ n.3, m.4 ∙ n.4);
   links = λ l there.
       let n = f.links l there in
       let m = g.links n.0 n.1 in

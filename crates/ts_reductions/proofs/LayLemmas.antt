@@ -4,9 +4,9 @@ use Rattle.std.specs.List.{Contains}
 use Rattle.std.proofs.lemmas.Option.{slice_get_within}
 use Rattle.std.proofs.lemmas.Bool.{cases_order}
 use Rattle.std.proofs.lemmas.List.Elements.{Contains-append_left, Contains-push, Contains-push_cases}
-use Rattle.ts_base.proofs.PlaceLemmas.{push_cases}
+use Rattle.ts_base.proofs.PlaceLemmas.{in_prefix, push_cases}
 use Rattle.spec_trees.specs.declared.tree.Tree.{Tree}
-use Rattle.spec_trees.specs.Trees.{pad_of, size_of, span_of, node_extent, tree_depth, bare}
+use Rattle.spec_trees.specs.Trees.{is_extra_node, pad_of, size_of, span_of, node_extent, tree_depth, bare}
 use Rattle.spec_trees.specs.Made.{most_depth}
 use Rattle.spec_trees.specs.Choice.{IsInForm, AreOfOneGrammar}
 use Rattle.spec_graph.specs.declared.graph.Head.{Head}
@@ -18,7 +18,7 @@ use Rattle.ts_graph.specs.declared.view.GraphView.{GraphView}
 use Rattle.ts_graph.specs.Down.{KeepNumbers, OpensAt, IsBetween, IsPacked, link_with, place_at}
 use Rattle.ts_reductions.specs.LayingLaws.{LayingLaws}
 use Rattle.ts_reductions.specs.SoundLinks.{bare_link, bare_links, IsHeld}
-use Rattle.ts_reductions.specs.Laying.{CanLayOn, HasTree, head_at, WasThere, IsLaid}
+use Rattle.ts_reductions.specs.Laying.{CanLayOn, HasTree, head_at, WasThere, KeepLinks, IsLaid}
 use Rattle.ts_reductions.proofs.MemberLemmas.{contained_at, at_contained, read_at}
 use Rattle.ts_reductions.proofs.GrowLemmas.{LinksStay, bare_member, member_bare, place_is_at, same_place, at_stays, linked_stays, way_stays}
 
@@ -99,7 +99,7 @@ module _ (laws : LayingLaws) (Q : Parsing) (old : GraphView) (below : ℕ) (tree
   -- ---- the grown graph
 
   module _ (new : GraphView) (heads_are : new.heads ≡ heads) (only : (h : ℕ) (head : Head) → slice_get heads h ≡ Some head → (slice_get old.heads h ≡ Some head) ⊎ (h ≡ above))
-      (links_stay : LinksStay (bare_links old.links) (bare_links new.links))
+      (links_stay : LinksStay (bare_links old.links) (bare_links new.links)) (kept : KeepLinks old.links new.links)
       (each : (l : Link) → Contains new.links l → IsLinked Q heads (bare_link l) × IsHeld Q heads l)
       (has : HasTree (bare_links new.links) below (bare tree) depth above) (trees : (l : Link) → Contains new.links l → Comes l) where
     down : (h : ℕ) (head : Head) → slice_get heads h ≡ Some head → (way : List Link) × IsWay (bare_links new.links) h way 0
@@ -142,6 +142,7 @@ module _ (laws : LayingLaws) (Q : Parsing) (old : GraphView) (below : ℕ) (tree
       };
       grows = record {
         stay = subst (λ (hs : List Head). KeepNumbers old.heads hs) (sym heads_are) stay;
+        kept = kept;
         links = links_stay;
       };
       at = subst (λ (hs : List Head). slice_get hs above ≡ Some (head_at state to)) (sym heads_are) at;
@@ -174,10 +175,13 @@ module _ (laws : LayingLaws) (Q : Parsing) (old : GraphView) (below : ℕ) (tree
 
   pub push_laid : (new : GraphView) → new.heads ≡ heads → ((h : ℕ) (head : Head) → slice_get heads h ≡ Some head → (slice_get old.heads h ≡ Some head) ⊎ (h ≡ above)) → new.links ≡ old.links ++ link_with above below tree depth ∷ []
       → IsLaid Q old new below can.from tree depth state above
-  push_laid new heads_are only links_are = is_laid new heads_are only stays each has trees
+  push_laid new heads_are only links_are = is_laid new heads_are only stays kept each has trees
     where
       stays : LinksStay (bare_links old.links) (bare_links new.links)
       stays l there = (l, subst (λ (ls : List Link). Contains (bare_links ls) l) (sym links_are) (same_stay l (one ∷ []) there), refl, refl, laws.same l.tree, (omega arith))
+
+      kept : KeepLinks old.links new.links
+      kept k l is = (l, ap (λ (ls : List Link). slice_get ls k) links_are ∙ in_prefix old.links (one ∷ []) k (slice_get_within old.links k l is) ∙ is, refl, refl, refl)
 
       here : Contains new.links one
       here = subst (λ (ls : List Link). Contains ls one) (sym links_are) (Contains-push old.links one)
@@ -336,6 +340,20 @@ module _ (laws : LayingLaws) (Q : Parsing) (old : GraphView) (below : ℕ) (tree
           let j = at_contained old.links r.0 r.1 in
           subst (λ (x : Link). StaysAs x) r.2 (stays_at r.0 j.0 j.1 (same_number j.0))
 
+      same_extra : is_extra_node m.tree ≡ is_extra_node o.tree
+      same_extra = sym (laws.keeps m.tree).extra ∙ (choice m packed).first.extra ∙ (laws.keeps o.tree).extra
+
+      kept_at : (j : ℕ) (l : Link) → slice_get old.links j ≡ Some l → (j ≡ k) ⊎ (j ≡ k → ⊥) → (n : Link) × (slice_get new.links j ≡ Some n) × (n.above ≡ l.above) × (n.below ≡ l.below) × (is_extra_node n.tree ≡ is_extra_node l.tree)
+      kept_at j l is (inl e) =
+          let f : Some o ≡ Some l = sym o_is ∙ ap (λ (x : ℕ). slice_get old.links x) (sym e) ∙ is in
+          let same : o ≡ l = cc in
+          subst (λ (x : Link). (n : Link) × (slice_get new.links j ≡ Some n) × (n.above ≡ x.above) × (n.below ≡ x.below) × (is_extra_node n.tree ≡ is_extra_node x.tree)) same
+          (m, ap (λ (x : ℕ). slice_get new.links x) e ∙ m_is, packed.above_stays, packed.below_stays, same_extra)
+      kept_at j l is (inr other) = (l, others j other ∙ is, refl, refl, refl)
+
+      kept : KeepLinks old.links new.links
+      kept j l is = kept_at j l is (same_number j)
+
       same_link : (l : Link) (j : ℕ) → slice_get new.links j ≡ Some l → j ≡ k → m ≡ l
       same_link l j is e = let f : Some m ≡ Some l = sym m_is ∙ ap (λ (x : ℕ). slice_get new.links x) (sym e) ∙ is in cc
 
@@ -364,7 +382,7 @@ module _ (laws : LayingLaws) (Q : Parsing) (old : GraphView) (below : ℕ) (tree
       }
 
       pack_by : new.heads ≡ heads → ((h : ℕ) (head : Head) → slice_get heads h ≡ Some head → (slice_get old.heads h ≡ Some head) ⊎ (h ≡ above)) → IsLaid Q old new below can.from tree depth state above
-      pack_by heads_are only = is_laid new heads_are only stays each has trees
+      pack_by heads_are only = is_laid new heads_are only stays kept each has trees
 
     pub pack_laid : (new : GraphView) → new.heads ≡ heads → ((h : ℕ) (head : Head) → slice_get heads h ≡ Some head → (slice_get old.heads h ≡ Some head) ⊎ (h ≡ above)) → length new.links ≡ length old.links
         → ((m : Link) → slice_get new.links k ≡ Some m → IsPacked o tree depth m) → ((j : ℕ) → (j ≡ k → ⊥) → slice_get new.links j ≡ slice_get old.links j)

@@ -14,6 +14,7 @@ pub mod MadeLemmas
 pub mod GatherLemmas
 pub mod CallLemmas
 pub mod AddLemmas
+pub mod AgainLemmas
 pub mod FitLemmas
 pub mod KeepLemmas
 pub mod DoneLemmas

@@ -158,6 +158,7 @@ pub record IsMadeFor (t : ParseTable) (size : ℕ) (g : GraphView) (k : Batch) (
   pub depth_is : m.piece.depth ≡ depth_on t number asked.left way
   pub shallow : m.piece.depth ≤ most_depth
   pub extras_are : m.extras ≡ extras_on way
+  pub top_is : m.top ≡ top
 
 -- a reduction that is asked for would make a node that is too deep
 pub record IsAskedDeep (t : ParseTable) (g : GraphView) (k : Batch) (top : Top) (number : ℕ)

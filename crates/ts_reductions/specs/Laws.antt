@@ -12,7 +12,7 @@ use Rattle.spec_trees.specs.Trees.{span_of, all_spans, tree_depth, bare}
 use Rattle.spec_trees.specs.Made.{IsNode, FitsProduction, form_of, of_next, left_of, reduced, filling, step_symbols, BeginsFilled, most_depth}
 use Rattle.spec_trees.specs.Choice.{IsInForm}
 use Rattle.spec_runs.specs.BareTrees.{KeepsAll}
-use Rattle.spec_runs.specs.Configurations.{AreExtras}
+use Rattle.spec_runs.specs.Configurations.{AreExtras, HasMove}
 use Rattle.spec_runs.specs.Moves.{StandsBefore, EndsWithProduction, RepeatsItself}
 use Rattle.spec_graph.specs.declared.graph.Head.{Head}
 use Rattle.spec_graph.specs.declared.graph.Link.{Link}
@@ -42,6 +42,13 @@ pub record ReductionLaws : Type 0 where
       → (read other : List ℕ) (place : ℕ) (s : Symbol) (pad size : ℕ)
       → ShareState P.goto read other → PassesAt P read place s pad size
       → PassesAt P other place s pad size
+  pub again : (P : Parsing) → Fit P.grammar → AreStates P.grammar P.goto
+      → (number left : ℕ) (p : Production) (earlier : List ℕ)
+      → production_at P.grammar number ≡ Some (left, p)
+      → (read now : List ℕ) (place pad size : ℕ) (s : Symbol)
+      → ShareState P.goto read (reverse (step_symbols p) ++ earlier)
+      → ShareState P.goto (left ∷ earlier) now → HasMove P.grammar now s.0
+      → SeesAt P read place (token s pad size) → SeesAt P now place (token s pad size)
   pub due : (P : Parsing) → Fit P.grammar → AreStates P.grammar P.goto → IsGrounded P
       → (rank : ℕ → ℕ) (heads : List Head) (links : List Link)
       → IsGraph P heads links

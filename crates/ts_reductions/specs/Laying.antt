@@ -57,10 +57,17 @@ pub record HasTree (links : List Link) (below : ℕ) (tree : Tree) (depth above 
 abbrev pub head_at : ℕ → ℕ → Head
 head_at state place = record { state = state; place = place }
 
--- Each head keeps its number. Each link stays between its heads, with a tree that may take the
--- place of the one that it had, and no lesser depth.
+-- each link keeps its number and its heads, and its tree is an extra where it was one
+abbrev pub KeepLinks : List Link → List Link → Type 0
+KeepLinks links new = (k : ℕ) (l : Link) → slice_get links k ≡ Some l
+    → (n : Link) × (slice_get new k ≡ Some n) × (n.above ≡ l.above) × (n.below ≡ l.below)
+    × (is_extra_node n.tree ≡ is_extra_node l.tree)
+
+-- Each head keeps its number, and so does each link. It stays between its heads, with a tree that
+-- may take the place of the one that it had, and no lesser depth.
 pub record Grows (old new : GraphView) : Type 0 where
   pub stay : KeepNumbers old.heads new.heads
+  pub kept : KeepLinks old.links new.links
   pub links : (l : Link) → Contains (bare_links old.links) l
       → (n : Link) × Contains (bare_links new.links) n × (n.above ≡ l.above)
       × (n.below ≡ l.below) × Replaces n.tree l.tree × (l.depth ≤ n.depth)

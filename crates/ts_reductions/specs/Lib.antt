@@ -10,3 +10,4 @@ pub mod Lines
 pub mod Depths
 pub mod Asking
 pub mod Reducing
+pub mod Again

@@ -98,7 +98,7 @@ fn make(
         below,
         piece: Piece { node, depth, state },
         extras: list_of(alloc, &mut trees.extras)?,
-        top: asked.top.head,
+        top: asked.top,
         under: heads_up(alloc, graph, outer)?,
     }))
 }

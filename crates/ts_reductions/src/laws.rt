@@ -4,7 +4,7 @@ ghost use Rattle.ts_reductions.specs.Laws.{ReductionLaws, NodeLaws};
 
 use spec_graph::{
     extras_are_passed, new_heads_have_little, reductions_are_due, reductions_are_laid, runs_lay,
-    trees_replace,
+    tokens_are_seen_again, trees_replace,
 };
 use spec_lexing::{beginnings, token_within};
 use spec_runs::{
@@ -23,6 +23,7 @@ pub(crate) fn laws_hold()
     trees_replace();
     runs_lay();
     extras_are_passed();
+    tokens_are_seen_again();
     reductions_are_due();
     reductions_are_laid();
     new_heads_have_little();

@@ -110,10 +110,11 @@ pub(crate) fn lay_made(graph: &mut Graph, made: &Made) -> Result<(), AllocError>
         state: made.piece.state,
     };
     let under = made.under.as_slice();
-    let beside = Some(head_at_end(under, made.top, 0));
+    let beside = Some(head_at_end(under, made.top.head, 0));
     let base = lay(graph, made.below, piece, beside)?;
     let extras = made.extras.as_slice();
-    lay_extras(graph, base, extras, made.piece.state, under, made.top)?;
+    let last = made.top.head;
+    lay_extras(graph, base, extras, made.piece.state, under, last)?;
     Ok(())
 }
 

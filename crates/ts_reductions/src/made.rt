@@ -1,5 +1,6 @@
 //! What a reduction makes.
 
+use crate::top::Top;
 use ts_core::List;
 use ts_node::Node;
 
@@ -18,8 +19,8 @@ pub(crate) struct Made {
     pub below: usize,
     pub piece: Piece,
     pub extras: List<Node>,
-    /// The head at which the reduction stays: it stands where all of these end. And where each but
-    /// the last of them ends, a head that stands there.
-    pub top: usize,
+    /// What is seen where the reduction stays: that head stands where all of these end. And where
+    /// each but the last of them ends, a head that stands there.
+    pub top: Top,
     pub under: List<usize>,
 }

@@ -5,6 +5,7 @@ ghost use Rattle.ts_base.specs.Bytes.{Bytes};
 ghost use Rattle.ts_reductions.specs.Sound.{Base as AnyBase};
 ghost use Rattle.ts_reductions.specs.Asking.{IsReady, key_of};
 ghost use Rattle.ts_reductions.specs.Reducing.{Reduces};
+ghost use Rattle.ts_reductions.specs.Again.{Leads};
 
 use crate::asking::make_all;
 use crate::batch::Batch;
@@ -43,9 +44,12 @@ pub fn reduce_all(
 ) -> Result<Reduced, AllocError>
     requires { (text : Bytes) × (base : AnyBase)
         × IsReady table.now text base setting.now graph.old batch tops.now }
-    ensures { IfOk result (λ reduced. (text : Bytes) (base : AnyBase)
+    ensures reduces { IfOk result (λ reduced. (text : Bytes) (base : AnyBase)
         → IsReady table.now text base setting.now graph.old batch tops.now
         → Reduces table.now text base graph.old graph.new (key_of batch) reduced) }
+    ensures led { IfOk result (λ reduced. (text : Bytes) (base : AnyBase)
+        → IsReady table.now text base setting.now graph.old batch tops.now
+        → Leads table.now text graph.old tops.now room.new reduced) }
 {
     laws_hold();
     node_laws_hold();

@@ -95,4 +95,4 @@ returns c = λ text links ready at asked.
     let deep = c.depth_over-depth.ensures (inner_of links) low in
     let cs_are : c.as_slice-children.result.now ≡ children_on links = c.as_slice-children.ensures.value ∙ c.in_ok-trees_up-2.ensures (inner_of links) low in
     let xs_are : c.as_slice.result.now ≡ extras_on links = c.as_slice.ensures.value ∙ c.in_ok-trees_up.ensures (outer_of links) up in
-    made_for c.laws_hold.ensures c.node_laws_hold.ensures c.args.table.now c.stands.ensures text c.args.setting.now c.args.graph.now c.args.asked.batch c.args.asked.top c.args.asked.number links c.args.below ready asked c.get-line.result.now c.get-line.ensures c.values_are_small.ensures c.as_slice-children.result.now c.as_slice.result.now cs_are xs_are c.extent_over-extent.result c.depth_over-depth.result c.extent_over-extent.ensures.covers c.extent_over-extent.ensures.past deep c.if-depth-gt-MOST_DEPTH.false c.trees_up-2.new.nodes.items (sym c.as_slice-children.ensures.value) _ c.extent_over-extent.ensures.most c.head.result c.head.ensures c.next_state-state.ensures refl c.in_ok-node.ensures refl (c.in_ok-list_of.ensures ∙ sym c.as_slice.ensures.value)
+    made_for c.laws_hold.ensures c.node_laws_hold.ensures c.args.table.now c.stands.ensures text c.args.setting.now c.args.graph.now c.args.asked.batch c.args.asked.top c.args.asked.number links c.args.below ready asked c.get-line.result.now c.get-line.ensures c.values_are_small.ensures c.as_slice-children.result.now c.as_slice.result.now cs_are xs_are c.extent_over-extent.result c.depth_over-depth.result c.extent_over-extent.ensures.covers c.extent_over-extent.ensures.past deep c.if-depth-gt-MOST_DEPTH.false c.trees_up-2.new.nodes.items (sym c.as_slice-children.ensures.value) _ c.extent_over-extent.ensures.most c.head.result c.head.ensures c.next_state-state.ensures refl c.in_ok-node.ensures refl (c.in_ok-list_of.ensures ∙ sym c.as_slice.ensures.value) refl
