@@ -112,6 +112,10 @@ module _ (laws : PlaceLaws) (t : ParseTable) (table : IsTable t) (text : Bytes) 
     grows : Grows old new
     grows = record {
       stay = λ h head is. shifts.grows.stay h head (swept.more.grows.stay h head is);
+      kept = λ k l is.
+          let m = swept.more.grows.kept k l is in
+          let n = shifts.grows.kept k m.0 m.1 in
+          (n.0, n.1, n.2 ∙ m.2, n.3 ∙ m.3, n.4 ∙ m.4);
       links = λ l there.
           let m = swept.more.grows.links l there in
           let n = shifts.grows.links m.0 m.1 in

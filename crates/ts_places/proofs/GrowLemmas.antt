@@ -50,12 +50,17 @@ sight_stays t text old new keep look top span s = record {
 pub grows_none : LeafLaws → (g : GraphView) → Grows g g
 grows_none laws g = record {
   stay = λ h head is. is;
+  kept = λ k l is. (l, is, refl, refl, refl);
   links = λ l there. (l, there, refl, refl, laws.same l.tree, omega arith);
 }
 
 pub grows_more : LeafLaws → (old mid new : GraphView) → Grows old mid → Grows mid new → Grows old new
 grows_more laws old mid new a b = record {
   stay = λ h head is. b.stay h head (a.stay h head is);
+  kept = λ k l is.
+      let m = a.kept k l is in
+      let n = b.kept k m.0 m.1 in
+      (n.0, n.1, n.2 ∙ m.2, n.3 ∙ m.3, n.4 ∙ m.4);
   links = λ l there.
       let m = a.links l there in
       let n = b.links m.0 m.1 in

@@ -4,6 +4,7 @@ pub mod HeadLemmas
 pub mod PlaceLemmas
 pub mod SightLemmas
 pub mod ActionLemmas
+pub mod AgainLemmas
 pub mod LeafLemmas
 pub mod GrowLemmas
 pub mod KeepLemmas
@@ -15,6 +16,10 @@ pub mod NextLemmas
 pub mod PassLemmas
 pub mod ExtraLemmas
 pub mod SeekLemmas
+pub mod DueLemmas
+pub mod ForgetLemmas
+pub mod SoughtLemmas
+pub mod StillLemmas
 pub mod KeyLemmas
 pub mod SweepLemmas
 pub mod TurnLemmas

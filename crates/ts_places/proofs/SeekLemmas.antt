@@ -1,28 +1,23 @@
 -- The first of the keys that are sought, by heads and actions, one after another.
-use Rattle.std.proofs.Common.{◌≡◌, ◌∙◌, sym, ap, refl, subst, ℕ, ◌+◌, ◌-◌, ◌^◌, ◌<◌, ◌≤◌, ◌⊎◌, ◌↔◌, inl, inr, ⊎_elim, List, [], ◌∷◌, ◌++◌, length, take, drop, get_or, slice_get, Option, Some, None, arith}
+use Rattle.std.proofs.Common.{◌≡◌, ◌∙◌, sym, ap, refl, subst, ℕ, ◌+◌, ◌^◌, ◌<◌, ◌≤◌, ◌⊎◌, ◌↔◌, inl, inr, ⊎_elim, List, [], ◌∷◌, ◌++◌, length, take, get_or, Option, Some, None, arith}
 use Rattle.std.specs.List.{Contains}
 use Rattle.std.proofs.Math.Nat.{mul-le-mul_right}
-use Rattle.std.proofs.lemmas.List.{take_more, take_all, drop_more, drop_all}
-use Rattle.std.proofs.lemmas.List.Elements.{Contains-append_left, Contains-append_right, Contains-append_cases, Contains-push, Contains-push_cases}
-use Rattle.ts_core.specs.declared.action.Action.{Action}
-use Rattle.ts_core.specs.declared.action.Action.TheVariants.{Reduce}
+use Rattle.std.proofs.lemmas.List.{take_more}
 use Rattle.ts_core.specs.declared.flat.Production.{Production}
-use Rattle.spec_graph.specs.declared.graph.Head.{Head}
 use Rattle.spec_graph.specs.declared.graph.Link.{Link}
 use Rattle.ts_graph.specs.declared.view.GraphView.{GraphView}
 use Rattle.ts_graph.specs.Ways.{TakesFilled, EndsBy, IsLatestEnd}
 use Rattle.ts_table.specs.declared.view.ParseTable.{ParseTable}
-use Rattle.ts_table.specs.Tables.{actions_of}
 use Rattle.ts_table.specs.Ranks.{unit_rank}
 use Rattle.ts_reductions.specs.declared.batch.Batch.{Batch}
 use Rattle.ts_reductions.specs.declared.setting.Wanted.{Wanted}
 use Rattle.ts_reductions.specs.declared.top.Top.{Top}
-use Rattle.ts_reductions.specs.Asking.{IsAsked, HasReduction, ByNumber, ByAction, ByTop, ByTops}
+use Rattle.ts_reductions.specs.Asking.{IsAsked, HasReduction, ByNumber, ByTops}
 use Rattle.ts_reductions.specs.Lines.{HasProduction, IsWanted}
-use Rattle.ts_reductions.proofs.AddLemmas.{ByActions}
 use Rattle.ts_places.specs.declared.seeking.Seek.{Seek}
+use Rattle.ts_places.specs.declared.seeking.First.TheVariants.{Nothing, Is}
 use Rattle.ts_places.specs.Turns.{turn_of, past, IsSooner}
-use Rattle.ts_places.specs.Seeking.{batch_at, IsSought, Seeks, IsNext}
+use Rattle.ts_places.specs.Seeking.{batch_at, IsSought, Seeks, IsNext, IsFirst}
 
 none_in : {X : Type 0} (x : X) → Contains [] x → ⊥
 none_in x h = let low = h.1 in omega (arith, low)
@@ -81,38 +76,10 @@ module _ (t : ParseTable) (g : GraphView) (seek : Seek) where
       by k h (inl m) = let x = a.all k (record { top = h.top; number = h.number; way = h.way; b = h.b; means = m; asked = h.asked; look_is = h.look_is; after = h.after }) in let y = b.more in omega (arith, x, y)
       by k h (inr m) = b.all k (record { top = h.top; number = h.number; way = h.way; b = h.b; means = m; asked = h.asked; look_is = h.look_is; after = h.after })
 
-  -- ---- heads
-
-  pub no_tops : (tops : List Top) (n : ℕ) (old : Option Batch) → length tops ≤ n → Seeks t g seek (ByTops (drop n tops)) old old
-  no_tops tops n old all =
-      subst (λ (l : List Top). Seeks t g seek (ByTops l) old old) (sym (drop_all n tops all))
-      (seeks_none (ByTops []) old (λ k u n w b h asked. none_in u h))
-
-  -- one more head, before those that were asked
-  pub tops_on : (tops : List Top) (left : ℕ) (x : Top) (old mid new : Option Batch) → 0 < left → left ≤ length tops → get_or tops (left - 1) x ≡ x → Seeks t g seek (ByTops (drop left tops)) old mid → Seeks t g seek (ByTop x) mid new
-      → Seeks t g seek (ByTops (drop (left - 1) tops)) old new
-  tops_on tops left x old mid new some few is a b =
-      subst (λ (l : List Top). Seeks t g seek (ByTops l) old new) (sym whole)
-      (seeks_more (ByTops (drop left tops)) (ByTop x) (ByTops (x ∷ drop left tops))
-      (λ k u n w c h asked. Contains-append_right (x ∷ []) (drop left tops) u h)
-      (λ k u n w c e asked. subst (λ (y : Top). Contains (x ∷ drop left tops) y) (sym e) (0, omega arith, refl))
-      (λ u n w c h. ⊎_elim (λ p. inr (sym (only u p))) (λ p. inl p) (Contains-append_cases (x ∷ []) (drop left tops) u h)) old mid new a b)
+  -- the first of all keys at the heads
+  pub is_next : (tops : List Top) (new : Option Batch) → Seeks t g seek (ByTops tops) None new → IsNext t g seek tops new
+  is_next tops new all = by new refl
     where
-      whole : drop (left - 1) tops ≡ x ∷ drop left tops
-      whole =
-          let next : (left - 1) + 1 ≡ left = omega (arith, some) in
-          drop_more tops (left - 1) x (omega (arith, some, few)) ∙ ap (λ (y : Top). y ∷ drop ((left - 1) + 1) tops) is ∙ ap (λ (n : ℕ). x ∷ drop n tops) next
-
-      only : (u : Top) → Contains (x ∷ []) u → x ≡ u
-      only u h = ⊎_elim (λ p. absurd (none_in u p)) (λ e. e) (Contains-push_cases [] x u h)
-
-  -- the key of all heads
-  pub tops_end : (tops : List Top) (left : ℕ) (new : Option Batch) → left ≡ 0 → Seeks t g seek (ByTops (drop left tops)) None new → IsNext t g seek tops new
-  tops_end tops left new none a = by new refl
-    where
-      all : Seeks t g seek (ByTops tops) None new
-      all = subst (λ (n : ℕ). Seeks t g seek (ByTops (drop n tops)) None new) none a
-
       none_some : (k : Batch) → None ≡ Some k → ⊥
       none_some k e = cc
 
@@ -122,44 +89,6 @@ module _ (t : ParseTable) (g : GraphView) (seek : Seek) where
         ⊎_elim (λ f. absurd (none_some j f)) (λ s. s) (all.each j e),
         (λ k s. let h = all.all k s in let z = ap past e in omega (arith, h, z)),
       )
-
-  -- ---- actions
-
-  pub no_actions : (top : Top) (old : Option Batch) → Seeks t g seek (ByActions top []) old old
-  no_actions top old = seeks_none (ByActions top []) old (λ k u n w b h asked. none_in (Reduce n) h.1)
-
-  pub actions_on : (top : Top) (actions : List Action) (i : ℕ) (x : Action) (old mid new : Option Batch) → i < length actions → x ≡ get_or actions i x → Seeks t g seek (ByActions top (take i actions)) old mid → Seeks t g seek (ByAction top x) mid new
-      → Seeks t g seek (ByActions top (take (i + 1) actions)) old new
-  actions_on top actions i x old mid new low is a b =
-      subst (λ (l : List Action). Seeks t g seek (ByActions top l) old new) (one_taken actions i x low is)
-      (seeks_more (ByActions top (take i actions)) (ByAction top x) (ByActions top (take i actions ++ x ∷ []))
-      (λ k u n w c h asked. (h.0, Contains-append_left (take i actions) (x ∷ []) (Reduce n) h.1))
-      (λ k u n w c h asked. (h.0, subst (λ (y : Action). Contains (take i actions ++ x ∷ []) y) h.1 (Contains-push (take i actions) x)))
-      (λ u n w c h. ⊎_elim (λ p. inl (h.0, p)) (λ e. inr (h.0, e)) (Contains-push_cases (take i actions) x (Reduce n) h.1)) old mid new a b)
-
-  pub actions_end : (top : Top) (head : Head) (actions : List Action) (i : ℕ) (old new : Option Batch) → slice_get g.heads top.head ≡ Some head → actions ≡ actions_of t head.state top.token.0 → length actions ≤ i
-      → Seeks t g seek (ByActions top (take i actions)) old new → Seeks t g seek (ByTop top) old new
-  actions_end top head actions i old new at is long a =
-      seeks_as (ByActions top actions) (ByTop top) old new (λ k u n w c h asked. h.0)
-      (λ k u n w c e asked. (e, acts k n w c (subst (λ (y : Top). IsAsked t g k y n w c) e asked)))
-      (subst (λ (l : List Action). Seeks t g seek (ByActions top l) old new) (take_all i actions long) a)
-    where
-      acts : (k : Batch) (n : ℕ) (w : List Link) (c : ℕ) → IsAsked t g k top n w c → Contains actions (Reduce n)
-      acts k n w c asked =
-          let f : Some asked.head ≡ Some head = sym asked.at ∙ at in
-          let one : asked.head ≡ head = cc in
-          subst (λ (l : List Action). Contains l (Reduce n)) (sym is) (subst (λ (h : Head). Contains (actions_of t h.state top.token.0) (Reduce n)) one asked.acts)
-
-  -- an action that is a reduction, and one that is none
-  pub by_reduction : (top : Top) (action : Action) (number : ℕ) (old new : Option Batch) → action ≡ Reduce number → Seeks t g seek (ByNumber top number) old new → Seeks t g seek (ByAction top action) old new
-  by_reduction top action number old new is a =
-      seeks_as (ByNumber top number) (ByAction top action) old new (λ k u n w c h asked. (h.0, is ∙ ap (λ (m : ℕ). Reduce m) (sym h.1))) (λ k u n w c h asked. (h.0, same_number n (sym is ∙ h.1))) a
-    where
-      same_number : (n : ℕ) → Reduce number ≡ Reduce n → n ≡ number
-      same_number n e = cc
-
-  pub no_reduction : (top : Top) (action : Action) (old : Option Batch) → ((n : ℕ) → action ≡ Reduce n → ⊥) → Seeks t g seek (ByAction top action) old old
-  no_reduction top action old none = seeks_none (ByAction top action) old (λ k u n w b h asked. none n h.1)
 
   -- ---- one reduction
 
@@ -182,6 +111,9 @@ module _ (t : ParseTable) (g : GraphView) (seek : Seek) where
     own_turn k s = subst (λ (r : ℕ). turn_of k.begins r < seek.below) (own_rank k s) s.after
 
     -- no key of its rank is sought
+    pub nothing_turn : ((begins : ℕ) → turn_of begins wanted.rank < seek.below → ⊥) → IsFirst t g seek top number Nothing
+    nothing_turn none = λ k s. none k.begins (own_turn k s)
+
     pub no_turn : (old : Option Batch) → ((begins : ℕ) → turn_of begins wanted.rank < seek.below → ⊥) → Seeks t g seek (ByNumber top number) old old
     no_turn old none = record {
       more = omega arith;
@@ -212,11 +144,37 @@ module _ (t : ParseTable) (g : GraphView) (seek : Seek) where
         each = λ k e. inl e;
       }
 
+      pub nothing_end : ((place : ℕ) → EndsBy g.heads g.links top.head wanted.steps most place → ⊥) → IsFirst t g seek top number Nothing
+      nothing_end none = λ k s. none k.begins (own_end k s)
+
       pub no_end : (old : Option Batch) → ((place : ℕ) → EndsBy g.heads g.links top.head wanted.steps most place → ⊥) → Seeks t g seek (ByNumber top number) old old
       no_end old none = record {
         more = omega arith;
         all = λ k s. absurd (none k.begins (own_end k s));
         each = λ k e. inl e;
+      }
+
+      -- the key of the latest end is sought
+      end_sought : (place : ℕ) → IsLatestEnd g.heads g.links top.head wanted.steps most place → IsSought t g seek (ByNumber top number) (batch_at seek.look place wanted.rank)
+      end_sought place latest = record {
+        top = top;
+        number = number;
+        way = latest.ends.taken;
+        b = latest.ends.below;
+        means = (refl, refl);
+        asked = record {
+          head = has.head;
+          at = has.at;
+          acts = has.acts;
+          left = left;
+          production = p;
+          is = is;
+          ranked = sym wants.rank;
+          takes = subst (λ (n : ℕ). TakesFilled g.links top.head n latest.ends.taken latest.ends.below) wants.steps latest.ends.takes;
+          begins = latest.ends.at;
+        };
+        look_is = refl;
+        after = (turns place).1 latest.ends.low;
       }
 
       -- the key of the latest end is the first of them
@@ -234,23 +192,10 @@ module _ (t : ParseTable) (g : GraphView) (seek : Seek) where
           after = (turns place).1 latest.ends.low
 
           sought : IsSought t g seek (ByNumber top number) (batch_at seek.look place wanted.rank)
-          sought = record {
-            top = top;
-            number = number;
-            way = latest.ends.taken;
-            b = latest.ends.below;
-            means = (refl, refl);
-            asked = record {
-              head = has.head;
-              at = has.at;
-              acts = has.acts;
-              left = left;
-              production = p;
-              is = is;
-              ranked = sym wants.rank;
-              takes = subst (λ (n : ℕ). TakesFilled g.links top.head n latest.ends.taken latest.ends.below) wants.steps latest.ends.takes;
-              begins = latest.ends.at;
-            };
-            look_is = refl;
-            after = after;
-          }
+          sought = end_sought place latest
+
+      pub first_end : (place : ℕ) → IsLatestEnd g.heads g.links top.head wanted.steps most place → IsFirst t g seek top number (Is (batch_at seek.look place wanted.rank))
+      first_end place latest = (
+        end_sought place latest,
+        λ k h. let later = turn_up k.begins place wanted.rank (latest.latest k.begins (own_end k h)) in subst (λ (r : ℕ). turn_of k.begins r ≤ turn_of place wanted.rank) (sym (own_rank k h)) later,
+      )

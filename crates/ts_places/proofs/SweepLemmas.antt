@@ -1,26 +1,32 @@
 -- One key after another: what is seen, what may be reduced, and how the graph has grown.
-use Rattle.std.proofs.Common.{◌≡◌, ◌∙◌, sym, ap, subst, ℕ, ◌<◌, ◌≤◌, ◌⊎◌, inl, inr, ⊎_elim, List, [], ◌++◌, length, slice_get, Option, Some, None, arith}
+use Rattle.std.proofs.Common.{◌≡◌, ◌∙◌, sym, ap, subst, ℕ, ◌<◌, ◌≤◌, ◌⊎◌, inl, inr, ⊎_elim, Bool, true, IsTrue, List, [], ◌++◌, length, take, drop, slice_get, Option, Some, None, arith}
 use Rattle.std.specs.List.{Contains}
 use Rattle.std.proofs.lemmas.Bool.{cases_order}
+use Rattle.std.proofs.lemmas.Option.{slice_get_within}
+use Rattle.std.proofs.lemmas.List.{take-append-drop}
+use Rattle.std.proofs.Math.Seq.{drop-append_seam}
 use Rattle.std.proofs.lemmas.List.Elements.{Contains-append_left, Contains-append_right}
 use Rattle.ts_base.specs.Bytes.{Bytes}
 use Rattle.ts_core.specs.declared.action.Action.TheVariants.{Reduce}
 use Rattle.spec_grammar.specs.Symbols.{symbol_count}
 use Rattle.spec_graph.specs.declared.graph.Head.{Head}
+use Rattle.spec_graph.specs.declared.graph.Link.{Link}
 use Rattle.spec_graph.specs.States.{LeadsTo, at_first, AreRanks}
 use Rattle.ts_graph.specs.declared.view.GraphView.{GraphView}
-use Rattle.ts_graph.specs.Down.{KeepNumbers}
+use Rattle.ts_graph.specs.Down.{KeepNumbers, HoldsEachOnce, LeadFrom}
 use Rattle.ts_table.specs.declared.view.ParseTable.{ParseTable}
 use Rattle.ts_table.specs.Tables.{IsTable, goto_of, actions_of}
 use Rattle.ts_table.specs.Ranks.{unit_rank}
 use Rattle.ts_reductions.specs.LayingLaws.{LayingLaws}
-use Rattle.ts_reductions.specs.Laying.{IsNewHead}
+use Rattle.ts_reductions.specs.Laying.{Grows, IsNewHead}
 use Rattle.ts_reductions.proofs.GrowLemmas.{grows_on}
 use Rattle.ts_reductions.proofs.GrowLemmas as growing
 use Rattle.ts_reductions.proofs.ClimbLemmas.{new_stays}
 use Rattle.ts_reductions.specs.declared.batch.Batch.{Batch}
 use Rattle.ts_reductions.specs.declared.setting.Setting.{Setting}
+use Rattle.ts_reductions.specs.declared.room.Room.{Room}
 use Rattle.ts_reductions.specs.declared.top.Top.{Top}
+use Rattle.ts_reductions.specs.Again.{AreLed, Leads}
 use Rattle.ts_reductions.specs.Asking.{key_of, IsTop, AreTops, TakesSome, IsReady, ByTops}
 use Rattle.ts_reductions.specs.Laws.{ReductionLaws, NodeLaws}
 use Rattle.ts_reductions.specs.declared.reducing.Reduced.{Reduced}
@@ -46,8 +52,11 @@ use Rattle.ts_places.specs.declared.sweeping.Swept.{Swept}
 use Rattle.ts_places.specs.declared.sweeping.Swept.TheVariants.{Over, Through, Deep}
 use Rattle.ts_places.specs.SweepLaws.{KeyLaws}
 use Rattle.ts_places.specs.Turns.{turn_of}
-use Rattle.ts_places.specs.Seeking.{batch_at, CanSeek, IsSought, IsNext}
-use Rattle.ts_places.specs.Sweeping.{CanSweep, IsWholeBy, HasMore, AreSwept, IsTooDeep, IsSmall, key_at, After, IsSweptTo, SweepsOne, GoesOn}
+use Rattle.ts_places.specs.declared.seeking.Due.{Due}
+use Rattle.ts_places.specs.Seeking.{seek_at, batch_at, CanSeek, IsSought, IsNext, OfTops, AddsDue, AreDue, WereDue}
+use Rattle.ts_places.proofs.DueLemmas.{tops_more}
+use Rattle.ts_places.proofs.StillLemmas.{reduction_stays, sought_stays}
+use Rattle.ts_places.specs.Sweeping.{CanSweep, IsWholeBy, HasMore, AreSwept, IsTooDeep, IsSmall, key_at, After, IsSweptTo, SweepsOne, GoesOn, StayDue}
 use Rattle.ts_places.proofs.KeyLemmas.{passes, first_done, all_past, none_due}
 
 -- ---- heads that came since
@@ -132,6 +141,22 @@ later_key b r x i small lt = by (cases_order x b)
     by (inl e) = inr (e, omega (arith, e, lt))
     by (inr (inl l)) = inl l
     by (inr (inr m)) = absurd (let s = small.1 in omega (arith, m, lt, s))
+
+-- ---- what is seen is seen at heads that are there
+
+module _ (look_laws : LookLaws) (t : ParseTable) (text : Bytes) (base : Base) (s : Setting) (g : GraphView) (look : ℕ) (sights : Sights) (can : CanSweep t text base s g look sights) where
+  pub tops_low : (top : Top) → Contains sights.tops.items top → top.head < length g.heads
+  tops_low top there =
+      let x = (all_tops look_laws t text g (base, can.seen.sound) look can.seen.heads sights can.seen.sights can.seen.all).each top there in
+      slice_get_within g.heads top.head x.at.head x.at.is
+
+  -- those from a number on
+  pub back_low : (n : ℕ) (all back : List Top) → all ≡ sights.tops.items → back ≡ drop n all → (top : Top) → Contains back top → top.head < length g.heads
+  back_low n all back same is top there =
+      tops_low top (subst (λ (l : List Top). Contains l top) (take-append-drop n all ∙ same)
+      (Contains-append_right (take n all) (drop n all) top (subst (λ (l : List Top). Contains l top) is there)))
+
+-- ---- the next key
 
 module _ (reductions : ReductionLaws) (nodes : NodeLaws) (laying : LayingLaws) (leaves : LeafLaws) (look_laws : LookLaws) (keys : KeyLaws)
     (t : ParseTable) (table : IsTable t) (text : Bytes) (base : Base) (s : Setting) (g : GraphView) (seek : Seek) (sights : Sights)
@@ -242,6 +267,9 @@ module _ (reductions : ReductionLaws) (nodes : NodeLaws) (laying : LayingLaws) (
     pub done_by : (tops : List Top) → tops ≡ sights.tops.items → (new : GraphView) (r : Reduced) → r ≡ Done → (IsReady t text base s g key tops → Reduces t text base g new (key_of key) r) → AreReduced t text base g new (key_of key)
     done_by tops same new r is f = subst (λ (x : Reduced). Reduces t text base g new (key_of key) x) is (f (ready_by tops same))
 
+    pub led_by : (tops : List Top) → tops ≡ sights.tops.items → (room : Room) (r : Reduced) → r ≡ Done → (IsReady t text base s g key tops → Leads t text g tops room r) → AreLed t text g sights.tops.items room
+    led_by tops same room r is f = subst (λ (l : List Top). AreLed t text g l room) same (subst (λ (x : Reduced). Leads t text g tops room x) is (f (ready_by tops same)))
+
     pub too_deep : (new : GraphView) → IsDeepAt t text base g (key_of key) → new ≡ g → IsTooDeep t text base new
     too_deep new d same = subst (λ (x : GraphView). IsTooDeep t text base x) (sym same) (record {
       sound = can.seen.sound;
@@ -266,7 +294,39 @@ module _ (reductions : ReductionLaws) (nodes : NodeLaws) (laying : LayingLaws) (
     pub deep_by : (tops : List Top) → tops ≡ sights.tops.items → (new : GraphView) (r : Reduced) → r ≡ TooDeep → (IsReady t text base s g key tops → Reduces t text base g new (key_of key) r) → IsTooDeep t text base new
     deep_by tops same new r is f = let d = subst (λ (x : Reduced). Reduces t text base g new (key_of key) x) is (f (ready_by tops same)) in too_deep new d.0 d.1
 
+-- ---- reductions that are listed
+
+pub from_new : (links : List Link) (first head n m : ℕ) → n ≡ first → m ≡ head → (b : Bool) → b ≡ true → (IsTrue b → LeadFrom links n m) → LeadFrom links first head
+from_new links first head n m e f b is lead = subst (λ (x : ℕ). LeadFrom links x head) e (subst (λ (x : ℕ). LeadFrom links n x) f (lead is))
+
+module _ (t : ParseTable) (g new : GraphView) (grows : Grows g new) (once : HoldsEachOnce g.heads g.links) (before after : Seek) (look_is : before.look ≡ after.look) (later : after.below ≤ before.below) (tops : List Top) (dues : List Due) (due : AreDue t g before tops dues)
+    (stand : (top : Top) → Contains tops top → (head : Head) × (slice_get g.heads top.head ≡ Some head)) (stay : Bool) (from_new : stay ≡ true → LeadFrom new.links (length g.links) (length g.heads)) where
+  pub were_due : WereDue t g new before after tops stay dues
+  were_due = record {
+    look_is = look_is;
+    later = later;
+    due = due;
+    keeps = λ top number there. let h = stand top there in reduction_stays g new grows.stay grows.kept t top number h.0 h.1;
+    stays = λ none top number k there. let h = stand top there in sought_stays g new grows.stay grows.kept once.below_there (from_new none) t after top number h.0 h.1 k;
+  }
+
+  -- the same with those of new heads
+  module _ (turn : ℕ) (after_is : after ≡ seek_at before.look turn) (forgot final : List Due) (still : AreDue t new after tops forgot) (everything news : List Top) (more : (more : List Top) × (everything ≡ tops ++ more)) (news_are : news ≡ drop (length tops) everything) (adds : AddsDue t new after (OfTops news) forgot final) where
+    pub due_on : AreDue t new (seek_at before.look after.below) everything final
+    due_on =
+        let rest : news ≡ more.0 = news_are ∙ ap (λ (l : List Top). drop (length tops) l) more.1 ∙ drop-append_seam tops more.0 in
+        let all_due = tops_more t new after tops more.0 everything forgot final more.1 still (subst (λ (l : List Top). AddsDue t new after (OfTops l) forgot final) rest adds) in
+        let moved : AreDue t new (seek_at before.look turn) everything final = subst (λ (s : Seek). AreDue t new s everything final) after_is all_due in
+        subst (λ (n : ℕ). AreDue t new (seek_at before.look n) everything final) (sym (ap (λ (s : Seek). s.below) after_is)) moved
+
 -- ---- the loop
+
+pub due_by : (t : ParseTable) (new : GraphView) (look : ℕ) (tops : List Top) (dues : List Due) (r : Swept) (n : ℕ) → r ≡ Through n → StayDue t new look tops dues r → AreDue t new (seek_at look n) tops dues
+due_by t new look tops dues r n is h = subst (λ (x : Swept). StayDue t new look tops dues x) is h
+
+pub due_first : (t : ParseTable) (g : GraphView) (look below : ℕ) (tops seen : List Top) (empty dues : List Due) → seen ≡ tops → empty ≡ [] → AddsDue t g (seek_at look below) (OfTops seen) empty dues → AreDue t g (seek_at look below) tops dues
+due_first t g look below tops seen empty dues same none adds =
+    subst (λ (l : List Top). AddsDue t g (seek_at look below) (OfTops l) [] dues) same (subst (λ (l : List Due). AddsDue t g (seek_at look below) (OfTops seen) l dues) none adds)
 
 pub goes_by : (t : ParseTable) (text : Bytes) (base : Base) (s : Setting) (new : GraphView) (look below : ℕ) (sights : Sights) (r : Swept) (n : ℕ) → r ≡ Through n → GoesOn t text base s new look below sights r → CanSweep t text base s new look sights × (n < below)
 goes_by t text base s new look below sights r n is h = subst (λ (x : Swept). GoesOn t text base s new look below sights x) is h

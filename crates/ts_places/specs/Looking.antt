@@ -11,7 +11,10 @@ use Rattle.ts_graph.specs.declared.view.GraphView.{GraphView}
 use Rattle.ts_table.specs.declared.view.ParseTable.{ParseTable}
 use Rattle.ts_lexer.specs.declared.lexed.Lexed.{Lexed}
 use Rattle.ts_lexer.specs.declared.lexed.Lexed.TheVariants.{Token, Absent}
+use Rattle.ts_table.specs.Tables.{actions_of}
+use Rattle.ts_reductions.specs.declared.room.Room.{Room}
 use Rattle.ts_reductions.specs.declared.top.Top.{Top}
+use Rattle.ts_reductions.specs.Again.{HasLed}
 use Rattle.ts_reductions.specs.Sound.{parsing_of}
 use Rattle.ts_places.specs.declared.sights.Span.{Span}
 use Rattle.ts_places.specs.declared.sights.Sights.{Sights}
@@ -108,6 +111,26 @@ pub record AreSights (t : ParseTable) (text : Bytes) (g : GraphView) (look : ℕ
       → SeesAt (parsing_of t text) read look (token symbol pad size)
       → (top : Top) × Contains s.tops.items top × (top.head ≡ h) × (top.token ≡ symbol)
   pub stop : IsLastAmong t text g look heads s.stop
+
+-- ---- what is seen again
+
+-- the top is one of those that are seen, with these bytes
+abbrev pub HasSight : Sights → Top → Span → Type 0
+HasSight s top span =
+    (k : ℕ) × (slice_get s.tops.items k ≡ Some top) × (slice_get s.spans.items k ≡ Some span)
+
+-- A reduction stayed on the token of a top, and led to the state of the head. Some action stays on
+-- it there, and this is that token.
+pub record IsSeenAgain (t : ParseTable) (g : GraphView) (room : Room) (s : Sights) (h : ℕ)
+    (lexed : Lexed) : Type 0 where
+  pub head : Head
+  pub at : slice_get g.heads h ≡ Some head
+  pub top : Top
+  pub led : HasLed room head.state top
+  pub acts : 0 < length (actions_of t head.state top.token.0)
+  pub span : Span
+  pub sight : HasSight s top span
+  pub is : lexed ≡ Token top.token span.pad span.size top.ahead
 
 -- ---- one more
 

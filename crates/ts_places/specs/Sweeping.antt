@@ -1,5 +1,5 @@
 -- All reductions of one place.
-use Rattle.std.specs.Prelude.{◌≡◌, ℕ, ◌^◌, ◌<◌, ◌≤◌, ◌⊎◌, length, slice_get, Some}
+use Rattle.std.specs.Prelude.{◌≡◌, ℕ, ◌^◌, ◌<◌, ◌≤◌, ◌⊎◌, List, length, slice_get, Some}
 use Rattle.std.specs.List.{Contains}
 use Rattle.ts_base.specs.Bytes.{Bytes}
 use Rattle.spec_graph.specs.declared.graph.Head.{Head}
@@ -24,6 +24,8 @@ use Rattle.ts_places.specs.declared.sights.Sights.{Sights}
 use Rattle.ts_places.specs.Shifting.{AreAllSights}
 use Rattle.ts_places.specs.declared.sweeping.Swept.{Swept}
 use Rattle.ts_places.specs.declared.sweeping.Swept.TheVariants.{Over, Through, Deep}
+use Rattle.ts_places.specs.declared.seeking.Due.{Due}
+use Rattle.ts_places.specs.Seeking.{seek_at, AreDue}
 use Rattle.ts_places.specs.Turns.{turn_of}
 
 -- ---- before
@@ -128,3 +130,9 @@ GoesOn t text base s new look below sights Over = Unit {0}
 GoesOn t text base s new look below sights (Through next) =
     CanSweep t text base s new look sights × (next < below)
 GoesOn t text base s new look below sights Deep = Unit {0}
+
+-- these are the reductions that stay, with the keys that are left
+abbrev pub StayDue : ParseTable → GraphView → ℕ → List Top → List Due → Swept → Type 0
+StayDue t new look tops dues Over = Unit {0}
+StayDue t new look tops dues (Through next) = AreDue t new (seek_at look next) tops dues
+StayDue t new look tops dues Deep = Unit {0}

@@ -2,6 +2,7 @@
 //! past it go in; the graph with all reductions, shifts and passed extras of the place comes out,
 //! with what was seen there and the next place at which a head stands.
 ghost use Rattle.std.specs.Prelude.{◌≡◌, ℕ, ◌≤◌, IfOk};
+ghost use Rattle.ts_reductions.specs.Again.{LedNone};
 ghost use Rattle.ts_reductions.specs.Sound.{Base as AnyBase, IsSoundBy, IsSoundOver};
 ghost use Rattle.ts_places.specs.Looking.{AllStandAt, HasAllAt};
 ghost use Rattle.ts_places.specs.Shifting.{AreAllSights};
@@ -18,7 +19,7 @@ use crate::sweeping::sweep;
 use std::alloc::{AllocError, Global};
 use ts_graph::Graph;
 use ts_lexer::Tokens;
-use ts_reductions::{Reduced, Setting};
+use ts_reductions::{Reduced, Room, Setting};
 use ts_table::Table;
 
 /// Where a graph goes on behind a place.
@@ -48,10 +49,12 @@ fn look_at<L: Tokens>(
     text: &L::Text,
     graph: &Graph,
     heads: &[usize],
+    room: &Room,
 ) -> Result<Sights, AllocError>
     requires made { L.made_for lexer.old table.now }
     requires sound { IsSoundOver table.now (L.Text.bytes text.now) graph.now }
     requires stand { (look : ℕ) × AllStandAt graph.now look heads.now }
+    requires none { LedNone room.now }
     ensures made { L.made_for lexer.new table.now }
     ensures sights { IfOk result (λ sights. (base : AnyBase) (look : ℕ)
         → IsSoundBy table.now (L.Text.bytes text.now) base graph.now → base.place ≤ look
@@ -59,7 +62,7 @@ fn look_at<L: Tokens>(
         → AreAllSights table.now (L.Text.bytes text.now) base graph.now look sights) }
 {
     let mut sights = Sights::new(alloc);
-    look_all(table, lexer, text, graph, heads, &mut sights)?;
+    look_all(table, lexer, text, graph, heads, room, &mut sights)?;
     Ok(sights)
 }
 
@@ -143,8 +146,10 @@ pub fn follow_place<L: Tokens>(
     let waiting = frontier.heads.as_slice();
     those_at(graph, waiting, place, &mut frontier.kept.heads)?;
     those_past(graph, waiting, place, &mut frontier.past)?;
+    frontier.kept.room.forget();
     let here = frontier.kept.heads.as_slice();
-    let mut sights = look_at(alloc, table, lexer, text, graph, here)?;
+    let room = &frontier.kept.room;
+    let mut sights = look_at(alloc, table, lexer, text, graph, here, room)?;
     match pass_place(
         alloc,
         table,

@@ -1,13 +1,15 @@
 //! Memory that is kept from one place to the next.
 
+use crate::seeking::Due;
 use std::alloc::Global;
 use ts_reductions::Room;
 
-/// Lists for the heads that are looked at, and for reductions. What they have in them before does not
-/// matter.
+/// Lists for the heads that are looked at, for the reductions that stay at a place, and for those of
+/// one key.
 #[derive(Drop)]
 pub(crate) struct Kept {
     pub heads: Vec<usize>,
+    pub dues: Vec<Due>,
     pub room: Room,
 }
 
@@ -16,6 +18,7 @@ impl Kept {
     pub(crate) fn new(alloc: Global) -> Kept {
         Kept {
             heads: Vec::new(alloc),
+            dues: Vec::new(alloc),
             room: Room::new(alloc),
         }
     }

@@ -7,8 +7,8 @@ ghost use Rattle.ts_places.specs.SweepLaws.{KeyLaws};
 
 use spec_graph::{
     extras_are_passed, keys_follow, keys_pass, links_pack, new_heads_have_little,
-    reductions_are_due, reductions_are_laid, runs_lay, stacks_are_grounded, trees_replace,
-    whole_to_the_next,
+    reductions_are_due, reductions_are_laid, runs_lay, stacks_are_grounded, tokens_are_seen_again,
+    trees_replace, whole_to_the_next,
 };
 use spec_lexing::{beginnings, one_answer, token_within};
 use spec_runs::{bare_trees, moves_have_their_place, repetitions_repeat};
@@ -27,6 +27,7 @@ pub(crate) fn reduction_laws_hold()
     trees_replace();
     runs_lay();
     extras_are_passed();
+    tokens_are_seen_again();
     reductions_are_due();
     reductions_are_laid();
     new_heads_have_little();

@@ -27,6 +27,9 @@ look_at-requires-clause-stand g c =
           (here_stand c.args.graph.now c.args.place c.args.frontier.now.heads.items c.as_slice-waiting.result.now c.as_slice-waiting.ensures.value r.2.are_open c.those_at.new.here.items c.in_ok-those_at.ensures),
     )
 
+pub look_at-requires-clause-none : goal.look_at-requires-clause-none
+look_at-requires-clause-none g c = c.forget.ensures
+
 pub pass_place-requires-clause-ready : goal.pass_place-requires-clause-ready
 pass_place-requires-clause-ready g c =
     let r = c.requires.ready in

@@ -9,6 +9,7 @@ returns-clause-due c = record {
   through = c.trees_replace.ensures.through;
   spans = c.runs_lay.ensures.spans;
   shared = c.extras_are_passed.ensures.shared;
+  again = c.tokens_are_seen_again.ensures;
   due = c.reductions_are_due.ensures;
   laid = c.reductions_are_laid.ensures.node;
   end = c.reductions_are_laid.ensures.end;
