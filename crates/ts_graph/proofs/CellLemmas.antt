@@ -19,7 +19,7 @@ use Rattle.ts_graph.proofs.DownLemmas.{down_none, down_more, down_other, from_pu
 
 module _ (heads : List Head) (newest : List (Option ℕ)) (cells : List Cell) (s : IsSound heads newest cells) where
   -- a head that is not there yet has no link
-  none_past : (h : ℕ) → length heads ≤ h → links_down (links_of cells) h ≡ []
+  pub none_past : (h : ℕ) → length heads ≤ h → links_down (links_of cells) h ≡ []
   none_past h past = down_none (links_of cells) h (λ k l at is. let low = s.each_once.above_there k l at in absurd (omega arith))
 
   pub sound_room : (new : List (Option ℕ)) → new ≡ newest ++ None ∷ [] → IsSound heads new cells
@@ -176,7 +176,7 @@ module _ (heads : List Head) (newest : List (Option ℕ)) (cells : List Cell) (c
 
 -- the same of the graph that contracts see
 pub pushed : (heads : List Head) (newest : List (Option ℕ)) (cells : List Cell) (c : Cell) → IsSound heads newest cells
-    → (g : GraphView) → graph_of heads (links_of cells) ≡ g → (new : List Cell) (n : ℕ) → new ≡ cells ++ c ∷ [] → n ≡ length cells
+    → {base : ℕ} (g : GraphView) → graph_of heads (links_of cells) base ≡ g → (new : List Cell) (n : ℕ) → new ≡ cells ++ c ∷ [] → n ≡ length cells
     → c.above < length g.heads → c.below < length g.heads → place_at g.heads c.below < place_at g.heads c.above
     → HasNone g.links c.above c.below → links_from g.links c.above c.earlier ≡ links_down g.links c.above
     → IsSound heads (set newest c.above (Some n)) new

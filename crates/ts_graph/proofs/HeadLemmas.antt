@@ -1,9 +1,9 @@
 -- Heads in rows: one is found by its number, a new one is put at the end, and what is kept beside
 -- them changes.
-use Rattle.std.proofs.Common.{◌≡◌, ◌∙◌, sym, ap, refl, subst, ℕ, ◌<◌, inr, Bool, List, [], ◌∷◌, ◌++◌, length, set, get_or, slice_get, Option, Some, None}
+use Rattle.std.proofs.Common.{◌≡◌, ◌∙◌, sym, ap, refl, subst, ℕ, inr, Bool, List, [], ◌∷◌, ◌++◌, length, set, get_or, slice_get, Option, Some, None}
 use Rattle.std.proofs.Math.Seq.{map-set_same}
 use Rattle.std.proofs.lemmas.List.{length-map, map-append, map-set}
-use Rattle.std.proofs.lemmas.Option.{slice_get_read, slice_get_within}
+use Rattle.std.proofs.lemmas.Option.{slice_get_within}
 use Rattle.ts_base.proofs.PlaceLemmas.{in_prefix}
 use Rattle.spec_graph.specs.declared.graph.Head.{Head}
 use Rattle.spec_graph.specs.declared.graph.Link.{Link}
@@ -18,15 +18,12 @@ use Rattle.ts_graph.proofs.KeptLemmas.{kept_open}
 
 -- ---- a head by its number
 
-module _ (rows : List Row) (links : List Link) (g : GraphView) (view : graph_of (heads_of rows) links ≡ g) where
+module _ (rows : List Row) (links : List Link) {base : ℕ} (g : GraphView) (view : graph_of (heads_of rows) links base ≡ g) where
   pub many : length g.heads ≡ length rows
   many = sym (ap (λ (x : GraphView). length x.heads) view) ∙ length-map rows (λ (r : Row). r.head)
 
-  pub row_there : (k : ℕ) (row : Row) → k < length rows → row ≡ get_or rows k row → slice_get rows k ≡ Some row
-  row_there k row low is = slice_get_read rows (length rows) k row refl low is
-
-  pub row_head : (k : ℕ) (row : Row) → k < length rows → row ≡ get_or rows k row → slice_get g.heads k ≡ Some row.head
-  row_head k row low is = subst (λ (x : GraphView). slice_get x.heads k ≡ Some row.head) view (at_mapped (λ (r : Row). r.head) rows k row (row_there k row low is))
+  pub row_head : (k : ℕ) (row : Row) → slice_get rows k ≡ Some row → slice_get g.heads k ≡ Some row.head
+  row_head k row at = subst (λ (x : GraphView). slice_get x.heads k ≡ Some row.head) view (at_mapped (λ (r : Row). r.head) rows k row at)
 
 -- ---- one more head
 
@@ -42,7 +39,7 @@ stay_more heads new head is h x at =
     (in_prefix heads (head ∷ []) h (slice_get_within heads h x at) ∙ at)
 
 -- the last of more heads
-last_at : (heads : List Head) (head : Head) → slice_get (heads ++ head ∷ []) (length heads) ≡ Some head
+pub last_at : (heads : List Head) (head : Head) → slice_get (heads ++ head ∷ []) (length heads) ≡ Some head
 last_at [] head = refl
 last_at (x ∷ heads) head = last_at heads head
 
@@ -67,10 +64,10 @@ newest_set rows k row o is = map-set (λ (r : Row). r.newest) rows k row ∙ ap 
 -- ---- what holds of the kept graph
 
 module _ (rows : List Row) (cells : List Cell) (s : IsSound (heads_of rows) (newest_of rows) cells) where
-  pub row_newest : (g : GraphView) → graph_of (heads_of rows) (links_of cells) ≡ g → (k : ℕ) (row : Row) → k < length rows → row ≡ get_or rows k row → links_from g.links k row.newest ≡ links_down g.links k
-  row_newest g view k row low is =
+  pub row_newest : {base : ℕ} (g : GraphView) → graph_of (heads_of rows) (links_of cells) base ≡ g → (k : ℕ) (row : Row) → slice_get rows k ≡ Some row → links_from g.links k row.newest ≡ links_down g.links k
+  row_newest g view k row at =
       subst (λ (x : GraphView). links_from x.links k row.newest ≡ links_down x.links k) view
-      (s.begins k row.newest (at_mapped (λ (r : Row). r.newest) rows k row (row_there rows (links_of cells) g view k row low is)))
+      (s.begins k row.newest (at_mapped (λ (r : Row). r.newest) rows k row at))
 
   -- one more head, whatever is beside it
   module _ (row : Row) (mid new : List Row) (is : mid ≡ rows ++ row ∷ []) (heads_are : heads_of new ≡ heads_of mid) (newest_are : newest_of new ≡ newest_of mid) where
@@ -82,7 +79,7 @@ module _ (rows : List Row) (cells : List Cell) (s : IsSound (heads_of rows) (new
         sound_open (heads_of rows) (newest_of rows) (newest_of new) cells s row.head (heads_of new)
         (newest_are ∙ ap (λ (rs : List Row). newest_of rs) is ∙ newest_pushed rows row ∙ ap (λ (o : Option ℕ). newest_of rows ++ o ∷ []) none) added_heads
 
-    pub kept_added : (extras : Bool) → IsKept (heads_of rows) cells extras → IsKept (heads_of new) cells extras
+    pub kept_added : {base : ℕ} (extras : Bool) → IsKept (heads_of rows) base cells extras → IsKept (heads_of new) base cells extras
     kept_added extras kept = kept_open (heads_of rows) cells extras s.each_once kept row.head (heads_of new) added_heads
 
 -- a newer link
@@ -92,5 +89,5 @@ module _ (rows : List Row) (k : ℕ) (row d : Row) (same : row.head ≡ (get_or 
       subst (λ (hs : List Head). IsSound hs (newest_of (set rows k row)) cells) (sym (heads_set rows k row d same))
       (subst (λ (ns : List (Option ℕ)). IsSound (heads_of rows) ns cells) (sym (newest_set rows k row (Some n) is)) s)
 
-  pub kept_set : (extras : Bool) → IsKept (heads_of rows) cells extras → IsKept (heads_of (set rows k row)) cells extras
-  kept_set extras kept = subst (λ (hs : List Head). IsKept hs cells extras) (sym (heads_set rows k row d same)) kept
+  pub kept_set : {base : ℕ} (extras : Bool) → IsKept (heads_of rows) base cells extras → IsKept (heads_of (set rows k row)) base cells extras
+  kept_set {base = base} extras kept = subst (λ (hs : List Head). IsKept hs base cells extras) (sym (heads_set rows k row d same)) kept

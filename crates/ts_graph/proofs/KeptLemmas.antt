@@ -31,8 +31,8 @@ use Rattle.ts_graph.proofs.LatestLemmas.{ends_here, finds_without}
 
 -- ---- one more head, one more link, and a packed one
 
-pub kept_open : (heads : List Head) (cells : List Cell) (extras : Bool) → HoldsEachOnce heads (links_of cells) → IsKept heads cells extras → (head : Head) (new : List Head) → new ≡ heads ++ head ∷ [] → IsKept new cells extras
-kept_open heads cells extras each kept head new is = subst (λ (hs : List Head). IsKept hs cells extras) (sym is) record {
+pub kept_open : (heads : List Head) {base : ℕ} (cells : List Cell) (extras : Bool) → HoldsEachOnce heads (links_of cells) → IsKept heads base cells extras → (head : Head) (new : List Head) → new ≡ heads ++ head ∷ [] → IsKept new base cells extras
+kept_open heads {base = base} cells extras each kept head new is = subst (λ (hs : List Head). IsKept hs base cells extras) (sym is) record {
   bounded = λ k c at j d there same low.
       let within = each.below_there j (link_of d) (at_mapped link_of cells j d there) in
       let place : place_at (heads ++ head ∷ []) d.below ≡ place_at heads d.below = ap (λ (o : Option Head). option_map_or (λ (x : Head). x.place) o 0) (in_prefix heads (head ∷ []) d.below within) in
@@ -41,12 +41,12 @@ kept_open heads cells extras each kept head new is = subst (λ (hs : List Head).
   filled = kept.filled;
 }
 
-module _ (heads : List Head) (cells : List Cell) (extras : Bool) (kept : IsKept heads cells extras) where
+module _ (heads : List Head) {base : ℕ} (cells : List Cell) (extras : Bool) (kept : IsKept heads base cells extras) where
   pub kept_push : (c : Cell) → c.lowest ≤ place_at heads c.below → ((j : ℕ) (d : Cell) → slice_get cells j ≡ Some d → d.above ≡ c.above → c.lowest ≤ place_at heads d.below)
-      → (more : Bool) → (more ≡ false → (extras ≡ false) × (is_extra_node c.node ≡ false)) → IsKept heads (cells ++ c ∷ []) more
+      → (more : Bool) → (more ≡ false → (extras ≡ false) × (is_extra_node c.node ≡ false)) → IsKept heads base (cells ++ c ∷ []) more
   kept_push c own others more plain = record {
     bounded = λ k e at j d there same low. by k e j d same low (push_cases cells c k e at) (push_cases cells c j d there);
-    filled = λ none k d at. filled_by k d none (push_cases cells c k d at);
+    filled = λ none k d past at. filled_by k d none past (push_cases cells c k d at);
   }
     where
       by : (k : ℕ) (e : Cell) (j : ℕ) (d : Cell) → d.above ≡ e.above → j ≤ k
@@ -61,11 +61,11 @@ module _ (heads : List Head) (cells : List Cell) (extras : Bool) (kept : IsKept 
           subst (λ (x : Cell). x.lowest ≤ place_at heads d.below) v.1
           (subst (λ (x : Cell). c.lowest ≤ place_at heads x.below) w.1 own)
 
-      filled_by : (k : ℕ) (d : Cell) → more ≡ false → ((k < length cells) × (slice_get cells k ≡ Some d)) ⊎ ((k ≡ length cells) × (c ≡ d)) → is_extra_node d.node ≡ false
-      filled_by k d none (inl w) = kept.filled (plain none).0 k d w.1
-      filled_by k d none (inr w) = subst (λ (x : Cell). is_extra_node x.node ≡ false) w.1 (plain none).1
+      filled_by : (k : ℕ) (d : Cell) → more ≡ false → base ≤ k → ((k < length cells) × (slice_get cells k ≡ Some d)) ⊎ ((k ≡ length cells) × (c ≡ d)) → is_extra_node d.node ≡ false
+      filled_by k d none past (inl w) = kept.filled (plain none).0 k d past w.1
+      filled_by k d none past (inr w) = subst (λ (x : Cell). is_extra_node x.node ≡ false) w.1 (plain none).1
 
-  pub kept_pack : (k : ℕ) (c d : Cell) → slice_get cells k ≡ Some c → AreAlike c d → d.lowest ≡ c.lowest → (more : Bool) → (more ≡ false → (extras ≡ false) × (is_extra_node d.node ≡ false)) → IsKept heads (set cells k d) more
+  pub kept_pack : (k : ℕ) (c d : Cell) → slice_get cells k ≡ Some c → AreAlike c d → d.lowest ≡ c.lowest → (more : Bool) → (more ≡ false → (extras ≡ false) × (is_extra_node d.node ≡ false)) → IsKept heads base (set cells k d) more
   kept_pack k c d at alike lowest more plain = record {
     bounded = λ i x is j z there same low.
         let y = old_of i x is in
@@ -75,7 +75,7 @@ module _ (heads : List Head) (cells : List Cell) (extras : Bool) (kept : IsKept 
         let e = y.3 in
         let f : place_at heads z.below ≡ place_at heads w.0.below = ap (λ (h : ℕ). place_at heads h) w.4 in
         omega (arith, b, e, f);
-    filled = λ none i x is. filled_by i x none is (nat_eq i k) refl;
+    filled = λ none i x past is. filled_by i x none past is (nat_eq i k) refl;
   }
     where
       here : (i : ℕ) (x : Cell) → slice_get (set cells k d) i ≡ Some x → i ≡ k → d ≡ x
@@ -103,9 +103,9 @@ module _ (heads : List Head) (cells : List Cell) (extras : Bool) (kept : IsKept 
               )
           by false e = (x, elsewhere i x is e, refl, refl, refl)
 
-      filled_by : (i : ℕ) (x : Cell) → more ≡ false → slice_get (set cells k d) i ≡ Some x → (b : Bool) → nat_eq i k ≡ b → is_extra_node x.node ≡ false
-      filled_by i x none is true e = subst (λ (y : Cell). is_extra_node y.node ≡ false) (here i x is (eqb-true i k e)) (plain none).1
-      filled_by i x none is false e = kept.filled (plain none).0 i x (elsewhere i x is e)
+      filled_by : (i : ℕ) (x : Cell) → more ≡ false → base ≤ i → slice_get (set cells k d) i ≡ Some x → (b : Bool) → nat_eq i k ≡ b → is_extra_node x.node ≡ false
+      filled_by i x none past is true e = subst (λ (y : Cell). is_extra_node y.node ≡ false) (here i x is (eqb-true i k e)) (plain none).1
+      filled_by i x none past is false e = kept.filled (plain none).0 i x past (elsewhere i x is e)
 
 -- the tree that is kept where one is packed is one of the two
 pub packed_plain : (old new : Link) (tree : Tree) (depth : ℕ) → IsPacked old tree depth new → is_extra_node old.tree ≡ false → is_extra_node tree ≡ false → is_extra_node new.tree ≡ false
@@ -123,7 +123,7 @@ neither false b e = (refl, e)
 
 -- ---- as contracts see it
 
-module _ (heads : List Head) (cells : List Cell) (extras : Bool) (kept : IsKept heads cells extras) (g : GraphView) (view : graph_of heads (links_of cells) ≡ g) where
+module _ (heads : List Head) {base : ℕ} (cells : List Cell) (extras : Bool) (kept : IsKept heads base cells extras) (g : GraphView) (view : graph_of heads (links_of cells) base ≡ g) where
   pub cell_bound : (k : ℕ) (c : Cell) → slice_get cells k ≡ Some c → IsBound g.heads g.links k c.above c.lowest
   cell_bound k c at = subst (λ (x : GraphView). IsBound x.heads x.links k c.above c.lowest) view
       (λ j l there same low.
@@ -131,19 +131,19 @@ module _ (heads : List Head) (cells : List Cell) (extras : Bool) (kept : IsKept 
       let b = kept.bounded k c at j d.0 d.1 (ap (λ (m : Link). m.above) d.2 ∙ same) low in
       subst (λ (m : Link). c.lowest ≤ place_at heads m.below) d.2 b)
 
-  pub all_plain : extras ≡ false → (j : ℕ) (l : Link) → slice_get g.links j ≡ Some l → is_extra_node l.tree ≡ false
-  all_plain none = subst (λ (x : GraphView). (j : ℕ) (l : Link) → slice_get x.links j ≡ Some l → is_extra_node l.tree ≡ false) view
-      (λ j l there.
+  pub all_plain : extras ≡ false → (j : ℕ) (l : Link) → g.base ≤ j → slice_get g.links j ≡ Some l → is_extra_node l.tree ≡ false
+  all_plain none = subst (λ (x : GraphView). (j : ℕ) (l : Link) → x.base ≤ j → slice_get x.links j ≡ Some l → is_extra_node l.tree ≡ false) view
+      (λ j l past there.
       let d = mapped_at link_of cells j l there in
-      subst (λ (m : Link). is_extra_node m.tree ≡ false) d.2 (kept.filled none j d.0 d.1))
+      subst (λ (m : Link). is_extra_node m.tree ≡ false) d.2 (kept.filled none j d.0 past d.1))
 
-pub kept_pushed : (heads : List Head) (cells : List Cell) (extras : Bool) → IsKept heads cells extras → (g : GraphView) → graph_of heads (links_of cells) ≡ g → (c : Cell) (head : Head) → slice_get g.heads c.below ≡ Some head → c.lowest ≤ head.place
-    → LeadNoLower g.heads g.links c.above c.lowest → (new : List Cell) → new ≡ cells ++ c ∷ [] → (more : Bool) → (more ≡ false → (extras ≡ false) × (is_extra_node c.node ≡ false)) → IsKept heads new more
-kept_pushed heads cells extras kept g view c head at own others new is more plain =
+pub kept_pushed : (heads : List Head) {base : ℕ} (cells : List Cell) (extras : Bool) → IsKept heads base cells extras → (g : GraphView) → graph_of heads (links_of cells) base ≡ g → (c : Cell) (head : Head) → slice_get g.heads c.below ≡ Some head → c.lowest ≤ head.place
+    → LeadNoLower g.heads g.links c.above c.lowest → (new : List Cell) → new ≡ cells ++ c ∷ [] → (more : Bool) → (more ≡ false → (extras ≡ false) × (is_extra_node c.node ≡ false)) → IsKept heads base new more
+kept_pushed heads {base = base} cells extras kept g view c head at own others new is more plain =
     let there : slice_get heads c.below ≡ Some head = subst (λ (x : GraphView). slice_get x.heads c.below ≡ Some head) (sym view) at in
     let place : place_at heads c.below ≡ head.place = ap (λ (o : Option Head). option_map_or (λ (x : Head). x.place) o 0) there in
     let lead = subst (λ (x : GraphView). LeadNoLower x.heads x.links c.above c.lowest) (sym view) others in
-    subst (λ (cs : List Cell). IsKept heads cs more) (sym is)
+    subst (λ (cs : List Cell). IsKept heads base cs more) (sym is)
     (kept_push heads cells extras kept c (omega (arith, place, own))
     (λ j d there same. lead j (link_of d) (at_mapped link_of cells j d there) same) more plain)
 
@@ -154,12 +154,13 @@ wanting_none links j l at plain =
     ∙ ap (λ (b : Bool). if b then 1 else 1 - 1) plain
 
 pub past_all : (heads : List Head) (links : List Link) (place wanting k low : ℕ) (c : Link) → slice_get links k ≡ Some c → IsBound heads links k c.above low → place < low → wanting ≡ 1
-    → ((j : ℕ) (l : Link) → slice_get links j ≡ Some l → is_extra_node l.tree ≡ false) → AllPast heads links place wanting k
+    → ((j : ℕ) (l : Link) → slice_get links j ≡ Some l → l.above ≡ c.above → is_extra_node l.tree ≡ false) → AllPast heads links place wanting k
 past_all heads links place wanting k low c at bound past one plain m is j l there same up =
     let f : Some c ≡ Some m = sym at ∙ is in
     let g : c ≡ m = cc in
-    let b = bound j l there (same ∙ ap (λ (x : Link). x.above) (sym g)) up in
-    (omega (arith, past, b), subst (λ (n : ℕ). wanting_past links n j ≡ 0) (sym one) (wanting_none links j l there (plain j l there)))
+    let own : l.above ≡ c.above = same ∙ ap (λ (x : Link). x.above) (sym g) in
+    let b = bound j l there own up in
+    (omega (arith, past, b), subst (λ (n : ℕ). wanting_past links n j ≡ 0) (sym one) (wanting_none links j l there (plain j l there own)))
 
 -- ---- the links from one on
 

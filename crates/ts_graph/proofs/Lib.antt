@@ -10,3 +10,7 @@ pub mod OnlyLemmas
 pub mod LatestLemmas
 pub mod KeptLemmas
 pub mod HeadLemmas
+pub mod UnderLemmas
+pub mod SpanLemmas
+pub mod OverLemmas
+pub mod OwnLemmas

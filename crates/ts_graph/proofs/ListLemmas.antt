@@ -54,6 +54,12 @@ module _ {X : Type 0} where
   contained_has (y ∷ xs) x (inl e) = (0, omega arith, e)
   contained_has (y ∷ xs) x (inr h) = let r = contained_has xs x h in (suc r.0, (let low = r.1 in omega arith), r.2)
 
+  -- what is within stands somewhere
+  pub read_there : (xs : List X) (k : ℕ) → k < length xs → (x : X) × (slice_get xs k ≡ Some x)
+  read_there [] k low = absurd (omega (arith, low))
+  read_there (y ∷ xs) zero low = (y, refl)
+  read_there (y ∷ xs) (suc k) low = read_there xs k (omega (arith, low))
+
   pub contained_at : (xs : List X) (k : ℕ) (x : X) → slice_get xs k ≡ Some x → Contains xs x
   contained_at xs k x e = contained_has xs x (has_at xs k x e)
 

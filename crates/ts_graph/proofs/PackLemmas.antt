@@ -1,8 +1,7 @@
 -- A link that is packed, as contracts see it.
-use Rattle.std.proofs.Common.{◌≡◌, ◌∙◌, sym, ap, refl, subst, ℕ, ◌<◌, List, length, set, get_or, slice_get, Option, Some, arith}
+use Rattle.std.proofs.Common.{◌≡◌, ◌∙◌, sym, ap, subst, ℕ, ◌<◌, List, length, set, slice_get, Option, Some}
 use Rattle.std.specs.Option.{option_map}
-use Rattle.std.proofs.lemmas.List.{length-map}
-use Rattle.std.proofs.lemmas.Option.{slice_get_read, slice_get-map}
+use Rattle.std.proofs.lemmas.Option.{slice_get_within, slice_get-map}
 use Rattle.spec_trees.specs.declared.tree.Tree.{Tree}
 use Rattle.ts_base.proofs.PlaceLemmas.{set_here, set_there}
 use Rattle.spec_graph.specs.declared.graph.Head.{Head}
@@ -13,15 +12,9 @@ use Rattle.ts_graph.specs.Down.{IsPacked}
 use Rattle.ts_graph.specs.Cells.{link_of, links_of, graph_of}
 use Rattle.ts_graph.proofs.ListLemmas.{at_mapped}
 
-module _ (heads : List Head) (cells : List Cell) (g : GraphView) (view : graph_of heads (links_of cells) ≡ g) (k : ℕ) (old : Cell) (low : k < length g.links) (is : old ≡ get_or cells k old) where
+module _ (heads : List Head) (cells : List Cell) {base : ℕ} (g : GraphView) (view : graph_of heads (links_of cells) base ≡ g) (k : ℕ) (old : Cell) (cell_there : slice_get cells k ≡ Some old) where
   within : k < length cells
-  within =
-      let e : length (links_of cells) ≡ length g.links = ap (λ (x : GraphView). length x.links) view in
-      let f = length-map cells link_of in
-      omega arith
-
-  pub cell_there : slice_get cells k ≡ Some old
-  cell_there = slice_get_read cells (length cells) k old refl within is
+  within = slice_get_within cells k old cell_there
 
   pub link_there : slice_get g.links k ≡ Some (link_of old)
   link_there = subst (λ (x : GraphView). slice_get x.links k ≡ Some (link_of old)) view (at_mapped link_of cells k old cell_there)

@@ -3,7 +3,7 @@
 ghost use Rattle.std.specs.Prelude.{◌≡◌, ℕ, ◌<◌, ◌≤◌, ◌||◌, ◌++◌, ◌∷◌, [], length, take, slice_get, Some, OnOk, OnErr, IsTrue, IfSome, MatchOption};
 ghost use Rattle.spec_trees.specs.Choice.{AreOfOneGrammar};
 ghost use Rattle.spec_graph.specs.declared.graph.Link.{Link};
-ghost use Rattle.ts_graph.specs.Cells.{link_of};
+ghost use Rattle.ts_graph.specs.Cells.{link_of, IsCellOf};
 ghost use Rattle.ts_graph.specs.Bounds.{IsBound, LeadNoLower, AllPast};
 ghost use Rattle.ts_graph.specs.Down.{link_with, links_down, links_from, place_at, HasNone, IsBetween, IsPacked, LeadFrom};
 
@@ -44,7 +44,8 @@ impl Graph {
     pub fn link_count(&self) -> usize
         ensures { result ≡ length self.now.links }
     {
-        self.cells.len()
+        let _place = self.place;
+        self.base + self.cells.len()
     }
 
     /// Whether all links from a number on lead down from heads from another number on.
@@ -59,16 +60,17 @@ impl Graph {
         true
     }
 
-    /// A link as it is kept.
-    fn cell(&self, link: usize) -> &Cell
+    /// A link as it is kept, and none where it is one of the stack's.
+    fn cell(&self, link: usize) -> Option<&Cell>
         requires { link < length self.now.links }
-        ensures link { slice_get self.now.links link ≡ Some (link_of result.now) }
-        ensures earlier { links_from self.now.links result.now.above result.now.earlier
-            ≡ links_down (take link self.now.links) result.now.above }
-        ensures lowest { IsBound self.now.heads self.now.links link result.now.above
-            result.now.lowest }
+        ensures { MatchOption result (link < self.now.base)
+            (λ cell. IsCellOf self.now link cell.now) }
     {
-        &self.cells[link]
+        if link < self.base {
+            None
+        } else {
+            Some(&self.cells[link - self.base])
+        }
     }
 
     /// The heads and the depth of a link.
@@ -81,11 +83,17 @@ impl Graph {
         ensures depth { (l : Link) → slice_get self.now.links link ≡ Some l
             → result.depth ≡ l.depth }
     {
-        let cell = self.cell(link);
-        Edge {
-            above: cell.above,
-            below: cell.below,
-            depth: cell.depth,
+        match self.cell(link) {
+            Some(cell) => Edge {
+                above: cell.above,
+                below: cell.below,
+                depth: cell.depth,
+            },
+            None => Edge {
+                above: link + 1,
+                below: link,
+                depth: self.stack.depth(link + 1),
+            },
         }
     }
 
@@ -94,7 +102,10 @@ impl Graph {
         requires { link < length self.now.links }
         ensures { (l : Link) → slice_get self.now.links link ≡ Some l → result.now ≡ l.tree }
     {
-        &self.cell(link).node
+        match self.cell(link) {
+            Some(cell) => &cell.node,
+            None => self.stack.node(link + 1),
+        }
     }
 
     /// The newest of the earlier links that lead down from the same head as this one.
@@ -104,7 +115,23 @@ impl Graph {
             → links_from self.now.links l.above result
             ≡ links_down (take link self.now.links) l.above }
     {
-        self.cell(link).earlier
+        match self.cell(link) {
+            Some(cell) => cell.earlier,
+            None => None,
+        }
+    }
+
+    /// A place below which neither a link leads nor an earlier one from its head.
+    fn lowest(&self, link: usize) -> u32
+        requires { link < length self.now.links }
+        ensures bound { (l : Link) → slice_get self.now.links link ≡ Some l
+            → IsBound self.now.heads self.now.links link l.above result }
+        ensures own { link < self.now.base → result ≡ 0 }
+    {
+        match self.cell(link) {
+            Some(cell) => cell.lowest,
+            None => 0,
+        }
     }
 
     /// Whether no earlier link leads down from the same head as this one.
@@ -146,7 +173,7 @@ impl Graph {
             → LeadNoLower self.now.heads self.now.links above result }
     {
         match next {
-            Some(link) => self.cell(link).lowest.min(place),
+            Some(link) => self.lowest(link).min(place),
             None => place,
         }
     }
@@ -164,7 +191,7 @@ impl Graph {
         if wanting != 1 {
             return false;
         }
-        self.cell(link).lowest > place
+        self.lowest(link) > place
     }
 
     /// The link between two heads, and none where there is none. It passes the links that lead down
@@ -176,17 +203,16 @@ impl Graph {
     {
         let mut next = self.first_down(above);
         while let Some(link) = next {
-            let cell = self.cell(link);
-            if cell.below == below {
+            if self.link(link).below == below {
                 return Some(link);
             }
-            next = cell.earlier;
+            next = self.next_down(link);
         }
         None
     }
 
     /// Adds a link at the end, between two heads that have none yet. The head below stands at an
-    /// earlier place.
+    /// earlier place. The one above is past those of the stack.
     ///
     /// # Errors
     ///
@@ -199,17 +225,19 @@ impl Graph {
         depth: u32,
     ) -> Result<(), AllocError>
         requires above { above < length self.old.heads }
+        requires own { self.old.base < above }
         requires below { below < length self.old.heads }
         requires falls { place_at self.old.heads below < place_at self.old.heads above }
         requires new { HasNone self.old.links above below }
         ensures heads { self.new.heads ≡ self.old.heads }
+        ensures base { self.new.base ≡ self.old.base }
         ensures pushed { OnOk result
             (self.new.links ≡ self.old.links ++ link_with above below node depth ∷ []) }
         ensures kept { OnErr result (self.new ≡ self.old) }
     {
         let earlier = self.first_down(above);
         let lowest = self.lowest_down(earlier, self.head(below).place);
-        let number = self.cells.len();
+        let number = self.base + self.cells.len();
         let extras = either(self.extras, node.extra());
         self.cells.push(Cell {
             above,
@@ -219,18 +247,22 @@ impl Graph {
             earlier,
             lowest,
         })?;
-        self.rows[above] = with_newest(self.rows[above], number);
+        let row = above - self.base - 1;
+        self.rows[row] = with_newest(self.rows[row], number);
         self.extras = extras;
         Ok(())
     }
 
-    /// Packs one more tree into a link: the better of the two trees stays, the one that was there
-    /// where neither is better, and the greater of the two depths.
+    /// Packs one more tree into a link past those of the stack: the better of the two trees stays,
+    /// the one that was there where neither is better, and the greater of the two depths.
     pub fn pack(&mut self, link: usize, node: Node, depth: u32)
         requires there { link < length self.old.links }
+        requires own { (l : Link) → slice_get self.old.links link ≡ Some l
+            → self.old.base < l.above }
         requires form { (l : Link) → slice_get self.old.links link ≡ Some l
             → AreOfOneGrammar node l.tree }
         ensures heads { self.new.heads ≡ self.old.heads }
+        ensures base { self.new.base ≡ self.old.base }
         ensures count { length self.new.links ≡ length self.old.links }
         ensures packed { (l m : Link) → slice_get self.old.links link ≡ Some l
             → slice_get self.new.links link ≡ Some m → IsPacked l node depth m }
@@ -239,7 +271,8 @@ impl Graph {
     {
         let extras = either(self.extras, node.extra());
         self.extras = extras;
-        self.cells[link].pack(node, depth);
+        let cell = link - self.base;
+        self.cells[cell].pack(node, depth);
     }
 }
 

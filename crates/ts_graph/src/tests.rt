@@ -8,8 +8,8 @@ use ts_node::Node;
 #[test]
 fn a_way_leads_down(rt: HostRuntime) -> Result<(), Fail> {
     let alloc = rt.alloc();
-    let mut graph = Graph::with_room(alloc, 3)?;
-    let bottom = graph.open(Head { state: 0, place: 0 }, None)?;
+    let mut graph = Graph::new(alloc);
+    let bottom = graph.base();
     let top = graph.open(Head { state: 7, place: 3 }, None)?;
     let other = graph.open(Head { state: 8, place: 3 }, Some(top))?;
     assert_eq!(rt; graph.open(Head { state: 7, place: 3 }, Some(other))?, top);
@@ -25,5 +25,9 @@ fn a_way_leads_down(rt: HostRuntime) -> Result<(), Fail> {
     assert_eq!(rt; graph.ways(alloc, top, 1)?.len(), 1);
     assert_eq!(rt; graph.ways_to(alloc, top, 1, 0)?.len(), 1);
     assert_eq!(rt; graph.latest_end(alloc, top, 1, 3)?, Some(0));
+    let stack = graph.take_stack(alloc, bottom);
+    assert_eq!(rt; stack.state(bottom), 0);
+    assert_eq!(rt; graph.count(), 1);
+    graph.lie_over(stack, bottom, 0);
     Ok(())
 }
