@@ -1,11 +1,10 @@
 -- A graph that is made of a stack.
-use Rattle.std.proofs.Common.{◌≡◌, ◌∙◌, sym, ap, refl, subst, ℕ, zero, suc, ◌≤◌, ◌⊎◌, inl, inr, List, [], ◌∷◌, ◌++◌, length, take, slice_get, Some, arith}
+use Rattle.std.proofs.Common.{◌+◌, ◌≡◌, ◌∙◌, sym, ap, refl, subst, ℕ, zero, suc, ◌≤◌, List, [], ◌∷◌, ◌++◌, length, drop, slice_get, Some, arith}
 use Rattle.std.specs.List.{Contains}
-use Rattle.std.proofs.lemmas.List.{take_all}
 use Rattle.std.proofs.lemmas.Option.{slice_get_within}
 use Rattle.ts_base.specs.Bytes.{Bytes}
 use Rattle.spec_trees.specs.declared.tree.Tree.{Tree}
-use Rattle.spec_trees.specs.Trees.{all_spans}
+use Rattle.spec_trees.specs.Trees.{span_of, all_spans, tree_depth}
 use Rattle.spec_trees.specs.Made.{most_span}
 use Rattle.spec_forced.specs.Sound.{States, StandOnStack}
 use Rattle.spec_forced.proofs.SoundLemmas.{stack_lower}
@@ -19,12 +18,16 @@ use Rattle.ts_table.specs.declared.view.ParseTable.{ParseTable}
 use Rattle.ts_table.specs.Tables.{IsTable}
 use Rattle.ts_table.specs.Ranks.{unit_rank}
 use Rattle.ts_gss.specs.declared.layer.Layer.{Layer}
-use Rattle.ts_gss.specs.Stacks.{stack_at, trees_on, state_on}
+use Rattle.ts_gss.specs.Stacks.{stack_at, trees_on, state_on, AreExact}
 use Rattle.ts_graph.specs.declared.view.GraphView.{GraphView}
-use Rattle.ts_graph.specs.Cells.{graph_of}
-use Rattle.ts_graph.specs.Down.{OpensAt}
+use Rattle.ts_graph.specs.Down.{OpensAt, link_with}
+use Rattle.ts_graph.specs.Under.{head_over, heads_on, links_on, graph_over}
+use Rattle.ts_graph.proofs.HeadLemmas.{stay_more, opens_last}
+use Rattle.ts_graph.proofs.UnderLemmas.{heads_many, head_last}
 use Rattle.ts_reductions.specs.SoundLinks.{bare_links, IsSoundFor}
 use Rattle.ts_reductions.specs.Laying.{head_at}
+use Rattle.ts_reductions.specs.LayingLaws.{LayingLaws}
+use Rattle.ts_reductions.proofs.LayLemmas.{Opened, pushed}
 use Rattle.ts_steps.specs.declared.head.StackHead.{StackHead}
 use Rattle.ts_steps.specs.Good.{EachTree}
 use Rattle.ts_steps.specs.Heads.{AreStatesOf, IsOwnWithin, StandOnHead}
@@ -32,28 +35,13 @@ use Rattle.ts_steps.proofs.NodeLemmas.{each_right}
 use Rattle.ts_crossing.specs.Laws.{EnterLaws}
 use Rattle.ts_reductions.specs.Sound.{Base, base_at, parsing_from}
 use Rattle.ts_reductions.specs.Keeping.{StandOnGraph}
-use Rattle.ts_crossing.specs.Entering.{CanEnter, IsEntered, IsUnder, AreDownTo, LaidTo, CanLayTop, CanLayStacks}
-use Rattle.ts_crossing.proofs.MemberLemmas.{none_contained, member_bare}
+use Rattle.ts_crossing.specs.Entering.{CanEnter, IsEntered, IsUnder, Stands, LaidTo}
+use Rattle.ts_crossing.proofs.MemberLemmas.{none_contained, member_bare, place_is_at}
 use Rattle.ts_crossing.proofs.TableLemmas.{table_states}
-use Rattle.ts_crossing.proofs.StandLemmas.{stands_down, begun, enter_stands, grounded, place_is, bare_low}
-use Rattle.ts_crossing.proofs.WalkLemmas.{LastDown, last_down}
+use Rattle.ts_crossing.proofs.StandLemmas.{stands_under, begun, enter_stands, grounded, place_is, bare_low}
+use Rattle.ts_crossing.proofs.LayLemmas.{layer_can, layer_laid}
 
 -- ---- the empty stack
-
-pub opened_heads : (old new : GraphView) (number : ℕ) → old ≡ graph_of [] [] → OpensAt old.heads new.heads (head_at 0 0) number → new.heads ≡ head_at 0 0 ∷ []
-opened_heads old new number is opens = by opens.added
-  where
-    empty : old.heads ≡ []
-    empty = ap (λ (g : GraphView). g.heads) is
-
-    by : (new.heads ≡ old.heads) ⊎ ((new.heads ≡ old.heads ++ head_at 0 0 ∷ []) × (number ≡ length old.heads)) → new.heads ≡ head_at 0 0 ∷ []
-    by (inl same) =
-        let low = slice_get_within [] number (head_at 0 0) (subst (λ (hs : List Head). slice_get hs number ≡ Some (head_at 0 0)) (same ∙ empty) opens.at) in
-        absurd (omega (arith, low))
-    by (inr w) = w.0 ∙ ap (λ (hs : List Head). hs ++ head_at 0 0 ∷ []) empty
-
-pub opened_links : (old new : GraphView) → old ≡ graph_of [] [] → new.links ≡ old.links → new.links ≡ []
-opened_links old new is links = links ∙ ap (λ (g : GraphView). g.links) is
 
 module _ (laws : EnterLaws) (t : ParseTable) (text : Bytes) (base : Base) (ground : IsGrounded (parsing_from t text base)) (table : IsTable t) (short : length text ≤ most_span) (g : GraphView) (bottom : ℕ)
     (heads_are : g.heads ≡ head_at 0 0 ∷ []) (links_are : g.links ≡ []) (at : slice_get g.heads bottom ≡ Some (head_at 0 0)) where
@@ -113,47 +101,53 @@ module _ (laws : EnterLaws) (t : ParseTable) (text : Bytes) (base : Base) (groun
     alone = λ k head is e. only_first k head is ∙ sym (only_first bottom (head_at 0 0) at);
   }
 
--- ---- one stack after another
+-- ---- one layer after another
 
-take_next : (ks : List ℕ) (i k : ℕ) → slice_get ks i ≡ Some k → take (suc i) ks ≡ take i ks ++ k ∷ []
-take_next [] i k e = absurd (let h = slice_get_within [] i k e in omega (arith, h))
-take_next (x ∷ ks) zero k e = let h : Some x ≡ Some k = e in let same : x ≡ k = cc in ap (λ (n : ℕ). n ∷ []) same
-take_next (x ∷ ks) (suc i) k e = ap (λ (l : List ℕ). x ∷ l) (take_next ks i k e)
+module _ (laws : EnterLaws) (laying : LayingLaws) (t : ParseTable) (text : Bytes) (base : Base) (l : Layer) (lower : List Layer) (stands : Stands t text base (l ∷ lower)) (exact : l.depth ≡ tree_depth l.tree)
+    (laid : LaidTo t text base lower (graph_over lower) (length lower)) where
+  abbrev n : ℕ
+  n = length lower
 
--- what is laid so far
-pub record LaidSoFar (t : ParseTable) (text : Bytes) (base : Base) (stacks : List (List Layer)) (layers : List Layer) (numbers : List ℕ) (left : ℕ) (g : GraphView) (top : ℕ) : Type 0 where
-  pub rest : List Layer
-  pub down : AreDownTo stacks layers (take left numbers) rest
-  pub laid : LaidTo t text base rest g top
+  abbrev from : ℕ
+  from = all_spans (trees_on lower)
 
-pub so_far_first : (t : ParseTable) (text : Bytes) (base : Base) (stacks : List (List Layer)) (layers : List Layer) (numbers : List ℕ) (left : ℕ) (g : GraphView) (bottom : ℕ) → CanLayStacks t text base stacks layers numbers g bottom → length numbers ≤ left → LaidSoFar t text base stacks layers numbers left g bottom
-so_far_first t text base stacks layers numbers left g bottom can le = record {
-  rest = [];
-  down = subst (λ (ks : List ℕ). AreDownTo stacks layers ks []) (sym (take_all left numbers le)) can.down;
-  laid = can.laid;
-}
+  abbrev head : Head
+  head = head_over (l ∷ lower)
 
-module _ (t : ParseTable) (text : Bytes) (base : Base) (stacks : List (List Layer)) (layers : List Layer) (numbers : List ℕ) (left next k : ℕ) (g : GraphView) (top : ℕ) (first : GraphView) (bottom : ℕ)
-    (can : CanLayStacks t text base stacks layers numbers first bottom) (so : LaidSoFar t text base stacks layers numbers left g top) (left_is : left ≡ suc next) (k_is : slice_get numbers next ≡ Some k) where
-  last : LastDown stacks layers (take next numbers) k so.rest
-  last = last_down stacks layers (take next numbers) k so.rest
-      (subst (λ (ks : List ℕ). AreDownTo stacks layers ks so.rest) (ap (λ (n : ℕ). take n numbers) left_is ∙ take_next numbers next k k_is) so.down)
+  -- the graph with the head above the layer, and without its link
+  abbrev mid : GraphView
+  mid = record { heads = heads_on lower ++ head ∷ []; links = links_on lower; base = n }
 
-  pub next_can : CanLayTop t text base stacks k g top
-  next_can = record {
-    there = last.there;
-    some = last.some;
-    stands = stands_down t text base stacks layers (take next numbers) (stack_at stacks k) can.stands last.down;
-    laid = subst (λ (ls : List Layer). LaidTo t text base ls g top) (sym last.rest_is) so.laid;
+  head_is : head ≡ head_at l.state (from + span_of l.tree)
+  head_is = ap (λ (p : ℕ). head_at l.state p) (let e : all_spans (trees_on (l ∷ lower)) ≡ from + span_of l.tree = omega arith in e)
+
+  above_is : suc n ≡ length (heads_on lower)
+  above_is = sym (heads_many lower)
+
+  opened : Opened (graph_over lower) mid n (suc n) l.state from (from + span_of l.tree) l.tree
+  opened = record {
+    place_is = sym (place_is_at (heads_on lower) n (head_over lower) (head_last lower));
+    to_is = refl;
+    stay = stay_more (heads_on lower) (heads_on lower ++ head ∷ []) head refl;
+    same = refl;
+    opens = subst (λ (h : Head). OpensAt (heads_on lower) (heads_on lower ++ head ∷ []) h (suc n)) head_is
+        (opens_last (heads_on lower) (heads_on lower ++ head ∷ []) head (suc n) refl above_is);
   }
 
-  pub next_laid : (new : GraphView) (above : ℕ) → LaidTo t text base (stack_at stacks k) new above → LaidSoFar t text base stacks layers numbers next new above
-  next_laid new above laid = record { rest = stack_at stacks k; down = last.down; laid = laid }
+  links_are : links_on (l ∷ lower) ≡ links_on lower ++ link_with (suc n) n l.tree (tree_depth l.tree) ∷ []
+  links_are = ap (λ (d : ℕ). links_on lower ++ link_with (suc n) n l.tree d ∷ []) exact
 
-pub so_far_last : (t : ParseTable) (text : Bytes) (base : Base) (stacks : List (List Layer)) (layers : List Layer) (numbers : List ℕ) (left : ℕ) (g : GraphView) (top : ℕ) → LaidSoFar t text base stacks layers numbers left g top → left ≡ 0 → (above : ℕ) × LaidTo t text base layers g above
-so_far_last t text base stacks layers numbers left g top so z =
-    let none : layers ≡ so.rest = subst (λ (n : ℕ). AreDownTo stacks layers (take n numbers) so.rest) z so.down in
-    (top, subst (λ (ls : List Layer). LaidTo t text base ls g top) (sym none) so.laid)
+  pub layer_over : LaidTo t text base (l ∷ lower) (graph_over (l ∷ lower)) (suc n)
+  layer_over =
+      layer_laid laws t text base l lower stands (graph_over lower) n laid (graph_over (l ∷ lower)) (suc n)
+      (pushed laying (parsing_from t text base) (graph_over lower) mid n (suc n) l.tree (tree_depth l.tree) l.state from (from + span_of l.tree) opened
+      (layer_can laws t text base l lower stands (graph_over lower) n laid) (graph_over (l ∷ lower)) refl links_are)
+
+module _ (laws : EnterLaws) (laying : LayingLaws) (t : ParseTable) (text : Bytes) (base : Base) (ground : IsGrounded (parsing_from t text base)) (table : IsTable t) (short : length text ≤ most_span) where
+  pub all_over : (layers : List Layer) → Stands t text base layers → AreExact layers → LaidTo t text base layers (graph_over layers) (length layers)
+  all_over [] stands exact = first_laid laws t text base ground table short (graph_over []) 0 refl refl refl
+  all_over (l ∷ layers) stands exact =
+      layer_over laws laying t text base l layers stands exact.0 (all_over layers (stands_under t text base (l ∷ layers) (omega arith) stands) exact.1)
 
 -- ---- the whole stack
 
@@ -164,13 +158,10 @@ module _ (laws : EnterLaws) (t : ParseTable) (text : Bytes) (stacks : List (List
   abbrev pub entry : Base
   entry = base_at stack under.place
 
-  pub can_stacks : (numbers : List ℕ) (g : GraphView) (bottom : ℕ) → AreDownTo stacks (stack_at stacks under.top) numbers [] → LaidTo t text entry [] g bottom → CanLayStacks t text entry stacks (stack_at stacks under.top) numbers g bottom
-  can_stacks numbers g bottom down laid = record { stands = enter_stands laws t text stacks h can under is; down = down; laid = laid }
-
   pub entry_ground : IsGrounded (parsing_from t text entry)
   entry_ground = grounded laws t text stacks h can under is
 
-  module _ (g : GraphView) (laid : (top : ℕ) × LaidTo t text entry (stack_at stacks under.top) g top) where
+  module _ (g : GraphView) (top : ℕ) (top_is : g.base ≡ top) (laid_on : LaidTo t text entry (stack_at stacks under.top) g top) where
     abbrev low : List Layer
     low = stack_at stacks under.top
 
@@ -178,23 +169,39 @@ module _ (laws : EnterLaws) (t : ParseTable) (text : Bytes) (stacks : List (List
     place_eq = place_is laws t text stacks h can under is
 
     stood : HasStood (parsing_from t text entry) g.heads (bare_links g.links)
-    stood = subst (λ (n : ℕ). HasStood (parsing_from t text (base_at stack n)) g.heads (bare_links g.links)) (sym place_eq) laid.1.stood
+    stood = subst (λ (n : ℕ). HasStood (parsing_from t text (base_at stack n)) g.heads (bare_links g.links)) (sym place_eq) laid_on.stood
 
     stand : (states : States) → AreStatesOf t states → StandOnHead t states text stacks h → StandOnGraph t.grammar states text entry g
     stand states named st =
-        let s = laid.1.stand states named (stack_lower t.grammar states text is.extras (trees_on low) (subst (λ (ts : List Tree). StandOnStack t.grammar states text ts) is.lifted.trees st)) in
+        let s = laid_on.stand states named (stack_lower t.grammar states text is.extras (trees_on low) (subst (λ (ts : List Tree). StandOnStack t.grammar states text ts) is.lifted.trees st)) in
         record { inner = s.inner; stands = s.stands; none = λ l there past. s.none l there (omega (arith, past, place_eq)) }
 
     pub entered : IsEntered t text stacks h g under.place
     entered = record {
       stack = stack;
       begun = begun laws t text stacks h can under is;
-      sound = record { laid = laid.1.sound; good = laid.1.good };
+      sound = record { laid = laid_on.sound; good = laid_on.good };
       stood = stood;
       whole = λ most ranked.
-          laws.begins (parsing_from t text entry) can.table.fit (table_states laws t can.table) entry_ground (unit_rank t.grammar) most ranked g.heads (bare_links g.links) laid.1.sound.graph.start stood;
-      own = λ own. laid.1.own (each_right (IsOwnWithin t.grammar) is.extras (trees_on low) (subst (λ (ts : List Tree). EachTree (IsOwnWithin t.grammar) ts) is.lifted.trees own));
+          laws.begins (parsing_from t text entry) can.table.fit (table_states laws t can.table) entry_ground (unit_rank t.grammar) most ranked g.heads (bare_links g.links) laid_on.sound.graph.start stood;
+      own = λ own. laid_on.own (each_right (IsOwnWithin t.grammar) is.extras (trees_on low) (subst (λ (ts : List Tree). EachTree (IsOwnWithin t.grammar) ts) is.lifted.trees own));
       stand = stand;
-      low = λ k head at. let w = laid.1.low k head at in omega (arith, w, place_eq);
-      top = (laid.0, state_on low, subst (λ (n : ℕ). slice_get g.heads laid.0 ≡ Some (head_at (state_on low) n)) (sym place_eq) laid.1.at);
+      low = λ k head at. let w = laid_on.low k head at in omega (arith, w, place_eq);
+      base_is = (state_on low, subst (λ (n : ℕ). slice_get g.heads g.base ≡ Some (head_at (state_on low) n)) (sym place_eq) (subst (λ (k : ℕ). slice_get g.heads k ≡ Some (head_at (state_on low) (all_spans (trees_on low)))) (sym top_is) laid_on.at));
+      alone = λ k head at e. laid_on.alone k head at (e ∙ place_eq) ∙ sym top_is;
     }
+
+  -- the graph over the stack
+  pub entered_over : LayingLaws → AreExact (stack_at stacks h.top) → IsEntered t text stacks h (graph_over (stack_at stacks under.top)) under.place
+  entered_over laying exact =
+      let low = stack_at stacks under.top in
+      entered (graph_over low) (length low) refl
+      (all_over laws laying t text entry entry_ground can.table can.short low (enter_stands laws t text stacks h can under is) (exact_under exact))
+    where
+      exact_drop : (n : ℕ) (layers : List Layer) → AreExact layers → AreExact (drop n layers)
+      exact_drop zero layers e = e
+      exact_drop (suc n) [] e = tt
+      exact_drop (suc n) (l ∷ layers) e = exact_drop n layers e.1
+
+      exact_under : AreExact (stack_at stacks h.top) → AreExact (stack_at stacks under.top)
+      exact_under e = subst AreExact (sym is.lifted.rest) (exact_drop (length is.extras) (stack_at stacks h.top) e)

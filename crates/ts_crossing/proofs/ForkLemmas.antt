@@ -15,7 +15,7 @@ use Rattle.ts_steps.specs.declared.head.StackHead.{StackHead}
 use Rattle.ts_steps.specs.Good.{IsGoodTree, AreGoodTrees}
 use Rattle.ts_steps.specs.LiveHeads.{config_of}
 use Rattle.ts_crossing.specs.Laws.{EnterLaws}
-use Rattle.ts_crossing.specs.Entering.{HaveBytes}
+use Rattle.ts_graph.specs.Under.{HaveBytes}
 use Rattle.ts_crossing.proofs.BareLemmas.{filling_append, filling_tree, filling_bare}
 
 module _ (laws : EnterLaws) (t : ParseTable) (text : Bytes) (stacks : List (List Layer)) (h : StackHead) (fork : IsFork t.grammar text (config_of stacks h)) where

@@ -16,7 +16,7 @@ use Rattle.spec_graph.specs.Links.{IsAt, HasLink}
 use Rattle.ts_table.specs.declared.view.ParseTable.{ParseTable}
 use Rattle.ts_table.specs.Tables.{goto_of}
 use Rattle.ts_gss.specs.declared.layer.Layer.{Layer}
-use Rattle.ts_gss.specs.Stacks.{stack_at, trees_on, state_on, tree_on, under_top}
+use Rattle.ts_gss.specs.Stacks.{trees_on, state_on}
 use Rattle.ts_graph.specs.declared.view.GraphView.{GraphView}
 use Rattle.ts_graph.specs.Down.{place_at}
 use Rattle.ts_reductions.specs.SoundLinks.{bare_links}
@@ -26,7 +26,7 @@ use Rattle.ts_steps.specs.Good.{IsGoodTree as IsGoodOnStack}
 use Rattle.ts_steps.specs.LiveHeads.{HaveStates}
 use Rattle.ts_crossing.specs.Laws.{EnterLaws}
 use Rattle.ts_reductions.specs.Sound.{Base, base_at, parsing_from}
-use Rattle.ts_crossing.specs.Entering.{Stands, LaidTo, CanLayTop}
+use Rattle.ts_crossing.specs.Entering.{Stands, LaidTo}
 use Rattle.ts_crossing.proofs.BareLemmas.{filling_append, filling_tree, filling_bare, span_bare, spans_bare, spans_append}
 use Rattle.ts_crossing.proofs.TableLemmas.{state_leads, lead_once, lead_from}
 use Rattle.ts_crossing.proofs.MemberLemmas.{place_is_at}
@@ -253,33 +253,3 @@ module _ (laws : EnterLaws) (t : ParseTable) (text : Bytes) (base : Base) (l : L
         top_alone : (k : ℕ) (head : Head) → head.place ≡ end → (slice_get g.heads k ≡ Some head) ⊎ (k ≡ above) → k ≡ above
         top_alone k head e (inl old) = absurd (let low = laid.low k head old in let some = good.some in omega (arith, low, e, some))
         top_alone k head e (inr same) = same
-
--- ---- the same as the code has it
-
-module _ (laws : EnterLaws) (t : ParseTable) (text : Bytes) (base : Base) (stacks : List (List Layer)) (number : ℕ) (g : GraphView) (top : ℕ) (can : CanLayTop t text base stacks number g top)
-    (node : Tree) (depth state : ℕ) (node_is : Some node ≡ tree_on (stack_at stacks number)) (depth_is : depth ≡ tree_depth node) (state_is : state ≡ state_on (stack_at stacks number)) where
-  can_by : (layers : List Layer) → 0 < length layers → Stands t text base layers → LaidTo t text base (under_top layers) g top → Some node ≡ tree_on layers → state ≡ state_on layers → CanLayOn (parsing_from t text base) g top node depth state
-  can_by [] lt s laid n st = absurd (omega (arith, lt))
-  can_by (l ∷ lower) lt s laid n st =
-      let same : node ≡ l.tree = cc in
-      let deep : depth ≡ tree_depth l.tree = depth_is ∙ ap tree_depth same in
-      subst (λ (x : Tree). CanLayOn (parsing_from t text base) g top x depth state) (sym same)
-      (subst (λ (d : ℕ). CanLayOn (parsing_from t text base) g top l.tree d state) (sym deep)
-      (subst (λ (q : ℕ). CanLayOn (parsing_from t text base) g top l.tree (tree_depth l.tree) q) (sym st) (layer_can laws t text base l lower s g top laid)))
-
-  pub top_can : CanLayOn (parsing_from t text base) g top node depth state
-  top_can = can_by (stack_at stacks number) can.some can.stands can.laid node_is state_is
-
-  module _ (new : GraphView) (above : ℕ) (is : IsLaid (parsing_from t text base) g new top (place_at g.heads top) node depth state above) where
-    laid_by : (layers : List Layer) → 0 < length layers → Stands t text base layers → LaidTo t text base (under_top layers) g top → Some node ≡ tree_on layers → state ≡ state_on layers → LaidTo t text base layers new above
-    laid_by [] lt s laid n st = absurd (omega (arith, lt))
-    laid_by (l ∷ lower) lt s laid n st =
-        let same : node ≡ l.tree = cc in
-        let deep : depth ≡ tree_depth l.tree = depth_is ∙ ap tree_depth same in
-        layer_laid laws t text base l lower s g top laid new above
-        (subst (λ (q : ℕ). IsLaid (parsing_from t text base) g new top (place_at g.heads top) l.tree (tree_depth l.tree) q above) st
-        (subst (λ (d : ℕ). IsLaid (parsing_from t text base) g new top (place_at g.heads top) l.tree d state above) deep
-        (subst (λ (x : Tree). IsLaid (parsing_from t text base) g new top (place_at g.heads top) x depth state above) same is)))
-
-    pub top_laid : LaidTo t text base (stack_at stacks number) new above
-    top_laid = laid_by (stack_at stacks number) can.some can.stands can.laid node_is state_is

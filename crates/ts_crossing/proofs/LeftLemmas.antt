@@ -1,7 +1,7 @@
 -- A stack of the trees of a way.
-use Rattle.std.proofs.Common.{◌≡◌, ◌∙◌, sym, ap, refl, subst, ℕ, zero, suc, ◌<◌, List, [], ◌∷◌, ◌++◌, length, length-append, map, reverse, drop, slice_get, Option, Some, arith}
+use Rattle.std.proofs.Common.{◌≡◌, ◌∙◌, sym, ap, refl, subst, ℕ, suc, ◌<◌, ◌≤◌, List, [], ◌∷◌, ◌++◌, append-nil, append_assoc, length, length-append, map, reverse, drop, slice_get, Option, Some, arith}
 use Rattle.std.specs.Option.{option_map_or}
-use Rattle.std.proofs.lemmas.List.{reverse-append, drop_all}
+use Rattle.std.proofs.lemmas.List.{map-append, reverse-append, drop_all}
 use Rattle.ts_base.specs.Bytes.{Bytes}
 use Rattle.ts_core.specs.declared.flat.FlatGrammar.{FlatGrammar}
 use Rattle.spec_trees.specs.declared.tree.Tree.{Tree}
@@ -22,7 +22,7 @@ use Rattle.spec_crossing.specs.Leaving.{packed_link, way_stack}
 use Rattle.ts_table.specs.declared.view.ParseTable.{ParseTable}
 use Rattle.ts_table.specs.Tables.{goto_of, IsTable, IsStateOf}
 use Rattle.ts_gss.specs.declared.layer.Layer.{Layer}
-use Rattle.ts_gss.specs.Stacks.{packed_layer, stack_at, trees_on}
+use Rattle.ts_gss.specs.Stacks.{stack_at, trees_on, IsOneStack}
 use Rattle.ts_graph.specs.declared.view.GraphView.{GraphView}
 use Rattle.ts_graph.specs.Down.{HoldsEachOnce, place_at}
 use Rattle.ts_graph.specs.Ways.{AreAt}
@@ -34,7 +34,9 @@ use Rattle.ts_steps.specs.Heads.{AreStatesOf, IsOwnWithin, IsMadeNode, IsOwnHead
 use Rattle.ts_crossing.specs.Laws.{LeaveLaws}
 use Rattle.ts_reductions.specs.Sound.{Base, parsing_from, IsSoundBy}
 use Rattle.ts_reductions.specs.Keeping.{AreOwn, StandOnGraph}
-use Rattle.ts_crossing.specs.Leaving.{IsStack, state_at, layers_of, IsLeft}
+use Rattle.ts_graph.specs.Under.{state_at, layer_of_link, layers_of}
+use Rattle.ts_reductions.specs.declared.made.Piece.{Piece}
+use Rattle.ts_crossing.specs.Leaving.{IsStack, IsLeft, layer_with_piece}
 use Rattle.ts_crossing.proofs.BareLemmas.{filling_bare, spans_bare}
 use Rattle.ts_crossing.proofs.MemberLemmas.{contained_at, read_at, bare_member, place_is_at}
 use Rattle.ts_crossing.proofs.PartLemmas.{stack_new, end_by_both, spans_turned}
@@ -43,37 +45,12 @@ use Rattle.ts_crossing.proofs.TableLemmas.{leads_state}
 
 -- ---- one tree after another
 
-pub top_pushed : (heads : List Head) (old new : List (List Layer)) (top below state depth : ℕ) (node : Tree) (l : Link) → top ≡ length old → new ≡ old ++ (packed_layer node state depth ∷ stack_at old below) ∷ [] → node ≡ l.tree → state ≡ state_at heads l.above → depth ≡ l.depth
-    → stack_at new top ≡ packed_layer l.tree (state_at heads l.above) l.depth ∷ stack_at old below
-top_pushed heads old new top below state depth node l top_is new_is node_is state_is depth_is =
-    ap (λ (ss : List (List Layer)). stack_at ss top) new_is
-    ∙ ap (λ (n : ℕ). stack_at (old ++ (packed_layer node state depth ∷ stack_at old below) ∷ []) n) top_is
-    ∙ stack_new old (packed_layer node state depth ∷ stack_at old below)
-    ∙ ap (λ (t : Tree). packed_layer t state depth ∷ stack_at old below) node_is
-    ∙ ap (λ (s : ℕ). packed_layer l.tree s depth ∷ stack_at old below) state_is
-    ∙ ap (λ (d : ℕ). packed_layer l.tree (state_at heads l.above) d ∷ stack_at old below) depth_is
-
-pub top_there : (old new : List (List Layer)) (top : ℕ) (x : List Layer) → top ≡ length old → new ≡ old ++ x ∷ [] → top < length new
-top_there old new top x top_is new_is = let e = ap (λ (ss : List (List Layer)). length ss) new_is in let n = length-append old (x ∷ []) in omega (arith, top_is, e, n)
-
 pub state_of_head : (heads : List Head) (h : ℕ) (head : Head) → slice_get heads h ≡ Some head → head.state ≡ state_at heads h
 state_of_head heads h head e = sym (ap (λ (o : Option Head). option_map_or (λ (x : Head). x.state) o 0) e)
 
-pub way_length : (links : List Link) (numbers : List ℕ) (way : List Link) → AreAt links numbers way → length way ≡ length numbers
-way_length links [] [] a = refl
-way_length links [] (l ∷ way) a = absurd a
-way_length links (k ∷ numbers) [] a = absurd a
-way_length links (k ∷ numbers) (l ∷ way) a = ap suc (way_length links numbers way a.1)
-
-pub way_at : (links : List Link) (numbers : List ℕ) (way : List Link) (i k : ℕ) → AreAt links numbers way → slice_get numbers i ≡ Some k → (l : Link) × (slice_get links k ≡ Some l) × (drop i way ≡ l ∷ drop (suc i) way)
-way_at links [] way i k a e = absurd (let h : slice_get [] i ≡ Some k = e in none i h)
-  where
-    none : (i : ℕ) → slice_get [] i ≡ Some k → ⊥
-    none zero h = cc
-    none (suc i) h = cc
-way_at links (n ∷ numbers) [] i k a e = absurd a
-way_at links (n ∷ numbers) (l ∷ way) zero k a e = let h : Some n ≡ Some k = e in let same : n ≡ k = cc in (l, ap (λ (j : ℕ). slice_get links j) (sym same) ∙ a.0, refl)
-way_at links (n ∷ numbers) (l ∷ way) (suc i) k a e = way_at links numbers way i k a.1 e
+-- the same of what is told of a head that is there
+pub state_is_at : (heads : List Head) (h state : ℕ) → h < length heads → ((x : Head) → slice_get heads h ≡ Some x → state ≡ x.state) → state ≡ state_at heads h
+state_is_at heads h state low is = let r = read_at heads h low in is r.0 r.1 ∙ state_of_head heads h r.0 r.1
 
 pub above_low : (heads : List Head) (links : List Link) (k : ℕ) → k < length links → HoldsEachOnce heads links → (above : ℕ) → ((l : Link) → slice_get links k ≡ Some l → above ≡ l.above) → above < length heads
 above_low heads links k low once above is = let r = read_at links k low in let e = is r.0 r.1 in let w = once.above_there k r.0 r.1 in omega (arith, e, w)
@@ -81,22 +58,66 @@ above_low heads links k low once above is = let r = read_at links k low in let e
 pub place_of_head : (heads : List Head) (h : ℕ) (head : Head) → slice_get heads h ≡ Some head → head.place ≡ place_at heads h
 place_of_head heads h head e = sym (place_is_at heads h head e)
 
-pub first_there : (stacks : List (List Layer)) → stacks ≡ [] ∷ [] → 0 < length stacks
-first_there stacks is = let e = ap (λ (ss : List (List Layer)). length ss) is in omega (arith, e)
+pub one_there : (stacks : List (List Layer)) (top : ℕ) → IsOneStack stacks top → top < length stacks
+one_there stacks top one = let n = one.count in omega (arith, n)
 
-pub layers_first : (links : List Link) (heads : List Head) (numbers : List ℕ) (way : List Link) → AreAt links numbers way → (stacks : List (List Layer)) → stacks ≡ [] ∷ [] → stack_at stacks 0 ≡ layers_of heads (drop (length numbers) way)
-layers_first links heads numbers way at stacks is =
-    let n = way_length links numbers way at in
-    ap (λ (ss : List (List Layer)). stack_at ss 0) is ∙ ap (λ (w : List Link). layers_of heads w) (sym (drop_all (length numbers) way (omega (arith, n))))
+-- ---- pieces on a stack, the last one first
 
-pub layers_next : (heads : List Head) (way : List Link) (i left : ℕ) (l : Link) (old new : List Layer) → drop i way ≡ l ∷ drop (suc i) way → left ≡ suc i → old ≡ layers_of heads (drop left way) → new ≡ packed_layer l.tree (state_at heads l.above) l.depth ∷ old → new ≡ layers_of heads (drop i way)
-layers_next heads way i left l old new cut is below top =
+-- the pieces that are left, and the layers that lie on the stack below
+abbrev pub Pushed : List Piece → List (List Layer) → ℕ → List Piece → List (List Layer) → ℕ → Type 0
+Pushed pieces old below left stacks top =
+    (done : List Layer) × (map layer_with_piece pieces ≡ map layer_with_piece left ++ done)
+    × (stack_at stacks top ≡ done ++ stack_at old below)
+
+pub pushed_first : (pieces : List Piece) (old : List (List Layer)) (below : ℕ) → Pushed pieces old below pieces old below
+pushed_first pieces old below = ([], sym (append-nil (map layer_with_piece pieces)), refl)
+
+pub pushed_more : (pieces : List Piece) (old : List (List Layer)) (below : ℕ) (left more : List Piece) (p : Piece) → left ≡ more ++ p ∷ [] → (stacks : List (List Layer)) (top : ℕ) → Pushed pieces old below left stacks top
+    → (new : List (List Layer)) (above : ℕ) → above ≡ length stacks → new ≡ stacks ++ (layer_with_piece p ∷ stack_at stacks top) ∷ [] → Pushed pieces old below more new above
+pushed_more pieces old below left more p is stacks top so new above above_is new_is = (
+  layer_with_piece p ∷ so.0,
+  so.1
+      ∙ ap (λ (ps : List Piece). map layer_with_piece ps ++ so.0) is
+      ∙ ap (λ (ls : List Layer). ls ++ so.0) (map-append layer_with_piece more (p ∷ []))
+      ∙ append_assoc (map layer_with_piece more) (layer_with_piece p ∷ []) so.0,
+  ap (λ (ss : List (List Layer)). stack_at ss above) new_is
+      ∙ ap (λ (n : ℕ). stack_at (stacks ++ (layer_with_piece p ∷ stack_at stacks top) ∷ []) n) above_is
+      ∙ stack_new stacks (layer_with_piece p ∷ stack_at stacks top)
+      ∙ ap (λ (ls : List Layer). layer_with_piece p ∷ ls) so.2,
+)
+
+pub pushed_last : (pieces : List Piece) (old : List (List Layer)) (below : ℕ) (left : List Piece) (stacks : List (List Layer)) (top : ℕ) → left ≡ [] → Pushed pieces old below left stacks top → stack_at stacks top ≡ map layer_with_piece pieces ++ stack_at old below
+pushed_last pieces old below left stacks top none so =
+    so.2 ∙ ap (λ (ls : List Layer). ls ++ stack_at old below) (sym (so.1 ∙ ap (λ (ps : List Piece). map layer_with_piece ps ++ so.0) none))
+
+pub piece_less : (old new : List Piece) (x : Piece) → old ≡ new ++ x ∷ [] → length new < length old
+piece_less old new x is = let e = ap (λ (ps : List Piece). length ps) is in let n = length-append new (x ∷ []) in omega (arith, e, n)
+
+-- the layers of links, one piece after another
+pub pieces_more : (heads : List Head) (way : List Link) (i : ℕ) (l : Link) (old new : List Piece) (p : Piece) → drop i way ≡ l ∷ drop (suc i) way → layer_with_piece p ≡ layer_of_link heads l → new ≡ old ++ p ∷ []
+    → map layer_with_piece old ++ layers_of heads (drop i way) ≡ layers_of heads way → map layer_with_piece new ++ layers_of heads (drop (suc i) way) ≡ layers_of heads way
+pieces_more heads way i l old new p cut same is so =
+    ap (λ (ps : List Piece). map layer_with_piece ps ++ layers_of heads (drop (suc i) way)) is
+    ∙ ap (λ (ls : List Layer). ls ++ layers_of heads (drop (suc i) way)) (map-append layer_with_piece old (p ∷ []))
+    ∙ append_assoc (map layer_with_piece old) (layer_with_piece p ∷ []) (layers_of heads (drop (suc i) way))
+    ∙ ap (λ (m : Layer). map layer_with_piece old ++ m ∷ layers_of heads (drop (suc i) way)) same
+    ∙ ap (λ (w : List Link). map layer_with_piece old ++ layers_of heads w) (sym cut)
+    ∙ so
+
+pub pieces_last : (heads : List Head) (way : List Link) (i : ℕ) (pieces : List Piece) → length way ≤ i → map layer_with_piece pieces ++ layers_of heads (drop i way) ≡ layers_of heads way → map layer_with_piece pieces ≡ layers_of heads way
+pieces_last heads way i pieces past so =
+    sym (append-nil (map layer_with_piece pieces))
+    ∙ ap (λ (w : List Link). map layer_with_piece pieces ++ layers_of heads w) (sym (drop_all i way past))
+    ∙ so
+
+-- the layers of two ways, one after the other
+pub layers_both : (heads : List Head) (higher lower way : List Link) (new old : List Layer) (pieces : List Layer) → way ≡ higher ++ lower → new ≡ pieces ++ old → pieces ≡ layers_of heads higher → old ≡ layers_of heads lower → new ≡ layers_of heads way
+layers_both heads higher lower way new old pieces is top up down =
     top
-    ∙ ap (λ (ls : List Layer). packed_layer l.tree (state_at heads l.above) l.depth ∷ ls) (below ∙ ap (λ (n : ℕ). layers_of heads (drop n way)) is)
-    ∙ ap (λ (w : List Link). layers_of heads w) (sym cut)
-
-pub layers_last : (heads : List Head) (way : List Link) (left : ℕ) (stack : List Layer) → left ≡ 0 → stack ≡ layers_of heads (drop left way) → stack ≡ layers_of heads way
-layers_last heads way left stack z e = e ∙ ap (λ (n : ℕ). layers_of heads (drop n way)) z
+    ∙ ap (λ (ls : List Layer). ls ++ old) up
+    ∙ ap (λ (ls : List Layer). layers_of heads higher ++ ls) down
+    ∙ sym (map-append (layer_of_link heads) higher lower)
+    ∙ ap (λ (w : List Link). layers_of heads w) (sym is)
 
 -- ---- the trees of the stack
 
@@ -229,7 +250,7 @@ module _ (laws : LeaveLaws) (t : ParseTable) (text : Bytes) (base : Base) (g : G
 
   -- ---- the head of the stack
 
-  module _ (h : ℕ) (there : h < length g.heads) (numbers : List ℕ) (stacks : List (List Layer)) (k : StackHead) (s : IsStack g h numbers) (left : IsLeft g h s.way stacks k) where
+  module _ (h : ℕ) (there : h < length g.heads) (numbers : List ℕ) (foot : ℕ) (stacks : List (List Layer)) (k : StackHead) (s : IsStack g h numbers foot) (left : IsLeft g h s.way stacks k) where
     pub head : (x : Head) × (slice_get g.heads h ≡ Some x)
     head = read_at g.heads h there
 
@@ -271,17 +292,17 @@ module _ (laws : LeaveLaws) (t : ParseTable) (text : Bytes) (base : Base) (g : G
         there = left.there;
         stack = subst (λ (ls : List Layer). IsGoodStack t (length text) ls k.place) (sym left.stack)
             (record {
-              states = states_of numbers s.way h s.at s.only.down;
-              depths = depths_of numbers s.way s.at;
-              good = good_trees own numbers s.way s.at;
+              states = states_of s.all s.way h s.at s.only.down;
+              depths = depths_of s.all s.way s.at;
+              good = good_trees own s.all s.way s.at;
               spans = spans_are h k.place reads.0 s.way head_at_place s.only.down;
-              reach = reach_of numbers s.way h s.at s.only.down;
+              reach = reach_of s.all s.way h s.at s.only.down;
               within = let w = sound.laid.within h head.0 head.1 in let p = place_is in omega (arith, w, p);
             });
       };
-      own = subst (λ (ls : List Layer). EachTree (IsOwnWithin t.grammar) (trees_on ls)) (sym left.stack) (own_trees own numbers s.way s.at);
-      made = subst (λ (ls : List Layer). EachTree (IsMadeNode t.grammar) (trees_on ls)) (sym left.stack) (made_nodes numbers s.way s.at);
+      own = subst (λ (ls : List Layer). EachTree (IsOwnWithin t.grammar) (trees_on ls)) (sym left.stack) (own_trees own s.all s.way s.at);
+      made = subst (λ (ls : List Layer). EachTree (IsMadeNode t.grammar) (trees_on ls)) (sym left.stack) (made_nodes s.all s.way s.at);
     }
 
     pub left_stand : IsTable t → (states : States) → AreStatesOf t states → StandOnGraph t.grammar states text base g → StandOnHead t states text stacks k
-    left_stand table states named st = subst (λ (ls : List Layer). StandOnStack t.grammar states text (trees_on ls)) (sym left.stack) (stand_trees table states named st numbers s.way h s.at s.only.down)
+    left_stand table states named st = subst (λ (ls : List Layer). StandOnStack t.grammar states text (trees_on ls)) (sym left.stack) (stand_trees table states named st s.all s.way h s.at s.only.down)

@@ -15,7 +15,7 @@ use Rattle.spec_graph.specs.Grounded.{LiesOver, IsMadeTree, AreMadeTrees}
 use Rattle.ts_steps.specs.Good.{EachTree, IsGoodTree, AreGoodTrees}
 use Rattle.ts_steps.specs.Heads.{IsOwnWithin, IsMadeNode}
 use Rattle.ts_steps.proofs.NodeLemmas.{own_forms}
-use Rattle.ts_crossing.specs.Entering.{HaveBytes}
+use Rattle.ts_graph.specs.Under.{HaveBytes}
 use Rattle.ts_crossing.specs.Laws.{MadeLaws}
 use Rattle.ts_crossing.proofs.BareLemmas.{span_bare, spans_bare}
 

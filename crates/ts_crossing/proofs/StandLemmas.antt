@@ -18,14 +18,15 @@ use Rattle.ts_steps.specs.Good.{AreGoodTrees}
 use Rattle.ts_steps.specs.LiveHeads.{config_of, HaveStates, IsGoodStack}
 use Rattle.ts_crossing.specs.Laws.{EnterLaws}
 use Rattle.ts_reductions.specs.Sound.{Base, base_at, parsing_from}
-use Rattle.ts_crossing.specs.Entering.{CanEnter, HaveBytes, IsUnder, AreDownTo, Stands}
+use Rattle.ts_graph.specs.Under.{HaveBytes}
+use Rattle.ts_crossing.specs.Entering.{CanEnter, IsUnder, Stands}
 use Rattle.ts_crossing.proofs.BareLemmas.{spans_append, extras_bare, begins_bare, span_bare, spans_bare, filling_bare}
 use Rattle.ts_crossing.proofs.PartLemmas.{end_by_split}
 use Rattle.ts_crossing.proofs.TableLemmas.{state_leads}
 
 -- ---- stacks below others
 
-stands_under : (t : ParseTable) (text : Bytes) (base : Base) (layers : List Layer) → 0 < length layers → Stands t text base layers → Stands t text base (under_top layers)
+pub stands_under : (t : ParseTable) (text : Bytes) (base : Base) (layers : List Layer) → 0 < length layers → Stands t text base layers → Stands t text base (under_top layers)
 stands_under t text base [] lt s = absurd (omega (arith, lt))
 stands_under t text base (l ∷ layers) lt s = record {
   table = s.table;
@@ -37,10 +38,6 @@ stands_under t text base (l ∷ layers) lt s = record {
   within = let w = s.within in omega (arith, w);
   low = (s.low.0 ++ bare l.tree ∷ [], s.low.1 ∙ sym (append_assoc s.low.0 (bare l.tree ∷ []) (map bare (trees_on layers))));
 }
-
-pub stands_down : (t : ParseTable) (text : Bytes) (base : Base) (stacks : List (List Layer)) (layers : List Layer) (ks : List ℕ) (rest : List Layer) → Stands t text base layers → AreDownTo stacks layers ks rest → Stands t text base rest
-stands_down t text base stacks layers [] rest s d = subst (λ (ls : List Layer). Stands t text base ls) d s
-stands_down t text base stacks layers (k ∷ ks) rest s d = stands_down t text base stacks (under_top layers) ks rest (stands_under t text base layers d.2 s) d.3
 
 -- ---- where a parser goes on to a graph
 

@@ -1,10 +1,11 @@
 -- The only way down from a head, link by link.
-use Rattle.std.proofs.Common.{◌≡◌, ◌∙◌, sym, ap, refl, subst, ℕ, ◌<◌, List, [], ◌∷◌, ◌++◌, append-nil, append_assoc, length, map, slice_get, Some, None, arith}
+use Rattle.std.proofs.Common.{◌≡◌, ◌∙◌, sym, ap, refl, subst, ℕ, zero, suc, ◌<◌, ◌≤◌, Bool, true, false, nat_lt, List, [], ◌∷◌, ◌++◌, append-nil, append_assoc, length, map, slice_get, Some, None, arith}
 use Rattle.std.specs.List.{Contains}
+use Rattle.std.proofs.lemmas.Bool.{ltb-true, ltb-false}
 use Rattle.std.proofs.lemmas.List.{map-append}
 use Rattle.spec_trees.specs.declared.tree.Tree.{Tree}
 use Rattle.spec_trees.specs.declared.tree.Element.{Element}
-use Rattle.spec_trees.specs.Trees.{production_of, elements_of, is_extra_node, tree_depth, bare_element, bare}
+use Rattle.spec_trees.specs.Trees.{production_of, elements_of, is_extra_node, bare_element, bare}
 use Rattle.spec_runs.specs.BareTrees.{KeepsAll}
 use Rattle.spec_graph.specs.declared.graph.Head.{Head}
 use Rattle.spec_graph.specs.declared.graph.Link.{Link}
@@ -14,6 +15,7 @@ use Rattle.spec_crossing.specs.Leaving.{IsOneWay, EndsWithToken}
 use Rattle.ts_graph.specs.declared.view.GraphView.{GraphView}
 use Rattle.ts_graph.specs.Down.{HoldsEachOnce, place_at}
 use Rattle.ts_graph.specs.Ways.{AreAt}
+use Rattle.ts_graph.specs.Under.{LiesOver}
 use Rattle.ts_reductions.specs.SoundLinks.{bare_link, bare_links, IsSoundFor}
 use Rattle.ts_crossing.proofs.MemberLemmas.{contained_at, at_contained, bare_member, member_bare, place_is_at}
 use Rattle.ts_crossing.specs.Leaving.{IsStack, HasNoStack, IsOnlyDown, IsLastToken, LeadsDown, StartsWith}
@@ -57,7 +59,7 @@ module _ (keeps : (t : Tree) → KeepsAll t) (g : GraphView) (P : Parsing) (soun
   bares = bare_links g.links
 
   -- from the head of the empty stack no link leads down
-  start_low : (k : ℕ) (l : Link) → slice_get g.links k ≡ Some l → l.above ≡ 0 → ⊥
+  pub start_low : (k : ℕ) (l : Link) → slice_get g.links k ≡ Some l → l.above ≡ 0 → ⊥
   start_low k l at above =
       let start = sound.graph.start in
       let held = sound.held l (contained_at g.links k l at) in
@@ -187,26 +189,85 @@ module _ (keeps : (t : Tree) → KeepsAll t) (g : GraphView) (P : Parsing) (soun
         fills = kept.extra ∙ ap (λ (x : Link). is_extra_node x.tree) same ∙ last.token.fills;
       }
 
-  pub starts_all : (h k b : ℕ) (numbers : List ℕ) → StartsWith g.links h k numbers b → b ≡ 0 → IsStack g h numbers
-  starts_all h k b numbers s z = record {
-    way = s.leads.way;
-    at = s.leads.at;
-    only = leads_all h b numbers s.leads z;
-    token = token_bare h k s.last numbers s.more s.leads.way s.is s.leads.at;
+  token_more : (way more : List Link) → EndsWithToken (map bare_link way) → EndsWithToken (map bare_link (way ++ more))
+  token_more way more t = record {
+    last = t.last;
+    rest = t.rest ++ map bare_link more;
+    way_is = map-append bare_link way more ∙ ap (λ (w : List Link). w ++ map bare_link more) t.way_is;
+    leaf = t.leaf;
+    fills = t.fills;
   }
+
+  -- links go on down the stack over which the graph lies
+  record GoesDown (h : ℕ) (higher : List Link) (foot : ℕ) : Type 0 where
+    pub all : List ℕ
+    pub leads : LeadsDown g.links h all 0
+    pub lower : List Link
+    pub down : IsWay g.links foot lower 0
+    pub way_is : leads.way ≡ higher ++ lower
+
+  module _ (lies : LiesOver g) where
+    only_lower : (k : ℕ) → k < g.base → IsOnlyDown g.links (suc k) k
+    only_lower k low =
+        let l = lies.lower k low in
+        record { link = l.0; at = l.1; above = l.2; only = λ j other at above. by j other at above (nat_lt j g.base) refl }
+      where
+        by : (j : ℕ) (other : Link) → slice_get g.links j ≡ Some other → other.above ≡ suc k → (b : Bool) → nat_lt j g.base ≡ b → j ≡ k
+        by j other at above true e =
+            let l = lies.lower j (ltb-true j g.base e) in
+            let both : Some other ≡ Some l.0 = sym at ∙ l.1 in
+            let one : other ≡ l.0 = cc in
+            let up = ap (λ (x : Link). x.above) one in
+            let own = l.2 in
+            omega (arith, above, up, own)
+        by j other at above false e =
+            absurd (let past = ltb-false j g.base e in let own = lies.own j other at past in omega (arith, own, above, low))
+
+    goes_down : (h foot : ℕ) (numbers : List ℕ) (leads : LeadsDown g.links h numbers foot) → foot ≤ g.base → GoesDown h leads.way foot
+    goes_down h zero numbers leads low = record { all = numbers; leads = leads; lower = []; down = refl; way_is = sym (append-nil leads.way) }
+    goes_down h (suc k) numbers leads low =
+        let only = only_lower k low in
+        let l = lies.lower k low in
+        let m = leads_more h (suc k) numbers leads (λ z. omega (arith, z)) k k only l.3 in
+        let r = goes_down h k (numbers ++ k ∷ []) m (omega (arith, low)) in
+        record {
+          all = r.all;
+          leads = r.leads;
+          lower = l.0 ∷ r.lower;
+          down = (contained_at g.links k l.0 l.1, l.2, subst (λ (n : ℕ). IsWay g.links n r.lower 0) (sym l.3) r.down);
+          way_is = r.way_is ∙ append_assoc leads.way (l.0 ∷ []) r.lower;
+        }
+
+    pub starts_all : (h k b : ℕ) (numbers : List ℕ) → StartsWith g.links h k numbers b → b ≤ g.base → IsStack g h numbers b
+    starts_all h k b numbers s low =
+        let d = goes_down h b numbers s.leads low in
+        record {
+          way = d.leads.way;
+          all = d.all;
+          at = d.leads.at;
+          higher = s.leads.way;
+          higher_at = s.leads.at;
+          lower = d.lower;
+          down = d.down;
+          foot_low = low;
+          way_is = d.way_is;
+          only = leads_all h 0 d.all d.leads refl;
+          token = subst (λ (w : List Link). EndsWithToken (map bare_link w)) (sym d.way_is)
+              (token_more s.leads.way d.lower (token_bare h k s.last numbers s.more s.leads.way s.is s.leads.at));
+        }
 
   pub starts_none : (h k b : ℕ) (numbers : List ℕ) → StartsWith g.links h k numbers b → (b ≡ 0 → ⊥) → HoldsEachOnce g.heads g.links → ((j : ℕ) → IsOnlyDown g.links b j → ⊥) → HasNoStack g h
   starts_none h k b numbers s some once none way only token = leads_none h b numbers s.leads some once none way only
 
   -- ---- none at all
 
-  pub none_at_start : (h : ℕ) → h ≡ 0 → HasNoStack g h
+  none_at_start : (h : ℕ) → h ≡ 0 → HasNoStack g h
   none_at_start h z way only token =
       let w : IsWay bares h [] 0 = z in
       let e : [] ≡ token.last ∷ token.rest = only.only [] w ∙ token.way_is in
       cc
 
-  pub none_without : (h : ℕ) → (h ≡ 0 → ⊥) → HoldsEachOnce g.heads g.links → ((k : ℕ) → IsLastToken g.links h k → ⊥) → HasNoStack g h
+  none_without : (h : ℕ) → (h ≡ 0 → ⊥) → HoldsEachOnce g.heads g.links → ((k : ℕ) → IsLastToken g.links h k → ⊥) → HasNoStack g h
   none_without h some once none way only token =
       leads_none h h [] (leads_first h) some once (λ k down. none k (last k down)) way only
     where
@@ -230,3 +291,11 @@ module _ (keeps : (t : Tree) → KeepsAll t) (g : GraphView) (P : Parsing) (soun
               fills = sym kept.extra ∙ ap is_extra_node tree ∙ token.fills;
             };
           }
+
+  pub none_from : (h : ℕ) → HoldsEachOnce g.heads g.links → ((k : ℕ) → IsLastToken g.links h k → ⊥) → HasNoStack g h
+  none_from zero once none = none_at_start 0 refl
+  none_from (suc h) once none = none_without (suc h) (λ z. omega (arith, z)) once none
+
+  -- a head from which a link leads down is not that of the empty stack
+  pub not_start : (h k : ℕ) → IsOnlyDown g.links h k → h ≡ 0 → ⊥
+  not_start h k down z = start_low k down.link down.at (down.above ∙ z)

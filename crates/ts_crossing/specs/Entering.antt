@@ -1,9 +1,9 @@
 -- From a plain stack to a graph of stacks.
-use Rattle.std.specs.Prelude.{◌≡◌, ℕ, ◌+◌, ◌<◌, ◌≤◌, suc, List, [], ◌∷◌, ◌++◌, length, map, reverse, slice_get, Some}
+use Rattle.std.specs.Prelude.{◌≡◌, ℕ, ◌+◌, ◌<◌, ◌≤◌, suc, List, ◌++◌, length, map, reverse, slice_get, Some}
 use Rattle.std.specs.List.{Contains}
 use Rattle.ts_base.specs.Bytes.{Bytes}
 use Rattle.spec_trees.specs.declared.tree.Tree.{Tree}
-use Rattle.spec_trees.specs.Trees.{span_of, all_spans, bare}
+use Rattle.spec_trees.specs.Trees.{all_spans, bare}
 use Rattle.spec_trees.specs.Made.{EndBy, most_span}
 use Rattle.spec_forced.specs.Sound.{States, StandOnStack}
 use Rattle.spec_graph.specs.declared.graph.Head.{Head}
@@ -16,9 +16,10 @@ use Rattle.ts_table.specs.declared.view.ParseTable.{ParseTable}
 use Rattle.ts_table.specs.Tables.{IsTable}
 use Rattle.ts_table.specs.Ranks.{unit_rank}
 use Rattle.ts_gss.specs.declared.layer.Layer.{Layer}
-use Rattle.ts_gss.specs.Stacks.{stack_at, trees_on, state_on, under_top}
+use Rattle.ts_gss.specs.Stacks.{stack_at, trees_on, state_on}
 use Rattle.ts_gss.specs.Paths.{IsLifted}
 use Rattle.ts_graph.specs.declared.view.GraphView.{GraphView}
+use Rattle.ts_graph.specs.Under.{HaveBytes}
 use Rattle.ts_reductions.specs.SoundLinks.{bare_links, IsSoundFor}
 use Rattle.ts_reductions.specs.Laying.{head_at}
 use Rattle.ts_reductions.specs.Good.{IsGoodTree}
@@ -28,11 +29,6 @@ use Rattle.ts_steps.specs.Heads.{AreStatesOf, IsOwnWithin, StandOnHead}
 use Rattle.ts_steps.specs.LiveHeads.{config_of, HaveStates, IsLiveHead}
 use Rattle.ts_reductions.specs.Sound.{Base, base_at, parsing_from, IsSoundBy}
 use Rattle.ts_reductions.specs.Keeping.{AreOwn, StandOnGraph}
-
--- each tree has bytes
-abbrev pub HaveBytes : List Tree → Type 0
-HaveBytes [] = Unit {0}
-HaveBytes (t ∷ ts) = (0 < span_of t) × HaveBytes ts
 
 -- A live stack. Its trees are such as moves make, and have bytes.
 pub record CanEnter (t : ParseTable) (text : Bytes) (stacks : List (List Layer)) (h : StackHead)
@@ -46,7 +42,7 @@ pub record CanEnter (t : ParseTable) (text : Bytes) (stacks : List (List Layer))
 -- The graph stands for the stack but for the extras on top of it, which lie above the place: it is
 -- sound over what lies below, has all that stood there, and so is whole up to the first key of the
 -- place. Its trees are a parser's own and stand, if those of the stack are and do. No head stands
--- past the place, and some head stands there.
+-- past the place, and the head of the stack over which it lies stands there, and no other.
 pub record IsEntered (t : ParseTable) (text : Bytes) (stacks : List (List Layer)) (h : StackHead)
     (g : GraphView) (place : ℕ) : Type 0 where
   pub stack : List Tree
@@ -60,7 +56,9 @@ pub record IsEntered (t : ParseTable) (text : Bytes) (stacks : List (List Layer)
   pub stand : (states : States) → AreStatesOf t states → StandOnHead t states text stacks h
       → StandOnGraph t.grammar states text (base_at stack place) g
   pub low : (k : ℕ) (head : Head) → slice_get g.heads k ≡ Some head → head.place ≤ place
-  pub top : (k : ℕ) × (state : ℕ) × (slice_get g.heads k ≡ Some (head_at state place))
+  pub base_is : (state : ℕ) × (slice_get g.heads g.base ≡ Some (head_at state place))
+  pub alone : (k : ℕ) (head : Head) → slice_get g.heads k ≡ Some head → head.place ≡ place
+      → k ≡ g.base
 
 -- ---- under way. It serves private clauses and proofs alone.
 
@@ -70,13 +68,6 @@ pub record IsUnder (stacks : List (List Layer)) (h under : StackHead) : Type 0 w
   pub lifted : IsLifted (stack_at stacks h.top) extras (stack_at stacks under.top)
   pub there : under.top < length stacks
   pub place : under.place + all_spans extras ≡ h.place
-
--- stacks from one down to another, each below the topmost tree of the one before, by their numbers
-abbrev pub AreDownTo : List (List Layer) → List Layer → List ℕ → List Layer → Type 0
-AreDownTo stacks layers [] rest = layers ≡ rest
-AreDownTo stacks layers (k ∷ ks) rest =
-    (k < length stacks) × (stack_at stacks k ≡ layers) × (0 < length layers)
-    × AreDownTo stacks (under_top layers) ks rest
 
 -- What is known of a stack whose trees are laid one after another: they lie on the stack from which
 -- runs go on, the lowest of it.
@@ -107,19 +98,3 @@ pub record LaidTo (t : ParseTable) (text : Bytes) (base : Base) (layers : List L
       → head.place ≤ all_spans (trees_on layers)
   pub alone : (k : ℕ) (head : Head) → slice_get g.heads k ≡ Some head
       → head.place ≡ all_spans (trees_on layers) → k ≡ top
-
--- the topmost tree of a stack can be laid above those below it
-pub record CanLayTop (t : ParseTable) (text : Bytes) (base : Base) (stacks : List (List Layer))
-    (number : ℕ) (g : GraphView) (top : ℕ) : Type 0 where
-  pub there : number < length stacks
-  pub some : 0 < length (stack_at stacks number)
-  pub stands : Stands t text base (stack_at stacks number)
-  pub laid : LaidTo t text base (under_top (stack_at stacks number)) g top
-
--- so can the trees of all of these stacks, the lowest of which is empty
-pub record CanLayStacks (t : ParseTable) (text : Bytes) (base : Base)
-    (stacks : List (List Layer)) (layers : List Layer) (numbers : List ℕ) (g : GraphView)
-    (bottom : ℕ) : Type 0 where
-  pub stands : Stands t text base layers
-  pub down : AreDownTo stacks layers numbers []
-  pub laid : LaidTo t text base [] g bottom

@@ -1,10 +1,8 @@
 -- From a graph of stacks back to a plain stack.
-use Rattle.std.specs.Prelude.{◌≡◌, ℕ, ◌<◌, false, List, [], ◌∷◌, ◌++◌, length, map, take, slice_get, Some}
-use Rattle.std.specs.Option.{option_map_or}
+use Rattle.std.specs.Prelude.{◌≡◌, ℕ, ◌<◌, ◌≤◌, false, List, [], ◌∷◌, ◌++◌, length, map, take, slice_get, Some}
 use Rattle.spec_trees.specs.declared.tree.Tree.{Tree}
 use Rattle.spec_trees.specs.Trees.{is_extra_node}
 use Rattle.spec_trees.specs.Made.{IsLeaf}
-use Rattle.spec_graph.specs.declared.graph.Head.{Head}
 use Rattle.spec_graph.specs.declared.graph.Link.{Link}
 use Rattle.spec_graph.specs.Links.{IsWay}
 use Rattle.spec_crossing.specs.Leaving.{IsOneWay, EndsWithToken}
@@ -13,14 +11,23 @@ use Rattle.ts_gss.specs.Stacks.{packed_layer, stack_at, IsOneStack}
 use Rattle.ts_graph.specs.declared.view.GraphView.{GraphView}
 use Rattle.ts_graph.specs.Down.{links_down, place_at}
 use Rattle.ts_graph.specs.Ways.{AreAt}
+use Rattle.ts_graph.specs.Under.{layers_of}
+use Rattle.ts_reductions.specs.declared.made.Piece.{Piece}
 use Rattle.ts_reductions.specs.SoundLinks.{bare_link, bare_links}
 use Rattle.ts_steps.specs.declared.head.StackHead.{StackHead}
 
--- The links of these numbers are the only way down from a head, and the topmost is a token that was
--- shifted.
-pub record IsStack (g : GraphView) (h : ℕ) (numbers : List ℕ) : Type 0 where
+-- The links of these numbers are the first of the only way down from a head, and lead down to a
+-- head of the stack over which the graph lies. The topmost is a token that was shifted.
+pub record IsStack (g : GraphView) (h : ℕ) (numbers : List ℕ) (foot : ℕ) : Type 0 where
   pub way : List Link
-  pub at : AreAt g.links numbers way
+  pub all : List ℕ
+  pub at : AreAt g.links all way
+  pub higher : List Link
+  pub higher_at : AreAt g.links numbers higher
+  pub lower : List Link
+  pub down : IsWay g.links foot lower 0
+  pub foot_low : foot ≤ g.base
+  pub way_is : way ≡ higher ++ lower
   pub only : IsOneWay (bare_links g.links) h (map bare_link way)
   pub token : EndsWithToken (map bare_link way)
 
@@ -29,15 +36,9 @@ abbrev pub HasNoStack : GraphView → ℕ → Type 0
 HasNoStack g h =
     (way : List Link) → IsOneWay (bare_links g.links) h way → EndsWithToken way → ⊥
 
--- the state of the head of a number
-abbrev pub state_at : List Head → ℕ → ℕ
-state_at heads h = option_map_or (λ (head : Head). head.state) (slice_get heads h) 0
-
--- the links of a way as layers of a stack, each with the state of the head above it
-abbrev pub layers_of : List Head → List Link → List Layer
-layers_of heads [] = []
-layers_of heads (l ∷ way) =
-    packed_layer l.tree (state_at heads l.above) l.depth ∷ layers_of heads way
+-- the layer of what a link has
+abbrev pub layer_with_piece : Piece → Layer
+layer_with_piece p = packed_layer p.node p.state p.depth
 
 -- The stack of the head has the layers of the way down from a head of the graph, and its place. It
 -- is alone, with those below it.

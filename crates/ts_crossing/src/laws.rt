@@ -17,6 +17,7 @@ ghost use Rattle.ts_table.specs.Tables.{IsTable};
 ghost use Rattle.ts_table.specs.Ranks.{unit_rank};
 ghost use Rattle.ts_gss.specs.declared.layer.Layer.{Layer};
 ghost use Rattle.ts_graph.specs.declared.view.GraphView.{GraphView};
+ghost use Rattle.ts_reductions.specs.LayingLaws.{LayingLaws};
 ghost use Rattle.ts_reductions.specs.SoundLinks.{bare_links};
 ghost use Rattle.ts_steps.specs.declared.head.StackHead.{StackHead as AnyHead};
 ghost use Rattle.ts_steps.specs.LiveHeads.{config_of, packed_of};
@@ -32,7 +33,7 @@ use spec_crossing::{
     unused_symbols_end, ways_are_read,
 };
 use spec_forced::{items_decide, states_tell};
-use spec_graph::{trees_replace, whole_to_the_next};
+use spec_graph::{extras_are_passed, links_pack, trees_replace, whole_to_the_next};
 use spec_runs::bare_trees;
 use ts_lexer::tokens_of_states;
 use ts_steps::{states_are_named, tokens_are_known};
@@ -50,6 +51,16 @@ pub(crate) fn enter_laws_hold()
     tokens_are_known();
     unused_symbols_end();
     whole_to_the_next();
+}
+
+/// The laws of trees that are laid hold.
+pub(crate) fn laying_laws_hold()
+    ensures { LayingLaws }
+{
+    bare_trees();
+    trees_replace();
+    links_pack();
+    extras_are_passed();
 }
 
 /// The laws of graphs that become stacks hold.
@@ -91,9 +102,9 @@ pub fn own_stacks_enter()
 /// made the trees of the graph; and its trees stand, if those of the graph do.
 pub fn left_stacks_go_on()
     ensures rests { (t : ParseTable) (text : Bytes) (base : AnyBase) (g : GraphView) (h : ℕ)
-        (numbers : List ℕ) (stacks : List (List Layer)) (k : AnyHead)
+        (numbers : List ℕ) (foot : ℕ) (stacks : List (List Layer)) (k : AnyHead)
         → IsSoundBy t text base g → h < length g.heads
-        → (s : IsStack g h numbers) → IsLeft g h s.way stacks k
+        → (s : IsStack g h numbers foot) → IsLeft g h s.way stacks k
         → (c : Configuration) → IsBegun (parsing_from t text base) c
         → (most : ℕ) → AreRanks t.grammar (unit_rank t.grammar) most
         → (n : ℕ) → IsWholeTo (parsing_from t text base) (unit_rank t.grammar) g.heads
@@ -104,14 +115,14 @@ pub fn left_stacks_go_on()
         → PackedRests t.grammar text before (stack_alone c)
         → PackedRests t.grammar text stuck (packed_of stacks k) }
     ensures own { (t : ParseTable) (text : Bytes) (base : AnyBase) (g : GraphView) (h : ℕ)
-        (numbers : List ℕ) (stacks : List (List Layer)) (k : AnyHead)
+        (numbers : List ℕ) (foot : ℕ) (stacks : List (List Layer)) (k : AnyHead)
         → IsSoundBy t text base g → h < length g.heads
-        → (s : IsStack g h numbers) → IsLeft g h s.way stacks k
+        → (s : IsStack g h numbers foot) → IsLeft g h s.way stacks k
         → AreOwn t.grammar g → IsOwnHead t (length text) stacks k }
     ensures stand { (t : ParseTable) (text : Bytes) (base : AnyBase) (g : GraphView) (h : ℕ)
-        (numbers : List ℕ) (stacks : List (List Layer)) (k : AnyHead)
+        (numbers : List ℕ) (foot : ℕ) (stacks : List (List Layer)) (k : AnyHead)
         → IsSoundBy t text base g → h < length g.heads
-        → (s : IsStack g h numbers) → IsLeft g h s.way stacks k
+        → (s : IsStack g h numbers foot) → IsLeft g h s.way stacks k
         → IsTable t → (states : States) → AreStatesOf t states
         → StandOnGraph t.grammar states text base g → StandOnHead t states text stacks k }
 {

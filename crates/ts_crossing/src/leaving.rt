@@ -1,18 +1,20 @@
 //! From a graph of stacks back to a plain stack: a head goes in, and the stack that is the only one
 //! below it, if there is one, comes out.
-ghost use Rattle.std.specs.Prelude.{◌≡◌, ◌<◌, ◌∷◌, ℕ, true, false, List, length, slice_get, Some, IfOk, MatchOption};
+ghost use Rattle.std.specs.Prelude.{◌≡◌, ◌<◌, ◌++◌, ℕ, true, false, List, length, map, slice_get, Some, IfOk, MatchOption};
 ghost use Rattle.spec_graph.specs.declared.graph.Link.{Link};
 ghost use Rattle.spec_graph.specs.Laying.{Parsing};
-ghost use Rattle.ts_gss.specs.Stacks.{packed_layer, stack_at, IsOneStack};
+ghost use Rattle.ts_gss.specs.Stacks.{stack_at, IsOneStack};
 ghost use Rattle.ts_graph.specs.Ways.{AreAt};
+ghost use Rattle.ts_graph.specs.Under.{layers_of, layer_of_link};
 ghost use Rattle.ts_reductions.specs.SoundLinks.{IsSoundFor};
-ghost use Rattle.ts_crossing.specs.Leaving.{IsStack, HasNoStack, state_at, IsLeft, IsAlone, IsOnlyDown, IsTokenTree, IsLastToken};
+ghost use Rattle.ts_crossing.specs.Leaving.{IsStack, HasNoStack, layer_with_piece, IsLeft, IsAlone, IsOnlyDown, IsTokenTree, IsLastToken};
 
 use crate::laws::leave_laws_hold;
 use std::alloc::{AllocError, Global};
 use ts_graph::Graph;
 use ts_gss::Graph as Stacks;
 use ts_node::{Node, NodeKind};
+use ts_reductions::Piece;
 use ts_steps::StackHead;
 
 /// A stack that was made of a way down in a graph.
@@ -82,25 +84,26 @@ fn last_token(graph: &Graph, head: usize) -> Option<usize>
     }
 }
 
-/// The links down from a head of which this is the first, if each is the only one from its head.
+/// The links down from a head of which this is the first, up to a head of the stack over which the
+/// graph lies, if each is the only one from its head. The answer is that head.
 fn links_down(
-    alloc: Global,
     graph: &Graph,
     head: usize,
     last: usize,
-) -> Result<Option<Vec<usize>>, AllocError>
-    requires some { head ≡ 0 → ⊥ }
+    numbers: &mut Vec<usize>,
+) -> Result<Option<usize>, AllocError>
     requires last { IsLastToken graph.now.links head last }
     requires sound { (P : Parsing) × IsSoundFor P graph.now }
     ensures { IfOk result (λ found. MatchOption found (HasNoStack graph.now head)
-        (λ numbers. IsStack graph.now head numbers.items)) }
+        (λ foot. IsStack graph.now head numbers.new.items foot)) }
 {
     leave_laws_hold();
     let _ = graph.count();
-    let mut numbers = Vec::new(alloc);
+    let base = graph.base();
+    numbers.clear();
     numbers.push(last)?;
     let mut at = graph.link(last).below;
-    while at > 0 {
+    while at > base {
         match only_down(graph, at) {
             None => return Ok(None),
             Some(link) => {
@@ -109,84 +112,105 @@ fn links_down(
             }
         }
     }
-    Ok(Some(numbers))
+    Ok(Some(at))
 }
 
-/// The links down from a head to that of the empty stack, the topmost first, if there is one way
-/// alone, and the topmost is a token that was shifted: a parser may go on from their stack alone.
+/// The links down from a head up to one of the stack over which the graph lies, the topmost first,
+/// if there is one way alone down to the empty stack, and the topmost is a token that was shifted:
+/// a parser may go on from their stack alone. The answer is the head of the stack where they end.
 ///
 /// # Errors
 ///
 /// `AllocError` where memory runs out.
 pub fn one_stack(
-    alloc: Global,
     graph: &Graph,
     head: usize,
-) -> Result<Option<Vec<usize>>, AllocError>
+    numbers: &mut Vec<usize>,
+) -> Result<Option<usize>, AllocError>
     requires there { head < length graph.now.heads }
     requires sound { (P : Parsing) × IsSoundFor P graph.now }
     ensures { IfOk result (λ found. MatchOption found (HasNoStack graph.now head)
-        (λ numbers. IsStack graph.now head numbers.items)) }
+        (λ foot. IsStack graph.now head numbers.new.items foot)) }
 {
     leave_laws_hold();
     let _ = graph.count();
-    if head == 0 {
-        return Ok(None);
-    }
     match last_token(graph, head) {
         None => Ok(None),
         Some(last) => {
-            let found = links_down(alloc, graph, head, last)?;
+            let found = links_down(graph, head, last, numbers)?;
             Ok(found)
         }
     }
 }
 
-/// Puts the tree of a link on a stack, with the state of the head above it, and the greatest depth
-/// of the trees for which it stands.
-fn push_link(
-    graph: &Graph,
-    link: usize,
-    stacks: &mut Stacks,
-    below: usize,
-) -> Result<usize, AllocError>
-    requires link { link < length graph.now.links }
-    requires below { below < length stacks.old }
-    ensures there { IfOk result (λ top. top < length stacks.new) }
-    ensures one { IfOk result (λ top. IsOneStack stacks.old below → IsOneStack stacks.new top) }
-    ensures stack { IfOk result (λ top. (l : Link) → slice_get graph.now.links link ≡ Some l
-        → stack_at stacks.new top
-        ≡ packed_layer l.tree (state_at graph.now.heads l.above) l.depth
-        ∷ stack_at stacks.old below) }
+/// The tree of a link, the state of the head above it, and the greatest depth of the trees for
+/// which it stands.
+fn piece_of(graph: &Graph, link: usize) -> Result<Piece, AllocError>
+    requires { link < length graph.now.links }
+    ensures { IfOk result (λ piece. (l : Link) → slice_get graph.now.links link ≡ Some l
+        → layer_with_piece piece ≡ layer_of_link graph.now.heads l) }
 {
     let _ = graph.count();
+    let edge = graph.link(link);
     let node = graph.node(link).try_clone()?;
-    let depth = graph.link(link).depth;
-    let above = graph.head(graph.link(link).above);
-    let top = stacks.push_packed(below, node, above.state, depth)?;
+    Ok(Piece {
+        node,
+        depth: edge.depth,
+        state: graph.state(edge.above),
+    })
+}
+
+/// The same of links, in their order.
+fn pieces_of(alloc: Global, graph: &Graph, links: &[usize]) -> Result<Vec<Piece>, AllocError>
+    requires { (way : List Link) × AreAt graph.now.links links.now way }
+    ensures { IfOk result (λ pieces. (way : List Link) → AreAt graph.now.links links.now way
+        → map layer_with_piece pieces.items ≡ layers_of graph.now.heads way) }
+{
+    let mut pieces = Vec::with_capacity(alloc, links.len())?;
+    for link in links {
+        pieces.push(piece_of(graph, *link)?)?;
+    }
+    Ok(pieces)
+}
+
+/// Puts trees on a stack, the last one first.
+fn push_all(stacks: &mut Stacks, below: usize, pieces: Vec<Piece>) -> Result<usize, AllocError>
+    requires { IsOneStack stacks.old below }
+    ensures one { IfOk result (λ top. IsOneStack stacks.new top) }
+    ensures stack { IfOk result (λ top. stack_at stacks.new top
+        ≡ map layer_with_piece pieces.items ++ stack_at stacks.old below) }
+{
+    let mut left = pieces;
+    let mut top = below;
+    while let Some(piece) = left.pop() {
+        top = stacks.push_packed(top, piece.node, piece.state, piece.depth)?;
+    }
     Ok(top)
 }
 
-/// A stack of the trees of these links, which lead down from a head, the topmost first. It costs
-/// its length, and nothing of the graph is kept but its nodes.
+/// The stack of the only way down from a head, by the links down to the head of the stack over
+/// which the graph lies where they end. It costs these links: what lies below is that stack
+/// itself, which is taken out of the graph.
 ///
 /// # Errors
 ///
 /// `AllocError` where memory runs out.
-pub fn leave(alloc: Global, graph: &Graph, head: usize, links: &[usize]) -> Result<Left, AllocError>
-    requires head { head < length graph.now.heads }
-    requires links { (way : List Link) × AreAt graph.now.links links.now way }
-    ensures { IfOk result (λ left. (way : List Link) → AreAt graph.now.links links.now way
-        → IsLeft graph.now head way left.stacks left.head) }
+pub fn leave(
+    alloc: Global,
+    graph: &mut Graph,
+    head: usize,
+    links: &[usize],
+    foot: usize,
+) -> Result<Left, AllocError>
+    requires head { head < length graph.old.heads }
+    requires stack { IsStack graph.old head links.now foot }
+    ensures { IfOk result (λ left. (s : IsStack graph.old head links.now foot)
+        → IsLeft graph.old head s.way left.stacks left.head) }
 {
-    let mut stacks = Stacks::new(alloc);
-    let mut top = 0;
-    let mut left = links.len();
-    while left > 0 {
-        left -= 1;
-        top = push_link(graph, links[left], &mut stacks, top)?;
-    }
     let place = graph.head(head).place;
+    let pieces = pieces_of(alloc, graph, links)?;
+    let mut stacks = graph.take_stack(alloc, foot);
+    let top = push_all(&mut stacks, foot, pieces)?;
     Ok(Left {
         stacks,
         head: StackHead { top, place },

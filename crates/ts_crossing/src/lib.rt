@@ -7,6 +7,6 @@ mod entering;
 mod laws;
 mod leaving;
 
-pub use entering::{Entered, enter};
+pub use entering::enter;
 pub use laws::{left_stacks_go_on, own_stacks_enter};
 pub use leaving::{Left, leave, one_stack};

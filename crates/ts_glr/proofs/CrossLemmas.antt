@@ -1,6 +1,5 @@
 -- What following the graph came to: one stack that is left, or the outcome of the text.
 use Rattle.std.proofs.Common.{◌≡◌, ◌∙◌, sym, ap, refl, subst, ℕ, zero, suc, ◌+◌, ◌<◌, ◌≤◌, ◌⊎◌, Bool, true, false, List, [], ◌∷◌, length, map, get_or, Option, Some, None, MatchOption, arith}
-use Rattle.std.specs.Global.{Vec}
 use Rattle.std.specs.Prelude.{IfSome}
 use Rattle.std.specs.List.{Contains}
 use Rattle.std.proofs.lemmas.Option.{slice_get_within}
@@ -33,22 +32,30 @@ use Rattle.ts_steps.specs.Heads.{IsOwnHead}
 use Rattle.ts_places.specs.Frontiers.{StandsFrom}
 use Rattle.ts_places.specs.Best.{CanChoose, IsBestOn}
 use Rattle.ts_crossing.specs.declared.leaving.Left.{Left}
-use Rattle.ts_crossing.specs.Leaving.{IsStack, HasNoStack, layers_of, IsLeft}
+use Rattle.ts_graph.specs.Under.{layers_of}
+use Rattle.ts_crossing.specs.Entering.{CanEnter}
+use Rattle.ts_crossing.specs.Leaving.{IsStack, HasNoStack, IsLeft}
 use Rattle.ts_crossing.proofs.LeftLemmas.{own_reached}
 use Rattle.ts_crossing.proofs.BareLemmas.{filling_bare, filling_tree}
 use Rattle.ts_crossing.proofs.MemberLemmas.{first_contained, contained_at, place_is_at}
 use Rattle.ts_glr.specs.declared.outcome.Outcome.{Outcome}
 use Rattle.ts_glr.specs.declared.outcome.Outcome.TheVariants.{Accepted, Stuck, Deep}
+use Rattle.ts_reductions.specs.Keeping.{AreOwn, StandOnGraph}
+use Rattle.ts_places.specs.declared.frontier.Frontier.{Frontier}
+use Rattle.ts_places.specs.declared.ends.Ends.{Ends}
+use Rattle.ts_places.specs.Ends.{AreEnds}
+use Rattle.ts_places.specs.Following.{CanFollow}
 use Rattle.ts_glr.specs.declared.crossing.Asked.{Asked}
-use Rattle.ts_glr.specs.declared.crossing.Asked.TheVariants.{Leaves}
+use Rattle.ts_glr.specs.declared.crossing.Asked.TheVariants.{Waits, Fails, Leaves}
 use Rattle.ts_glr.specs.declared.crossing.Crossed.{Crossed}
 use Rattle.ts_glr.specs.declared.crossing.Crossed.TheVariants.{One, Told}
+use Rattle.ts_glr.specs.declared.readings.Readings.{Readings}
 use Rattle.ts_glr.specs.declared.spread.Spread.{Spread}
 use Rattle.ts_glr.specs.Laws.{PackingLaws}
 use Rattle.ts_glr.specs.CrossLaws.{LeftLaws, OverLaws}
 use Rattle.ts_glr.specs.Turns.{turn_weight}
 use Rattle.ts_glr.specs.Forks.{LeavesOne, EndsAll, SeesKnown}
-use Rattle.ts_glr.specs.Spreading.{IsSpread, IsSpreadOut, IsSpreadDeep, GoesBackTo, IsSpreadFor, IsLeftOf, AsksFor, Crosses}
+use Rattle.ts_glr.specs.Spreading.{IsOfSomeFrom, StaysSpread, IsSpread, IsSpreadOut, IsSpreadDeep, GoesBackTo, IsSpreadFor, IsLeftOf, AsksFor, Crosses}
 use Rattle.ts_glr.proofs.RestLemmas.{rests_start}
 use Rattle.ts_glr.proofs.TurnLemmas.{turn_far}
 
@@ -86,8 +93,8 @@ only_head (y ∷ []) x e is = ap (λ (z : ℕ). z ∷ []) (sym is)
 only_head (y ∷ z ∷ xs) x e is = absurd (omega (arith, e))
 
 -- what a walk found
-pub found_by : (g : GraphView) (h : ℕ) (o : Option (Vec ℕ)) (links : Vec ℕ) → o ≡ Some links → MatchOption o (HasNoStack g h) (λ (ns : Vec ℕ). IsStack g h ns.items) → IsStack g h links.items
-found_by g h o links is m = subst (λ (x : Option (Vec ℕ)). MatchOption x (HasNoStack g h) (λ (ns : Vec ℕ). IsStack g h ns.items)) is m
+pub found_by : (g : GraphView) (h : ℕ) (numbers : List ℕ) (o : Option ℕ) (foot : ℕ) → o ≡ Some foot → MatchOption o (HasNoStack g h) (λ (f : ℕ). IsStack g h numbers f) → IsStack g h numbers foot
+found_by g h numbers o foot is m = subst (λ (x : Option ℕ). MatchOption x (HasNoStack g h) (λ (f : ℕ). IsStack g h numbers f)) is m
 
 -- the head that waits alone is there
 pub waits_there : (t : ParseTable) (text : Bytes) (s : Setting) (first : List (List Layer)) (h : StackHead) (spread : Spread) → IsSpread t text s first h spread → (head : ℕ) → spread.frontier.heads.items ≡ head ∷ [] → head < length spread.graph.heads
@@ -125,11 +132,11 @@ module _ (laws : LeftLaws) (over : OverLaws) (t : ParseTable) (table : IsTable t
   far = let a = w.past in let b = stands.2 in let q = all.past in omega (arith, a, b, place_is, q)
 
   own : IsOwnHead t (length text) l.stacks l.head
-  own = laws.own t text p.base spread.graph w.head w.numbers l.stacks l.head sound there w.stack w.is p.own
+  own = laws.own t text p.base spread.graph w.head w.numbers w.foot l.stacks l.head sound there w.stack w.is p.own
 
   low : length (filling (map bare (trees_on (stack_at l.stacks l.head.top)))) ≤ l.head.place
   low =
-      let a = height spread.graph.heads spread.graph.links (λ x here. (sound.good x here).some) w.numbers w.stack.way w.stack.at in
+      let a = height spread.graph.heads spread.graph.links (λ x here. (sound.good x here).some) w.stack.all w.stack.way w.stack.at in
       let b : trees_on (stack_at l.stacks l.head.top) ≡ trees_on (layers_of spread.graph.heads w.stack.way) = ap (λ (ls : List Layer). trees_on ls) w.is.stack in
       let c : length (filling (map bare (trees_on (stack_at l.stacks l.head.top)))) ≡ length (filling (trees_on (stack_at l.stacks l.head.top))) = ap (λ (xs : List ℕ). length xs) (filling_bare laws.keeps (trees_on (stack_at l.stacks l.head.top))) in
       let d : length (filling (trees_on (stack_at l.stacks l.head.top))) ≡ length (filling (trees_on (layers_of spread.graph.heads w.stack.way))) = ap (λ (ts : List Tree). length (filling ts)) b in
@@ -151,8 +158,8 @@ module _ (laws : LeftLaws) (over : OverLaws) (t : ParseTable) (table : IsTable t
     rests = λ r.
         let account = over.counted t text p.base spread.graph spread.place spread.ends None before stuck p.ends (over.nothing t text spread.graph spread.ends.accepting.items w.none) one other known in
         let past : h.place < spread.place = (let a = all.low in let b = w.past in omega (arith, a, b)) in
-        laws.rests t text p.base spread.graph w.head w.numbers l.stacks l.head sound there w.stack w.is (config_of first h) p.begun p.most p.can.whole.ranks spread.place p.can.whole.whole past alone before stuck account (all.back.rests before r);
-    stand = λ states are stand. laws.stand t text p.base spread.graph w.head w.numbers l.stacks l.head sound there w.stack w.is table states are (p.stand states are (all.back.stand states are stand));
+        laws.rests t text p.base spread.graph w.head w.numbers w.foot l.stacks l.head sound there w.stack w.is (config_of first h) p.begun p.most p.can.whole.ranks spread.place p.can.whole.whole past alone before stuck account (all.back.rests before r);
+    stand = λ states are stand. laws.stand t text p.base spread.graph w.head w.numbers w.foot l.stacks l.head sound there w.stack w.is table states are (p.stand states are (all.back.stand states are stand));
   }
 
   pub left_one : ((q : ℕ) → IsPastStuck before q → IsPastStuck stuck q) → ((q : ℕ) → IsPastStuck spread.ends.stuck q → IsPastStuck stuck q) → ((q : ℕ) → stuck ≡ Some q → (before ≡ Some q) ⊎ (spread.ends.stuck ≡ Some q))
@@ -224,6 +231,14 @@ from_exact keeps t text s stacks start spread exact own p = record {
   laid = p;
 }
 
+-- a stack that was moved is the same
+pub begun_same : (t : ParseTable) (text : Bytes) (s : Setting) (stacks own : List (List Layer)) (start : StackHead) (spread : Spread) → own ≡ stacks
+    → (CanEnter t text own start → IsOwnHead t (length text) own start → IsOfSomeFrom t text own start → IsSpread t text s own start spread)
+    → CanEnter t text stacks start → IsOwnHead t (length text) stacks start → IsOfSomeFrom t text stacks start → IsSpread t text s stacks start spread
+begun_same t text s stacks own start spread is =
+    subst (λ (ss : List (List Layer)). (CanEnter t text ss start → IsOwnHead t (length text) ss start → IsOfSomeFrom t text ss start → IsSpread t text s ss start spread)
+    → CanEnter t text stacks start → IsOwnHead t (length text) stacks start → IsOfSomeFrom t text stacks start → IsSpread t text s stacks start spread) (sym is) (λ known. known)
+
 -- the start of the text
 pub from_start : (packing : PackingLaws) (t : ParseTable) → Fit t.grammar → (text : Bytes) (s : Setting) (stacks first : List (List Layer)) (start : StackHead) (from : ℕ) (spread : Spread) → start.place ≤ from → first ≡ [] ∷ []
     → IsSpread t text s first (record { top = 0; place = 0 }) spread → IsSpreadFor t text s stacks start from spread
@@ -269,12 +284,50 @@ module _ (t : ParseTable) (text : Bytes) (first : List (List Layer)) (before : O
   pub told_by : (out : Outcome) → x ≡ Told out → EndsAll t text first before h out
   told_by out is = subst (λ (y : Crossed). Crosses t text first before h y) is crosses
 
-pub left_by : (spread : Spread) (from : ℕ) (x : Asked) (l : Left) → x ≡ Leaves l → AsksFor spread from x → IsLeftOf spread from l
-left_by spread from x l is a = subst (λ (y : Asked). AsksFor spread from y) is a
+pub left_by : (old new : Spread) (from : ℕ) (x : Asked) (l : Left) → x ≡ Leaves l → AsksFor old new from x → IsLeftOf old from l
+left_by old new from x l is a = subst (λ (y : Asked). AsksFor old new from y) is a
+
+-- where none is left, all stays
+pub waits_by : (old new : Spread) (from : ℕ) (x : Asked) → x ≡ Waits → AsksFor old new from x → StaysSpread old new
+waits_by old new from x is a = subst (λ (y : Asked). AsksFor old new from y) is a
+
+pub fails_by : (old new : Spread) (from : ℕ) (x : Asked) → x ≡ Fails → AsksFor old new from x → StaysSpread old new
+fails_by old new from x is a = subst (λ (y : Asked). AsksFor old new from y) is a
 
 pub some_left : (spread : Spread) (from : ℕ) (o : Option Left) (l : Left) → o ≡ Some l → IfSome o (IsLeftOf spread from) → IsLeftOf spread from l
 some_left spread from o l is a = subst (λ (y : Option Left). IfSome y (IsLeftOf spread from)) is a
 
-pub some_stack : (g : GraphView) (head : ℕ) (o : Option Left) (l : Left) → o ≡ Some l → IfSome o (λ (x : Left). (numbers : List ℕ) × (s : IsStack g head numbers) × IsLeft g head s.way x.stacks x.head)
-    → (numbers : List ℕ) × (s : IsStack g head numbers) × IsLeft g head s.way l.stacks l.head
-some_stack g head o l is a = subst (λ (y : Option Left). IfSome y (λ (x : Left). (numbers : List ℕ) × (s : IsStack g head numbers) × IsLeft g head s.way x.stacks x.head)) is a
+pub some_stack : (g : GraphView) (head : ℕ) (o : Option Left) (l : Left) → o ≡ Some l → IfSome o (λ (x : Left). (numbers : List ℕ) × (foot : ℕ) × (s : IsStack g head numbers foot) × IsLeft g head s.way x.stacks x.head)
+    → (numbers : List ℕ) × (foot : ℕ) × (s : IsStack g head numbers foot) × IsLeft g head s.way l.stacks l.head
+some_stack g head o l is a = subst (λ (y : Option Left). IfSome y (λ (x : Left). (numbers : List ℕ) × (foot : ℕ) × (s : IsStack g head numbers foot) × IsLeft g head s.way x.stacks x.head)) is a
+
+-- what was begun for a stack stays so where all that was followed does
+pub stays_for : (t : ParseTable) (text : Bytes) (s : Setting) (stacks : List (List Layer)) (start : StackHead) (from : ℕ) (old new : Spread) → StaysSpread old new → IsSpreadFor t text s stacks start from old → IsSpreadFor t text s stacks start from new
+stays_for t text s stacks start from old new stays all = record {
+  first = all.first;
+  head = all.head;
+  back = all.back;
+  low = all.low;
+  past = all.past;
+  laid = record {
+    base = p.base;
+    most = p.most;
+    begun = p.begun;
+    can = subst (λ (f : Frontier). CanFollow t text s p.base p.most new.graph new.place f) (sym stays.frontier)
+        (subst (λ (n : ℕ). CanFollow t text s p.base p.most new.graph n old.frontier) (sym stays.place)
+        (subst (λ (g : GraphView). CanFollow t text s p.base p.most g old.place old.frontier) (sym stays.graph) p.can));
+    ends = subst (λ (e : Ends). AreEnds t text new.graph p.base.place new.place e) (sym stays.ends)
+        (subst (λ (n : ℕ). AreEnds t text new.graph p.base.place n old.ends) (sym stays.place)
+        (subst (λ (g : GraphView). AreEnds t text g p.base.place old.place old.ends) (sym stays.graph) p.ends));
+    within = subst (λ (n : ℕ). n ≤ length text) (sym stays.place) p.within;
+    own = subst (λ (g : GraphView). AreOwn t.grammar g) (sym stays.graph) p.own;
+    stand = λ states are stand. subst (λ (g : GraphView). StandOnGraph t.grammar states text p.base g) (sym stays.graph) (p.stand states are stand);
+  };
+}
+  where
+    p : IsSpread t text s all.first all.head old
+    p = all.laid
+
+-- what is known with the same stacks is the same
+pub with_graph : (r : Readings) (ss : List (List Layer)) → ss ≡ r.graph → record { graph = ss; live = r.live; seen = r.seen; best = r.best; stuck = r.stuck } ≡ r
+with_graph r ss is = ap (λ (xs : List (List Layer)). record { graph = xs; live = r.live; seen = r.seen; best = r.best; stuck = r.stuck }) is

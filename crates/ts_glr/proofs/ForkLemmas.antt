@@ -1,5 +1,6 @@
 -- Following all ways to read a text from one stack on: what holds after the first step, after each other, and at the end.
-use Rattle.std.proofs.Common.{◌≡◌, ◌∙◌, sym, ap, refl, subst, ℕ, ◌+◌, ◌<◌, ◌≤◌, ◌^◌, List, [], ◌∷◌, ◌++◌, length, length-append, Option, Some, None, inl, inr, ⊎_elim, arith}
+use Rattle.std.proofs.Common.{◌≡◌, ◌∙◌, sym, ap, refl, subst, ℕ, ◌+◌, ◌<◌, ◌≤◌, ◌^◌, List, [], ◌∷◌, ◌++◌, length, length-append, take, Option, Some, None, inl, inr, ⊎_elim, arith}
+use Rattle.std.proofs.lemmas.List.{take-append-le, take_all}
 use Rattle.ts_base.specs.Bytes.{Bytes}
 use Rattle.ts_core.specs.declared.flat.FlatGrammar.{FlatGrammar}
 use Rattle.spec_tables.specs.Fit.{Fit}
@@ -7,7 +8,6 @@ use Rattle.spec_trees.specs.declared.tree.Tree.{Tree}
 use Rattle.spec_trees.specs.Trees.{children_of, state_of}
 use Rattle.spec_runs.specs.Configurations.{Configuration}
 use Rattle.spec_runs.specs.Runs.{StepsOn, shift_token, pass_extra, reduce_trees}
-use Rattle.spec_forced.specs.OnlyRuns.{IsFork}
 use Rattle.spec_forced.specs.Sound.{States, IsSound}
 use Rattle.spec_runs.specs.BareTrees.{KeepsAll}
 use Rattle.spec_packing.specs.Packing.{PackedStack, PackedStepsOn, PackedIsTooDeep}
@@ -15,14 +15,12 @@ use Rattle.spec_crossing.specs.Resting.{PackedRests}
 use Rattle.ts_table.specs.declared.view.ParseTable.{ParseTable}
 use Rattle.ts_table.specs.Tables.{most_actions}
 use Rattle.ts_gss.specs.declared.layer.Layer.{Layer}
-use Rattle.ts_gss.specs.Stacks.{stack_at, trees_on}
+use Rattle.ts_gss.specs.Stacks.{stack_at, trees_on, IsOneStack}
 use Rattle.ts_gss.proofs.OneLemmas.{lie_more}
-use Rattle.ts_steps.specs.declared.found.FoundToken.{FoundToken}
 use Rattle.ts_steps.specs.declared.head.StackHead.{StackHead}
 use Rattle.ts_steps.specs.Good.{EachTree}
 use Rattle.ts_steps.specs.LiveHeads.{config_of, packed_of, IsLiveHead, GainsStacks}
 use Rattle.ts_steps.specs.Heads.{AreStatesOf, IsOwnWithin, IsOwnHead, StandOnHead}
-use Rattle.ts_steps.specs.Looking.{IsTokenAhead}
 use Rattle.ts_glr.specs.declared.outcome.Outcome.{Outcome}
 use Rattle.ts_glr.specs.declared.outcome.Outcome.TheVariants.{Deep}
 use Rattle.ts_glr.specs.Lists.{OfEach}
@@ -38,7 +36,7 @@ use Rattle.ts_glr.specs.declared.forking.Forked.TheVariants.{One, Over}
 use Rattle.ts_glr.specs.Forks.{Following, LeavesOne, EndsAll, ComesTo}
 use Rattle.ts_glr.proofs.ListLemmas.{each_append, each_map, each_both, each_left, each_right, each_last}
 use Rattle.ts_glr.proofs.TurnLemmas.{turn_lt}
-use Rattle.ts_glr.proofs.StackLemmas.{own_stays, ahead_stays, config_stays, packed_stays, stand_stays, stay_grown}
+use Rattle.ts_glr.proofs.StackLemmas.{own_stays, config_stays, packed_stays, stand_stays, stay_grown}
 use Rattle.ts_glr.proofs.LightLemmas.{StepsFall, live_falls, followed_falls, joined_falls, left_lighter}
 use Rattle.ts_glr.proofs.JoinedLemmas.{joined_live, joined_own, joined_stand, packed_is, config_is}
 use Rattle.ts_glr.proofs.SearchLemmas.{Joined, search_rests, rests_search, search_taken, search_joined, search_more, deep_ends, fresh_ends, form_ends}
@@ -351,17 +349,18 @@ module _ (t : ParseTable) (text : Bytes) (first mid : List (List Layer)) (h : St
     sound = λ states are stand. w.sound states are (stands states stand);
   }
 
-  pub again_own : (now : List (List Layer)) → now ≡ mid → IsOwnHead t (length text) now h
-  again_own now is = subst (λ (ss : List (List Layer)). IsOwnHead t (length text) ss h) (sym is) (own_stays t (length text) first mid h grows own)
+-- ---- back to where nothing was followed
 
-  pub again_fork : (now : List (List Layer)) → now ≡ mid → IsFork t.grammar text (config_of first h) → IsFork t.grammar text (config_of now h)
-  again_fork now is fork = subst (λ (ss : List (List Layer)). IsFork t.grammar text (config_of ss h)) (sym is) (subst (λ (c : Configuration). IsFork t.grammar text c) (sym same) fork)
+-- what was put there after the one stack is taken out again
+pub cut_back : (first mid now : List (List Layer)) (top : ℕ) → IsOneStack first top → GainsStacks first mid → now ≡ take (top + 1) mid → now ≡ first
+cut_back first mid now top one grows is =
+    let n = one.count in
+    is
+    ∙ ap (λ (ss : List (List Layer)). take (top + 1) ss) grows.1
+    ∙ take-append-le (top + 1) first grows.0 (omega (arith, n))
+    ∙ take_all (top + 1) first (omega (arith, n))
 
-  pub again_sees : (now : List (List Layer)) → now ≡ mid → (f : FoundToken) → IsTokenAhead t text first h f → IsTokenAhead t text now h f
-  again_sees now is f a = subst (λ (ss : List (List Layer)). IsTokenAhead t text ss h f) (sym is) (ahead_stays t (length text) text first mid h f grows own.live a)
-
-  pub again_comes : (now stacks : List (List Layer)) (before before' stuck : Option ℕ) (live : List StackHead) (best : Option Tree) (o : Forked) → now ≡ mid → before' ≡ before
-      → ComesTo t text now stacks before' stuck live best h o → ComesTo t text first stacks before stuck live best h o
-  again_comes now stacks before before' stuck live best o is same_stuck w =
-      comes_from stacks before stuck live best o
-      (subst (λ (ss : List (List Layer)). ComesTo t text ss stacks before stuck live best h o) is (subst (λ (b : Option ℕ). ComesTo t text now stacks b stuck live best h o) same_stuck w))
+pub again_comes : (t : ParseTable) (text : Bytes) (first now stacks : List (List Layer)) (before before' stuck : Option ℕ) (live : List StackHead) (best : Option Tree) (h : StackHead) (o : Forked) → now ≡ first → before' ≡ before
+    → ComesTo t text now stacks before' stuck live best h o → ComesTo t text first stacks before stuck live best h o
+again_comes t text first now stacks before before' stuck live best h o is same_stuck w =
+    subst (λ (ss : List (List Layer)). ComesTo t text ss stacks before stuck live best h o) is (subst (λ (b : Option ℕ). ComesTo t text now stacks b stuck live best h o) same_stuck w)

@@ -1,5 +1,6 @@
 -- All ways to read a text on the graph: what is known at first, and after each place.
 use Rattle.std.proofs.Common.{◌≡◌, ◌∙◌, sym, ap, refl, subst, ℕ, suc, ◌<◌, ◌≤◌, true, List, [], ◌∷◌, ◌++◌, append-nil, length, map, arith}
+use Rattle.std.specs.Global.{Vec}
 use Rattle.ts_base.specs.Bytes.{Bytes}
 use Rattle.spec_trees.specs.declared.tree.Tree.{Tree}
 use Rattle.spec_trees.specs.Trees.{is_extra_node, bare}
@@ -29,7 +30,7 @@ use Rattle.ts_places.specs.Sweeping.{IsTooDeep}
 use Rattle.ts_places.specs.declared.following.Next.{Next}
 use Rattle.ts_places.specs.declared.following.Next.TheVariants.{Place, Nowhere, TooDeep}
 use Rattle.ts_places.specs.declared.frontier.Frontier.{Frontier}
-use Rattle.ts_places.specs.Frontiers.{AreOpen}
+use Rattle.ts_places.specs.Frontiers.{AreOpen, IsAloneFrom}
 use Rattle.ts_places.specs.Following.{GoesOnAt, IsOver, Follows}
 use Rattle.ts_places.specs.declared.ends.Ends.{Ends}
 use Rattle.ts_places.specs.Ends.{AreEnds, AreLater}
@@ -77,9 +78,9 @@ some_from keeps t text first h own some base begun none nothing =
 
 module _ (t : ParseTable) (text : Bytes) (s : Setting) (first : List (List Layer)) (h : StackHead) where
   -- at first
-  pub begun : ((t : Tree) → KeepsAll t) → IsOfSomeFrom t text first h → (most : ℕ) → AreRanks t.grammar (unit_rank t.grammar) most → IsOwnHead t (length text) first h → IsSetting t (length text) s → (g : GraphView) (place : ℕ) (frontier : Frontier) (ends : Ends)
-      → IsEntered t text first h g place → AreOpen g place frontier.heads.items → AreEnds t text g place place ends → IsSpread t text s first h (record { graph = g; frontier = frontier; ends = ends; place = place })
-  begun keeps some most ranks own setting g place frontier ends e are_open none = record {
+  pub begun : ((t : Tree) → KeepsAll t) → IsOfSomeFrom t text first h → (most : ℕ) → AreRanks t.grammar (unit_rank t.grammar) most → IsOwnHead t (length text) first h → IsSetting t (length text) s → (g : GraphView) (place : ℕ) (frontier : Frontier) (ends : Ends) (sights : Sights) (numbers : Vec ℕ)
+      → IsEntered t text first h g place → AreOpen g place frontier.heads.items → AreEnds t text g place place ends → IsSpread t text s first h (record { graph = g; frontier = frontier; ends = ends; sights = sights; numbers = numbers; place = place })
+  begun keeps some most ranks own setting g place frontier ends sights numbers e are_open none = record {
     base = base_at e.stack place;
     most = most;
     begun = e.begun;
@@ -90,7 +91,7 @@ module _ (t : ParseTable) (text : Bytes) (s : Setting) (first : List (List Layer
       some = some_from keeps t text first h own some (base_at e.stack place) e.begun;
     };
     ends = none;
-    within = e.sound.laid.within e.top.0 (head_at e.top.1 place) e.top.2;
+    within = e.sound.laid.within g.base (head_at e.base_is.0 place) e.base_is.1;
     own = e.own own.own;
     stand = e.stand;
   }
@@ -106,7 +107,7 @@ module _ (t : ParseTable) (text : Bytes) (s : Setting) (first : List (List Layer
           passes t text g p.base.place (suc old.place) next ends (λ place k low high st. on.at.between place k (omega (arith, low)) high st) (omega (arith, past))
           (sees text p.base p.base.place old.place f.seen p.can.whole.early before)
 
-      pub spread_on : IsSpread t text s first h (record { graph = g; frontier = frontier; ends = ends; place = next }) × (old.place < next)
+      pub spread_on : IsSpread t text s first h (record { graph = g; frontier = frontier; ends = ends; sights = sights; numbers = old.numbers; place = next }) × (old.place < next)
       spread_on = (
         record {
           base = p.base;
@@ -135,7 +136,7 @@ module _ (t : ParseTable) (text : Bytes) (s : Setting) (first : List (List Layer
           passes t text g p.base.place (suc old.place) (suc (length text)) ends (λ at k low high st. over.last k (st.0, st.1, (let e = st.2 in omega (arith, low, e)))) (omega (arith, within))
           (sees text p.base p.base.place old.place f.seen p.can.whole.early before)
 
-      pub spread_over : IsSpreadOut t text first h (record { graph = g; frontier = frontier; ends = ends; place = place })
+      pub spread_over : IsSpreadOut t text first h (record { graph = g; frontier = frontier; ends = ends; sights = sights; numbers = old.numbers; place = place })
       spread_over =
           let within = p.within in
           let early = p.can.whole.early in
@@ -175,3 +176,10 @@ module _ (t : ParseTable) (text : Bytes) (s : Setting) (first : List (List Layer
 
   pub passed_deep : x ≡ passed.Deep → IsSpreadDeep t text first h new
   passed_deep is = subst (λ (y : Passed). PassesTo t text s first h old new y) is p
+
+-- the head of the stack over which the graph lies is where it begins
+pub entered_alone : (t : ParseTable) (text : Bytes) (first : List (List Layer)) (h : StackHead) (g : GraphView) (place : ℕ) → IsEntered t text first h g place → IsAloneFrom g place
+entered_alone t text first h g place e = record {
+  there = (head_at e.base_is.0 place, e.base_is.1, omega arith);
+  alone = λ k st. e.alone k st.0 st.1 (let low = e.low k st.0 st.1 in let high = st.2 in omega (arith, low, high));
+}

@@ -38,9 +38,9 @@ use Rattle.ts_crossing.specs.Leaving.{IsStack, IsLeft}
 pub record LeftLaws : Type 0 where
   pub keeps : (t : Tree) → KeepsAll t
   pub rests : (t : ParseTable) (text : Bytes) (base : Base) (g : GraphView) (h : ℕ)
-      (numbers : List ℕ) (stacks : List (List Layer)) (k : StackHead)
+      (numbers : List ℕ) (foot : ℕ) (stacks : List (List Layer)) (k : StackHead)
       → IsSoundBy t text base g → h < length g.heads
-      → (s : IsStack g h numbers) → IsLeft g h s.way stacks k
+      → (s : IsStack g h numbers foot) → IsLeft g h s.way stacks k
       → (c : Configuration) → IsBegun (parsing_from t text base) c
       → (most : ℕ) → AreRanks t.grammar (unit_rank t.grammar) most
       → (n : ℕ) → IsWholeTo (parsing_from t text base) (unit_rank t.grammar) g.heads
@@ -51,14 +51,14 @@ pub record LeftLaws : Type 0 where
       → PackedRests t.grammar text before (stack_alone c)
       → PackedRests t.grammar text stuck (packed_of stacks k)
   pub own : (t : ParseTable) (text : Bytes) (base : Base) (g : GraphView) (h : ℕ)
-      (numbers : List ℕ) (stacks : List (List Layer)) (k : StackHead)
+      (numbers : List ℕ) (foot : ℕ) (stacks : List (List Layer)) (k : StackHead)
       → IsSoundBy t text base g → h < length g.heads
-      → (s : IsStack g h numbers) → IsLeft g h s.way stacks k
+      → (s : IsStack g h numbers foot) → IsLeft g h s.way stacks k
       → AreOwn t.grammar g → IsOwnHead t (length text) stacks k
   pub stand : (t : ParseTable) (text : Bytes) (base : Base) (g : GraphView) (h : ℕ)
-      (numbers : List ℕ) (stacks : List (List Layer)) (k : StackHead)
+      (numbers : List ℕ) (foot : ℕ) (stacks : List (List Layer)) (k : StackHead)
       → IsSoundBy t text base g → h < length g.heads
-      → (s : IsStack g h numbers) → IsLeft g h s.way stacks k → IsTable t
+      → (s : IsStack g h numbers foot) → IsLeft g h s.way stacks k → IsTable t
       → (states : States) → AreStatesOf t states
       → StandOnGraph t.grammar states text base g → StandOnHead t states text stacks k
 

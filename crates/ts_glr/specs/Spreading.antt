@@ -97,22 +97,30 @@ PassesTo t text s first h old new On =
 PassesTo t text s first h old new Over = IsSpreadOut t text first h new
 PassesTo t text s first h old new Deep = IsSpreadDeep t text first h new
 
+-- all that was followed stays as it was
+pub record StaysSpread (old new : Spread) : Type 0 where
+  pub graph : new.graph ≡ old.graph
+  pub frontier : new.frontier ≡ old.frontier
+  pub ends : new.ends ≡ old.ends
+  pub place : new.place ≡ old.place
+
 -- One head waits alone, past the place, and nothing was accepted. These are the trees of the only
 -- way down from it.
 pub record IsLeftOf (spread : Spread) (from : ℕ) (l : Left) : Type 0 where
   pub head : ℕ
   pub numbers : List ℕ
-  pub stack : IsStack spread.graph head numbers
+  pub foot : ℕ
+  pub stack : IsStack spread.graph head numbers foot
   pub is : IsLeft spread.graph head stack.way l.stacks l.head
   pub alone : spread.frontier.heads.items ≡ head ∷ []
   pub none : spread.ends.accepting.items ≡ []
   pub past : from < spread.place
 
--- what asking for one stack that is left came to
-abbrev pub AsksFor : Spread → ℕ → Asked → Type 0
-AsksFor spread from Waits = Unit {0}
-AsksFor spread from Fails = Unit {0}
-AsksFor spread from (Leaves l) = IsLeftOf spread from l
+-- what asking for one stack that is left came to: where it is, nothing of the graph is left
+abbrev pub AsksFor : Spread → Spread → ℕ → Asked → Type 0
+AsksFor old new from Waits = StaysSpread old new
+AsksFor old new from Fails = StaysSpread old new
+AsksFor old new from (Leaves l) = IsLeftOf old from l
 
 -- what following the graph came to, from a stack on: one that is left, or the outcome
 abbrev pub Crosses : ParseTable → Bytes → List (List Layer) → Option ℕ → StackHead → Crossed

@@ -8,7 +8,7 @@ ghost use Rattle.spec_graph.specs.Laying.{Parsing};
 ghost use Rattle.spec_crossing.specs.Resting.{IsPastStuck};
 ghost use Rattle.ts_table.specs.declared.view.ParseTable.{ParseTable};
 ghost use Rattle.ts_gss.specs.declared.layer.Layer.{Layer};
-ghost use Rattle.ts_gss.specs.Stacks.{AreExact, stack_at, state_on};
+ghost use Rattle.ts_gss.specs.Stacks.{AreExact, IsOneStack, stack_at, state_on};
 ghost use Rattle.ts_reductions.specs.SoundLinks.{IsSoundFor};
 ghost use Rattle.ts_steps.specs.declared.head.StackHead.{StackHead as AnyHead};
 ghost use Rattle.ts_steps.specs.LiveHeads.{config_of};
@@ -17,12 +17,13 @@ ghost use Rattle.ts_reductions.specs.declared.setting.Setting.{Setting as AnySet
 ghost use Rattle.ts_reductions.specs.Lines.{IsSetting};
 ghost use Rattle.ts_places.specs.Nothing.{IsOfNothing};
 ghost use Rattle.ts_crossing.specs.Leaving.{IsStack, IsLeft};
-ghost use Rattle.ts_glr.specs.Spreading.{IsSpread, IsSpreadOut, GoesBackTo, IsSpreadFor, IsLeftOf, AsksFor, Crosses};
+ghost use Rattle.ts_glr.specs.Spreading.{IsSpread, IsSpreadOut, StaysSpread, GoesBackTo, IsSpreadFor, IsLeftOf, AsksFor, Crosses};
 
 use crate::laws::{laws_hold, left_laws_hold, over_laws_hold, packing_laws_hold};
 use crate::outcome::Outcome;
-use crate::spread::{Passed, Spread, spread_from};
+use crate::spread::{Passed, Spread};
 use std::alloc::{AllocError, Global};
+use std::mem::replace;
 use ts_crossing::{Left, leave, one_stack, own_stacks_enter};
 use ts_gss::Graph as Stacks;
 use ts_lexer::Tokens;
@@ -85,28 +86,32 @@ fn alone(spread: &Spread, from: u32) -> Option<usize>
     }
 }
 
-/// The stack of the only way down from a head.
-fn left_at(alloc: Global, spread: &Spread, head: usize) -> Result<Option<Left>, AllocError>
-    requires there { head < length spread.now.graph.heads }
-    requires sound { (P : Parsing) × IsSoundFor P spread.now.graph }
-    ensures { IfOk result (λ o. IfSome o (λ left. (numbers : List ℕ)
-        × (s : IsStack spread.now.graph head numbers)
-        × IsLeft spread.now.graph head s.way left.stacks left.head)) }
+/// The stack of the only way down from a head. It is taken out of the graph.
+fn left_at(alloc: Global, spread: &mut Spread, head: usize) -> Result<Option<Left>, AllocError>
+    requires there { head < length spread.old.graph.heads }
+    requires sound { (P : Parsing) × IsSoundFor P spread.old.graph }
+    ensures left { IfOk result (λ o. IfSome o (λ left. (numbers : List ℕ) × (foot : ℕ)
+        × (s : IsStack spread.old.graph head numbers foot)
+        × IsLeft spread.old.graph head s.way left.stacks left.head)) }
+    ensures stays { IfOk result (λ o. o ≡ None → StaysSpread spread.old spread.new) }
+    ensures ends { spread.new.ends ≡ spread.old.ends }
 {
-    match one_stack(alloc, &spread.graph, head)? {
+    match one_stack(&spread.graph, head, &mut spread.numbers)? {
         None => Ok(None),
-        Some(links) => {
-            let left = leave(alloc, &spread.graph, head, links.as_slice())?;
+        Some(foot) => {
+            let links = spread.numbers.as_slice();
+            let left = leave(alloc, &mut spread.graph, head, links, foot)?;
             Ok(Some(left))
         }
     }
 }
 
 /// The one stack that is left past a place, if it is.
-fn ask(alloc: Global, spread: &Spread, from: u32) -> Result<Asked, AllocError>
+fn ask(alloc: Global, spread: &mut Spread, from: u32) -> Result<Asked, AllocError>
     requires { (t : ParseTable) × (text : Bytes) × (s : AnySetting) × (first : List (List Layer))
-        × (h : AnyHead) × IsSpread t text s first h spread.now }
-    ensures { IfOk result (AsksFor spread.now from) }
+        × (h : AnyHead) × IsSpread t text s first h spread.old }
+    ensures asks { IfOk result (AsksFor spread.old spread.new from) }
+    ensures ends { spread.new.ends ≡ spread.old.ends }
 {
     match alone(spread, from) {
         None => Ok(Asked::Waits),
@@ -124,20 +129,29 @@ struct Pace {
     asked: u32,
 }
 
+impl Pace {
+    /// One more place was followed. Whether one stack is asked for behind it.
+    fn is_due(&mut self) -> bool {
+        self.places = self.places.saturating_add(1);
+        self.places >= self.asked
+    }
+}
+
 /// The one stack that is left past a place, if it is asked for behind this place. Where several
 /// ways led down from the head that waits alone, it is asked for only after twice as many places.
 fn ask_in_turn(
     alloc: Global,
-    spread: &Spread,
+    spread: &mut Spread,
     from: u32,
     pace: &mut Pace,
 ) -> Result<Option<Left>, AllocError>
     requires { (t : ParseTable) × (text : Bytes) × (s : AnySetting) × (first : List (List Layer))
-        × (h : AnyHead) × IsSpread t text s first h spread.now }
-    ensures { IfOk result (λ o. IfSome o (IsLeftOf spread.now from)) }
+        × (h : AnyHead) × IsSpread t text s first h spread.old }
+    ensures left { IfOk result (λ o. IfSome o (IsLeftOf spread.old from)) }
+    ensures stays { IfOk result (λ o. o ≡ None → StaysSpread spread.old spread.new) }
+    ensures ends { spread.new.ends ≡ spread.old.ends }
 {
-    pace.places = pace.places.saturating_add(1);
-    if pace.places < pace.asked {
+    if !pace.is_due() {
         return Ok(None);
     }
     match ask(alloc, spread, from)? {
@@ -178,13 +192,6 @@ fn ending(
     }
 }
 
-/// The graph as it begins, and the place past which one stack is asked for.
-#[derive(Drop)]
-struct Begun {
-    spread: Spread,
-    from: u32,
-}
-
 /// Whether the graph begins at a stack: more than extras lie on it, and none of its layers stands
 /// for deeper trees too.
 fn begins_there(stacks: &Stacks, start: StackHead) -> bool
@@ -218,89 +225,91 @@ fn begin<L: Tokens>(
     setting: &Setting,
     lexer: &mut L,
     text: &L::Text,
-    stacks: &Stacks,
+    stacks: &mut Stacks,
     start: StackHead,
-) -> Result<Option<Begun>, AllocError>
+    spread: &mut Spread,
+) -> Result<Option<u32>, AllocError>
     requires made { L.made_for lexer.old table.now }
     requires setting { IsSetting table.now (length (L.Text.bytes text.now)) setting.now }
     requires short { length (L.Text.bytes text.now) ≤ most_span }
-    requires own { IsOwnHead table.now (length (L.Text.bytes text.now)) stacks.now start }
-    requires fork { IsFork table.now.grammar (L.Text.bytes text.now) (config_of stacks.now start) }
+    requires own { IsOwnHead table.now (length (L.Text.bytes text.now)) stacks.old start }
+    requires fork { IsFork table.now.grammar (L.Text.bytes text.now) (config_of stacks.old start) }
+    requires one { IsOneStack stacks.old start.top }
     ensures made { L.made_for lexer.new table.now }
     ensures nothing { IfOk result (λ o. o ≡ None
         → IsOfNothing table.now (L.Text.bytes text.now)) }
-    ensures begins { IfOk result (λ o. IfSome o (λ begun. IsSpreadFor table.now
-        (L.Text.bytes text.now) setting.now stacks.now start begun.from begun.spread)) }
+    ensures begins { IfOk result (λ o. IfSome o (λ from. IsSpreadFor table.now
+        (L.Text.bytes text.now) setting.now stacks.old start from spread.new)) }
+    ensures kept { IfOk result (λ o. o ≡ None → stacks.new ≡ stacks.old) }
 {
     laws_hold();
     packing_laws_hold();
     own_stacks_enter();
     table.stands();
     if begins_there(stacks, start) {
-        let spread = spread_from(alloc, stacks, start)?;
-        return Ok(Some(Begun {
-            spread,
-            from: start.place,
-        }));
+        let own = replace(stacks, Stacks::new(alloc));
+        spread.begin(own, start)?;
+        return Ok(Some(start.place));
     }
     if is_of_nothing(table, setting, lexer, text) {
         return Ok(None);
     }
     let none = Stacks::new(alloc);
-    let spread = spread_from(alloc, &none, StackHead { top: 0, place: 0 })?;
-    let from = far_enough(stacks, start);
-    Ok(Some(Begun { spread, from }))
+    spread.begin(none, StackHead { top: 0, place: 0 })?;
+    Ok(Some(far_enough(stacks, start)))
 }
 
 /// Follows all ways to read a text on the graph of stacks, from a stack on, until one stack is
-/// left, before any tree is accepted, or there is none. Where one head waits alone and several ways
-/// lead down from it, it is asked again only after as many places as were followed so far: asking
-/// so costs little beside following, and at most twice as many places are followed as had to be.
-/// None where the graph would begin at the start of the text, and the text has nothing but extras
-/// before a token on which a reduction over nothing stays.
+/// left, before any tree is accepted, or there is none. Where one head waits alone and several
+/// ways lead down from it, it is asked again only after as many places as were followed so far:
+/// asking so costs little beside following, and at most twice as many places are followed as had
+/// to be. None where the graph would begin at the start of the text, and the text has nothing but
+/// extras before a token on which a reduction over nothing stays; the stack stays then. Else it is
+/// moved into the graph where that begins at it.
 pub(crate) fn cross<L: Tokens>(
     alloc: Global,
     table: &Table,
     setting: &Setting,
     lexer: &mut L,
     text: &L::Text,
-    stacks: &Stacks,
+    stacks: &mut Stacks,
     start: StackHead,
     before: Option<u32>,
+    spread: &mut Spread,
 ) -> Result<Option<Crossed>, AllocError>
     requires made { L.made_for lexer.old table.now }
     requires setting { IsSetting table.now (length (L.Text.bytes text.now)) setting.now }
     requires short { length (L.Text.bytes text.now) ≤ most_span }
-    requires own { IsOwnHead table.now (length (L.Text.bytes text.now)) stacks.now start }
-    requires fork { IsFork table.now.grammar (L.Text.bytes text.now) (config_of stacks.now start) }
+    requires own { IsOwnHead table.now (length (L.Text.bytes text.now)) stacks.old start }
+    requires fork { IsFork table.now.grammar (L.Text.bytes text.now) (config_of stacks.old start) }
+    requires one { IsOneStack stacks.old start.top }
     ensures made { L.made_for lexer.new table.now }
     ensures nothing { IfOk result (λ o. o ≡ None
         → IsOfNothing table.now (L.Text.bytes text.now)) }
     ensures crosses { IfOk result (λ o. IfSome o (Crosses table.now (L.Text.bytes text.now)
-        stacks.now before start)) }
+        stacks.old before start)) }
+    ensures kept { IfOk result (λ o. o ≡ None → stacks.new ≡ stacks.old) }
 {
     left_laws_hold();
     over_laws_hold();
     unit_ranks();
     table.stands();
-    let Begun { mut spread, from } = match begin(
-        alloc, table, setting, lexer, text, stacks, start,
-    )? {
+    let from = match begin(alloc, table, setting, lexer, text, stacks, start, spread)? {
         None => return Ok(None),
-        Some(begun) => begun,
+        Some(from) => from,
     };
     let mut pace = Pace {
         places: 0,
         asked: 1,
     };
-    loop {
+    'places: loop {
         match spread.pass(alloc, table, setting, lexer, text)? {
             Passed::Deep => return Ok(Some(Crossed::Told(Outcome::Deep))),
             Passed::Over => {
-                let crossed = ending(alloc, table, &spread, setting.size, before)?;
+                let crossed = ending(alloc, table, spread, setting.size, before)?;
                 return Ok(Some(crossed));
             }
-            Passed::On => match ask_in_turn(alloc, &spread, from, &mut pace)? {
+            Passed::On => match ask_in_turn(alloc, spread, from, &mut pace)? {
                 None => {}
                 Some(left) => {
                     let stuck = further(before, spread.ends.stuck);

@@ -16,6 +16,7 @@ use crate::forking::Forked;
 use crate::laws::{laws_hold, packing_laws_hold};
 use crate::outcome::Outcome;
 use crate::readings::readings_of;
+use crate::spread::Spread;
 use crate::turning::follow_fork;
 use std::alloc::{AllocError, Global};
 use ts_lexer::{Content, Tokens};
@@ -72,6 +73,7 @@ pub fn parse_with<'t, L: Tokens, O: Offers<'t>>(
     let setting = parse_setting(alloc, table, text.len())?;
     let mut readings = readings_of(alloc);
     let mut kept = None;
+    let mut spread = Spread::new(alloc);
     let mut head = StackHead { top: 0, place: 0 };
     let mut known = None;
     loop {
@@ -94,6 +96,7 @@ pub fn parse_with<'t, L: Tokens, O: Offers<'t>>(
                     &mut readings,
                     &mut kept,
                     fork,
+                    &mut spread,
                 )? {
                     Forked::One(next, ahead) => {
                         head = next;

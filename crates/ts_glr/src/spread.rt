@@ -1,9 +1,10 @@
 //! The ways to read a text on the graph of stacks: the stack from which they go on goes in, and the
 //! graph is followed over one place after another, with what ends there.
-ghost use Rattle.std.specs.Prelude.{List, length, IfOk};
+ghost use Rattle.std.specs.Prelude.{List, length, IfOk, OnOk};
 ghost use Rattle.ts_base.specs.Bytes.{Bytes};
 ghost use Rattle.ts_table.specs.declared.view.ParseTable.{ParseTable};
 ghost use Rattle.ts_gss.specs.declared.layer.Layer.{Layer};
+ghost use Rattle.ts_gss.specs.Stacks.{AreExact, IsOneStack, stack_at};
 ghost use Rattle.ts_steps.specs.declared.head.StackHead.{StackHead as AnyHead};
 ghost use Rattle.ts_steps.specs.Heads.{IsOwnHead};
 ghost use Rattle.ts_reductions.specs.declared.setting.Setting.{Setting as AnySetting};
@@ -13,13 +14,11 @@ ghost use Rattle.ts_glr.specs.Spreading.{IsOfSomeFrom, IsSpread, PassesTo};
 
 use crate::laws::left_laws_hold;
 use std::alloc::{AllocError, Global};
-use ts_crossing::{Entered, enter};
+use ts_crossing::enter;
 use ts_graph::Graph;
 use ts_gss::Graph as Stacks;
 use ts_lexer::Tokens;
-use ts_places::{
-    Ends, Followed, Frontier, Next, ends_begin, ends_stay, follow_place, frontier_at, see_ends,
-};
+use ts_places::{Ends, Frontier, Next, Sights, ends_begin, ends_stay, follow_place, see_ends};
 use ts_reductions::Setting;
 use ts_steps::StackHead;
 use ts_table::{Table, unit_ranks};
@@ -31,6 +30,10 @@ pub(crate) struct Spread {
     /// The heads that are still to be followed.
     pub frontier: Frontier,
     pub ends: Ends,
+    /// What is seen at the last place.
+    pub sights: Sights,
+    /// The links of a way down that was asked for.
+    pub numbers: Vec<usize>,
     /// All that is asked for before this place was done.
     pub place: u32,
 }
@@ -44,32 +47,39 @@ pub(crate) enum Passed {
     Deep,
 }
 
-/// The beginning: the stack of the head alone.
-pub(crate) fn spread_from(
-    alloc: Global,
-    stacks: &Stacks,
-    start: StackHead,
-) -> Result<Spread, AllocError>
-    requires { (t : ParseTable) × (text : Bytes) × CanEnter t text stacks.now start }
-    ensures { IfOk result (λ spread. (t : ParseTable) (text : Bytes) (s : AnySetting)
-        → CanEnter t text stacks.now start → IsOwnHead t (length text) stacks.now start
-        → IsOfSomeFrom t text stacks.now start → IsSetting t (length text) s
-        → IsSpread t text s stacks.now start spread) }
-{
-    left_laws_hold();
-    unit_ranks();
-    ends_begin();
-    let Entered { graph, place } = enter(alloc, stacks, start)?;
-    let frontier = frontier_at(alloc, &graph, place)?;
-    Ok(Spread {
-        graph,
-        frontier,
-        ends: Ends::new(alloc),
-        place,
-    })
-}
-
 impl Spread {
+    /// Nothing to read. It takes no memory.
+    pub(crate) fn new(alloc: Global) -> Spread {
+        Spread {
+            graph: Graph::new(alloc),
+            frontier: Frontier::new(alloc),
+            ends: Ends::new(alloc),
+            sights: Sights::new(alloc),
+            numbers: Vec::new(alloc),
+            place: 0,
+        }
+    }
+
+    /// Begins anew: with the stack of the head alone.
+    pub(crate) fn begin(&mut self, stacks: Stacks, start: StackHead) -> Result<(), AllocError>
+        requires can { (t : ParseTable) × (text : Bytes) × CanEnter t text stacks start }
+        requires one { IsOneStack stacks start.top }
+        requires exact { AreExact (stack_at stacks start.top) }
+        ensures { OnOk result ((t : ParseTable) (text : Bytes) (s : AnySetting)
+            → CanEnter t text stacks start → IsOwnHead t (length text) stacks start
+            → IsOfSomeFrom t text stacks start → IsSetting t (length text) s
+            → IsSpread t text s stacks start self.new) }
+    {
+        left_laws_hold();
+        unit_ranks();
+        ends_begin();
+        self.place = enter(stacks, start, &mut self.graph);
+        self.frontier.begin(&self.graph)?;
+        self.ends.accepting.clear();
+        self.ends.stuck = None;
+        Ok(())
+    }
+
     /// Follows all ways over one place.
     pub(crate) fn pass<L: Tokens>(
         &mut self,
@@ -89,7 +99,7 @@ impl Spread {
             passed) }
     {
         ends_stay();
-        let Followed { sights, next } = follow_place(
+        let next = follow_place(
             alloc,
             table,
             setting,
@@ -98,15 +108,16 @@ impl Spread {
             &mut self.graph,
             &mut self.frontier,
             self.place,
+            &mut self.sights,
         )?;
         match next {
             Next::TooDeep => Ok(Passed::Deep),
             Next::Nowhere => {
-                see_ends(table, &self.graph, &sights, &mut self.ends)?;
+                see_ends(table, &self.graph, &self.sights, &mut self.ends)?;
                 Ok(Passed::Over)
             }
             Next::Place(place) => {
-                see_ends(table, &self.graph, &sights, &mut self.ends)?;
+                see_ends(table, &self.graph, &self.sights, &mut self.ends)?;
                 self.place = place;
                 Ok(Passed::On)
             }

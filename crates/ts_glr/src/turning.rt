@@ -1,9 +1,10 @@
 //! Following all ways to read a text from a stack on at which several moves stay, on plain stacks
 //! first, and on the graph of stacks where that takes many steps: the stack goes in; the one that
 //! is left comes out, or what the text comes to.
-ghost use Rattle.std.specs.Prelude.{◌≡◌, ◌≤◌, [], length, None, IfOk, IfSome, OnOk};
+ghost use Rattle.std.specs.Prelude.{◌≡◌, ◌<◌, ◌≤◌, ◌+◌, [], length, take, None, IfOk, IfSome, OnOk};
 ghost use Rattle.spec_trees.specs.Made.{most_span};
 ghost use Rattle.spec_forced.specs.OnlyRuns.{IsFork};
+ghost use Rattle.ts_gss.specs.Stacks.{IsOneStack};
 ghost use Rattle.ts_steps.specs.LiveHeads.{config_of};
 ghost use Rattle.ts_steps.specs.Settings.{IsParseSetting};
 ghost use Rattle.ts_steps.specs.Heads.{IsOwnHead};
@@ -15,6 +16,7 @@ ghost use Rattle.ts_glr.specs.Forks.{ComesTo};
 use crate::crossing::{Crossed, cross};
 use crate::forking::{Forked, follow_all, follow_each};
 use crate::readings::Readings;
+use crate::spread::Spread;
 use std::alloc::{AllocError, Global};
 use ts_lexer::Tokens;
 use ts_reductions::{Setting, setting_of};
@@ -45,13 +47,16 @@ fn take_setting(
     }
 }
 
-/// Goes back to where nothing was followed from a stack on. All stacks stay.
-fn begin_anew(alloc: Global, readings: &mut Readings, stuck: Option<u32>)
-    ensures graph { readings.new.graph ≡ readings.old.graph }
+/// Goes back to where nothing was followed from a stack on. Stacks that were put there after it are
+/// taken out.
+fn begin_anew(alloc: Global, readings: &mut Readings, top: usize, stuck: Option<u32>)
+    requires { top < length readings.old.graph }
+    ensures graph { readings.new.graph ≡ take (top + 1) readings.old.graph }
     ensures stuck { readings.new.stuck ≡ stuck }
     ensures live { readings.new.live.items ≡ [] }
     ensures best { readings.new.best ≡ None }
 {
+    readings.graph.cut(top);
     readings.stuck = stuck;
     readings.live = Vec::new(alloc);
     readings.best = None;
@@ -68,6 +73,7 @@ fn follow_graph<L: Tokens>(
     text: &L::Text,
     readings: &mut Readings,
     start: StackHead,
+    spread: &mut Spread,
 ) -> Result<Option<Forked>, AllocError>
     requires made { L.made_for lexer.old table.now }
     requires setting { IsSetting table.now (length (L.Text.bytes text.now)) setting.now }
@@ -75,6 +81,7 @@ fn follow_graph<L: Tokens>(
     requires own { IsOwnHead table.now (length (L.Text.bytes text.now)) readings.old.graph start }
     requires fork { IsFork table.now.grammar (L.Text.bytes text.now)
         (config_of readings.old.graph start) }
+    requires one { IsOneStack readings.old.graph start.top }
     requires alone { readings.old.live.items ≡ [] }
     requires best { readings.old.best ≡ None }
     ensures made { L.made_for lexer.new table.now }
@@ -85,9 +92,11 @@ fn follow_graph<L: Tokens>(
         → IsOfNothing table.now (L.Text.bytes text.now)) }
     ensures kept { IfOk result (λ o. o ≡ None → readings.new ≡ readings.old) }
 {
-    let stacks = &readings.graph;
+    let stacks = &mut readings.graph;
     let known = readings.stuck;
-    match cross(alloc, table, setting, lexer, text, stacks, start, known)? {
+    match cross(
+        alloc, table, setting, lexer, text, stacks, start, known, spread,
+    )? {
         None => Ok(None),
         Some(crossed) => match crossed {
             Crossed::One(left, stuck) => {
@@ -111,6 +120,7 @@ fn follow_long<L: Tokens>(
     kept: &mut Option<Setting>,
     start: StackHead,
     found: FoundToken,
+    spread: &mut Spread,
 ) -> Result<Forked, AllocError>
     requires made { L.made_for lexer.old table.now }
     requires setting { IsParseSetting table.now (length (L.Text.bytes text.now)) setting.now }
@@ -119,6 +129,7 @@ fn follow_long<L: Tokens>(
     requires fork { IsFork table.now.grammar (L.Text.bytes text.now)
         (config_of readings.old.graph start) }
     requires kept { IfSome kept.old (IsSetting table.now (length (L.Text.bytes text.now))) }
+    requires one { IsOneStack readings.old.graph start.top }
     requires alone { readings.old.live.items ≡ [] }
     requires best { readings.old.best ≡ None }
     ensures made { L.made_for lexer.new table.now }
@@ -129,7 +140,7 @@ fn follow_long<L: Tokens>(
         (IsSetting table.now (length (L.Text.bytes text.now)))) }
 {
     let lines = take_setting(alloc, table, kept, setting.size)?;
-    let crossed = follow_graph(alloc, table, &lines, lexer, text, readings, start)?;
+    let crossed = follow_graph(alloc, table, &lines, lexer, text, readings, start, spread)?;
     *kept = Some(lines);
     match crossed {
         Some(forked) => Ok(forked),
@@ -151,6 +162,7 @@ pub(crate) fn follow_fork<L: Tokens>(
     readings: &mut Readings,
     kept: &mut Option<Setting>,
     fork: Fork,
+    spread: &mut Spread,
 ) -> Result<Forked, AllocError>
     requires made { L.made_for lexer.old table.now }
     requires setting { IsParseSetting table.now (length (L.Text.bytes text.now)) setting.now }
@@ -161,6 +173,7 @@ pub(crate) fn follow_fork<L: Tokens>(
     requires fork { IsFork table.now.grammar (L.Text.bytes text.now)
         (config_of readings.old.graph fork.head) }
     requires kept { IfSome kept.old (IsSetting table.now (length (L.Text.bytes text.now))) }
+    requires one { IsOneStack readings.old.graph fork.head.top }
     requires alone { readings.old.live.items ≡ [] }
     requires best { readings.old.best ≡ None }
     ensures made { L.made_for lexer.new table.now }
@@ -178,9 +191,9 @@ pub(crate) fn follow_fork<L: Tokens>(
     )? {
         Some(forked) => Ok(forked),
         None => {
-            begin_anew(alloc, readings, before);
+            begin_anew(alloc, readings, head.top, before);
             let forked = follow_long(
-                alloc, table, setting, lexer, text, readings, kept, head, found,
+                alloc, table, setting, lexer, text, readings, kept, head, found, spread,
             )?;
             Ok(forked)
         }

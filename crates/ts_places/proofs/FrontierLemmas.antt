@@ -8,10 +8,11 @@ use Rattle.std.proofs.lemmas.Option.{slice_get_within}
 use Rattle.spec_graph.specs.declared.graph.Head.{Head}
 use Rattle.ts_graph.specs.declared.view.GraphView.{GraphView}
 use Rattle.ts_graph.specs.Down.{KeepNumbers}
-use Rattle.ts_places.specs.Looking.{IsHeadAt, AllStandAt, HasAllAt, AreHeadsAt}
+use Rattle.ts_graph.proofs.ListLemmas.{Has, has_contained, contained_has}
+use Rattle.ts_places.specs.Looking.{IsHeadAt, AllStandAt, HasAllAt}
 use Rattle.ts_places.proofs.SmallLemmas.{none_contained, one_taken, read_at, item_in}
 use Rattle.ts_places.proofs.HeadLemmas.{one_head}
-use Rattle.ts_places.specs.Frontiers.{StandsFrom, AllStandFrom, AreOpen, AreThoseAt, AreThosePast, AddsPast, sooner, IsLeastPlace, IsNextOpen}
+use Rattle.ts_places.specs.Frontiers.{StandsFrom, AllStandFrom, AreOpen, IsAloneFrom, AreThoseAt, AreThosePast, AddsPast, sooner, IsLeastPlace, IsNextOpen}
 
 -- a head of this number is another's
 other_head : (g : GraphView) (h k : ℕ) (head other : Head) → h ≡ k → slice_get g.heads h ≡ Some head → slice_get g.heads k ≡ Some other → head ≡ other
@@ -83,18 +84,16 @@ module _ (g : GraphView) (from place : ℕ) (old : List ℕ) where
   )
 
 -- all heads of a graph: those at the place, and those past it
-module _ (g : GraphView) (place : ℕ) (here heads : List ℕ) (at : AreHeadsAt g 0 place here) (past : AddsPast g 0 place here heads) where
-  pub all_open : AreOpen g place heads
-  all_open h = ((λ w. forth ((past h).0 w)), (λ st. (past h).1 (back st (cases_order place st.0.place))))
-    where
-      forth : Contains here h ⊎ ((0 ≤ h) × StandsFrom g (suc place) h) → StandsFrom g place h
-      forth (inl w) = let st = ((at h).0 w).1 in (st.0, st.1, (let e = st.2 in omega (arith, e)))
-      forth (inr n) = let st = n.1 in (st.0, st.1, (let e = st.2 in omega (arith, e)))
-
-      back : (st : StandsFrom g place h) → (place ≡ st.0.place) ⊎ ((place < st.0.place) ⊎ (st.0.place < place)) → Contains here h ⊎ ((0 ≤ h) × StandsFrom g (suc place) h)
-      back st (inl e) = inl ((at h).1 (omega arith, (st.0, st.1, sym e)))
-      back st (inr (inl lt)) = inr (omega arith, (st.0, st.1, omega (arith, lt)))
-      back st (inr (inr lt)) = absurd (let p = st.2 in omega (arith, p, lt))
+-- where the head of the stack below stands alone there, it is all
+pub alone_open : (g : GraphView) (place : ℕ) (heads : List ℕ) → heads ≡ g.base ∷ [] → IsAloneFrom g place → AreOpen g place heads
+alone_open g place heads is alone h = (
+  λ there. subst (λ k. StandsFrom g place k) (one (has_contained (g.base ∷ []) h (subst (λ (hs : List ℕ). Contains hs h) is there))) alone.there,
+  λ st. subst (λ (hs : List ℕ). Contains hs h) (sym is) (contained_has (g.base ∷ []) h (inl (sym (alone.alone h st)))),
+)
+  where
+    one : Has (g.base ∷ []) h → g.base ≡ h
+    one (inl e) = e
+    one (inr none) = absurd none
 
 -- ---- those of the heads that stand somewhere
 

@@ -17,6 +17,11 @@ AllStandFrom g place heads = (h : ℕ) → Contains heads h → StandsFrom g pla
 abbrev pub AreOpen : GraphView → ℕ → List ℕ → Type 0
 AreOpen g place heads = (h : ℕ) → Contains heads h ↔ StandsFrom g place h
 
+-- the head of the stack over which the graph lies stands at the place or past it, and no other does
+pub record IsAloneFrom (g : GraphView) (place : ℕ) : Type 0 where
+  pub there : StandsFrom g place g.base
+  pub alone : (h : ℕ) → StandsFrom g place h → h ≡ g.base
+
 -- those of the heads that stand at the place are these
 abbrev pub AreThoseAt : GraphView → ℕ → List ℕ → List ℕ → Type 0
 AreThoseAt g place heads here = (h : ℕ) → Contains here h ↔ (Contains heads h × IsHeadAt g place h)

@@ -1,7 +1,7 @@
 //! Follows a graph of stacks over one place of a text: the graph and the heads that stand there or
 //! past it go in; the graph with all reductions, shifts and passed extras of the place comes out,
 //! with what was seen there and the next place at which a head stands.
-ghost use Rattle.std.specs.Prelude.{◌≡◌, ℕ, ◌≤◌, IfOk};
+ghost use Rattle.std.specs.Prelude.{◌≡◌, ℕ, ◌≤◌, IfOk, OnOk};
 ghost use Rattle.ts_reductions.specs.Again.{LedNone};
 ghost use Rattle.ts_reductions.specs.Sound.{Base as AnyBase, IsSoundBy, IsSoundOver};
 ghost use Rattle.ts_places.specs.Looking.{AllStandAt, HasAllAt};
@@ -33,37 +33,29 @@ pub enum Next {
     TooDeep,
 }
 
-/// What a place came to.
-#[derive(Drop)]
-pub struct Followed {
-    /// What the heads that stand there see.
-    pub sights: Sights,
-    pub next: Next,
-}
-
 /// What the heads of a place see, all of which these are.
 fn look_at<L: Tokens>(
-    alloc: Global,
     table: &Table,
     lexer: &mut L,
     text: &L::Text,
     graph: &Graph,
     heads: &[usize],
     room: &Room,
-) -> Result<Sights, AllocError>
+    sights: &mut Sights,
+) -> Result<(), AllocError>
     requires made { L.made_for lexer.old table.now }
     requires sound { IsSoundOver table.now (L.Text.bytes text.now) graph.now }
     requires stand { (look : ℕ) × AllStandAt graph.now look heads.now }
     requires none { LedNone room.now }
     ensures made { L.made_for lexer.new table.now }
-    ensures sights { IfOk result (λ sights. (base : AnyBase) (look : ℕ)
+    ensures sights { OnOk result ((base : AnyBase) (look : ℕ)
         → IsSoundBy table.now (L.Text.bytes text.now) base graph.now → base.place ≤ look
         → AllStandAt graph.now look heads.now → HasAllAt graph.now look heads.now
-        → AreAllSights table.now (L.Text.bytes text.now) base graph.now look sights) }
+        → AreAllSights table.now (L.Text.bytes text.now) base graph.now look sights.new) }
 {
-    let mut sights = Sights::new(alloc);
-    look_all(table, lexer, text, graph, heads, room, &mut sights)?;
-    Ok(sights)
+    sights.clear();
+    look_all(table, lexer, text, graph, heads, room, sights)?;
+    Ok(())
 }
 
 /// Does all reductions of a place, and then all shifts and passed extras.
@@ -130,16 +122,17 @@ pub fn follow_place<L: Tokens>(
     graph: &mut Graph,
     frontier: &mut Frontier,
     place: u32,
-) -> Result<Followed, AllocError>
+    sights: &mut Sights,
+) -> Result<Next, AllocError>
     requires made { L.made_for lexer.old table.now }
     requires ready { (base : AnyBase) × (most : ℕ) × CanFollow table.now
         (L.Text.bytes text.now) setting.now base most graph.old place frontier.old }
     ensures made { L.made_for lexer.new table.now }
-    ensures follows { IfOk result (λ followed. (base : AnyBase) (most : ℕ)
+    ensures follows { IfOk result (λ next. (base : AnyBase) (most : ℕ)
         → CanFollow table.now (L.Text.bytes text.now) setting.now base most graph.old place
         frontier.old
         → Follows table.now (L.Text.bytes text.now) base most graph.old graph.new place
-        frontier.old frontier.new followed.sights followed.next) }
+        frontier.old frontier.new sights.new next) }
 {
     place_laws_hold();
     let count = graph.count();
@@ -149,7 +142,7 @@ pub fn follow_place<L: Tokens>(
     frontier.kept.room.forget();
     let here = frontier.kept.heads.as_slice();
     let room = &frontier.kept.room;
-    let mut sights = look_at(alloc, table, lexer, text, graph, here, room)?;
+    look_at(table, lexer, text, graph, here, room, sights)?;
     match pass_place(
         alloc,
         table,
@@ -158,17 +151,14 @@ pub fn follow_place<L: Tokens>(
         text,
         graph,
         place,
-        &mut sights,
+        sights,
         frontier.past.as_slice(),
         &mut frontier.kept,
     )? {
         Reduced::Done => {
             let next = as_next(advance(graph, count, place, frontier)?);
-            Ok(Followed { sights, next })
+            Ok(next)
         }
-        Reduced::TooDeep => Ok(Followed {
-            sights,
-            next: Next::TooDeep,
-        }),
+        Reduced::TooDeep => Ok(Next::TooDeep),
     }
 }

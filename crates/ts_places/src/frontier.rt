@@ -1,12 +1,11 @@
 //! The heads that stand at a place or past it: a graph and a place go in, and the numbers of these
 //! heads come out.
-ghost use Rattle.std.specs.Prelude.{◌≡◌, suc, length, IfOk, OnOk};
+ghost use Rattle.std.specs.Prelude.{◌≡◌, ℕ, suc, length, IfOk, OnOk};
 ghost use Rattle.ts_graph.specs.declared.view.GraphView.{GraphView};
 ghost use Rattle.ts_graph.specs.Down.{KeepNumbers};
-ghost use Rattle.ts_places.specs.Frontiers.{AllStandFrom, AreOpen, AreThoseAt, AreThosePast, AddsPast, sooner, IsLeastPlace, IsNextOpen};
+ghost use Rattle.ts_places.specs.Frontiers.{AllStandFrom, AreOpen, IsAloneFrom, AreThoseAt, AreThosePast, AddsPast, sooner, IsLeastPlace, IsNextOpen};
 
 use crate::kept::Kept;
-use crate::looking::heads_at;
 use std::alloc::{AllocError, Global};
 use std::mem::swap;
 use ts_graph::Graph;
@@ -38,22 +37,30 @@ fn add_past(
     Ok(())
 }
 
-/// The heads of a graph that stand at a place or past it. It passes all heads.
-///
-/// # Errors
-///
-/// `AllocError` where memory runs out.
-pub fn frontier_at(alloc: Global, graph: &Graph, place: u32) -> Result<Frontier, AllocError>
-    ensures { IfOk result (λ frontier. AreOpen graph.now place frontier.heads.items) }
-{
-    let mut heads = Vec::new(alloc);
-    heads_at(graph, 0, place, &mut heads)?;
-    add_past(graph, 0, place, &mut heads)?;
-    Ok(Frontier {
-        heads,
-        past: Vec::new(alloc),
-        kept: Kept::new(alloc),
-    })
+impl Frontier {
+    /// No heads. It takes no memory.
+    pub fn new(alloc: Global) -> Frontier {
+        Frontier {
+            heads: Vec::new(alloc),
+            past: Vec::new(alloc),
+            kept: Kept::new(alloc),
+        }
+    }
+
+    /// Takes the head of the stack over which a graph lies, which alone stands at a place or past
+    /// it.
+    ///
+    /// # Errors
+    ///
+    /// `AllocError` where memory runs out.
+    pub fn begin(&mut self, graph: &Graph) -> Result<(), AllocError>
+        ensures { OnOk result ((place : ℕ) → IsAloneFrom graph.now place
+            → AreOpen graph.now place self.new.heads.items) }
+    {
+        self.heads.clear();
+        self.heads.push(graph.base())?;
+        Ok(())
+    }
 }
 
 /// Puts those of the heads that stand at a place into a list in the place of others.

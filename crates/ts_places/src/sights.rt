@@ -27,6 +27,16 @@ pub struct Sights {
 }
 
 impl Sights {
+    /// Takes out all that was seen. The memory stays.
+    pub fn clear(&mut self)
+        ensures { (t : ParseTable) (text : Bytes) (g : GraphView) (look : ℕ)
+            → AreSights t text g look [] self.new }
+    {
+        self.tops.clear();
+        self.spans.clear();
+        self.stop = None;
+    }
+
     /// What no head sees. It takes no memory.
     pub fn new(alloc: Global) -> Sights
         ensures { (t : ParseTable) (text : Bytes) (g : GraphView) (look : ℕ)

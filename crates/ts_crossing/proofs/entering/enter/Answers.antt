@@ -1,49 +1,42 @@
-use Rattle.std.proofs.Common.{sym, subst, ℕ, List, []}
-use Rattle.ts_gss.specs.Stacks.{stack_at}
-use Rattle.ts_crossing.specs.Entering.{AreDownTo}
+use Rattle.std.proofs.Common.{◌∙◌, sym, ap, subst, refl, List}
+use Rattle.spec_trees.specs.Trees.{all_spans}
+use Rattle.ts_gss.specs.declared.layer.Layer.{Layer}
+use Rattle.ts_gss.specs.Stacks.{trees_on}
+use Rattle.ts_gss.proofs.OneLemmas.{one_cut}
+use Rattle.ts_graph.specs.declared.view.GraphView.{GraphView}
+use Rattle.ts_graph.specs.Under.{HaveBytes, graph_over}
+use Rattle.ts_crossing.specs.Entering.{IsEntered}
 use Rattle.ts_crossing.proofs.StandLemmas.{place_is, low_bytes}
-use Rattle.ts_crossing.proofs.EnterLemmas.{opened_heads, opened_links, first_laid, entry, entry_ground, can_stacks, entered}
+use Rattle.ts_crossing.proofs.EnterLemmas.{entered_over}
 use Rattle.ts_crossing.proofs.entering.enter.Goals as goal
 
 pub under_extras-under-requires-clause-there : goal.under_extras-under-requires-clause-there
-under_extras-under-requires-clause-there c = c.requires.2.live.there
+under_extras-under-requires-clause-there c = c.requires.can.2.live.there
 
 pub under_extras-under-requires-clause-spans : goal.under_extras-under-requires-clause-spans
-under_extras-under-requires-clause-spans c = c.requires.2.live.stack.spans
+under_extras-under-requires-clause-spans c = c.requires.can.2.live.stack.spans
 
-pub stacks_down-requires-clause-there : goal.stacks_down-requires-clause-there
-stacks_down-requires-clause-there c = c.under_extras-under.ensures.there
+pub cut-requires : goal.cut-requires
+cut-requires c = c.under_extras-under.ensures.under.there
 
-pub stacks_down-requires-clause-spans : goal.stacks_down-requires-clause-spans
-stacks_down-requires-clause-spans c =
-    let r = c.requires in
-    sym (place_is c.enter_laws_hold.ensures r.0 r.1 c.args.stacks.now c.args.head r.2 c.under_extras-under.result c.under_extras-under.ensures)
+pub lie_over-requires-clause-one : goal.lie_over-requires-clause-one
+lie_over-requires-clause-one c =
+    one_cut c.args.stacks c.args.stacks c.cut.new.self c.args.head.top c.under_extras-under.result.top c.requires.one.lie c.under_extras-under.ensures.low c.under_extras-under.ensures.under.there (λ k low. refl) c.cut.ensures.cut
 
-pub stacks_down-requires-clause-bytes : goal.stacks_down-requires-clause-bytes
-stacks_down-requires-clause-bytes c =
-    let r = c.requires in
-    low_bytes c.enter_laws_hold.ensures r.0 r.1 c.args.stacks.now c.args.head r.2 c.under_extras-under.result c.under_extras-under.ensures
+pub lie_over-requires-clause-spans : goal.lie_over-requires-clause-spans
+lie_over-requires-clause-spans c =
+    let r = c.requires.can in
+    ap (λ (ls : List Layer). all_spans (trees_on ls)) c.cut.ensures.stack
+    ∙ sym (place_is c.enter_laws_hold.ensures r.0 r.1 c.args.stacks c.args.head r.2 c.under_extras-under.result c.under_extras-under.ensures.under)
 
-pub lay_stacks-requires : goal.lay_stacks-requires
-lay_stacks-requires c =
-    let r = c.requires in
-    let laws = c.enter_laws_hold.ensures in (
-      r.0,
-      r.1,
-      entry laws r.0 r.1 c.args.stacks.now c.args.head r.2 c.under_extras-under.result c.under_extras-under.ensures,
-      stack_at c.args.stacks.now c.under_extras-under.result.top,
-      can_stacks laws r.0 r.1 c.args.stacks.now c.args.head r.2 c.under_extras-under.result c.under_extras-under.ensures c.as_slice.result.now c.open.new.self c.in_ok-bottom.bottom
-          (subst (λ (ks : List ℕ). AreDownTo c.args.stacks.now (stack_at c.args.stacks.now c.under_extras-under.result.top) ks []) (sym c.as_slice.ensures.value) c.in_ok-numbers.ensures)
-          (first_laid laws r.0 r.1 (entry laws r.0 r.1 c.args.stacks.now c.args.head r.2 c.under_extras-under.result c.under_extras-under.ensures) (entry_ground laws r.0 r.1 c.args.stacks.now c.args.head r.2 c.under_extras-under.result c.under_extras-under.ensures) r.2.table r.2.short c.open.new.self c.in_ok-bottom.bottom (opened_heads c.in_ok-graph.graph c.open.new.self c.in_ok-bottom.bottom c.in_ok-graph.ensures c.in_ok-bottom.ensures.opened)
-          (opened_links c.in_ok-graph.graph c.open.new.self c.in_ok-graph.ensures c.in_ok-bottom.ensures.links) c.in_ok-bottom.ensures.opened.at),
-    )
+pub lie_over-requires-clause-bytes : goal.lie_over-requires-clause-bytes
+lie_over-requires-clause-bytes c =
+    let r = c.requires.can in
+    subst (λ (ls : List Layer). HaveBytes (trees_on ls)) (sym c.cut.ensures.stack)
+    (low_bytes c.enter_laws_hold.ensures r.0 r.1 c.args.stacks c.args.head r.2 c.under_extras-under.result c.under_extras-under.ensures.under)
 
 pub returns : goal.returns
 returns c = λ t text can.
-    let laws = c.enter_laws_hold.ensures in
-    entered laws t text c.args.stacks.now c.args.head can c.under_extras-under.result c.under_extras-under.ensures c.lay_stacks.new.graph
-    (c.in_ok-lay_stacks.ensures t text (entry laws t text c.args.stacks.now c.args.head can c.under_extras-under.result c.under_extras-under.ensures) (stack_at c.args.stacks.now c.under_extras-under.result.top)
-    (can_stacks laws t text c.args.stacks.now c.args.head can c.under_extras-under.result c.under_extras-under.ensures c.as_slice.result.now c.open.new.self c.in_ok-bottom.bottom
-    (subst (λ (ks : List ℕ). AreDownTo c.args.stacks.now (stack_at c.args.stacks.now c.under_extras-under.result.top) ks []) (sym c.as_slice.ensures.value) c.in_ok-numbers.ensures)
-    (first_laid laws t text (entry laws t text c.args.stacks.now c.args.head can c.under_extras-under.result c.under_extras-under.ensures) (entry_ground laws t text c.args.stacks.now c.args.head can c.under_extras-under.result c.under_extras-under.ensures) can.table can.short c.open.new.self c.in_ok-bottom.bottom (opened_heads c.in_ok-graph.graph c.open.new.self c.in_ok-bottom.bottom c.in_ok-graph.ensures c.in_ok-bottom.ensures.opened)
-    (opened_links c.in_ok-graph.graph c.open.new.self c.in_ok-graph.ensures c.in_ok-bottom.ensures.links) c.in_ok-bottom.ensures.opened.at)))
+    subst (λ (g : GraphView). IsEntered t text c.args.stacks c.args.head g c.under_extras-under.result.place)
+    (sym (c.lie_over.ensures ∙ ap (λ (ls : List Layer). graph_over ls) c.cut.ensures.stack))
+    (entered_over c.enter_laws_hold.ensures t text c.args.stacks c.args.head can c.under_extras-under.result c.under_extras-under.ensures.under c.laying_laws_hold.ensures c.requires.exact)

@@ -1,6 +1,7 @@
 use Rattle.std.proofs.Common.{◌∙◌, sym, ◌+◌, ◌-◌, arith}
 use Rattle.ts_gss.specs.Stacks.{stack_at}
-use Rattle.ts_crossing.proofs.WalkLemmas.{sum_fits, top_fits, some_extra, pass_first, pass_more, pass_last}
+use Rattle.ts_graph.proofs.SpanLemmas.{sum_fits, top_fits}
+use Rattle.ts_crossing.proofs.WalkLemmas.{some_extra, pass_first, pass_more, pass_last}
 use Rattle.ts_crossing.proofs.entering.under_extras.Goals as goal
 
 pub loop-node-init : goal.loop-node-init
@@ -37,5 +38,8 @@ loop-node-preserved c =
     pass_more c.args.stacks.now c.args.head c.loop-node.top c.loop-node.place c.below-top.result (c.loop-node.place - (c.pad.result + c.size.result)) c.node-node.result.now c.loop-node.invariant
     (sym c.extra.ensures ∙ c.loop-node-test.true) c.node-node.ensures c.below-top.ensures.stack c.below-top.ensures.lower (omega (arith, fits, c.pad.ensures, c.size.ensures))
 
-pub returns : goal.returns
-returns c = pass_last c.args.stacks.now c.args.head c.loop-node.top c.loop-node.place c.loop-node.invariant (sym c.extra.ensures ∙ c.loop-node-test.false)
+pub returns-clause-under : goal.returns-clause-under
+returns-clause-under c = pass_last c.args.stacks.now c.args.head c.loop-node.top c.loop-node.place c.loop-node.invariant (sym c.extra.ensures ∙ c.loop-node-test.false)
+
+pub returns-clause-low : goal.returns-clause-low
+returns-clause-low c = c.loop-node.invariant.low

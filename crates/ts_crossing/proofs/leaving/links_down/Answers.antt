@@ -1,7 +1,7 @@
 use Rattle.std.proofs.Common.{◌∙◌, sym, ap, subst, ℕ, List, [], ◌∷◌, ◌++◌, arith}
 use Rattle.std.proofs.lemmas.Option.{slice_get_within}
 use Rattle.ts_crossing.specs.Leaving.{StartsWith}
-use Rattle.ts_crossing.proofs.WayLemmas.{starts_first, starts_more, starts_all, starts_none, below_low, below_falls}
+use Rattle.ts_crossing.proofs.WayLemmas.{not_start, starts_first, starts_more, starts_all, starts_none, below_low, below_falls}
 use Rattle.ts_crossing.proofs.leaving.links_down.Goals as goal
 
 pub link-at-requires : goal.link-at-requires
@@ -13,8 +13,8 @@ loop-at-init c =
     let r = c.requires.sound in
     record {
       there = below_low c.args.graph.now.heads c.args.graph.now.links c.count.ensures.once c.args.last d.link d.at c.link-at.result.below (c.link-at.ensures.below d.link d.at);
-      starts = subst (λ (ks : List ℕ). StartsWith c.args.graph.now.links c.args.head c.args.last ks c.link-at.result.below) (sym (c.in_ok-push.ensures.items ∙ ap (λ (ks : List ℕ). ks ++ c.args.last ∷ []) c.new-numbers.ensures.items))
-          (starts_first c.leave_laws_hold.ensures.keeps c.args.graph.now r.0 r.1 c.args.head c.args.last c.link-at.result.below c.requires.some c.requires.last (sym (c.link-at.ensures.below d.link d.at)));
+      starts = subst (λ (ks : List ℕ). StartsWith c.args.graph.now.links c.args.head c.args.last ks c.link-at.result.below) (sym (c.in_ok-push.ensures.items ∙ ap (λ (ks : List ℕ). ks ++ c.args.last ∷ []) c.clear.ensures.items))
+          (starts_first c.leave_laws_hold.ensures.keeps c.args.graph.now r.0 r.1 c.args.head c.args.last c.link-at.result.below (not_start c.leave_laws_hold.ensures.keeps c.args.graph.now r.0 r.1 c.args.head c.args.last d) c.requires.last (sym (c.link-at.ensures.below d.link d.at)));
     }
 
 pub only_down-requires : goal.only_down-requires
@@ -49,4 +49,4 @@ pub returns : goal.returns
 returns c =
     let r = c.requires.sound in
     let none = c.loop-at-test.false in
-    starts_all c.leave_laws_hold.ensures.keeps c.args.graph.now r.0 r.1 c.args.head c.args.last c.loop-at.at c.loop-at.numbers.items c.loop-at.invariant.starts (omega (arith, none))
+    starts_all c.leave_laws_hold.ensures.keeps c.args.graph.now r.0 r.1 c.base-base.ensures.lies c.args.head c.args.last c.loop-at.at c.loop-at.numbers.items c.loop-at.invariant.starts (let b = c.base-base.ensures.is in omega (arith, none, b))

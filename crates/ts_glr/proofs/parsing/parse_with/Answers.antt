@@ -67,6 +67,11 @@ follow_fork-requires-clause-sees g c =
     let text = g.L.Text.Content.bytes c.args.text.now in
     (at_fork (λ k. IsForkFrom c.args.table.now text c.loop-kept.readings.graph c.reparse.new.graph c.loop-kept.head k) c.in_ok-root.field-0 c.in-Forks.fork c.in-Forks.is c.in_ok-root.ensures.forks).sees
 
+pub follow_fork-requires-clause-one : goal.follow_fork-requires-clause-one
+follow_fork-requires-clause-one g c =
+    let text = g.L.Text.Content.bytes c.args.text.now in
+    (at_fork (λ k. IsForkFrom c.args.table.now text c.loop-kept.readings.graph c.reparse.new.graph c.loop-kept.head k) c.in_ok-root.field-0 c.in-Forks.fork c.in-Forks.is c.in_ok-root.ensures.forks).one c.loop-kept.invariant.one
+
 pub follow_fork-requires-clause-kept : goal.follow_fork-requires-clause-kept
 follow_fork-requires-clause-kept g c = c.loop-kept.invariant.kept
 

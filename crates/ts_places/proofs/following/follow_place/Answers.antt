@@ -33,19 +33,19 @@ look_at-requires-clause-none g c = c.forget.ensures
 pub pass_place-requires-clause-ready : goal.pass_place-requires-clause-ready
 pass_place-requires-clause-ready g c =
     let r = c.requires.ready in
-    (r.0, r.1, can_pass c.args.table.now (g.L.Text.Content.bytes c.args.text.now) c.args.setting.now r.0 r.1 c.args.graph.now c.args.place c.args.frontier.now r.2 c.as_slice-waiting.result.now c.as_slice-waiting.ensures.value c.those_at.new.here.items c.in_ok-those_at.ensures c.as_slice-here.result.now c.as_slice-here.ensures.value c.in_ok-sights.sights (c.in_ok-sights.ensures.sights r.0 c.args.place))
+    (r.0, r.1, can_pass c.args.table.now (g.L.Text.Content.bytes c.args.text.now) c.args.setting.now r.0 r.1 c.args.graph.now c.args.place c.args.frontier.now r.2 c.as_slice-waiting.result.now c.as_slice-waiting.ensures.value c.those_at.new.here.items c.in_ok-those_at.ensures c.as_slice-here.result.now c.as_slice-here.ensures.value c.look_at.new.sights (c.in_ok-look_at.ensures.sights r.0 c.args.place))
 
 pub advance-requires : goal.advance-requires
 advance-requires g c =
     let r = c.requires.ready in
     let p = passed_by c.args.table.now (g.L.Text.Content.bytes c.args.text.now) r.0 r.1 c.args.graph.now c.pass_place.new.graph c.args.place c.pass_place.new.sights c.in_ok-pass_place.field-0 c.in-Done.is
-    (c.in_ok-pass_place.ensures.passes r.0 r.1 (can_pass c.args.table.now (g.L.Text.Content.bytes c.args.text.now) c.args.setting.now r.0 r.1 c.args.graph.now c.args.place c.args.frontier.now r.2 c.as_slice-waiting.result.now c.as_slice-waiting.ensures.value c.those_at.new.here.items c.in_ok-those_at.ensures c.as_slice-here.result.now c.as_slice-here.ensures.value c.in_ok-sights.sights (c.in_ok-sights.ensures.sights r.0 c.args.place))) in
+    (c.in_ok-pass_place.ensures.passes r.0 r.1 (can_pass c.args.table.now (g.L.Text.Content.bytes c.args.text.now) c.args.setting.now r.0 r.1 c.args.graph.now c.args.place c.args.frontier.now r.2 c.as_slice-waiting.result.now c.as_slice-waiting.ensures.value c.those_at.new.here.items c.in_ok-those_at.ensures c.as_slice-here.result.now c.as_slice-here.ensures.value c.look_at.new.sights (c.in_ok-look_at.ensures.sights r.0 c.args.place))) in
     (c.args.graph.now, c.count-count.ensures.count, p.followed.grows.stay, past_open c.args.graph.now c.args.place c.args.frontier.now.heads.items c.as_slice-waiting.result.now c.as_slice-waiting.ensures.value r.2.are_open c.those_past.new.past.items c.in_ok-those_past.ensures)
 
 pub returns-in_ok-advance-in-Done-clause-follows : goal.returns-in_ok-advance-in-Done-clause-follows
 returns-in_ok-advance-in-Done-clause-follows g c = λ base most can.
     let p = passed_by c.args.table.now (g.L.Text.Content.bytes c.args.text.now) base most c.args.graph.now c.pass_place.new.graph c.args.place c.pass_place.new.sights c.in_ok-pass_place.field-0 c.in-Done.is
-    (c.in_ok-pass_place.ensures.passes base most (can_pass c.args.table.now (g.L.Text.Content.bytes c.args.text.now) c.args.setting.now base most c.args.graph.now c.args.place c.args.frontier.now can c.as_slice-waiting.result.now c.as_slice-waiting.ensures.value c.those_at.new.here.items c.in_ok-those_at.ensures c.as_slice-here.result.now c.as_slice-here.ensures.value c.in_ok-sights.sights (c.in_ok-sights.ensures.sights base c.args.place))) in
+    (c.in_ok-pass_place.ensures.passes base most (can_pass c.args.table.now (g.L.Text.Content.bytes c.args.text.now) c.args.setting.now base most c.args.graph.now c.args.place c.args.frontier.now can c.as_slice-waiting.result.now c.as_slice-waiting.ensures.value c.those_at.new.here.items c.in_ok-those_at.ensures c.as_slice-here.result.now c.as_slice-here.ensures.value c.look_at.new.sights (c.in_ok-look_at.ensures.sights base c.args.place))) in
     subst (λ (n : Next). Follows c.args.table.now (g.L.Text.Content.bytes c.args.text.now) base most c.args.graph.now c.pass_place.new.graph c.args.place c.args.frontier.now c.advance.new.frontier c.pass_place.new.sights n) (sym c.as_next-next.ensures)
     (follows_next c.place_laws_hold.ensures c.args.table.now (g.L.Text.Content.bytes c.args.text.now) base most c.args.graph.now c.pass_place.new.graph c.args.place c.pass_place.new.sights p c.args.frontier.now c.advance.new.frontier c.in_ok-advance-in-Done.field-0
     (c.in_ok-advance-in-Done.ensures c.args.graph.now c.count-count.ensures.count p.followed.grows.stay (past_open c.args.graph.now c.args.place c.args.frontier.now.heads.items c.as_slice-waiting.result.now c.as_slice-waiting.ensures.value can.are_open c.those_past.new.past.items c.in_ok-those_past.ensures)))
@@ -53,4 +53,4 @@ returns-in_ok-advance-in-Done-clause-follows g c = λ base most can.
 pub returns-in-TooDeep-clause-follows : goal.returns-in-TooDeep-clause-follows
 returns-in-TooDeep-clause-follows g c = λ base most can.
     deep_passed c.args.table.now (g.L.Text.Content.bytes c.args.text.now) base most c.args.graph.now c.pass_place.new.graph c.args.place c.pass_place.new.sights c.in_ok-pass_place.field-0 c.in-TooDeep.is
-    (c.in_ok-pass_place.ensures.passes base most (can_pass c.args.table.now (g.L.Text.Content.bytes c.args.text.now) c.args.setting.now base most c.args.graph.now c.args.place c.args.frontier.now can c.as_slice-waiting.result.now c.as_slice-waiting.ensures.value c.those_at.new.here.items c.in_ok-those_at.ensures c.as_slice-here.result.now c.as_slice-here.ensures.value c.in_ok-sights.sights (c.in_ok-sights.ensures.sights base c.args.place)))
+    (c.in_ok-pass_place.ensures.passes base most (can_pass c.args.table.now (g.L.Text.Content.bytes c.args.text.now) c.args.setting.now base most c.args.graph.now c.args.place c.args.frontier.now can c.as_slice-waiting.result.now c.as_slice-waiting.ensures.value c.those_at.new.here.items c.in_ok-those_at.ensures c.as_slice-here.result.now c.as_slice-here.ensures.value c.look_at.new.sights (c.in_ok-look_at.ensures.sights base c.args.place)))

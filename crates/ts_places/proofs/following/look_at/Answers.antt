@@ -10,6 +10,6 @@ returns-clause-sights g c = λ base look sound late stand has. record {
   sound = sound;
   late = late;
   heads = c.args.heads.now;
-  sights = c.in_ok-look_all.ensures.sights look [] stand (c.new-sights.ensures c.args.table.now (g.L.Text.Content.bytes c.args.text.now) c.args.graph.now look) (led_none c.args.table.now (g.L.Text.Content.bytes c.args.text.now) c.args.graph.now _ c.args.room.now c.requires.none);
+  sights = c.in_ok-look_all.ensures.sights look [] stand (c.clear.ensures c.args.table.now (g.L.Text.Content.bytes c.args.text.now) c.args.graph.now look) (led_none c.args.table.now (g.L.Text.Content.bytes c.args.text.now) c.args.graph.now _ c.args.room.now c.requires.none);
   all = has;
 }
