@@ -19,11 +19,11 @@ use Rattle.ts_graph.specs.Under.{LiesUnder, LiesOver, head_over, row_with, rows_
 use Rattle.ts_graph.proofs.ListLemmas.{at_mapped}
 use Rattle.ts_graph.proofs.HeadLemmas.{newest_pushed, row_head, row_newest}
 use Rattle.ts_graph.proofs.KeptLemmas.{cell_bound, all_plain, past_all}
-use Rattle.ts_graph.proofs.UnderLemmas.{set_suffix, rows_many, rows_base, cells_base, deep, row_at, cell_at, low_cell, lies_over}
+use Rattle.ts_graph.proofs.UnderLemmas.{no_more, one_more_sum, set_suffix, rows_many, rows_base, cells_base, deep, row_at, cell_at, low_cell, lies_over}
 
 get_suffix : {X : Type 0} (xs ys : List X) (i : ℕ) (d : X) → get_or (xs ++ ys) (length xs + i) d ≡ get_or ys i d
-get_suffix [] ys i d = refl
-get_suffix (x ∷ xs) ys i d = get_suffix xs ys i d
+get_suffix [] ys i d = ap (λ (n : ℕ). get_or ys n d) (no_more i)
+get_suffix (x ∷ xs) ys i d = ap (λ (n : ℕ). get_or (x ∷ (xs ++ ys)) n d) (one_more_sum (length xs) i) ∙ get_suffix xs ys i d
 
 -- the number before one, if there is one
 before : ℕ → Option ℕ
@@ -35,16 +35,17 @@ newest_by : (ls : List Layer) (h : ℕ) → h ≤ length ls → slice_get (newes
 newest_by [] zero low = refl
 newest_by [] (suc h) low = absurd (omega (arith, low))
 newest_by (l ∷ ls) h low =
-    ap (λ (ns : List (Option ℕ)). slice_get ns h) (newest_pushed (rows_on ls) (row_with (head_over (l ∷ ls)) (Some (length ls)))) ∙ by (nat_lt h (suc (length ls))) refl
+    ap (λ (ns : List (Option ℕ)). slice_get ns h) (newest_pushed (rows_on ls) (row_with (head_over (l ∷ ls)) (Some (length ls)))) ∙ by (λ less. newest_by ls h less) (nat_lt h (suc (length ls))) refl
   where
     many : length (newest_of (rows_on ls)) ≡ suc (length ls)
     many = length-map (rows_on ls) (λ (r : Row). r.newest) ∙ rows_many ls
 
-    by : (b : Bool) → nat_lt h (suc (length ls)) ≡ b → slice_get (newest_of (rows_on ls) ++ Some (length ls) ∷ []) h ≡ Some (before h)
-    by true e =
+    by : (h ≤ length ls → slice_get (newest_of (rows_on ls)) h ≡ Some (before h)) → (b : Bool) → nat_lt h (suc (length ls)) ≡ b
+        → slice_get (newest_of (rows_on ls) ++ Some (length ls) ∷ []) h ≡ Some (before h)
+    by below true e =
         let less = ltb-true h (suc (length ls)) e in
-        in_prefix (newest_of (rows_on ls)) (Some (length ls) ∷ []) h (let m = many in omega (arith, m, less)) ∙ newest_by ls h (omega (arith, less))
-    by false e =
+        in_prefix (newest_of (rows_on ls)) (Some (length ls) ∷ []) h (let m = many in omega (arith, m, less)) ∙ below (omega (arith, less))
+    by below false e =
         let past = ltb-false h (suc (length ls)) e in
         let last : h ≡ suc (length ls) = omega (arith, past, low) in
         ap (λ (n : ℕ). slice_get (newest_of (rows_on ls) ++ Some (length ls) ∷ []) n) (last ∙ sym many)
@@ -229,7 +230,7 @@ module _ (stacks : List (List Layer)) (base place : ℕ) (cells : List Cell) (un
     pub low_base : (k : ℕ) → k < g.base → k < base
     low_base k low = let b = base_is in omega (arith, b, low)
 
-    pub low_is : (k : ℕ) → k < g.base → (l : Link) → slice_get g.links k ≡ Some l → l ≡ link_of (cell_over (low_link k (low_base k low)).0 k)
+    pub low_is : (k : ℕ) (low : k < g.base) (l : Link) → slice_get g.links k ≡ Some l → l ≡ link_of (cell_over (low_link k (low_base k low)).0 k)
     low_is k low l at =
         let w = low_link k (low_base k low) in
         let both : Some l ≡ Some (link_of (cell_over w.0 k)) = sym at ∙ w.3 in
@@ -239,7 +240,7 @@ module _ (stacks : List (List Layer)) (base place : ℕ) (cells : List Cell) (un
     low_there k low = let b = low_base k low in let n = under.one.count in omega (arith, b, n)
 
     -- the stack of a number above another is not empty
-    low_top : (k : ℕ) → k < g.base → (m : Layer) × (stack_at stacks (k + 1) ≡ m ∷ stack_at stacks k) × (m ≡ (low_link k (low_base k low)).0)
+    low_top : (k : ℕ) (low : k < g.base) → (m : Layer) × (stack_at stacks (k + 1) ≡ m ∷ stack_at stacks k) × (m ≡ (low_link k (low_base k low)).0)
     low_top k low =
         let w = low_link k (low_base k low) in
         (w.0, subst (λ (n : ℕ). stack_at stacks n ≡ w.0 ∷ stack_at stacks k) (let e : suc k ≡ k + 1 = omega arith in e) w.1, refl)

@@ -67,11 +67,11 @@ head_last (l ∷ layers) =
 -- none of its cells tells a place past the start
 pub cells_zero : (layers : List Layer) (k : ℕ) (c : Cell) → slice_get (cells_on layers) k ≡ Some c → c.lowest ≡ 0
 cells_zero [] k c at = absurd (let w = slice_get_within [] k c at in omega (arith, w))
-cells_zero (l ∷ layers) k c at = by (push_cases (cells_on layers) (cell_over l (length layers)) k c at)
+cells_zero (l ∷ layers) k c at = by (λ there. cells_zero layers k c there) (push_cases (cells_on layers) (cell_over l (length layers)) k c at)
   where
-    by : ((k < length (cells_on layers)) × (slice_get (cells_on layers) k ≡ Some c)) ⊎ ((k ≡ length (cells_on layers)) × (cell_over l (length layers) ≡ c)) → c.lowest ≡ 0
-    by (inl w) = cells_zero layers k c w.1
-    by (inr w) = sym (ap (λ (x : Cell). x.lowest) w.1)
+    by : (slice_get (cells_on layers) k ≡ Some c → c.lowest ≡ 0) → ((k < length (cells_on layers)) × (slice_get (cells_on layers) k ≡ Some c)) ⊎ ((k ≡ length (cells_on layers)) × (cell_over l (length layers) ≡ c)) → c.lowest ≡ 0
+    by below (inl w) = below w.1
+    by below (inr w) = sym (ap (λ (x : Cell). x.lowest) w.1)
 
 -- ---- they are sound by themselves
 
@@ -200,7 +200,7 @@ module _ (stacks : List (List Layer)) (top : ℕ) (lie : LieInOne stacks top) wh
   head_by zero within zero low =
       subst (λ (ls : List Layer). slice_get (heads_on ls) 0 ≡ Some (head_over ls)) (sym lie.lowest) refl
   head_by zero within (suc k) low = absurd (omega (arith, low))
-  head_by (suc high) within k low = by (at_or_below k high low)
+  head_by (suc high) within k low = by (λ less. head_by high (omega (arith, within)) k less) (at_or_below k high low)
     where
       w : (l : Layer) × (stack_at stacks (suc high) ≡ l ∷ stack_at stacks high)
       w = lie.each high (omega (arith, within))
@@ -208,16 +208,17 @@ module _ (stacks : List (List Layer)) (top : ℕ) (lie : LieInOne stacks top) wh
       many : length (heads_on (stack_at stacks high)) ≡ suc high
       many = heads_many (stack_at stacks high) ∙ ap (λ (n : ℕ). suc n) (stack_long stacks top lie high (omega (arith, within)))
 
-      by : (k ≡ suc high) ⊎ (k ≤ high) → slice_get (heads_on (stack_at stacks (suc high))) k ≡ Some (head_over (stack_at stacks k))
-      by (inl is) =
+      by : (k ≤ high → slice_get (heads_on (stack_at stacks high)) k ≡ Some (head_over (stack_at stacks k))) → (k ≡ suc high) ⊎ (k ≤ high)
+          → slice_get (heads_on (stack_at stacks (suc high))) k ≡ Some (head_over (stack_at stacks k))
+      by below (inl is) =
           subst (λ (m : ℕ). slice_get (heads_on (stack_at stacks (suc high))) m ≡ Some (head_over (stack_at stacks m))) (sym is)
           (subst (λ (ls : List Layer). slice_get (heads_on ls) (suc high) ≡ Some (head_over ls)) (sym w.1)
           (subst (λ (m : ℕ). slice_get (heads_on (w.0 ∷ stack_at stacks high)) m ≡ Some (head_over (w.0 ∷ stack_at stacks high))) many
           (last_at (heads_on (stack_at stacks high)) (head_over (w.0 ∷ stack_at stacks high)))))
-      by (inr less) =
+      by below (inr less) =
           ap (λ (ls : List Layer). slice_get (heads_on ls) k) w.1
           ∙ in_prefix (heads_on (stack_at stacks high)) (head_over (w.0 ∷ stack_at stacks high) ∷ []) k (let m = many in omega (arith, m, less))
-          ∙ head_by high (omega (arith, within)) k less
+          ∙ below less
 
   pub stack_head : (k : ℕ) → k ≤ top → slice_get (heads_on (stack_at stacks top)) k ≡ Some (head_over (stack_at stacks k))
   stack_head k low = head_by top (omega arith) k low
@@ -225,7 +226,7 @@ module _ (stacks : List (List Layer)) (top : ℕ) (lie : LieInOne stacks top) wh
   -- and a cell of it is that of the top of one
   cell_by : (high : ℕ) → high ≤ top → (k : ℕ) (l : Layer) → k < high → stack_at stacks (suc k) ≡ l ∷ stack_at stacks k → slice_get (cells_on (stack_at stacks high)) k ≡ Some (cell_over l k)
   cell_by zero within k l low is = absurd (omega (arith, low))
-  cell_by (suc high) within k l low is = by (at_or_below (suc k) high low)
+  cell_by (suc high) within k l low is = by (λ less. cell_by high (omega (arith, within)) k l less is) (at_or_below (suc k) high (omega (arith, low)))
     where
       w : (m : Layer) × (stack_at stacks (suc high) ≡ m ∷ stack_at stacks high)
       w = lie.each high (omega (arith, within))
@@ -243,17 +244,18 @@ module _ (stacks : List (List Layer)) (top : ℕ) (lie : LieInOne stacks top) wh
           let f : l ≡ w.0 = cc in
           ap (λ (x : Layer). cell_over x (length (stack_at stacks high))) (sym f) ∙ ap (λ (m : ℕ). cell_over l m) (deep ∙ sym same)
 
-      by : (suc k ≡ suc high) ⊎ (suc k ≤ high) → slice_get (cells_on (stack_at stacks (suc high))) k ≡ Some (cell_over l k)
-      by (inl e) =
+      by : (k < high → slice_get (cells_on (stack_at stacks high)) k ≡ Some (cell_over l k)) → (suc k ≡ suc high) ⊎ (suc k ≤ high)
+          → slice_get (cells_on (stack_at stacks (suc high))) k ≡ Some (cell_over l k)
+      by below (inl e) =
           let same : k ≡ high = omega (arith, e) in
           ap (λ (ls : List Layer). slice_get (cells_on ls) k) w.1
           ∙ ap (λ (m : ℕ). slice_get (cells_on (stack_at stacks high) ++ cell_over w.0 (length (stack_at stacks high)) ∷ []) m) (same ∙ sym many)
           ∙ at_end (cells_on (stack_at stacks high)) (cell_over w.0 (length (stack_at stacks high)))
           ∙ ap (λ (c : Cell). Some c) (last_is same)
-      by (inr less) =
+      by below (inr less) =
           ap (λ (ls : List Layer). slice_get (cells_on ls) k) w.1
           ∙ in_prefix (cells_on (stack_at stacks high)) (cell_over w.0 (length (stack_at stacks high)) ∷ []) k (let m = many in omega (arith, m, less))
-          ∙ cell_by high (omega (arith, within)) k l less is
+          ∙ below (omega (arith, less))
 
   pub stack_cell : (k : ℕ) (l : Layer) → k < top → stack_at stacks (suc k) ≡ l ∷ stack_at stacks k → slice_get (cells_on (stack_at stacks top)) k ≡ Some (cell_over l k)
   stack_cell k l low is = cell_by top (omega arith) k l low is
@@ -270,25 +272,35 @@ one_some stacks top one (suc k) some low = let w = one.lie.each k (omega (arith,
 
 pub one_below : (stacks : List (List Layer)) (top : ℕ) → IsOneStack stacks top → (at : ℕ) → 0 < at → at ≤ top → stack_at stacks (at - 1) ≡ under_top (stack_at stacks at)
 one_below stacks top one zero some low = absurd (omega (arith, some))
-one_below stacks top one (suc k) some low = let w = one.lie.each k (omega (arith, low)) in sym (ap under_top w.1)
+one_below stacks top one (suc k) some low =
+    let w = one.lie.each k (omega (arith, low)) in
+    let less : suc k - 1 ≡ k = omega arith in
+    ap (λ (n : ℕ). stack_at stacks n) less ∙ sym (ap under_top w.1)
 
 -- ---- with others past them
 
+pub no_more : (n : ℕ) → 0 + n ≡ n
+no_more n = omega arith
+
+pub one_more_sum : (m n : ℕ) → suc m + n ≡ suc (m + n)
+one_more_sum m n = omega arith
+
 pub in_suffix : {X : Type 0} (xs ys : List X) (i : ℕ) → slice_get (xs ++ ys) (length xs + i) ≡ slice_get ys i
-in_suffix [] ys i = refl
-in_suffix (x ∷ xs) ys i = in_suffix xs ys i
+in_suffix [] ys i = ap (λ (n : ℕ). slice_get ys n) (no_more i)
+in_suffix (x ∷ xs) ys i = ap (λ (n : ℕ). slice_get (x ∷ (xs ++ ys)) n) (one_more_sum (length xs) i) ∙ in_suffix xs ys i
 
 -- one that stands no lower than so many is one of the second list
 past_prefix : {X : Type 0} (xs ys : List X) (k : ℕ) (y : X) → length xs ≤ k → slice_get (xs ++ ys) k ≡ Some y → (i : ℕ) × (k ≡ length xs + i) × (slice_get ys i ≡ Some y)
-past_prefix [] ys k y past at = (k, refl, at)
+past_prefix [] ys k y past at = (k, sym (no_more k), at)
 past_prefix (x ∷ xs) ys zero y past at = absurd (omega (arith, past))
 past_prefix (x ∷ xs) ys (suc k) y past at =
     let r = past_prefix xs ys k y (omega (arith, past)) at in
-    (r.0, ap (λ (n : ℕ). suc n) r.1, r.2)
+    (r.0, ap (λ (n : ℕ). suc n) r.1 ∙ sym (one_more_sum (length xs) r.0), r.2)
 
 pub set_suffix : {X : Type 0} (xs ys : List X) (i : ℕ) (v : X) → set (xs ++ ys) (length xs + i) v ≡ xs ++ set ys i v
-set_suffix [] ys i v = refl
-set_suffix (x ∷ xs) ys i v = ap (λ (zs : List X). x ∷ zs) (set_suffix xs ys i v)
+set_suffix [] ys i v = ap (λ (n : ℕ). set ys n v) (no_more i)
+set_suffix {X = X} (x ∷ xs) ys i v =
+    ap (λ (n : ℕ). set (x ∷ (xs ++ ys)) n v) (one_more_sum (length xs) i) ∙ ap (λ (zs : List X). x ∷ zs) (set_suffix xs ys i v)
 
 module _ (stacks : List (List Layer)) (base place : ℕ) (cells : List Cell) (under : LiesUnder stacks base place cells) (rows : List Row) where
   abbrev layers : List Layer

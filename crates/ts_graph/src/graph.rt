@@ -302,6 +302,7 @@ impl Graph {
         requires { head < length self.now.heads }
         ensures { links_from self.now.links head result ≡ links_down self.now.links head }
     {
+        let _ = &self.rows;
         match self.row(head) {
             Some(row) => row.newest,
             None => { if head == 0 { None } else { Some(head - 1) } }

@@ -83,6 +83,7 @@ impl Graph {
         ensures depth { (l : Link) → slice_get self.now.links link ≡ Some l
             → result.depth ≡ l.depth }
     {
+        let _ = &self.cells;
         match self.cell(link) {
             Some(cell) => Edge {
                 above: cell.above,
@@ -102,6 +103,7 @@ impl Graph {
         requires { link < length self.now.links }
         ensures { (l : Link) → slice_get self.now.links link ≡ Some l → result.now ≡ l.tree }
     {
+        let _ = &self.cells;
         match self.cell(link) {
             Some(cell) => &cell.node,
             None => self.stack.node(link + 1),
@@ -115,6 +117,7 @@ impl Graph {
             → links_from self.now.links l.above result
             ≡ links_down (take link self.now.links) l.above }
     {
+        let _ = &self.cells;
         match self.cell(link) {
             Some(cell) => cell.earlier,
             None => None,

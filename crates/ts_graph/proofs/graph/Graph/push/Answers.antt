@@ -16,10 +16,18 @@ pub lowest_down-lowest-requires : goal.lowest_down-lowest-requires
 lowest_down-lowest-requires c = (c.args.above, c.first_down-earlier.ensures)
 
 pub overflow_add-number : goal.overflow_add-number
-overflow_add-number c = let few = c.self.invariant.2.few in grind (arith, few, c.self.ranges.place.fits, c.len.ensures, c.self.inside.cells.ok)
+overflow_add-number c = let few = c.self.invariant.2.few in grind (arith, few, c.self.ranges, c.len.ensures, c.self.inside.cells.ok)
 
 pub index-requires : goal.index-requires
 index-requires c =
+    let n = heads_all c.self.inside.stack c.self.inside.base c.self.inside.place c.self.inside.cells.items c.self.invariant.2 c.self.inside.rows.items c.args.self.now c.self.view_is in
+    let b = ap (λ (g : GraphView). g.base) c.self.view_is in
+    let own = c.requires.own in
+    let low = c.requires.above in
+    omega (arith, n, b, own, low)
+
+pub index_mut-requires : goal.index_mut-requires
+index_mut-requires c =
     let n = heads_all c.self.inside.stack c.self.inside.base c.self.inside.place c.self.inside.cells.items c.self.invariant.2 c.self.inside.rows.items c.args.self.now c.self.view_is in
     let b = ap (λ (g : GraphView). g.base) c.self.view_is in
     let own = c.requires.own in
