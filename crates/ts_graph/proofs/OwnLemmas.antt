@@ -26,7 +26,7 @@ get_suffix [] ys i d = ap (λ (n : ℕ). get_or ys n d) (no_more i)
 get_suffix (x ∷ xs) ys i d = ap (λ (n : ℕ). get_or (x ∷ (xs ++ ys)) n d) (one_more_sum (length xs) i) ∙ get_suffix xs ys i d
 
 -- the number before one, if there is one
-before : ℕ → Option ℕ
+abbrev before : ℕ → Option ℕ
 before zero = None
 before (suc k) = Some k
 

@@ -48,7 +48,7 @@ pub struct Graph {
     /// How many layers the stack has, which is the number of its own head.
     pub(crate) base: usize,
     /// The place where it ends.
-    place: u32,
+    pub(crate) place: u32,
     /// Another head at that place, or its own.
     beside: usize,
     /// The heads past that one.
@@ -246,6 +246,7 @@ impl Graph {
         ensures count { result ≡ length self.now.heads }
         ensures once { HoldsEachOnce self.now.heads self.now.links }
     {
+        let _place = self.place;
         let first = self.base + 1;
         first + self.rows.len()
     }

@@ -83,7 +83,7 @@ impl Graph {
         ensures depth { (l : Link) → slice_get self.now.links link ≡ Some l
             → result.depth ≡ l.depth }
     {
-        let _ = &self.cells;
+        let _place = self.place;
         match self.cell(link) {
             Some(cell) => Edge {
                 above: cell.above,
@@ -103,7 +103,7 @@ impl Graph {
         requires { link < length self.now.links }
         ensures { (l : Link) → slice_get self.now.links link ≡ Some l → result.now ≡ l.tree }
     {
-        let _ = &self.cells;
+        let _place = self.place;
         match self.cell(link) {
             Some(cell) => &cell.node,
             None => self.stack.node(link + 1),

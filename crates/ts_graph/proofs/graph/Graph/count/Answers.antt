@@ -5,10 +5,10 @@ use Rattle.ts_graph.proofs.OwnLemmas.{heads_all}
 use Rattle.ts_graph.proofs.graph.Graph.count.Goals as goal
 
 pub overflow_add-first : goal.overflow_add-first
-overflow_add-first c = let few = c.self.invariant.2.few in grind (arith, few, c.self.known-fits)
+overflow_add-first c = let few = c.self.invariant.2.few in grind (arith, few)
 
 pub overflow_add-result : goal.overflow_add-result
-overflow_add-result c = let few = c.self.invariant.2.few in grind (arith, few, c.self.known-fits, c.len.ensures, c.self.inside.rows.ok)
+overflow_add-result c = let few = c.self.invariant.2.few in grind (arith, few, c.len.ensures, c.self.inside.rows.ok)
 
 pub returns-clause-count : goal.returns-clause-count
 returns-clause-count c =

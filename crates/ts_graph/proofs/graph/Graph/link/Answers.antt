@@ -19,14 +19,14 @@ overflow_add-result c =
     let few = c.self.invariant.2.few in
     let b = ap (λ (g : GraphView). g.base) c.self.view_is in
     let low = c.in-None.ensures in
-    grind (arith, few, b, low, c.self.known-fits)
+    grind (arith, few, b, low)
 
 pub overflow_add-link : goal.overflow_add-link
 overflow_add-link c =
     let few = c.self.invariant.2.few in
     let b = ap (λ (g : GraphView). g.base) c.self.view_is in
     let low = c.in-None.ensures in
-    grind (arith, few, b, low, c.self.known-fits)
+    grind (arith, few, b, low)
 
 pub depth-requires-clause-there : goal.depth-requires-clause-there
 depth-requires-clause-there c = low_there c.self.inside.stack c.self.inside.base c.self.inside.place c.self.inside.cells.items c.self.invariant.2 c.self.inside.rows.items c.args.self.now c.self.view_is c.args.link c.in-None.ensures
@@ -35,7 +35,9 @@ pub depth-requires-clause-some : goal.depth-requires-clause-some
 depth-requires-clause-some c = low_some c.self.inside.stack c.self.inside.base c.self.inside.place c.self.inside.cells.items c.self.invariant.2 c.self.inside.rows.items c.args.self.now c.self.view_is c.args.link c.in-None.ensures
 
 pub returns-in-None-clause-above : goal.returns-in-None-clause-above
-returns-in-None-clause-above c = λ l at. sym (ap (λ (x : Link). x.above) (low_is c.self.inside.stack c.self.inside.base c.self.inside.place c.self.inside.cells.items c.self.invariant.2 c.self.inside.rows.items c.args.self.now c.self.view_is c.args.link c.in-None.ensures l at))
+returns-in-None-clause-above c = λ l at.
+    let up = ap (λ (x : Link). x.above) (low_is c.self.inside.stack c.self.inside.base c.self.inside.place c.self.inside.cells.items c.self.invariant.2 c.self.inside.rows.items c.args.self.now c.self.view_is c.args.link c.in-None.ensures l at) in
+    omega (arith, up)
 
 pub returns-in-None-clause-below : goal.returns-in-None-clause-below
 returns-in-None-clause-below c = λ l at. sym (ap (λ (x : Link). x.below) (low_is c.self.inside.stack c.self.inside.base c.self.inside.place c.self.inside.cells.items c.self.invariant.2 c.self.inside.rows.items c.args.self.now c.self.view_is c.args.link c.in-None.ensures l at))

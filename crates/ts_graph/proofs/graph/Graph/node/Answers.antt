@@ -13,7 +13,7 @@ overflow_add-link c =
     let few = c.self.invariant.2.few in
     let b = ap (λ (g : GraphView). g.base) c.self.view_is in
     let low = c.in-None.ensures in
-    grind (arith, few, b, low, c.self.known-fits)
+    grind (arith, few, b, low)
 
 pub node-requires-clause-there : goal.node-requires-clause-there
 node-requires-clause-there c = low_there c.self.inside.stack c.self.inside.base c.self.inside.place c.self.inside.cells.items c.self.invariant.2 c.self.inside.rows.items c.args.self.now c.self.view_is c.args.link c.in-None.ensures
