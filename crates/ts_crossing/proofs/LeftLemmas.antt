@@ -1,5 +1,5 @@
 -- A stack of the trees of a way.
-use Rattle.std.proofs.Common.{◌≡◌, ◌∙◌, sym, ap, refl, subst, ℕ, suc, ◌<◌, ◌≤◌, List, [], ◌∷◌, ◌++◌, append-nil, append_assoc, length, length-append, map, reverse, drop, slice_get, Option, Some, arith}
+use Rattle.std.proofs.Common.{◌≡◌, ◌∙◌, sym, ap, refl, subst, ℕ, suc, ◌+◌, ◌<◌, ◌≤◌, List, [], ◌∷◌, ◌++◌, append-nil, append_assoc, length, length-append, map, reverse, drop, slice_get, Option, Some, arith}
 use Rattle.std.specs.Option.{option_map_or}
 use Rattle.std.proofs.lemmas.List.{map-append, reverse-append, drop_all}
 use Rattle.ts_base.specs.Bytes.{Bytes}
@@ -94,13 +94,13 @@ pub piece_less : (old new : List Piece) (x : Piece) → old ≡ new ++ x ∷ [] 
 piece_less old new x is = let e = ap (λ (ps : List Piece). length ps) is in let n = length-append new (x ∷ []) in omega (arith, e, n)
 
 -- the layers of links, one piece after another
-pub pieces_more : (heads : List Head) (way : List Link) (i : ℕ) (l : Link) (old new : List Piece) (p : Piece) → drop i way ≡ l ∷ drop (suc i) way → layer_with_piece p ≡ layer_of_link heads l → new ≡ old ++ p ∷ []
-    → map layer_with_piece old ++ layers_of heads (drop i way) ≡ layers_of heads way → map layer_with_piece new ++ layers_of heads (drop (suc i) way) ≡ layers_of heads way
+pub pieces_more : (heads : List Head) (way : List Link) (i : ℕ) (l : Link) (old new : List Piece) (p : Piece) → drop i way ≡ l ∷ drop (i + 1) way → layer_with_piece p ≡ layer_of_link heads l → new ≡ old ++ p ∷ []
+    → map layer_with_piece old ++ layers_of heads (drop i way) ≡ layers_of heads way → map layer_with_piece new ++ layers_of heads (drop (i + 1) way) ≡ layers_of heads way
 pieces_more heads way i l old new p cut same is so =
-    ap (λ (ps : List Piece). map layer_with_piece ps ++ layers_of heads (drop (suc i) way)) is
-    ∙ ap (λ (ls : List Layer). ls ++ layers_of heads (drop (suc i) way)) (map-append layer_with_piece old (p ∷ []))
-    ∙ append_assoc (map layer_with_piece old) (layer_with_piece p ∷ []) (layers_of heads (drop (suc i) way))
-    ∙ ap (λ (m : Layer). map layer_with_piece old ++ m ∷ layers_of heads (drop (suc i) way)) same
+    ap (λ (ps : List Piece). map layer_with_piece ps ++ layers_of heads (drop (i + 1) way)) is
+    ∙ ap (λ (ls : List Layer). ls ++ layers_of heads (drop (i + 1) way)) (map-append layer_with_piece old (p ∷ []))
+    ∙ append_assoc (map layer_with_piece old) (layer_with_piece p ∷ []) (layers_of heads (drop (i + 1) way))
+    ∙ ap (λ (m : Layer). map layer_with_piece old ++ m ∷ layers_of heads (drop (i + 1) way)) same
     ∙ ap (λ (w : List Link). map layer_with_piece old ++ layers_of heads w) (sym cut)
     ∙ so
 

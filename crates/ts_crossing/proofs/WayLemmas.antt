@@ -224,6 +224,7 @@ module _ (keeps : (t : Tree) → KeepsAll t) (g : GraphView) (P : Parsing) (soun
             absurd (let past = ltb-false j g.base e in let own = lies.own j other at past in omega (arith, own, above, low))
 
     goes_down : (h foot : ℕ) (numbers : List ℕ) (leads : LeadsDown g.links h numbers foot) → foot ≤ g.base → GoesDown h leads.way foot
+    unfolding only_lower leads_more
     goes_down h zero numbers leads low = record { all = numbers; leads = leads; lower = []; down = refl; way_is = sym (append-nil leads.way) }
     goes_down h (suc k) numbers leads low =
         let only = only_lower k low in

@@ -8,16 +8,16 @@ use Rattle.ts_crossing.proofs.LeftLemmas.{own_reached, reads, head_at_place, lay
 use Rattle.ts_crossing.proofs.laws.left_stacks_go_on.Goals as goal
 
 pub returns-clause-rests : goal.returns-clause-rests
-returns-clause-rests c t text base g h numbers stacks k sound there s left b begun most ranked n whole early alone before stuck account r =
+returns-clause-rests c t text base g h numbers foot stacks k sound there s left b begun most ranked n whole early alone before stuck account r =
     let laws = c.leave_laws_hold.ensures in
-    let at = head_at_place laws t text base g sound h there numbers stacks k s left in
-    subst (λ (j : PackedStack). PackedRests t.grammar text stuck j) (sym (layers_is laws t text base g sound h there numbers stacks k s left))
+    let at = head_at_place laws t text base g sound h there numbers foot stacks k s left in
+    subst (λ (j : PackedStack). PackedRests t.grammar text stuck j) (sym (layers_is laws t text base g sound h there numbers foot stacks k s left))
     (c.followed_graphs_pack.ensures.leaves (parsing_from t text base) sound.laid.parsed.fit sound.laid.parsed.states b (own_reached t.grammar text b r.met.reached) begun (unit_rank t.grammar) most ranked g.heads (bare_links g.links)
-    sound.laid.graph n whole early before stuck account r h k.place (reads laws t text base g sound h there numbers stacks k s left).0 (map bare_link s.way)
+    sound.laid.graph n whole early before stuck account r h k.place (reads laws t text base g sound h there numbers foot stacks k s left).0 (map bare_link s.way)
     at alone s.only s.token)
 
 pub returns-clause-own : goal.returns-clause-own
-returns-clause-own c t text base g h numbers stacks k sound there s left own = left_own c.leave_laws_hold.ensures t text base g sound h there numbers stacks k s left own
+returns-clause-own c t text base g h numbers foot stacks k sound there s left own = left_own c.leave_laws_hold.ensures t text base g sound h there numbers foot stacks k s left own
 
 pub returns-clause-stand : goal.returns-clause-stand
-returns-clause-stand c t text base g h numbers stacks k sound there s left table states named st = left_stand c.leave_laws_hold.ensures t text base g sound h there numbers stacks k s left table states named st
+returns-clause-stand c t text base g h numbers foot stacks k sound there s left table states named st = left_stand c.leave_laws_hold.ensures t text base g sound h there numbers foot stacks k s left table states named st

@@ -1,11 +1,15 @@
-use Rattle.std.proofs.Common.{get_or, refl, arith}
+use Rattle.std.proofs.Common.{ap, List, ◌++◌, map, get_or, arith}
 use Rattle.std.proofs.lemmas.Option.{slice_get_within}
+use Rattle.ts_graph.specs.Under.{layers_of}
+use Rattle.ts_reductions.specs.declared.made.Piece.{Piece}
 use Rattle.ts_reductions.proofs.GatherLemmas.{at_step, at_long}
+use Rattle.ts_crossing.specs.Leaving.{layer_with_piece}
 use Rattle.ts_crossing.proofs.LeftLemmas.{pieces_more, pieces_last}
 use Rattle.ts_crossing.proofs.leaving.pieces_of.Goals as goal
 
 pub loop-link-init : goal.loop-link-init
-loop-link-init c = λ way at. refl
+loop-link-init c = λ way at.
+    ap (λ (ps : List Piece). map layer_with_piece ps ++ layers_of c.args.graph.now.heads way) c.in_ok-pieces.ensures.items
 
 pub piece_of-requires : goal.piece_of-requires
 piece_of-requires c =

@@ -20,4 +20,4 @@ pub returns-clause-one : goal.returns-clause-one
 returns-clause-one c = c.loop-piece.invariant.one
 
 pub returns-clause-stack : goal.returns-clause-stack
-returns-clause-stack c = pushed_last c.args.pieces.items c.args.stacks.now c.args.below c.loop-piece.left.items c.loop-piece.stacks c.loop-piece.top c.in_default.ensures c.loop-piece.invariant.stack
+returns-clause-stack c = pushed_last c.args.pieces.items c.args.stacks.now c.args.below c.loop-piece.left.items c.loop-piece.stacks c.loop-piece.top c.in_default.ensures.items c.loop-piece.invariant.stack
