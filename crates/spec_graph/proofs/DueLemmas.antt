@@ -14,7 +14,7 @@ use Rattle.spec_packing.proofs.MadeLemmas.{CanMake}
 use Rattle.spec_graph.specs.declared.graph.Head.{Head}
 use Rattle.spec_graph.specs.declared.graph.Link.{Link}
 use Rattle.spec_graph.specs.States.{ShareState}
-use Rattle.spec_graph.specs.Laying.{Parsing, GoesOn, PassesAt, ReducesAt, extra_tree, node_made, Taken, some, nothing, Lays, flat, made, CanMakeNode}
+use Rattle.spec_graph.specs.Laying.{Parsing, from_start, IsMet, GoesOn, PassesAt, ReducesAt, extra_tree, node_made, Taken, some, nothing, Lays, flat, made, CanMakeNode}
 use Rattle.spec_graph.specs.Replacing.{depth_over}
 use Rattle.spec_graph.specs.Keys.{Key, Earlier, LaysBefore, flat_before, stood_before, shifted_before, passed_before, made_before}
 use Rattle.spec_graph.specs.Links.{IsWay, way_trees, depths_of, IsGraph, IsDue, way_depth}
@@ -25,7 +25,9 @@ use Rattle.spec_graph.proofs.LayLemmas.{IsBase, lays_read, lays_spans, lays_none
 use Rattle.spec_graph.proofs.OrderLemmas.{node_bytes, before_lays}
 use Rattle.spec_graph.proofs.GraphLemmas.{share_head, AreLaid, WayLaid, ways}
 use Rattle.spec_graph.proofs.KeyLemmas.{map_turned}
-use Rattle.spec_graph.proofs.OutcomeLemmas.{SameKinds, kinds_begins, kinds_length, kinds_turned, none_long, own_trees, deepest}
+use Rattle.spec_graph.proofs.BaseLemmas.{start_facts, start_base, due_start}
+use Rattle.spec_graph.proofs.GroundLemmas.{graph_start}
+use Rattle.spec_graph.proofs.OutcomeLemmas.{SameKinds, kinds_begins, kinds_length, kinds_turned, none_long, own_trees, Deepest, deepest}
 
 same_kinds : (ts : List Tree) → SameKinds ts ts
 same_kinds [] = tt
@@ -139,14 +141,6 @@ module _ (P : Parsing) (facts : Facts P) (base : IsBase P) (heads : List Head) (
   pub due_laid : P.place ≤ key.look → way_depth P number left inner ≤ most_depth → Lays P now key.begins (node_made P number (reverse (way_trees inner)) ∷ []) end (left ∷ now)
   due_laid late low_depth = node_laid (way_trees inner) (own_trees P facts base heads links graph inner e b due.taken_off) (same_kinds (way_trees inner)) refl late (let d = due_depth in omega (arith, d, low_depth))
 
-  -- and one over trees of the way's depths
-  pub due_deepest : P.place ≤ key.look → way_depth P number left inner ≤ most_depth → (t : Tree) × Lays P now key.begins (t ∷ []) end (left ∷ now) × (tree_depth t ≡ way_depth P number left inner)
-  due_deepest late low_depth =
-      let w = deepest P facts base heads links graph inner e b due.taken_off in
-      let d : tree_depth (node_made P number (reverse w.trees)) ≡ way_depth P number left inner =
-      depth_is w.trees w.laid w.kinds w.filled ∙ ap (λ (l : List ℕ). depth_over (form_of P.grammar left number) (reverse l)) w.depths in
-      (node_made P number (reverse w.trees), node_laid w.trees w.laid w.kinds w.filled late (omega (arith, d, low_depth)), d)
-
   -- the extras above are all laid anew
   pub due_end : P.place ≤ key.look → P.place ≤ end
   due_end late = end_late (way_trees inner) (own_trees P facts base heads links graph inner e b due.taken_off) (same_kinds (way_trees inner)) refl late
@@ -173,6 +167,26 @@ module _ (P : Parsing) (facts : Facts P) (base : IsBase P) (heads : List Head) (
       extras_parts : (above : List Tree) (x : Tree) (below : List Tree) → AreExtras (above ++ x ∷ below) → AreExtras (x ∷ []) × AreExtras below
       extras_parts [] x below a = ((a.0, tt), a.1)
       extras_parts (y ∷ above) x below a = extras_parts above x below a.1
+
+-- where the stack from which runs go on was met, a node over trees of the way's depths is laid from the start
+module _ (P : Parsing) (facts : Facts P) (met : IsMet P) (heads : List Head) (links : List Link) (graph : IsGraph P heads links) (rank : ℕ → ℕ) (key : Key) (number left : ℕ) (p : Production) (h e b : ℕ) (outer inner : List Link) (over now : List ℕ) (end : ℕ)
+    (due : IsDue P rank heads links key number left p h e b outer inner over now end) where
+  deep : Deepest P facts met heads links graph inner
+  deep = deepest P facts met heads links graph inner e b due.taken_off
+
+  depth_there : tree_depth (node_made P number (reverse deep.trees)) ≡ way_depth P number left inner
+  depth_there =
+      depth_is (from_start P) (start_facts P facts) (start_base P facts) heads links (graph_start P facts met heads links graph) rank key number left p h e b outer inner over now end
+      (due_start P facts rank heads links key number left p h e b outer inner over now end due) deep.trees deep.laid deep.kinds deep.filled
+      ∙ ap (λ (l : List ℕ). depth_over (form_of P.grammar left number) (reverse l)) deep.depths
+
+  pub due_deepest : way_depth P number left inner ≤ most_depth → (t : Tree) × Lays (from_start P) now key.begins (t ∷ []) end (left ∷ now) × (tree_depth t ≡ way_depth P number left inner)
+  due_deepest low_depth = (
+    node_made P number (reverse deep.trees),
+    node_laid (from_start P) (start_facts P facts) (start_base P facts) heads links (graph_start P facts met heads links graph) rank key number left p h e b outer inner over now end
+        (due_start P facts rank heads links key number left p h e b outer inner over now end due) deep.trees deep.laid deep.kinds deep.filled (omega arith) (let d = depth_there in omega (arith, d, low_depth)),
+    depth_there,
+  )
 
 -- ---- new heads
 

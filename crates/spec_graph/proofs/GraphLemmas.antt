@@ -9,14 +9,14 @@ use Rattle.spec_trees.specs.Trees.{symbol_of, pad_of, size_of, is_extra_node, sp
 use Rattle.spec_trees.specs.Made.{filling, step_symbols}
 use Rattle.spec_runs.specs.Configurations.{token_tree, AreExtras}
 use Rattle.spec_runs.specs.Runs.{IsReached}
-use Rattle.spec_packing.proofs.MadeLemmas.{all_spans_append}
 use Rattle.spec_graph.specs.declared.graph.Head.{Head}
 use Rattle.spec_graph.specs.declared.graph.Link.{Link}
 use Rattle.spec_graph.specs.States.{LeadsTo, at_first, ShareState, AreRanks}
-use Rattle.spec_graph.specs.Laying.{Parsing, SeesAt, PassesAt, extra_tree, PassesTree, node_made, Taken, some, nothing, Lays, flat, stood, shifted, passed, made, ComesOver}
+use Rattle.spec_graph.specs.Laying.{Parsing, IsReading, SeesAt, PassesAt, extra_tree, PassesTree, node_made, Taken, some, nothing, Lays, flat, stood, shifted, passed, made, ComesOver}
 use Rattle.spec_graph.specs.Replacing.{AreAlike}
 use Rattle.spec_graph.specs.Keys.{Key, LaysBefore, flat_before, stood_before, shifted_before, passed_before, made_before}
 use Rattle.spec_graph.specs.Links.{IsAt, IsWay, HasWay, IsWholeTo}
+use Rattle.spec_graph.proofs.ReadingLemmas.{readings_alike}
 use Rattle.spec_graph.proofs.SightLemmas.{Facts, lead_once, share_on, same_token, sees_one, clash, sees_shared, passes_shared}
 use Rattle.spec_graph.proofs.EntryLemmas.{token_says, extra_says, node_tells, kind_of, filling_tree, filling_extra, filling_turned, children_fill, pass_bytes}
 use Rattle.spec_graph.proofs.LayLemmas.{IsBase, HasBottom, bottom_turned, order_cases, lays_read, can_make, begins_taken, lays_spans, grows, lays_none, lays_state, split, joins, extras_same, not_stood, Peeled, bare_place, one_more, peel, starts, sound, nothing_laid}
@@ -207,37 +207,18 @@ module _ (P : Parsing) (facts : Facts P) (base : IsBase P) where
 
   -- ---- what can be packed
 
-  -- one entry of the stack
-  abbrev Entry : Tree → ℕ → Type 0
-  Entry t q = (above : List Tree) × (below : List Tree) × (P.stack ≡ above ++ t ∷ below) × (q ≡ all_spans below)
+  -- one entry of a reading
+  abbrev pub Entry : Tree → ℕ → Type 0
+  Entry t q = (above : List Tree) × (below : List Tree) × IsReading P (above ++ t ∷ below) × (q ≡ all_spans below)
 
-  -- entries with bytes at one place are one
-  one_entry : (stack above below over under : List Tree) (t u : Tree) → stack ≡ above ++ t ∷ below → stack ≡ over ++ u ∷ under → all_spans below ≡ all_spans under → 0 < span_of t → 0 < span_of u → t ≡ u
-  one_entry stack [] below [] under t u is at same lt lt2 = let e : t ∷ below ≡ u ∷ under = sym is ∙ at in cc
-  one_entry stack [] below (y ∷ over) under t u is at same lt lt2 =
-      let e : t ∷ below ≡ y ∷ (over ++ u ∷ under) = sym is ∙ at in
-      let f : below ≡ over ++ u ∷ under = cc in
-      let n = ap all_spans f in
-      let m = all_spans_append over (u ∷ under) in
-      absurd (omega (arith, n, m, same, lt2))
-  one_entry stack (x ∷ above) below [] under t u is at same lt lt2 =
-      let e : u ∷ under ≡ x ∷ (above ++ t ∷ below) = sym at ∙ is in
-      let f : under ≡ above ++ t ∷ below = cc in
-      let n = ap all_spans f in
-      let m = all_spans_append above (t ∷ below) in
-      absurd (omega (arith, n, m, same, lt))
-  one_entry stack (x ∷ above) below (y ∷ over) under t u is at same lt lt2 =
-      let e : x ∷ (above ++ t ∷ below) ≡ y ∷ (over ++ u ∷ under) = sym is ∙ at in
-      let f : above ++ t ∷ below ≡ over ++ u ∷ under = cc in
-      one_entry (above ++ t ∷ below) above below over under t u refl f same lt lt2
-
-  same_entry : (t u : Tree) (q : ℕ) → Entry t q → Entry u q → 0 < span_of t → 0 < span_of u → t ≡ u
-  same_entry t u q a b lt lt2 = one_entry P.stack a.0 a.1 b.0 b.1 t u a.2 b.2 (sym a.3 ∙ b.3) lt lt2
+  -- entries with bytes at one place are of one kind, with one symbol and the same bytes
+  same_entry : (t u : Tree) (q : ℕ) → Entry t q → Entry u q → 0 < span_of t → 0 < span_of u → AreAlike t u
+  same_entry t u q a b lt lt2 = readings_alike P a.0 a.1 b.0 b.1 t u a.2 b.2 (sym a.3 ∙ b.3) lt lt2
 
   entry_early : (t : Tree) (q : ℕ) → Entry t q → q < P.place
   entry_early t q a = let h = base.low a.0 a.1 t a.2 in let e = a.3 in omega (arith, h, e)
 
-  -- what lies where a tree begins, and its pad: an entry of the stack, or the token that is seen
+  -- what lies where a tree begins, and its pad: an entry of a reading, or the token that is seen
   data Reads (γ : List ℕ) (q low : ℕ) : Type 0 where
     stands : (t : Tree) → Entry t q → is_extra_node t ≡ false → 0 < span_of t → low ≡ pad_of t → Reads γ q low
     reads : (s : Symbol) (pad size : ℕ) → P.place ≤ q → SeesAt P γ q (token s pad size) → low ≡ pad → Reads γ q low
@@ -289,12 +270,12 @@ module _ (P : Parsing) (facts : Facts P) (base : IsBase P) where
       long [] lt = lt
       long (k ∷ ks) lt = omega arith
 
-  -- an extra is an entry of the stack, or what is seen where it begins
-  data IsRead (γ : List ℕ) (q : ℕ) (t : Tree) : Type 0 where
+  -- an extra is an entry of a reading, or what is seen where it begins
+  pub data IsRead (γ : List ℕ) (q : ℕ) (t : Tree) : Type 0 where
     stands_there : Entry t q → IsRead γ q t
     is_read : (s : Symbol) (pad size : ℕ) → P.place ≤ q → t ≡ extra_tree s pad size → PassesAt P γ q s pad size → IsRead γ q t
 
-  extra_read : (γ : List ℕ) (q : ℕ) (w : List Tree) (t : Tree) (p : ℕ) (δ : List ℕ) → Lays P γ q w p δ → w ≡ t ∷ [] → is_extra_node t ≡ true → IsRead γ q t
+  pub extra_read : (γ : List ℕ) (q : ℕ) (w : List Tree) (t : Tree) (p : ℕ) (δ : List ℕ) → Lays P γ q w p δ → w ≡ t ∷ [] → is_extra_node t ≡ true → IsRead γ q t
   extra_read γ q _ t _ _ (flat _ _) is e = absurd (let h : [] ≡ t ∷ [] = is in cc)
   extra_read γ q _ t _ _ (stood _ _ w p δ u above below l at place share) is e =
       let same : u ≡ t = cc in
@@ -344,7 +325,7 @@ module _ (P : Parsing) (facts : Facts P) (base : IsBase P) where
       by (is_read s pad size early is passes) = let b = pass_bytes P facts γ q s pad size passes in let span = extra_span t s pad size is in omega (arith, b, span)
 
   same_low : (γ : List ℕ) (q n m : ℕ) → Reads γ q n → Reads γ q m → n ≡ m
-  same_low γ q n m (stands t a fills lt is) (stands u b fills2 lt2 at) = is ∙ ap pad_of (same_entry t u q a b lt lt2) ∙ sym at
+  same_low γ q n m (stands t a fills lt is) (stands u b fills2 lt2 at) = is ∙ (same_entry t u q a b lt lt2).pad ∙ sym at
   same_low γ q n m (stands t a fills lt is) (reads s pad size late sees at) = absurd (let h = entry_early t q a in omega (arith, h, late))
   same_low γ q n m (reads s pad size late sees at) (stands t a fills lt is) = absurd (let h = entry_early t q a in omega (arith, h, late))
   same_low γ q n m (reads s pad size late sees is) (reads r pad2 size2 late2 sees2 at) =
@@ -371,18 +352,18 @@ module _ (P : Parsing) (facts : Facts P) (base : IsBase P) where
       some_bytes = omega (arith, extra_some, alone_spans γ q t p δ l, alone_spans γ q u p ε m)
 
       entry : Entry u q → Reads γ q (pad_of t) → ⊥
-      entry a (stands v b fills lt is) = true≢false (sym f ∙ ap is_extra_node (same_entry u v q a b extra_some lt) ∙ fills)
+      entry a (stands v b fills lt is) = true≢false (sym f ∙ (same_entry u v q a b extra_some lt).extra ∙ fills)
       entry a (reads s pad size late sees is) = let h = entry_early u q a in omega (arith, h, late)
 
       by : IsRead γ q u → ⊥
       by (stands_there a) = entry a (lowest γ q (t ∷ []) p δ l (e, some_bytes))
       by (is_read s pad size late is passes) = clash P facts γ q s pad size (starts P facts base γ q (t ∷ []) p δ l late (e, some_bytes)) passes
 
-  same_extra : (γ : List ℕ) (q : ℕ) (t u : Tree) → 0 < span_of t → 0 < span_of u → IsRead γ q t → IsRead γ q u → t ≡ u
-  same_extra γ q t u lt lt2 (stands_there a) (stands_there b) = same_entry t u q a b lt lt2
-  same_extra γ q t u lt lt2 (stands_there a) (is_read s pad size late is passes) = absurd (let h = entry_early t q a in omega (arith, h, late))
-  same_extra γ q t u lt lt2 (is_read s pad size late is passes) (stands_there a) = absurd (let h = entry_early u q a in omega (arith, h, late))
-  same_extra γ q t u lt lt2 (is_read s pad size late is passes) (is_read r pad2 size2 late2 at passes2) =
+  same_extra : (γ : List ℕ) (q : ℕ) (t u : Tree) → is_extra_node t ≡ true → is_extra_node u ≡ true → 0 < span_of t → 0 < span_of u → IsRead γ q t → IsRead γ q u → t ≡ u
+  same_extra γ q t u e f lt lt2 (stands_there a) (stands_there b) = base.same_extras a.0 a.1 b.0 b.1 t u a.2 b.2 (sym a.3 ∙ b.3) lt lt2 e f
+  same_extra γ q t u e f lt lt2 (stands_there a) (is_read s pad size late is passes) = absurd (let h = entry_early t q a in omega (arith, h, late))
+  same_extra γ q t u e f lt lt2 (is_read s pad size late is passes) (stands_there a) = absurd (let h = entry_early u q a in omega (arith, h, late))
+  same_extra γ q t u e f lt lt2 (is_read s pad size late is passes) (is_read r pad2 size2 late2 at passes2) =
       let same = same_token s r pad pad2 size size2 (sees_one P facts γ q (token s pad size) (token r pad2 size2) passes.sees passes2.sees) in
       is ∙ ap (λ (x : Symbol). extra_tree x pad size) same.0 ∙ ap (λ (x : ℕ). extra_tree r x size) same.1 ∙ ap (λ (x : ℕ). extra_tree r pad2 x) same.2 ∙ sym at
 
@@ -441,7 +422,7 @@ module _ (P : Parsing) (facts : Facts P) (base : IsBase P) where
           let x = lowest_extra γ q u.0 u.1 p (subst (λ (ts : List Tree). Lays P γ q ts p γ) u.2 l) (subst AreExtras u.2 a) in
           let y = lowest_extra γ q v.0 v.1 p (subst (λ (ts : List Tree). Lays P γ q ts p γ) v.2 m) (subst AreExtras v.2 b) in
           let one : u.1 ≡ v.1 =
-          same_extra γ q u.1 v.1 (extra_bytes γ q u.1 (q + span_of u.1) γ x.first x.extra) (extra_bytes γ q v.1 (q + span_of v.1) γ y.first y.extra)
+          same_extra γ q u.1 v.1 x.extra y.extra (extra_bytes γ q u.1 (q + span_of u.1) γ x.first x.extra) (extra_bytes γ q v.1 (q + span_of v.1) γ y.first y.extra)
           (extra_read γ q (u.1 ∷ []) u.1 (q + span_of u.1) γ x.first refl x.extra) (extra_read γ q (v.1 ∷ []) v.1 (q + span_of v.1) γ y.first refl y.extra) in
           let count : length xs ≡ length u.0 + 1 = ap (λ (ts : List Tree). length ts) u.2 ∙ length-append u.0 (u.1 ∷ []) in
           let inner : u.0 ≡ v.0 = again (q + span_of u.1) u.0 v.0 (omega (arith, count, lt)) x.rest x.extras (subst (λ (t : Tree). Lays P γ (q + span_of t) v.0 p γ) (sym one) y.rest) y.extras in
@@ -466,7 +447,7 @@ module _ (P : Parsing) (facts : Facts P) (base : IsBase P) where
 
       by : (x y : Bool) → is_extra_node t ≡ x → is_extra_node u ≡ y → AreAlike t u
       by true true e f =
-          let one = same_extra γ q t u (extra_bytes γ q t p δ l e) (extra_bytes γ q u p m.now m.lays f) (extra_read γ q (t ∷ []) t p δ l refl e) (extra_read γ q (u ∷ []) u p m.now m.lays refl f) in
+          let one = same_extra γ q t u e f (extra_bytes γ q t p δ l e) (extra_bytes γ q u p m.now m.lays f) (extra_read γ q (t ∷ []) t p δ l refl e) (extra_read γ q (u ∷ []) u p m.now m.lays refl f) in
           record { symbol = ap symbol_of one; extra = ap is_extra_node one; pad = ap pad_of one; size = ap size_of one }
       by true false e f = absurd (mixed γ q u t p m.now δ m.lays l f e)
       by false true e f = absurd (mixed γ q t u p δ m.now l m.lays e f)
@@ -504,7 +485,7 @@ module _ (P : Parsing) (facts : Facts P) (base : IsBase P) where
   -- ---- what is reached, where runs go on from the start
 
   -- such a way from the start is reached, where no extra is passed at its head
-  module _ (fresh : P.stack ≡ []) (zero_place : P.place ≡ 0) where
+  module _ (fresh : P.layers ≡ []) (zero_place : P.place ≡ 0) where
     pub way_reached : (heads : List Head) (ts : List Tree) (h p : ℕ) → (w : WayLaid heads 0 [] 0 ts h p) → ((s : Symbol) (pad size : ℕ) → PassesAt P w.now p s pad size → ⊥) → IsReached P.grammar P.text (record { stack = ts; place = p })
     way_reached heads ts h p w quiet =
         let f = sound P facts base fresh zero_place [] 0 ts p w.now 0 at_first w.lays [] refl (λ a b. refl) in

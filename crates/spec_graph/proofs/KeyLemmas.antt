@@ -8,17 +8,18 @@ use Rattle.ts_core.specs.declared.symbol.Symbol.{Symbol}
 use Rattle.spec_lexing.specs.Lexing.{token}
 use Rattle.spec_tables.specs.Actions.{Act, shift}
 use Rattle.spec_trees.specs.declared.tree.Tree.{Tree}
-use Rattle.spec_trees.specs.Trees.{span_of, tree_depth}
+use Rattle.spec_trees.specs.Trees.{span_of, all_spans, tree_depth}
 use Rattle.spec_trees.specs.Made.{form_of, reduced, filling, BeginsFilled, most_depth}
 use Rattle.spec_runs.specs.Configurations.{token_tree}
 use Rattle.spec_packing.proofs.MadeLemmas.{IsMade, AllMade, CanMake}
 use Rattle.spec_graph.specs.declared.graph.Head.{Head}
 use Rattle.spec_graph.specs.declared.graph.Link.{Link}
-use Rattle.spec_graph.specs.States.{AreRanks}
-use Rattle.spec_graph.specs.Laying.{Parsing, SeesAt, PassesAt, extra_tree, node_made, Taken, some, nothing, Lays, CanMakeNode}
+use Rattle.spec_graph.specs.States.{ShareState, AreRanks}
+use Rattle.spec_graph.specs.Laying.{Parsing, IsReading, SeesAt, PassesAt, extra_tree, node_made, Taken, some, nothing, Lays, CanMakeNode}
 use Rattle.spec_graph.specs.Replacing.{Replaces, AllReplace}
 use Rattle.spec_graph.specs.Keys.{Key, Earlier, IsKey, IsNextKey, LaysBefore, flat_before, stood_before, shifted_before, passed_before, made_before}
 use Rattle.spec_graph.specs.Links.{IsAt, IsWay, way_trees, depths_of, AllStandFor, HasLink, IsWholeTo, HasNoneDue, way_depth, AreDone, HasGrown, AreAdded, IsOpened, HasStood}
+use Rattle.spec_graph.proofs.ReadingLemmas.{cover_filling, cover_spans, cover_span, reading_layer}
 use Rattle.spec_graph.proofs.SightLemmas.{Facts}
 use Rattle.spec_graph.proofs.EntryLemmas.{node_tells, lawful_at, filling_turned, all_made_turned}
 use Rattle.spec_graph.proofs.ReplaceLemmas.{replaces_chain, replaces_bare, all_turned, same_symbols, same_extras, same_begins, same_length, AllDeeper, deeper_over, deeper_turned}
@@ -55,6 +56,25 @@ map_turned (t ∷ ts) =
     map_over : (xs ys : List Tree) → map tree_depth (xs ++ ys) ≡ map tree_depth xs ++ map tree_depth ys
     map_over [] ys = refl
     map_over (x ∷ xs) ys = ap (λ (l : List ℕ). tree_depth x ∷ l) (map_over xs ys)
+
+-- the link of a layer stands for the tree in its place in each reading
+stood_link : (P : Parsing) (heads : List Head) (links : List Link) → HasStood P heads links → (b : ℕ) (read : List ℕ) (place : ℕ) (t : Tree) (above below : List Tree) → IsAt P heads b read place → IsReading P (above ++ t ∷ below) → place ≡ all_spans below → ShareState P.goto (filling below) read
+    → HasLink P heads links b t (place + span_of t) (filling (t ∷ []) ++ read)
+stood_link P heads links stands b read place t above below at r place_is share =
+    let f = reading_layer P above below t r in
+    let l = f.layer in
+    let h = stands.each b read place l f.over f.under at f.is (place_is ∙ sym (cover_spans f.under below f.rest)) (subst (λ (s : List ℕ). ShareState P.goto s read) (sym (cover_filling f.under below f.rest)) share) in
+    let fills : filling (l.tree ∷ []) ≡ filling (t ∷ []) = cover_filling (l ∷ []) (t ∷ []) (f.covers, tt) in
+    record {
+      link = h.link;
+      there = h.there;
+      below = h.below;
+      above = subst (λ (s : List ℕ). IsAt P heads h.link.above (s ++ read) (place + span_of t)) fills (subst (λ (n : ℕ). IsAt P heads h.link.above (filling (l.tree ∷ []) ++ read) (place + n)) (cover_span l t f.covers) h.above);
+      stands = record {
+        tree = replaces_chain h.link.tree l.tree t h.tree f.replaces;
+        depth = let d = h.depth in let e = f.covers.depth in omega (arith, d, e);
+      };
+    }
 
 module _ (P : Parsing) (facts : Facts P) (base : IsBase P) (rank : ℕ → ℕ) (most : ℕ) (ranked : AreRanks P.grammar rank most) where
   -- a node over a way may replace the node over what the way stands for
@@ -305,7 +325,7 @@ module _ (P : Parsing) (facts : Facts P) (base : IsBase P) (rank : ℕ → ℕ) 
           let same : u ≡ t = cc in
           let h = lays_none P facts base γ q w p δ (before_lays P facts base rank (record { look = P.place; begins = P.place; rank = most }) γ q w p δ l) none_w in
           let here = at_place P facts heads b γ δ q p (sym h.1) (sym h.0) at in
-          subst (λ (x : Tree). HasLink P heads links b x (p + span_of u) (filling (u ∷ []) ++ δ)) same (stands.each b δ p u above below here at2 place share)
+          subst (λ (x : Tree). HasLink P heads links b x (p + span_of u) (filling (u ∷ []) ++ δ)) same (stood_link P heads links stands b δ p u above below here at2 place share)
 
 -- ---- keys that follow one another
 

@@ -17,15 +17,12 @@ use Rattle.spec_runs.specs.Configurations.{Configuration, token_tree, AreExtras,
 use Rattle.spec_runs.specs.Runs.{CanMove, StepsOn, shift_token, pass_extra, reduce_trees, Run, run_here, run_on}
 use Rattle.spec_packing.proofs.MadeLemmas.{over_says, IsMade, AllMade, CanMake, first_some}
 use Rattle.spec_graph.specs.States.{LeadsTo, at_first, by_goto}
-use Rattle.spec_graph.specs.Laying.{Parsing, SeesAt, GoesOn, PassesAt, ReducesAt, extra_tree, node_made, Taken, some, nothing, Lays, flat, stood, shifted, passed, made, ComesOver}
+use Rattle.spec_graph.specs.Laying.{Parsing, IsReading, SeesAt, GoesOn, PassesAt, ReducesAt, extra_tree, node_made, Taken, some, nothing, Lays, flat, stood, shifted, passed, made, ComesOver}
+use Rattle.spec_graph.proofs.ReadingLemmas.{no_reading}
 use Rattle.spec_graph.proofs.SightLemmas.{Facts, same_token, sees_one, clash, stands_before, IsNarrower, narrows, passes_still, lead_from}
 use Rattle.spec_graph.proofs.EntryLemmas.{token_says, extra_says, node_kind, filling_tree, filling_extra, filling_one, filling_append, filling_turned, filling_none, filling_extras, spans_turned, all_made_back, same_front, children_fill, pass_bytes, shift_made, pass_made, node_is_made, node_tells}
 
 -- ---- lists
-
-pub no_middle : {X : Type 0} (above : List X) (t : X) (below : List X) → [] ≡ above ++ t ∷ below → ⊥
-no_middle [] t below e = cc
-no_middle (x ∷ above) t below e = cc
 
 made_middle : (g : FlatGrammar) (above : List Tree) (t : Tree) (below : List Tree) → AllMade g (above ++ t ∷ below) → IsMade g t
 made_middle g [] t below a = a.0
@@ -87,15 +84,16 @@ pub ruled_middle : (g : FlatGrammar) (above : List Tree) (t : Tree) (below : Lis
 ruled_middle g [] t below a = a.0
 ruled_middle g (x ∷ above) t below a = ruled_middle g above t below a.1
 
--- what is known of the stack from which runs go on
+-- what is known of all readings of the stack from which runs go on
 pub record IsBase (P : Parsing) : Type 0 where
-  pub spans : all_spans P.stack ≡ P.place
-  pub low : (above below : List Tree) (t : Tree) → P.stack ≡ above ++ t ∷ below → all_spans below < P.place
-  pub extra : (above below : List Tree) (t : Tree) → P.stack ≡ above ++ t ∷ below → is_extra_node t ≡ true → all_spans below + span_of t < P.place
-  pub some_extra : (above below : List Tree) (t : Tree) → P.stack ≡ above ++ t ∷ below → is_extra_node t ≡ true → 0 < span_of t
-  pub rule : (above below : List Tree) (t : Tree) → P.stack ≡ above ++ t ∷ below → IsRuled P.grammar t
-  pub all_made : AllMade P.grammar P.stack
-  pub states : (above below : List Tree) → P.stack ≡ above ++ below → (n : ℕ) × LeadsTo P.goto (filling below) n
+  pub spans : (stack : List Tree) → IsReading P stack → all_spans stack ≡ P.place
+  pub low : (above below : List Tree) (t : Tree) → IsReading P (above ++ t ∷ below) → all_spans below < P.place
+  pub extra : (above below : List Tree) (t : Tree) → IsReading P (above ++ t ∷ below) → is_extra_node t ≡ true → all_spans below + span_of t < P.place
+  pub some_extra : (above below : List Tree) (t : Tree) → IsReading P (above ++ t ∷ below) → is_extra_node t ≡ true → 0 < span_of t
+  pub same_extras : (above below over under : List Tree) (t u : Tree) → IsReading P (above ++ t ∷ below) → IsReading P (over ++ u ∷ under) → all_spans below ≡ all_spans under → 0 < span_of t → 0 < span_of u → is_extra_node t ≡ true → is_extra_node u ≡ true → t ≡ u
+  pub rule : (above below : List Tree) (t : Tree) → IsReading P (above ++ t ∷ below) → IsRuled P.grammar t
+  pub all_made : (stack : List Tree) → IsReading P stack → AllMade P.grammar stack
+  pub states : (above below : List Tree) → IsReading P (above ++ below) → (n : ℕ) × LeadsTo P.goto (filling below) n
 
 module _ (P : Parsing) (facts : Facts P) where
   run_more : (a b c : Configuration) → Run P.grammar P.text a b → StepsOn P.grammar P.text b c → Run P.grammar P.text a c
@@ -144,7 +142,7 @@ module _ (P : Parsing) (facts : Facts P) where
   module _ (base : IsBase P) where
     pub lays_made : (γ : List ℕ) (q : ℕ) (w : List Tree) (p : ℕ) (δ : List ℕ) → Lays P γ q w p δ → AllMade P.grammar w
     lays_made γ q _ _ _ (flat _ _) = tt
-    lays_made γ q _ _ _ (stood _ _ w p δ t above below l at place share) = (made_middle P.grammar above t below (subst (λ (s : List Tree). AllMade P.grammar s) at base.all_made), lays_made γ q w p δ l)
+    lays_made γ q _ _ _ (stood _ _ w p δ t above below l at place share) = (made_middle P.grammar above t below (base.all_made (above ++ t ∷ below) at), lays_made γ q w p δ l)
     lays_made γ q _ _ _ (shifted _ _ w p δ s pad size l late sees acts) = (shift_made P facts δ p s pad size sees acts, lays_made γ q w p δ l)
     lays_made γ q _ _ _ (passed _ _ w p δ s pad size l late passes) = (pass_made P facts δ p s pad size passes, lays_made γ q w p δ l)
     lays_made γ q _ _ _ (made _ _ w p δ ks end ε xs look number left pr l inner outer all late taken folds count deep) = (
@@ -306,7 +304,7 @@ module _ (P : Parsing) (facts : Facts P) where
     extras_same xs γ q p δ a l = lays_read γ q xs p δ l ∙ ap (λ (r : List ℕ). r ++ γ) (filling_none xs a)
 
     -- an extra of the stack from which runs go on ends before that place
-    pub not_stood : (above below : List Tree) (t : Tree) (p : ℕ) → P.stack ≡ above ++ t ∷ below → p ≡ all_spans below → is_extra_node t ≡ true → P.place ≤ p + span_of t → ⊥
+    pub not_stood : (above below : List Tree) (t : Tree) (p : ℕ) → IsReading P (above ++ t ∷ below) → p ≡ all_spans below → is_extra_node t ≡ true → P.place ≤ p + span_of t → ⊥
     not_stood above below t p at place e late = let h = base.extra above below t at e in omega (arith, h, place, late)
 
     token_fills : (s : Symbol) (pad size : ℕ) → is_extra_node (token_tree s pad size) ≡ true → ⊥
@@ -484,7 +482,7 @@ module _ (P : Parsing) (facts : Facts P) where
 
     -- ---- what is laid is reached, where runs go on from the start
 
-    module _ (fresh : P.stack ≡ []) (zero_place : P.place ≡ 0) where
+    module _ (fresh : P.layers ≡ []) (zero_place : P.place ≡ 0) where
       pass_step : (γ : List ℕ) (s : List Tree) (q : ℕ) (t : Symbol) (pad size : ℕ) → filling s ≡ γ → PassesAt P γ q t pad size
           → StepsOn P.grammar P.text (record { stack = s; place = q }) (record { stack = extra_tree t pad size ∷ s; place = q + (pad + size) })
       pass_step γ s q t pad size is p =
@@ -492,8 +490,8 @@ module _ (P : Parsing) (facts : Facts P) where
           subst (λ (m : ℕ). StepsOn P.grammar P.text (record { stack = s; place = q }) (record { stack = extra_tree t pad size ∷ s; place = q + m })) (span_extra t pad size)
           (pass_extra t pad size at.sees at.extra at.none)
 
-      never_stood : (above below : List Tree) (t : Tree) → P.stack ≡ above ++ t ∷ below → ⊥
-      never_stood above below t at = no_middle above t below (sym fresh ∙ at)
+      never_stood : (above below : List Tree) (t : Tree) → IsReading P (above ++ t ∷ below) → ⊥
+      never_stood above below t at = no_reading P fresh above below t at
 
       pass_run : (γ : List ℕ) (b : List Tree) (q : ℕ) → filling b ≡ γ → (xs : List Tree) (p : ℕ) (δ : List ℕ) → Lays P γ q xs p δ → AreExtras xs → δ ≡ γ
           → Run P.grammar P.text (record { stack = b; place = q }) (record { stack = xs ++ b; place = p })

@@ -1,3 +1,4 @@
+pub mod ReadingLemmas
 pub mod SightLemmas
 pub mod EntryLemmas
 pub mod ReplaceLemmas
@@ -5,6 +6,7 @@ pub mod BothLemmas
 pub mod NodeLemmas
 pub mod RootLemmas
 pub mod LayLemmas
+pub mod TreeLemmas
 pub mod OrderLemmas
 pub mod GraphLemmas
 pub mod KeyLemmas

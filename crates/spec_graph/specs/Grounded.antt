@@ -8,6 +8,7 @@ use Rattle.spec_trees.specs.Trees.{symbol_of, production_of, pad_of, is_extra_no
 use Rattle.spec_trees.specs.Made.{filling, BeginsFilled, AreCounted}
 use Rattle.spec_trees.specs.Choice.{code_of, has_form}
 use Rattle.spec_runs.specs.Moves.{IsUnused}
+use Rattle.spec_packing.specs.Packing.{PackedTree, packed_trees, AllCover}
 use Rattle.spec_graph.specs.States.{LeadsTo}
 use Rattle.spec_graph.specs.Laying.{Parsing}
 
@@ -67,13 +68,14 @@ BeginsWithBytes [] = Unit {0}
 BeginsWithBytes (t ∷ ts) = 0 < span_of t
 
 -- The stack from which runs go on ends at the place. It is empty, or its topmost tree fills a step
--- and has bytes. Its extras have bytes, its trees are such as moves make, and the symbols up to each
--- of them lead to a state.
+-- and has bytes. Its extras have bytes, its trees are such as moves make, none is deeper than its
+-- layer says, and the symbols up to each of them lead to a state.
 pub record IsGrounded (P : Parsing) : Type 0 where
-  pub spans : all_spans P.stack ≡ P.place
-  pub begins : BeginsFilled P.stack
-  pub some : BeginsWithBytes P.stack
-  pub some_extras : HaveExtrasBytes P.stack
-  pub made : AreMadeTrees P.grammar P.stack
-  pub states : (above below : List Tree) → P.stack ≡ above ++ below
-      → (n : ℕ) × LeadsTo P.goto (filling below) n
+  pub spans : all_spans (packed_trees P.layers) ≡ P.place
+  pub begins : BeginsFilled (packed_trees P.layers)
+  pub some : BeginsWithBytes (packed_trees P.layers)
+  pub some_extras : HaveExtrasBytes (packed_trees P.layers)
+  pub made : AreMadeTrees P.grammar (packed_trees P.layers)
+  pub own : AllCover P.layers (packed_trees P.layers)
+  pub states : (above below : List PackedTree) → P.layers ≡ above ++ below
+      → (n : ℕ) × LeadsTo P.goto (filling (packed_trees below)) n

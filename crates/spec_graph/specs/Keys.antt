@@ -9,7 +9,7 @@ use Rattle.spec_trees.specs.Trees.{span_of, all_spans, tree_depth}
 use Rattle.spec_trees.specs.Made.{filling, most_depth}
 use Rattle.spec_runs.specs.Configurations.{token_tree, AreExtras}
 use Rattle.spec_graph.specs.States.{ShareState}
-use Rattle.spec_graph.specs.Laying.{Parsing, SeesAt, PassesAt, ReducesAt, extra_tree, node_made, Taken, Lays}
+use Rattle.spec_graph.specs.Laying.{Parsing, IsReading, SeesAt, PassesAt, ReducesAt, extra_tree, node_made, Taken, Lays}
 
 -- the place of the token on which a node is made, the place where the node begins, and the rank of
 -- its rule
@@ -34,14 +34,15 @@ IsKey most k = (k.begins ≤ k.look) × (k.rank < most)
 abbrev pub IsNextKey : ℕ → Key → Key → Type 0
 IsNextKey most k m = (j : Key) → IsKey most j → Earlier j m → Earlier j k ⊎ (j ≡ k)
 
--- Trees and extras that are laid as said, each before the key: it stood on the stack from which
--- runs go on, or is a token that stands before the key's, or a node with an earlier key.
+-- Trees and extras that are laid as said, each before the key: it stood on some reading of the
+-- stack from which runs go on, or is a token that stands before the key's, or a node with an
+-- earlier key.
 pub data LaysBefore (P : Parsing) (rank : ℕ → ℕ) (k : Key)
     : List ℕ → ℕ → List Tree → ℕ → List ℕ → Type 0 where
   flat_before : (read : List ℕ) (from : ℕ) → LaysBefore P rank k read from [] from read
   stood_before : (read : List ℕ) (from : ℕ) (w : List Tree) (place : ℕ) (now : List ℕ) (t : Tree)
       (above below : List Tree) → LaysBefore P rank k read from w place now
-      → P.stack ≡ above ++ t ∷ below
+      → IsReading P (above ++ t ∷ below)
       → place ≡ all_spans below → ShareState P.goto (filling below) now
       → LaysBefore P rank k read from (t ∷ w) (place + span_of t) (filling (t ∷ []) ++ now)
   shifted_before : (read : List ℕ) (from : ℕ) (w : List Tree) (place : ℕ) (now : List ℕ)

@@ -12,16 +12,18 @@ use Rattle.spec_trees.specs.declared.tree.Tree.{Tree}
 use Rattle.spec_trees.specs.Trees.{span_of, all_spans, tree_depth, bare}
 use Rattle.spec_trees.specs.Made.{as_extra, reduced, filling, step_symbols, BeginsFilled, most_depth}
 use Rattle.spec_runs.specs.Configurations.{Configuration, token_tree, HasMove, AreValidTokens, AreExtras}
-use Rattle.spec_runs.specs.Runs.{Run}
+use Rattle.spec_runs.specs.Runs.{Run, IsReached}
+use Rattle.spec_packing.specs.Replacing.{AllReplace}
+use Rattle.spec_packing.specs.Packing.{PackedTree, PackedStack, packed_trees, AllCover, WasMet}
 use Rattle.spec_graph.specs.States.{Goto, ShareState}
 
--- What is parsed: a grammar, a text, where states lead, and the stack from which runs go on, with
--- the place where it ends. Nothing is laid anew before that place.
+-- What is parsed: a grammar, a text, where states lead, and the layers of the stack from which runs
+-- go on, with the place where it ends. Nothing is laid anew before that place.
 pub record Parsing : Type 0 where
   pub grammar : FlatGrammar
   pub text : Bytes
   pub goto : Goto
-  pub stack : List Tree
+  pub layers : List PackedTree
   pub place : ℕ
 
 -- the same from the start of the text
@@ -30,9 +32,42 @@ from_start P = record {
   grammar = P.grammar;
   text = P.text;
   goto = P.goto;
-  stack = [];
+  layers = [];
   place = 0;
 }
+
+-- ---- readings
+
+-- The layers of the stack are those from which runs go on, with extras on top. They are none, or
+-- have bytes.
+pub record IsBegun (P : Parsing) (k : PackedStack) : Type 0 where
+  pub extras : List PackedTree
+  pub stack_is : k.stack ≡ extras ++ P.layers
+  pub all_extras : AreExtras (packed_trees extras)
+  pub begins : BeginsFilled (packed_trees P.layers)
+  pub bytes : (P.layers ≡ []) ⊎ (0 < P.place)
+  pub place_is : P.place ≡ all_spans (packed_trees P.layers)
+
+-- Some stack that was met has the layers from which runs go on, with extras on top.
+pub record IsMet (P : Parsing) : Type 0 where
+  pub stack : PackedStack
+  pub begun : IsBegun P stack
+  pub met : WasMet P.grammar P.text stack
+
+-- a run comes to these trees, with extras on top
+pub record HasRun (P : Parsing) (stack : List Tree) : Type 0 where
+  pub config : Configuration
+  pub reached : IsReached P.grammar P.text config
+  pub extras : List Tree
+  pub stack_is : config.stack ≡ extras ++ stack
+  pub all_extras : AreExtras extras
+
+-- A reading of the stack from which runs go on: trees for which its layers may stand. They are the
+-- layers' own, or the layers were met, and a run comes to these trees.
+pub record IsReading (P : Parsing) (stack : List Tree) : Type 0 where
+  pub cover : AllCover P.layers stack
+  pub replace : AllReplace (packed_trees P.layers) stack
+  pub from : (stack ≡ packed_trees P.layers) ⊎ (IsMet P × HasRun P stack)
 
 -- ---- what is seen
 
@@ -97,13 +132,13 @@ pub data Taken (children below : List Tree) (read : List ℕ) (place : ℕ) : Ty
   nothing : children ≡ [] → below ≡ [] → read ≡ [] → place ≡ 0 → Taken children below read place
 
 -- After these symbols, at this place, trees and extras can be laid one after another, the topmost
--- first. They end at a place, with the symbols then read. Each stood on the stack from which runs
--- go on; or is a token that is shifted, an extra that is passed, or a node: over trees that are
--- laid, after which the extras up to its lookahead are passed.
+-- first. They end at a place, with the symbols then read. Each stood on some reading of the stack
+-- from which runs go on; or is a token that is shifted, an extra that is passed, or a node: over
+-- trees that are laid, after which the extras up to its lookahead are passed.
 pub data Lays (P : Parsing) : List ℕ → ℕ → List Tree → ℕ → List ℕ → Type 0 where
   flat : (read : List ℕ) (from : ℕ) → Lays P read from [] from read
   stood : (read : List ℕ) (from : ℕ) (w : List Tree) (place : ℕ) (now : List ℕ) (t : Tree)
-      (above below : List Tree) → Lays P read from w place now → P.stack ≡ above ++ t ∷ below
+      (above below : List Tree) → Lays P read from w place now → IsReading P (above ++ t ∷ below)
       → place ≡ all_spans below → ShareState P.goto (filling below) now
       → Lays P read from (t ∷ w) (place + span_of t) (filling (t ∷ []) ++ now)
   shifted : (read : List ℕ) (from : ℕ) (w : List Tree) (place : ℕ) (now : List ℕ)
@@ -134,16 +169,6 @@ pub record CanMakeNode (P : Parsing) (now : List ℕ) (place : ℕ) (children : 
   pub taken : Taken children [] now place
   pub reduces : ReducesAt P over look number left p now
   pub count : length (filling children) ≡ length p.steps
-
--- The stack of the configuration is that from which runs go on, with extras on top. It is empty, or
--- has bytes.
-pub record IsBegun (P : Parsing) (c : Configuration) : Type 0 where
-  pub extras : List Tree
-  pub stack_is : c.stack ≡ extras ++ P.stack
-  pub all_extras : AreExtras extras
-  pub begins : BeginsFilled P.stack
-  pub bytes : (P.stack ≡ []) ⊎ (0 < P.place)
-  pub place_is : P.place ≡ all_spans P.stack
 
 -- What is laid on a stack is reached by a run, once the extras that come after it are passed.
 pub record ComesOver (P : Parsing) (stack w : List Tree) (from place : ℕ) (now : List ℕ)

@@ -1,19 +1,20 @@
 -- What a graph of stacks stands for, and how much of it is there.
-use Rattle.std.specs.Prelude.{◌≡◌, ℕ, ◌+◌, ◌≤◌, List, [], ◌∷◌, ◌++◌, length, map, reverse, slice_get, Some, ◌⊎◌}
+use Rattle.std.specs.Prelude.{◌≡◌, ℕ, ◌+◌, ◌≤◌, true, List, [], ◌∷◌, ◌++◌, length, map, reverse, slice_get, Some, ◌⊎◌}
 use Rattle.std.specs.List.{Contains}
 use Rattle.ts_core.specs.declared.flat.Production.{Production}
 use Rattle.ts_core.specs.declared.symbol.Symbol.{Symbol}
 use Rattle.spec_lexing.specs.Lexing.{token}
 use Rattle.spec_tables.specs.Actions.{Act, shift}
 use Rattle.spec_trees.specs.declared.tree.Tree.{Tree}
-use Rattle.spec_trees.specs.Trees.{span_of, all_spans, tree_depth}
+use Rattle.spec_trees.specs.Trees.{is_extra_node, span_of, all_spans, tree_depth}
 use Rattle.spec_trees.specs.Made.{form_of, filling, most_depth}
 use Rattle.spec_runs.specs.Configurations.{token_tree, AreExtras}
+use Rattle.spec_packing.specs.Packing.{PackedTree, packed_trees}
 use Rattle.spec_graph.specs.declared.graph.Head.{Head}
 use Rattle.spec_graph.specs.declared.graph.Link.{Link}
 use Rattle.spec_graph.specs.States.{Goto, LeadsTo, ShareState}
 use Rattle.spec_graph.specs.Replacing.{Replaces, depth_over}
-use Rattle.spec_graph.specs.Laying.{Parsing, SeesAt, PassesAt, ReducesAt, extra_tree, node_made, Taken, Lays, CanMakeNode}
+use Rattle.spec_graph.specs.Laying.{Parsing, from_start, IsMet, SeesAt, PassesAt, ReducesAt, extra_tree, node_made, Taken, Lays, CanMakeNode}
 use Rattle.spec_graph.specs.Keys.{Key, Earlier, LaysBefore}
 
 -- ---- heads and ways
@@ -75,8 +76,19 @@ pub record HasLink (P : Parsing) (heads : List Head) (links : List Link) (b : �
   pub above : IsAt P heads link.above now place
   pub stands : StandsForTree link t
 
--- Sound: the link's tree can be laid between its heads, and is no deeper than the link says; and
--- some tree of the link's depth can be laid there.
+-- a link from the head b to the head of these symbols that stands for all that the layer stands for
+pub record HasLayer (P : Parsing) (heads : List Head) (links : List Link) (b : ℕ) (l : PackedTree)
+    (place : ℕ) (now : List ℕ) : Type 0 where
+  pub link : Link
+  pub there : Contains links link
+  pub below : link.below ≡ b
+  pub above : IsAt P heads link.above now place
+  pub tree : Replaces link.tree l.tree
+  pub depth : l.depth ≤ link.depth
+
+-- Sound: the link's tree can be laid between its heads, and is no deeper than the link says; that
+-- of an extra says one. Where the stack from which runs go on was met, some tree of the link's
+-- depth can be laid there from the start of the text.
 pub record IsLinked (P : Parsing) (heads : List Head) (l : Link) : Type 0 where
   pub under : List ℕ
   pub over : List ℕ
@@ -86,7 +98,9 @@ pub record IsLinked (P : Parsing) (heads : List Head) (l : Link) : Type 0 where
   pub above : IsAt P heads l.above over to
   pub lays : Lays P under from (l.tree ∷ []) to over
   pub shallow : tree_depth l.tree ≤ l.depth
-  pub deepest : (t : Tree) × Lays P under from (t ∷ []) to over × (tree_depth t ≡ l.depth)
+  pub flat : is_extra_node l.tree ≡ true → l.depth ≡ 1
+  pub deepest : IsMet P → (t : Tree) × Lays (from_start P) under from (t ∷ []) to over
+      × (tree_depth t ≡ l.depth)
 
 -- Head 0 is that of the empty stack, each link is sound, and a way leads down from each head.
 pub record IsGraph (P : Parsing) (heads : List Head) (links : List Link) : Type 0 where
@@ -184,9 +198,10 @@ pub record IsOpened (P : Parsing) (heads : List Head) (links : List Link) (place
       → IsAt P heads b read place → PassesAt P read place symbol pad size
       → HasLink P heads links b (extra_tree symbol pad size) (place + (pad + size)) read
 
--- each tree that stood on the stack from which runs go on has a link at the heads where it stood
+-- each layer of the stack from which runs go on has a link at the heads where it stood
 pub record HasStood (P : Parsing) (heads : List Head) (links : List Link) : Type 0 where
-  pub each : (b : ℕ) (read : List ℕ) (place : ℕ) (t : Tree) (above below : List Tree)
-      → IsAt P heads b read place → P.stack ≡ above ++ t ∷ below → place ≡ all_spans below
-      → ShareState P.goto (filling below) read
-      → HasLink P heads links b t (place + span_of t) (filling (t ∷ []) ++ read)
+  pub each : (b : ℕ) (read : List ℕ) (place : ℕ) (l : PackedTree) (above below : List PackedTree)
+      → IsAt P heads b read place → P.layers ≡ above ++ l ∷ below
+      → place ≡ all_spans (packed_trees below)
+      → ShareState P.goto (filling (packed_trees below)) read
+      → HasLayer P heads links b l (place + span_of l.tree) (filling (l.tree ∷ []) ++ read)

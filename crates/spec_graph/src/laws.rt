@@ -13,12 +13,13 @@ ghost use Rattle.spec_trees.specs.Made.{form_of, filling, step_symbols, BeginsFi
 ghost use Rattle.spec_trees.specs.Choice.{Better};
 ghost use Rattle.spec_runs.specs.Configurations.{Configuration, stack_symbols, AreExtras, HasMove};
 ghost use Rattle.spec_runs.specs.Moves.{StandsBefore};
-ghost use Rattle.spec_runs.specs.Runs.{Run, IsReached, ComesTooDeep, AcceptsTree, StopsAt};
+ghost use Rattle.spec_runs.specs.Runs.{IsReached, ComesTooDeep, AcceptsTree, StopsAt};
 ghost use Rattle.spec_runs.specs.Outcomes.{SomeIsTooDeep, SomeAccepts, SomeStopsAt, IsBestTree, IsLastStop};
+ghost use Rattle.spec_packing.specs.Packing.{PackedStack, WasMet, GoesThrough};
 ghost use Rattle.spec_graph.specs.declared.graph.Head.{Head as AnyHead};
 ghost use Rattle.spec_graph.specs.declared.graph.Link.{Link as AnyLink};
 ghost use Rattle.spec_graph.specs.States.{LeadsTo, ShareState, AreStates, AreRanks};
-ghost use Rattle.spec_graph.specs.Laying.{Parsing, from_start, SeesAt, PassesAt, ReducesAt, extra_tree, PassesTree, node_made, Lays, CanMakeNode, IsBegun, ComesOver};
+ghost use Rattle.spec_graph.specs.Laying.{Parsing, from_start, IsMet, IsReading, SeesAt, PassesAt, ReducesAt, extra_tree, PassesTree, node_made, Lays, CanMakeNode, IsBegun, ComesOver};
 ghost use Rattle.spec_graph.specs.Grounded.{AreMadeTrees, IsGrounded};
 ghost use Rattle.spec_graph.specs.Replacing.{AreAlike, Replaces, ReplacesBoth, AllReplace, depth_over};
 ghost use Rattle.spec_graph.specs.Keys.{Key, Earlier, IsNextKey, LaysBefore};
@@ -49,37 +50,38 @@ fn laws_hold()
     some_move_stays();
 }
 
-/// The empty stack is grounded, and so is each stack from which runs go on, once some run came to
-/// it. The trees of a stack to which a run comes are such as moves make. What stands below a tree of
-/// a grounded stack ends before the stack does.
+/// The empty stack is grounded, and so is each stack from which runs go on, where it was met. The
+/// trees of a stack to which a run comes are such as moves make. What stands below a tree of a
+/// reading of a grounded stack ends before the stack does.
 pub fn stacks_are_grounded()
-    ensures empty { (P : Parsing) → Fit P.grammar → AreStates P.grammar P.goto → P.stack ≡ []
+    ensures empty { (P : Parsing) → Fit P.grammar → AreStates P.grammar P.goto → P.layers ≡ []
         → P.place ≡ 0 → IsGrounded P }
     ensures reached { (P : Parsing) → Fit P.grammar → AreStates P.grammar P.goto
-        → (c : Configuration) → IsReached P.grammar P.text c → IsBegun P c → IsGrounded P }
+        → IsMet P → IsGrounded P }
     ensures trees { (P : Parsing) → Fit P.grammar → AreStates P.grammar P.goto
         → (c : Configuration) → IsReached P.grammar P.text c
         → AreMadeTrees P.grammar c.stack }
     ensures low { (P : Parsing) → IsGrounded P → (above below : List Tree) (t : Tree)
-        → P.stack ≡ above ++ t ∷ below → all_spans below < P.place }
+        → IsReading P (above ++ t ∷ below) → all_spans below < P.place }
 {
     laws_hold();
 }
 
 /// What runs reach is laid, from the start and over the stack from which runs go on; and what is
-/// laid is reached, once the extras behind it are passed. It reaches from place to place.
+/// laid is reached, once the extras behind it are passed. What is laid over that stack is laid from
+/// the start, where it was met. It reaches from place to place.
 pub fn runs_lay()
     ensures start { (P : Parsing) → Fit P.grammar → AreStates P.grammar P.goto → (c : Configuration)
         → IsReached P.grammar P.text c
         → Lays (from_start P) [] 0 c.stack c.place (stack_symbols c.stack) }
     ensures on { (P : Parsing) → Fit P.grammar → AreStates P.grammar P.goto
-        → (c d : Configuration) → IsReached P.grammar P.text c → IsBegun P c
-        → Run P.grammar P.text c d → Lays P [] 0 d.stack d.place (stack_symbols d.stack) }
+        → (k : PackedStack) → IsBegun P k → WasMet P.grammar P.text k
+        → (d : Configuration) → GoesThrough P.grammar P.text k d
+        → Lays P [] 0 d.stack d.place (stack_symbols d.stack) }
     ensures reached { (P : Parsing) → Fit P.grammar → AreStates P.grammar P.goto
         → (w : List Tree) (place : ℕ) (now : List ℕ)
         → Lays (from_start P) [] 0 w place now → ComesOver (from_start P) [] w 0 place now }
-    ensures embeds { (P : Parsing) → Fit P.grammar → AreStates P.grammar P.goto
-        → (c : Configuration) → IsReached P.grammar P.text c → IsBegun P c
+    ensures embeds { (P : Parsing) → Fit P.grammar → AreStates P.grammar P.goto → IsMet P
         → (read now : List ℕ) (from place : ℕ) (w : List Tree)
         → Lays P read from w place now → Lays (from_start P) read from w place now }
     ensures spans { (P : Parsing) → Fit P.grammar → AreStates P.grammar P.goto → IsGrounded P
@@ -139,7 +141,8 @@ pub fn parts_come_first()
 }
 
 /// What is laid twice between two heads is of one kind, with one symbol and the same bytes, so that
-/// the better of both can be kept: either can be laid there after the symbols of the other.
+/// the better of both can be kept: either can be laid there after the symbols of the other. So can
+/// the deeper of two that are laid from the start.
 pub fn links_pack()
     ensures alike { (P : Parsing) → Fit P.grammar → AreStates P.grammar P.goto → IsGrounded P
         → (heads : List AnyHead) (a b : ℕ) (read other now then : List ℕ) (from to : ℕ)
@@ -154,13 +157,20 @@ pub fn links_pack()
         → Lays P read from (t ∷ []) to now
         → Lays P other from (u ∷ []) to then
         → Lays P other from (t ∷ []) to then }
+    ensures deep { (P : Parsing) → Fit P.grammar → AreStates P.grammar P.goto
+        → (heads : List AnyHead) (a b : ℕ) (read other now then : List ℕ) (from to : ℕ)
+        (t u : Tree) → IsAt P heads a read from → IsAt P heads b now to
+        → IsAt P heads a other from → IsAt P heads b then to
+        → Lays (from_start P) read from (t ∷ []) to now
+        → Lays (from_start P) other from (u ∷ []) to then
+        → Lays (from_start P) other from (t ∷ []) to then }
 {
     laws_hold();
 }
 
-/// An extra that is laid alone is passed there, if it ends no earlier than the stack from which runs
-/// go on, and no symbol comes with it. What is passed after some symbols is passed after all that
-/// lead to the same state.
+/// An extra that is laid alone is passed there, if it ends no earlier than the stack from which
+/// runs go on, and no symbol comes with it. What is passed after some symbols is passed after all
+/// that lead to the same state.
 pub fn extras_are_passed()
     ensures tree { (P : Parsing) → Fit P.grammar → AreStates P.grammar P.goto → IsGrounded P
         → (read now : List ℕ) (from place : ℕ) (t : Tree)
@@ -191,8 +201,8 @@ pub fn tokens_are_seen_again()
     laws_hold();
 }
 
-/// A graph is whole up to the first key where all that stood has links. From there it is whole up
-/// to each next key once all reductions of a key are done.
+/// A graph is whole up to the first key where each layer that stood has links. From there it is
+/// whole up to each next key once all reductions of a key are done.
 pub fn whole_to_the_next()
     ensures begins { (P : Parsing) → Fit P.grammar → AreStates P.grammar P.goto → IsGrounded P
         → (rank : ℕ → ℕ) (most : ℕ) → AreRanks P.grammar rank most
@@ -283,9 +293,10 @@ pub fn reductions_are_due()
 }
 
 /// What a reduction in a sound graph makes can be laid from its lower head to that of its rule: the
-/// node over the trees of its way, which is no deeper than the way says, and some tree of that
-/// depth. Each extra above is passed over it too. The key's token stands at the end of the stack
-/// from which runs go on or past it, and then so does the end of the node.
+/// node over the trees of its way, which is no deeper than the way says, and, from the start of the
+/// text, some tree of that depth, where the stack from which runs go on was met. Each extra above
+/// is passed over it too. The key's token stands at the end of that stack or past it, and then so
+/// does the end of the node.
 pub fn reductions_are_laid()
     ensures node { (P : Parsing) → Fit P.grammar → AreStates P.grammar P.goto → IsGrounded P
         → (rank : ℕ → ℕ) (heads : List AnyHead) (links : List AnyLink) → IsGraph P heads links
@@ -308,13 +319,13 @@ pub fn reductions_are_laid()
         → IsDue P rank heads links k number left p h e b outer inner over now end
         → tree_depth (node_made P number (reverse (way_trees inner)))
         ≤ way_depth P number left inner }
-    ensures deepest { (P : Parsing) → Fit P.grammar → AreStates P.grammar P.goto → IsGrounded P
+    ensures deepest { (P : Parsing) → Fit P.grammar → AreStates P.grammar P.goto → IsMet P
         → (rank : ℕ → ℕ) (heads : List AnyHead) (links : List AnyLink) → IsGraph P heads links
         → (k : Key) (number left : ℕ) (p : Production) (h e b : ℕ) (outer inner : List AnyLink)
         (over now : List ℕ) (end : ℕ)
         → IsDue P rank heads links k number left p h e b outer inner over now end
-        → P.place ≤ k.look → way_depth P number left inner ≤ most_depth
-        → (t : Tree) × Lays P now k.begins (t ∷ []) end (left ∷ now)
+        → way_depth P number left inner ≤ most_depth
+        → (t : Tree) × Lays (from_start P) now k.begins (t ∷ []) end (left ∷ now)
         × (tree_depth t ≡ way_depth P number left inner) }
     ensures extras { (P : Parsing) → Fit P.grammar → AreStates P.grammar P.goto → IsGrounded P
         → (rank : ℕ → ℕ) (heads : List AnyHead) (links : List AnyLink) → IsGraph P heads links
@@ -361,61 +372,56 @@ pub fn new_heads_have_little()
     laws_hold();
 }
 
-/// All that runs reach from the stack from which they go on has a way in a graph that is whole,
-/// which stands for it; no run comes to a node that is too deep; and what runs end with there, the
-/// graph has, with a tree that is no worse.
+/// All that runs reach that go through what a stack stands for has a way in a graph that is whole
+/// over its layers, which stands for it; no such run comes to a node that is too deep; and what
+/// they end with, the graph has, with a tree that is no worse.
 pub fn whole_graphs_have_all()
     ensures way { (P : Parsing) → Fit P.grammar → AreStates P.grammar P.goto
-        → (c : Configuration) → IsReached P.grammar P.text c → IsBegun P c
+        → (first : PackedStack) → IsBegun P first → WasMet P.grammar P.text first
         → (rank : ℕ → ℕ) (most : ℕ) → AreRanks P.grammar rank most
         → (heads : List AnyHead) (links : List AnyLink) (k : Key) → IsGraph P heads links
         → IsWholeTo P rank heads links k → length P.text < k.look → P.place ≤ length P.text
-        → (d : Configuration) → Run P.grammar P.text c d
+        → (d : Configuration) → GoesThrough P.grammar P.text first d
         → HasWay P heads links 0 d.stack d.place (stack_symbols d.stack) }
     ensures deep { (P : Parsing) → Fit P.grammar → AreStates P.grammar P.goto
-        → (c : Configuration) → IsReached P.grammar P.text c → IsBegun P c
+        → (first : PackedStack) → IsBegun P first → WasMet P.grammar P.text first
         → (rank : ℕ → ℕ) (most : ℕ) → AreRanks P.grammar rank most
         → (heads : List AnyHead) (links : List AnyLink) (k : Key) → IsGraph P heads links
         → IsWholeTo P rank heads links k → length P.text < k.look → P.place ≤ length P.text
-        → (d : Configuration) → Run P.grammar P.text c d
+        → (d : Configuration) → GoesThrough P.grammar P.text first d
         → ComesTooDeep P.grammar P.text d → ⊥ }
     ensures accepts { (P : Parsing) → Fit P.grammar → AreStates P.grammar P.goto
-        → (c : Configuration) → IsReached P.grammar P.text c → IsBegun P c
+        → (first : PackedStack) → IsBegun P first → WasMet P.grammar P.text first
         → (rank : ℕ → ℕ) (most : ℕ) → AreRanks P.grammar rank most
         → (heads : List AnyHead) (links : List AnyLink) (k : Key) → IsGraph P heads links
         → IsWholeTo P rank heads links k → length P.text < k.look → P.place ≤ length P.text
-        → (d : Configuration) (u : Tree) → Run P.grammar P.text c d
+        → (d : Configuration) (u : Tree) → GoesThrough P.grammar P.text first d
         → AcceptsTree P.grammar P.text d u
         → (t : Tree) × GraphAccepts P heads links t × (Better u t → ⊥) }
     ensures stops { (P : Parsing) → Fit P.grammar → AreStates P.grammar P.goto
-        → (c : Configuration) → IsReached P.grammar P.text c → IsBegun P c
+        → (first : PackedStack) → IsBegun P first → WasMet P.grammar P.text first
         → (rank : ℕ → ℕ) (most : ℕ) → AreRanks P.grammar rank most
         → (heads : List AnyHead) (links : List AnyLink) (k : Key) → IsGraph P heads links
         → IsWholeTo P rank heads links k → length P.text < k.look → P.place ≤ length P.text
-        → (d : Configuration) (stop : ℕ) → Run P.grammar P.text c d
+        → (d : Configuration) (stop : ℕ) → GoesThrough P.grammar P.text first d
         → StopsAt P.grammar P.text d stop → GraphStopsAt P heads stop }
 {
     laws_hold();
 }
 
-/// A graph that is sound over a stack to which some run came is sound from the start of the text. So
-/// what it says is so: some run accepts the tree, stops at the place, or comes to a node that is too
-/// deep.
+/// A graph that is sound over a stack that was met is sound from the start of the text. So what it
+/// says is so: some run accepts the tree, stops at the place, or comes to a node that is too deep.
 pub fn graphs_are_sound()
-    ensures start { (P : Parsing) → Fit P.grammar → AreStates P.grammar P.goto
-        → (c : Configuration) → IsReached P.grammar P.text c → IsBegun P c
+    ensures start { (P : Parsing) → Fit P.grammar → AreStates P.grammar P.goto → IsMet P
         → (heads : List AnyHead) (links : List AnyLink) → IsGraph P heads links
         → IsGraph (from_start P) heads links }
-    ensures accepts { (P : Parsing) → Fit P.grammar → AreStates P.grammar P.goto
-        → (c : Configuration) → IsReached P.grammar P.text c → IsBegun P c
+    ensures accepts { (P : Parsing) → Fit P.grammar → AreStates P.grammar P.goto → IsMet P
         → (heads : List AnyHead) (links : List AnyLink) → IsGraph P heads links
         → (t : Tree) → GraphAccepts P heads links t → SomeAccepts P.grammar P.text t }
-    ensures stops { (P : Parsing) → Fit P.grammar → AreStates P.grammar P.goto
-        → (c : Configuration) → IsReached P.grammar P.text c → IsBegun P c
+    ensures stops { (P : Parsing) → Fit P.grammar → AreStates P.grammar P.goto → IsMet P
         → (heads : List AnyHead) (links : List AnyLink) → IsGraph P heads links
         → (stop : ℕ) → GraphStopsAt P heads stop → SomeStopsAt P.grammar P.text stop }
-    ensures deep { (P : Parsing) → Fit P.grammar → AreStates P.grammar P.goto
-        → (c : Configuration) → IsReached P.grammar P.text c → IsBegun P c
+    ensures deep { (P : Parsing) → Fit P.grammar → AreStates P.grammar P.goto → IsMet P
         → (rank : ℕ → ℕ) (heads : List AnyHead) (links : List AnyLink)
         → IsGraph P heads links
         → GraphIsDeep P rank heads links → SomeIsTooDeep P.grammar P.text }
@@ -425,12 +431,12 @@ pub fn graphs_are_sound()
 
 /// The best tree and the last stop of a whole graph of all runs are the outcome of the text.
 pub fn graphs_tell_the_outcome()
-    ensures best { (P : Parsing) → Fit P.grammar → AreStates P.grammar P.goto → P.stack ≡ []
+    ensures best { (P : Parsing) → Fit P.grammar → AreStates P.grammar P.goto → P.layers ≡ []
         → P.place ≡ 0 → (rank : ℕ → ℕ) (most : ℕ) → AreRanks P.grammar rank most
         → (heads : List AnyHead) (links : List AnyLink) (k : Key) → IsGraph P heads links
         → IsWholeTo P rank heads links k → length P.text < k.look
         → (t : Tree) → IsBestOfGraph P heads links t → IsBestTree P.grammar P.text t }
-    ensures last { (P : Parsing) → Fit P.grammar → AreStates P.grammar P.goto → P.stack ≡ []
+    ensures last { (P : Parsing) → Fit P.grammar → AreStates P.grammar P.goto → P.layers ≡ []
         → P.place ≡ 0 → (rank : ℕ → ℕ) (most : ℕ) → AreRanks P.grammar rank most
         → (heads : List AnyHead) (links : List AnyLink) (k : Key) → IsGraph P heads links
         → IsWholeTo P rank heads links k → length P.text < k.look
