@@ -5,9 +5,9 @@ use Rattle.spec_trees.specs.declared.tree.Tree.{Tree}
 use Rattle.spec_trees.specs.Trees.{span_of, all_spans, tree_depth}
 use Rattle.spec_trees.specs.Made.{filling, most_depth}
 use Rattle.spec_runs.specs.Configurations.{Configuration, token_tree, IsReduction}
-use Rattle.spec_runs.specs.Runs.{CanMove, StepsOn, shift_token, pass_extra, reduce_trees, Run, run_here, run_on, IsReached}
+use Rattle.spec_runs.specs.Runs.{CanMove, StepsOn, shift_token, pass_extra, reduce_trees, Run, run_here, run_on}
 use Rattle.spec_graph.specs.States.{at_first, AreRanks}
-use Rattle.spec_graph.specs.Laying.{Parsing, extra_tree, node_made, Lays, IsBegun}
+use Rattle.spec_graph.specs.Laying.{Parsing, HasRun, IsReading, extra_tree, node_made, Lays}
 use Rattle.spec_graph.specs.Keys.{Key, LaysBefore, flat_before, stood_before, shifted_before, passed_before, made_before}
 use Rattle.spec_graph.proofs.SightLemmas.{Facts, narrows}
 use Rattle.spec_graph.proofs.EntryLemmas.{token_says, extra_says}
@@ -31,32 +31,33 @@ module _ (P : Parsing) (facts : Facts P) (base : IsBase P) (rank : ℕ → ℕ) 
 
   -- ---- where runs go on
 
-  stand_before : (above below : List Tree) → P.stack ≡ above ++ below → LaysBefore P rank first [] 0 below (all_spans below) (filling below)
-  stand_before above [] at = flat_before [] 0
-  stand_before above (t ∷ below) at =
-      let deeper : P.stack ≡ (above ++ t ∷ []) ++ below = at ∙ sym (append_assoc above (t ∷ []) below) in
-      let low = stand_before (above ++ t ∷ []) below deeper in
-      let m = base.states (above ++ t ∷ []) below deeper in
-      let one = stood_before [] 0 below (all_spans below) (filling below) t above below low at refl (m.0, m.1, m.1) in
-      let end : all_spans below + span_of t ≡ all_spans (t ∷ below) = omega arith in
-      settle (t ∷ below) (all_spans (t ∷ below)) (filling (t ∷ []) ++ filling below)
-      (subst (λ (m : ℕ). LaysBefore P rank first [] 0 (t ∷ below) m (filling (t ∷ []) ++ filling below)) end one)
+  module _ (stack : List Tree) (r : IsReading P stack) where
+    stand_before : (above below : List Tree) → stack ≡ above ++ below → LaysBefore P rank first [] 0 below (all_spans below) (filling below)
+    stand_before above [] at = flat_before [] 0
+    stand_before above (t ∷ below) at =
+        let deeper : stack ≡ (above ++ t ∷ []) ++ below = at ∙ sym (append_assoc above (t ∷ []) below) in
+        let low = stand_before (above ++ t ∷ []) below deeper in
+        let m = base.states (above ++ t ∷ []) below (subst (λ (w : List Tree). IsReading P w) deeper r) in
+        let one = stood_before [] 0 below (all_spans below) (filling below) t above below low (subst (λ (w : List Tree). IsReading P w) at r) refl (m.0, m.1, m.1) in
+        let end : all_spans below + span_of t ≡ all_spans (t ∷ below) = omega arith in
+        settle (t ∷ below) (all_spans (t ∷ below)) (filling (t ∷ []) ++ filling below)
+        (subst (λ (m : ℕ). LaysBefore P rank first [] 0 (t ∷ below) m (filling (t ∷ []) ++ filling below)) end one)
 
-  module _ (c : Configuration) (reached : IsReached P.grammar P.text c) (begun : IsBegun P c) where
-    pub begun_before : c.place ≤ n → IsBefore c
-    begun_before le =
-        let all = run_laid P facts c reached begun c (run_here c) in
-        let s = split P facts base begun.extras P.stack [] 0 c.place (filling c.stack)
-        (subst (λ (w : List Tree). Lays P [] 0 w c.place (filling c.stack)) begun.stack_is all.0) in
-        let spans = lays_spans P facts base [] 0 P.stack s.place s.between s.low in
-        let place : s.place ≡ all_spans P.stack = omega (arith, spans) in
-        let read : s.between ≡ filling P.stack = lays_read P facts [] 0 P.stack s.place s.between s.low ∙ append-nil (filling P.stack) in
-        let high : Lays P (filling P.stack) (all_spans P.stack) begun.extras c.place (filling c.stack) =
-        subst (λ (r : List ℕ). Lays P r (all_spans P.stack) begun.extras c.place (filling c.stack)) read
-        (subst (λ (m : ℕ). Lays P s.between m begun.extras c.place (filling c.stack)) place s.high) in
-        subst (λ (w : List Tree). LaysBefore P rank first [] 0 w c.place (filling c.stack)) (sym begun.stack_is)
-        (due_extras P facts base rank most ranked first [] 0 P.stack (all_spans P.stack) (filling P.stack) (stand_before [] P.stack refl)
-        begun.extras c.place (filling c.stack) high begun.all_extras le all.1)
+    pub begun_before : (begins : HasRun P stack) → begins.config.place ≤ n → IsBefore begins.config
+    begun_before begins le =
+        let c : Configuration = begins.config in
+        let all = run_laid P facts base stack r begins c (run_here c) in
+        let s = split P facts base begins.extras stack [] 0 c.place (filling c.stack)
+        (subst (λ (w : List Tree). Lays P [] 0 w c.place (filling c.stack)) begins.stack_is all.0) in
+        let spans = lays_spans P facts base [] 0 stack s.place s.between s.low in
+        let place : s.place ≡ all_spans stack = omega (arith, spans) in
+        let read : s.between ≡ filling stack = lays_read P facts [] 0 stack s.place s.between s.low ∙ append-nil (filling stack) in
+        let high : Lays P (filling stack) (all_spans stack) begins.extras c.place (filling c.stack) =
+        subst (λ (read : List ℕ). Lays P read (all_spans stack) begins.extras c.place (filling c.stack)) read
+        (subst (λ (m : ℕ). Lays P s.between m begins.extras c.place (filling c.stack)) place s.high) in
+        subst (λ (w : List Tree). LaysBefore P rank first [] 0 w c.place (filling c.stack)) (sym begins.stack_is)
+        (due_extras P facts base rank most ranked first [] 0 stack (all_spans stack) (filling stack) (stand_before [] stack refl)
+        begins.extras c.place (filling c.stack) high begins.all_extras le all.1)
 
   -- ---- one step
 

@@ -1,4 +1,4 @@
--- Where one stack is left: it is reached, and what runs come to past a place is served from it.
+-- Where one stack is left: it is reached, and runs that go past a place go through what its layers stand for.
 use Rattle.std.proofs.Common.{◌≡◌, ◌∙◌, sym, ap, refl, subst, ℕ, ◌+◌, ◌-◌, ◌<◌, ◌≤◌, ◌⊎◌, inl, inr, false, true≢false, List, [], ◌∷◌, ◌++◌, append-nil, length, map, Option, Some, None, arith}
 use lib.IntN.{ℤ, ◌+ℤ◌}
 use Rattle.ts_core.specs.declared.flat.FlatGrammar.{FlatGrammar}
@@ -11,26 +11,24 @@ use Rattle.spec_trees.specs.declared.tree.Element.{Element}
 use Rattle.spec_trees.specs.Trees.{production_of, is_extra_node, elements_of, children_of, total_of, all_totals, span_of, bare_element, bare}
 use Rattle.spec_trees.specs.Made.{IsLeaf, element, Form, of_rule, of_first, of_next, form_of, made_by, value_of, reduced, filling}
 use Rattle.spec_runs.specs.Configurations.{Configuration, token_tree, pushed}
-use Rattle.spec_runs.specs.Runs.{StepsOn, shift_token, Run, run_here, run_on, IsReached, ComesTooDeep}
+use Rattle.spec_runs.specs.Runs.{StepsOn, shift_token, Run, run_here, run_on, IsReached}
 use Rattle.spec_packing.specs.Laws.{RunLaws}
 use Rattle.spec_packing.specs.Replacing.{AllReplace}
-use Rattle.spec_packing.specs.Packing.{packed_trees, AllCover, Packs, GoesThrough}
-use Rattle.spec_packing.specs.Serving.{AllServe, ServesConfiguration, ComesToServe}
+use Rattle.spec_packing.specs.Packing.{PackedStack, packed_trees, AllCover, Packs, WasMet, GoesThrough}
 use Rattle.spec_packing.proofs.MadeLemmas.{over_says, CanMake, IsLawful, no_children, left_is}
 use Rattle.spec_graph.specs.declared.graph.Head.{Head}
 use Rattle.spec_graph.specs.declared.graph.Link.{Link}
 use Rattle.spec_graph.specs.States.{ShareState, AreRanks}
-use Rattle.spec_graph.specs.Laying.{Parsing, from_start, SeesAt, GoesOn, extra_tree, node_made, Lays, flat, stood, shifted, passed, made, IsBegun}
+use Rattle.spec_graph.specs.Laying.{Parsing, IsBegun, HasRun, IsReading, SeesAt, GoesOn, extra_tree, node_made, Lays, flat, stood, shifted, passed, made}
 use Rattle.spec_graph.specs.Links.{IsAt, IsWay, way_trees, AllStandFor, IsLinked, IsGraph, IsWholeTo}
+use Rattle.spec_graph.proofs.ReadingLemmas.{no_reading}
 use Rattle.spec_graph.proofs.SightLemmas.{Facts, clash, sees_shared}
 use Rattle.spec_graph.proofs.EntryLemmas.{token_says, extra_says, lawful_at}
-use Rattle.spec_graph.proofs.LayLemmas.{IsBase, no_middle, begins_taken, can_make, lays_read, lays_none, run_join}
+use Rattle.spec_graph.proofs.LayLemmas.{IsBase, begins_taken, can_make, lays_read, lays_none, run_join}
 use Rattle.spec_graph.proofs.GraphLemmas.{AreLaid, WayLaid, share_head, same_place, ways, way_reached}
-use Rattle.spec_graph.proofs.BaseLemmas.{start_facts, start_base, base_of, run_laid, within}
+use Rattle.spec_graph.proofs.BaseLemmas.{through_stack, through_run, through_reading, through_base, run_laid, within}
 use Rattle.spec_graph.proofs.OutcomeLemmas.{own_trees}
-use Rattle.spec_graph.proofs.GroundLemmas.{graph_start}
-use Rattle.spec_crossing.specs.Laws.{ServingLaws}
-use Rattle.spec_crossing.specs.Leaving.{AreExact, IsOnlyWay, EndsWithToken, StandsAlone, way_config, packed_link, way_stack, EndsBefore}
+use Rattle.spec_crossing.specs.Leaving.{EndsWithToken, StandsAlone, packed_link, way_stack, EndsBefore}
 use Rattle.spec_crossing.proofs.BeforeLemmas.{IsBefore, begun_before, EndsEarly, GoesPast, run_before}
 use Rattle.spec_crossing.proofs.EndLemmas.{way_of, ends_early}
 
@@ -81,9 +79,9 @@ pub record IsShifted (P : Parsing) (γ : List ℕ) (q : ℕ) (t : Tree) (p : ℕ
   pub tree_is : t ≡ token_tree symbol pad size
   pub ends : p ≡ q + (pad + size)
 
-leaf_shifted : (P : Parsing) (facts : Facts P) (base : IsBase P) → P.stack ≡ [] → (γ : List ℕ) (q : ℕ) (w : List Tree) (t : Tree) (p : ℕ) (δ : List ℕ) → Lays P γ q w p δ → w ≡ t ∷ [] → is_extra_node t ≡ false → IsLeaf t → IsShifted P γ q t p
+leaf_shifted : (P : Parsing) (facts : Facts P) (base : IsBase P) → P.layers ≡ [] → (γ : List ℕ) (q : ℕ) (w : List Tree) (t : Tree) (p : ℕ) (δ : List ℕ) → Lays P γ q w p δ → w ≡ t ∷ [] → is_extra_node t ≡ false → IsLeaf t → IsShifted P γ q t p
 leaf_shifted P facts base fresh γ q _ t _ _ (flat _ _) is fills leaf = absurd (let h : [] ≡ t ∷ [] = is in cc)
-leaf_shifted P facts base fresh γ q _ t _ _ (stood _ _ w p δ u above below l at place share) is fills leaf = absurd (no_middle above u below (sym fresh ∙ at))
+leaf_shifted P facts base fresh γ q _ t _ _ (stood _ _ w p δ u above below l at place share) is fills leaf = absurd (no_reading P fresh above below u at)
 leaf_shifted P facts base fresh γ q _ t _ _ (shifted _ _ w p δ s pad size l late sees acts) is fills leaf =
     let same : token_tree s pad size ≡ t = cc in
     let none : w ≡ [] = cc in
@@ -108,7 +106,7 @@ leaf_shifted P facts base fresh γ q _ t _ _ (made _ _ w p δ ks end ε xs look 
 
 -- ---- the stack that is left is reached
 
-module _ (P : Parsing) (facts : Facts P) (base : IsBase P) (fresh : P.stack ≡ []) (zero_place : P.place ≡ 0) (heads : List Head) (links : List Link) (graph : IsGraph P heads links) (h place : ℕ) (read : List ℕ) (way : List Link)
+module _ (P : Parsing) (facts : Facts P) (base : IsBase P) (fresh : P.layers ≡ []) (zero_place : P.place ≡ 0) (heads : List Head) (links : List Link) (graph : IsGraph P heads links) (h place : ℕ) (read : List ℕ) (way : List Link)
     (at : IsAt P heads h read place) (leads : IsWay links h way 0) (ends : EndsWithToken way) where
   pub down : IsWay links h (ends.last ∷ ends.rest) 0
   down = subst (λ (w : List Link). IsWay links h w 0) ends.way_is leads
@@ -173,34 +171,11 @@ module _ (P : Parsing) (facts : Facts P) (base : IsBase P) (fresh : P.stack ≡ 
         (run_join P facts _ before (pushed before shifted_tree) tail_reached
         (run_on before (pushed before shifted_tree) (pushed before shifted_tree) stepped (run_here (pushed before shifted_tree))))
 
-  pub left_reached : IsReached P.grammar P.text (way_config way place)
-  left_reached = subst (λ (w : List Link). IsReached P.grammar P.text (way_config w place)) (sym ends.way_is)
+  pub left_reached : IsReached P.grammar P.text (record { stack = way_trees way; place = place })
+  left_reached = subst (λ (w : List Link). IsReached P.grammar P.text (record { stack = way_trees w; place = place })) (sym ends.way_is)
       (left_laid (way_trees ends.rest) (own_trees P facts base heads links graph ends.rest ends.last.below 0 down.2))
 
--- the same where a run came to the stack from which runs go on
-pub left_from : (P : Parsing) (facts : Facts P) (c : Configuration) → IsReached P.grammar P.text c → IsBegun P c → (heads : List Head) (links : List Link) → IsGraph P heads links → (h place : ℕ) (read : List ℕ) (way : List Link)
-    → IsAt P heads h read place → IsOnlyWay links h way → EndsWithToken way → IsReached P.grammar P.text (way_config way place)
-left_from P facts c reached begun heads links graph h place read way at one ends =
-    left_reached (from_start P) (start_facts P facts) (start_base P facts) refl refl heads links (graph_start P facts c reached begun heads links graph) h place read way at one.down ends
-
 -- ---- what runs come to
-
--- trees of exact links serve for all for which the links stand
-exact_serve : (way : List Link) (ts : List Tree) → AreExact way → AllStandFor way ts → AllServe (way_trees way) ts
-exact_serve [] [] e a = tt
-exact_serve [] (t ∷ ts) e a = absurd a
-exact_serve (l ∷ way) [] e a = absurd a
-exact_serve (l ∷ way) (t ∷ ts) e a = (
-  record {
-    symbol = a.0.tree.symbol;
-    extra = a.0.tree.extra;
-    pad = a.0.tree.pad;
-    size = a.0.tree.size;
-    depth = let d = a.0.depth in let h = e.0 in omega (arith, d, h);
-    no_better = a.0.tree.no_better;
-  },
-  exact_serve way ts e.1 a.1,
-)
 
 -- the layers of links cover all for which the links stand, and their trees may take the place of it
 links_cover : (way : List Link) (ts : List Tree) → AllStandFor way ts → AllCover (map packed_link way) ts
@@ -227,80 +202,31 @@ links_replace (l ∷ way) (t ∷ ts) a = (
   links_replace way ts a.1,
 )
 
-module _ (P : Parsing) (facts : Facts P) (serving : ServingLaws) (c : Configuration) (reached : IsReached P.grammar P.text c) (begun : IsBegun P c) (rank : ℕ → ℕ) (most : ℕ) (ranked : AreRanks P.grammar rank most)
-    (heads : List Head) (links : List Link) (graph : IsGraph P heads links) (n : ℕ) (whole : IsWholeTo P rank heads links (record { look = n; begins = n; rank = most })) (early : c.place < n) where
-  pub base : IsBase P
-  base = base_of P facts c reached begun
+module _ (P : Parsing) (facts : Facts P) (base : IsBase P) (stack : List Tree) (r : IsReading P stack) (begins : HasRun P stack) (rank : ℕ → ℕ) (most : ℕ) (ranked : AreRanks P.grammar rank most)
+    (heads : List Head) (links : List Link) (graph : IsGraph P heads links) (n : ℕ) (whole : IsWholeTo P rank heads links (record { look = n; begins = n; rank = most })) (early : begins.config.place < n) where
+  runs_on : (d : Configuration) → Run P.grammar P.text begins.config d → EndsEarly P facts base rank most ranked n d ⊎ GoesPast P facts base rank most ranked n begins.config d
+  runs_on d run = run_before P facts base rank most ranked n begins.config d
+      (begun_before P facts base rank most ranked n stack r begins (omega (arith, early)))
+      ((run_laid P facts base stack r begins begins.config (run_here begins.config)).1) early run
 
-  pub at_reached : (d : Configuration) → Run P.grammar P.text c d → IsReached P.grammar P.text d
-  at_reached d run = run_join P facts _ c d reached run
-
-  runs_on : (d : Configuration) → Run P.grammar P.text c d → EndsEarly P facts base rank most ranked n d ⊎ GoesPast P facts base rank most ranked n c d
-  runs_on d run = run_before P facts base rank most ranked n c d
-      (begun_before P facts base rank most ranked n c reached begun (omega (arith, early)))
-      ((run_laid P facts c reached begun c (run_here c)).1) early run
-
-  -- how runs end at what may stand for a configuration, they end at that
-  pub served_ends : (at d : Configuration) → EndsEarly P facts base rank most ranked n at → IsReached P.grammar P.text at → IsReached P.grammar P.text d → ComesTooDeep P.grammar P.text at ⊎ ServesConfiguration at d → EndsBefore P heads links n d
-  served_ends at d ends ra rd serves = by serves
+  -- where the place is past the text, all ends are in the graph
+  ends_all : length P.text < n → P.place ≤ length P.text → (d : Configuration) → Run P.grammar P.text begins.config d → EndsBefore P heads links n d
+  ends_all last inside d run = by (runs_on d run)
     where
-      here : EndsBefore P heads links n at
-      here = ends_early P facts base rank most ranked n heads links graph whole at ends
-
-      by : ComesTooDeep P.grammar P.text at ⊎ ServesConfiguration at d → EndsBefore P heads links n d
-      by (inl deep) = absurd (here.shallow deep)
-      by (inr s) = record {
-        shallow = λ deep. here.shallow (serving.deep P.grammar facts.fit P.text d at rd ra s deep);
-        accepts = λ u a.
-            let w = serving.accepts P.grammar facts.fit P.text d at u rd ra s a in
-            let v = here.accepts w.0 w.1 in
-            (v.0, v.1, v.2, v.3, serving.no_better v.0 w.0 u v.4 w.2);
-        stops = λ stop p. here.stops stop (serving.stops P.grammar P.text d at stop s p);
-      }
-
-  pub ends_all : length P.text < n → P.place ≤ length P.text → (d : Configuration) → IsReached P.grammar P.text d → ComesToServe P.grammar P.text c d → EndsBefore P heads links n d
-  ends_all last inside d rd w = by (runs_on w.at w.run)
-    where
-      by : EndsEarly P facts base rank most ranked n w.at ⊎ GoesPast P facts base rank most ranked n c w.at → EndsBefore P heads links n d
-      by (inl ends) = served_ends w.at d ends (at_reached w.at w.run) rd w.serves
+      by : EndsEarly P facts base rank most ranked n d ⊎ GoesPast P facts base rank most ranked n begins.config d → EndsBefore P heads links n d
+      by (inl ends) = ends_early P facts base rank most ranked n heads links graph whole d ends
       by (inr past) = absurd (too_far past)
         where
-          too_far : GoesPast P facts base rank most ranked n c w.at → ⊥
+          too_far : GoesPast P facts base rank most ranked n begins.config d → ⊥
           too_far past =
-              let laid = run_laid P facts c reached begun past.at past.to in
+              let laid = run_laid P facts base stack r begins past.at past.to in
               let le = within P facts base [] 0 past.at.stack past.at.place (filling past.at.stack) (omega arith) inside laid.0 in
               let far = past.past in
               omega (arith, le, far, last)
 
-  module _ (h place : ℕ) (read : List ℕ) (way : List Link) (at : IsAt P heads h read place) (alone : StandsAlone heads n h) (one : IsOnlyWay links h way) (ends : EndsWithToken way) where
-    left : IsReached P.grammar P.text (way_config way place)
-    left = left_from P facts c reached begun heads links graph h place read way at one ends
-
-    -- each configuration past the place is one for which the stack may stand
-    past_served : (e : Configuration) → IsBefore P facts base rank most ranked n e → n ≤ e.place → ServesConfiguration (way_config way place) e
-    past_served e before past =
-        let w = way_of P facts base rank most ranked n heads links graph whole e before in
-        let place_at : w.at.head.place ≡ e.place = w.at.place_is in
-        let same : w.head ≡ h = alone w.head w.at.head w.at.is (omega (arith, past, place_at)) in
-        let top : IsAt P heads h (filling e.stack) e.place = subst (λ (k : ℕ). IsAt P heads k (filling e.stack) e.place) same w.at in
-        let down : IsWay links h w.way 0 = subst (λ (k : ℕ). IsWay links k w.way 0) same w.is in
-        let stands : AllStandFor way e.stack = subst (λ (v : List Link). AllStandFor v e.stack) (one.only w.way down) w.stands in
-        record {
-          place = same_place P facts heads h read (filling e.stack) place e.place at top;
-          stack = exact_serve way e.stack one.exact stands;
-        }
-
-    pub left_serves : (d : Configuration) → IsReached P.grammar P.text d → ComesToServe P.grammar P.text c d → EndsBefore P heads links n d ⊎ ComesToServe P.grammar P.text (way_config way place) d
-    left_serves d rd w = by (runs_on w.at w.run)
-      where
-        by : EndsEarly P facts base rank most ranked n w.at ⊎ GoesPast P facts base rank most ranked n c w.at → EndsBefore P heads links n d ⊎ ComesToServe P.grammar P.text (way_config way place) d
-        by (inl e) = inl (served_ends w.at d e (at_reached w.at w.run) rd w.serves)
-        by (inr past) = inr (serving.through P.grammar facts.fit P.text past.at (way_config way place) d (at_reached past.at past.to) left
-            (past_served past.at past.before past.past) (record { at = w.at; run = past.on; serves = w.serves }))
-
-  -- the same for the layers of the only way, whatever its depths
+  -- each configuration past the place is one for which the layers of the only way stand
   module _ (h place : ℕ) (read : List ℕ) (way : List Link) (at : IsAt P heads h read place) (alone : StandsAlone heads n h) (only : (other : List Link) → IsWay links h other 0 → other ≡ way) where
-    pub past_packed : (e : Configuration) → IsBefore P facts base rank most ranked n e → n ≤ e.place → Packs (way_stack way place) e
+    past_packed : (e : Configuration) → IsBefore P facts base rank most ranked n e → n ≤ e.place → Packs (way_stack way place) e
     past_packed e before past =
         let w = way_of P facts base rank most ranked n heads links graph whole e before in
         let place_at : w.at.head.place ≡ e.place = w.at.place_is in
@@ -313,9 +239,23 @@ module _ (P : Parsing) (facts : Facts P) (serving : ServingLaws) (c : Configurat
           trees = links_replace way e.stack stands;
         }
 
-    pub run_through : (d : Configuration) → Run P.grammar P.text c d → EndsBefore P heads links n d ⊎ GoesThrough P.grammar P.text (way_stack way place) d
+    run_through : (d : Configuration) → Run P.grammar P.text begins.config d → EndsBefore P heads links n d ⊎ GoesThrough P.grammar P.text (way_stack way place) d
     run_through d run = by (runs_on d run)
       where
-        by : EndsEarly P facts base rank most ranked n d ⊎ GoesPast P facts base rank most ranked n c d → EndsBefore P heads links n d ⊎ GoesThrough P.grammar P.text (way_stack way place) d
+        by : EndsEarly P facts base rank most ranked n d ⊎ GoesPast P facts base rank most ranked n begins.config d → EndsBefore P heads links n d ⊎ GoesThrough P.grammar P.text (way_stack way place) d
         by (inl e) = inl (ends_early P facts base rank most ranked n heads links graph whole d e)
-        by (inr past) = inr (record { from = past.at; reached = at_reached past.at past.to; stands = past_packed past.at past.before past.past; run = past.on })
+        by (inr past) = inr (record { from = past.at; reached = run_join P facts _ begins.config past.at begins.reached past.to; stands = past_packed past.at past.before past.past; run = past.on })
+
+-- the same of runs that go through what a stack of layers stands for
+module _ (P : Parsing) (facts : Facts P) (k : PackedStack) (begun : IsBegun P k) (met : WasMet P.grammar P.text k) (rank : ℕ → ℕ) (most : ℕ) (ranked : AreRanks P.grammar rank most)
+    (heads : List Head) (links : List Link) (graph : IsGraph P heads links) (n : ℕ) (whole : IsWholeTo P rank heads links (record { look = n; begins = n; rank = most })) (early : k.place < n) where
+  begins_early : (d : Configuration) → (w : GoesThrough P.grammar P.text k d) → w.from.place < n
+  begins_early d w = let same = w.stands.covers.place in omega (arith, early, same)
+
+  pub ends_through : length P.text < n → P.place ≤ length P.text → (d : Configuration) → GoesThrough P.grammar P.text k d → EndsBefore P heads links n d
+  ends_through last inside d w = ends_all P facts (through_base P facts k begun met d w) (through_stack P facts k begun met d w) (through_reading P facts k begun met d w) (through_run P facts k begun met d w) rank most ranked heads links graph n whole (begins_early d w) last inside d w.run
+
+  pub left_through : (h place : ℕ) (read : List ℕ) (way : List Link) → IsAt P heads h read place → StandsAlone heads n h → ((other : List Link) → IsWay links h other 0 → other ≡ way)
+      → (d : Configuration) → GoesThrough P.grammar P.text k d → EndsBefore P heads links n d ⊎ GoesThrough P.grammar P.text (way_stack way place) d
+  left_through h place read way at alone only d w =
+      run_through P facts (through_base P facts k begun met d w) (through_stack P facts k begun met d w) (through_reading P facts k begun met d w) (through_run P facts k begun met d w) rank most ranked heads links graph n whole (begins_early d w) h place read way at alone only d w.run

@@ -9,3 +9,4 @@ pub mod RestLemmas
 pub mod HaltLemmas
 pub mod PackedLemmas
 pub mod TellLemmas
+pub mod StandLemmas

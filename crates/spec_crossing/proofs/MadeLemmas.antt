@@ -17,7 +17,6 @@ use Rattle.spec_graph.specs.Grounded.{Spells, nothing_more, a_tree, one_part, Is
 use Rattle.spec_graph.specs.Links.{IsGraph}
 use Rattle.spec_graph.proofs.SightLemmas.{Facts}
 use Rattle.spec_graph.proofs.LayLemmas.{IsRuled, IsBase, lays_made, lays_ruled}
-use Rattle.spec_graph.proofs.GraphLemmas.{like}
 use Rattle.spec_crossing.proofs.SpellLemmas.{words_spelled}
 
 spelled_words : (g : FlatGrammar) (b : Bool) (n : ℕ) (xs : List ℕ) → Spells g b n xs → Words g b n xs
@@ -71,9 +70,4 @@ plain_flat g t m extra =
 pub extra_flat : (P : Parsing) (facts : Facts P) → IsBase P → (heads : List Head) (links : List Link) → IsGraph P heads links → (l : Link) → Contains links l → is_extra_node l.tree ≡ true → l.depth ≡ tree_depth l.tree
 extra_flat P facts base heads links graph l there extra =
     let k = graph.linked l there in
-    let t = k.deepest.0 in
-    let same = like P facts base heads l.below l.above k.under k.over k.under k.over k.from k.to t l.tree k.below k.above k.below k.above k.deepest.1 k.lays in
-    let one = plain_flat P.grammar t (lays_made P facts base k.under k.from (t ∷ []) k.to k.over k.deepest.1).0 (same.extra ∙ extra) in
-    let two = plain_flat P.grammar l.tree (lays_made P facts base k.under k.from (l.tree ∷ []) k.to k.over k.lays).0 extra in
-    let d = k.deepest.2 in
-    omega (arith, one, two, d)
+    k.flat extra ∙ sym (plain_flat P.grammar l.tree (lays_made P facts base k.under k.from (l.tree ∷ []) k.to k.over k.lays).0 extra)

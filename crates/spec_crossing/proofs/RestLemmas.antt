@@ -6,11 +6,11 @@ use Rattle.spec_trees.specs.Choice.{Better}
 use Rattle.spec_runs.specs.Configurations.{Configuration}
 use Rattle.spec_runs.specs.Runs.{IsReached, ComesTooDeep, AcceptsTree}
 use Rattle.spec_runs.specs.Outcomes.{SomeAccepts, SomeStopsAt, IsBestTree, IsLastStop}
+use Rattle.spec_packing.proofs.RankLemmas.{no_better_chains}
 use Rattle.spec_graph.specs.declared.graph.Head.{Head}
 use Rattle.spec_graph.specs.declared.graph.Link.{Link}
 use Rattle.spec_graph.specs.Laying.{Parsing}
 use Rattle.spec_graph.specs.Outcomes.{GraphAccepts, GraphStopsAt}
-use Rattle.spec_crossing.specs.Laws.{ServingLaws}
 use Rattle.spec_crossing.specs.Leaving.{EndsBefore}
 use Rattle.spec_crossing.specs.Resting.{Withstands, IsPastStuck, AccountsFor, AccountsForGraph}
 
@@ -49,7 +49,7 @@ module _ (P : Parsing) (heads : List Head) (links : List Link) (n : ℕ) (best :
 
   -- ---- the end
 
-  module _ (serving : ServingLaws) (accepts : (t : Tree) → GraphAccepts P heads links t → SomeAccepts P.grammar P.text t)
+  module _ (accepts : (t : Tree) → GraphAccepts P heads links t → SomeAccepts P.grammar P.text t)
       (ends : (d : Configuration) → IsReached P.grammar P.text d → Leads d → EndsBefore P heads links n d) where
     never_deep : (d : Configuration) → IsReached P.grammar P.text d → ComesTooDeep P.grammar P.text d → ⊥
     never_deep d rd deep = ⊎_elim (λ cov. cov.shallow deep) (λ w. (ends d rd w).shallow deep) (done d rd)
@@ -60,7 +60,7 @@ module _ (P : Parsing) (heads : List Head) (links : List Link) (n : ℕ) (best :
         (λ w.
         let v = (ends d rd w).accepts u a in
         let k = counts.accepted v.0 v.1 v.2 v.3 in
-        (k.0, k.1, serving.no_better (bare k.0) v.0 u k.2 v.4))
+        (k.0, k.1, no_better_chains (bare k.0) v.0 u k.2 v.4))
         (done d rd)
 
     pub rests_tree : (b : Tree) → best ≡ Some b → IsBestTree P.grammar P.text (bare b)

@@ -1,25 +1,24 @@
 -- A graph that was followed past the text tells something: a tree is accepted, or a head stops.
-use Rattle.std.proofs.Common.{◌≡◌, ◌∙◌, sym, subst, refl, ℕ, ◌+◌, ◌<◌, ◌≤◌, ◌⊎◌, inl, inr, List, [], ◌∷◌, ◌++◌, append_assoc, length, drop, Option, Some, None, arith}
+use Rattle.std.proofs.Common.{◌≡◌, ◌∙◌, sym, subst, refl, ℕ, ◌<◌, ◌≤◌, ◌⊎◌, inl, inr, List, [], length, drop, Option, Some, None, arith}
 use Rattle.ts_base.specs.Bytes.{Bytes}
 use Rattle.ts_core.specs.declared.flat.FlatGrammar.{FlatGrammar}
 use Rattle.ts_core.specs.declared.symbol.Symbol.{Symbol}
 use Rattle.spec_lexing.specs.Lexing.{Found, Lex}
 use Rattle.spec_trees.specs.declared.tree.Tree.{Tree}
-use Rattle.spec_trees.specs.Trees.{span_of, all_spans}
 use Rattle.spec_trees.specs.Made.{filling}
 use Rattle.spec_runs.specs.Configurations.{Configuration, NextIs}
 use Rattle.spec_runs.specs.Runs.{StepsOn, Run, ComesTooDeep, AcceptsTree, StopsAt}
+use Rattle.spec_packing.specs.Packing.{packed_trees}
 use Rattle.spec_graph.specs.declared.graph.Head.{Head}
 use Rattle.spec_graph.specs.declared.graph.Link.{Link}
 use Rattle.spec_graph.specs.States.{AreRanks, at_first}
-use Rattle.spec_graph.specs.Laying.{Parsing, Lays, flat, stood}
+use Rattle.spec_graph.specs.Laying.{Parsing, Lays}
 use Rattle.spec_graph.specs.Grounded.{IsGrounded}
 use Rattle.spec_graph.specs.Links.{IsGraph, IsWholeTo}
+use Rattle.spec_graph.proofs.ReadingLemmas.{own_reading}
 use Rattle.spec_graph.proofs.SightLemmas.{Facts}
-use Rattle.spec_graph.proofs.EntryLemmas.{filling_one}
 use Rattle.spec_graph.proofs.LayLemmas.{IsBase, lays_run, lays_state}
-use Rattle.spec_graph.proofs.BaseLemmas.{within, due_last}
-use Rattle.spec_graph.proofs.GroundLemmas.{ground_base}
+use Rattle.spec_graph.proofs.BaseLemmas.{ground_base, stand_all, within, due_last}
 use Rattle.spec_crossing.specs.Leaving.{EndsBefore}
 use Rattle.spec_crossing.specs.Resting.{Withstands, IsPastStuck, AccountsForGraph}
 use Rattle.spec_crossing.proofs.BeforeLemmas.{EndsEarly}
@@ -34,26 +33,16 @@ no_place stuck q none w = let e : ◌≡◌ {A = Option ℕ} None (Some w.0) = s
 
 module _ (P : Parsing) (facts : Facts P) (ground : IsGrounded P) where
   base : IsBase P
-  base = ground_base P ground
+  base = ground_base P facts ground
 
-  -- ---- runs from the stack by itself
-
-  stand_on : (above below : List Tree) → P.stack ≡ above ++ below → Lays P [] 0 below (all_spans below) (filling below)
-  stand_on above [] at = flat [] 0
-  stand_on above (t ∷ below) at =
-      let deeper : P.stack ≡ (above ++ t ∷ []) ++ below = at ∙ sym (append_assoc above (t ∷ []) below) in
-      let low = stand_on (above ++ t ∷ []) below deeper in
-      let n = base.states (above ++ t ∷ []) below deeper in
-      let one = stood [] 0 below (all_spans below) (filling below) t above below low at refl (n.0, n.1, n.1) in
-      let end : all_spans below + span_of t ≡ all_spans (t ∷ below) = omega arith in
-      subst (λ (r : List ℕ). Lays P [] 0 (t ∷ below) (all_spans (t ∷ below)) r) (sym (filling_one t below))
-      (subst (λ (m : ℕ). Lays P [] 0 (t ∷ below) m (filling (t ∷ []) ++ filling below)) end one)
+  -- ---- runs from the own trees of the stack, whatever run came to them
 
   abbrev first : Configuration
-  first = record { stack = P.stack; place = P.place }
+  first = record { stack = packed_trees P.layers; place = P.place }
 
   first_laid : Lays P [] 0 first.stack first.place (filling first.stack)
-  first_laid = subst (λ (m : ℕ). Lays P [] 0 P.stack m (filling P.stack)) ground.spans (stand_on [] P.stack refl)
+  first_laid = subst (λ (m : ℕ). Lays P [] 0 (packed_trees P.layers) m (filling (packed_trees P.layers))) ground.spans
+      (stand_all P facts base (packed_trees P.layers) (own_reading P ground.own) [] (packed_trees P.layers) refl)
 
   laid : (d : Configuration) → Run P.grammar P.text first d → Lays P [] 0 d.stack d.place (filling d.stack) × (P.place ≤ d.place)
   laid d run = lays_run P facts base first d first_laid (omega arith) run

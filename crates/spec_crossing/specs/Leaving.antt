@@ -1,7 +1,7 @@
 -- Where one stack is left in a graph of stacks, and what is known then of all runs.
-use Rattle.std.specs.Prelude.{◌≡◌, ℕ, ◌<◌, ◌≤◌, false, List, [], ◌∷◌, map, slice_get, Some}
+use Rattle.std.specs.Prelude.{◌≡◌, ℕ, ◌<◌, ◌≤◌, false, List, ◌∷◌, map, slice_get, Some}
 use Rattle.spec_trees.specs.declared.tree.Tree.{Tree}
-use Rattle.spec_trees.specs.Trees.{is_extra_node, tree_depth}
+use Rattle.spec_trees.specs.Trees.{is_extra_node}
 use Rattle.spec_trees.specs.Made.{IsLeaf}
 use Rattle.spec_trees.specs.Choice.{Better}
 use Rattle.spec_runs.specs.Configurations.{Configuration}
@@ -10,22 +10,10 @@ use Rattle.spec_packing.specs.Packing.{PackedTree, PackedStack}
 use Rattle.spec_graph.specs.declared.graph.Head.{Head}
 use Rattle.spec_graph.specs.declared.graph.Link.{Link}
 use Rattle.spec_graph.specs.Laying.{Parsing}
-use Rattle.spec_graph.specs.Links.{IsWay, way_trees}
+use Rattle.spec_graph.specs.Links.{IsWay}
 use Rattle.spec_graph.specs.Outcomes.{GraphAccepts, GraphStopsAt}
 
--- each link's own tree is as deep as any for which the link stands
-abbrev pub AreExact : List Link → Type 0
-AreExact [] = Unit {0}
-AreExact (l ∷ way) = (l.depth ≡ tree_depth l.tree) × AreExact way
-
--- one way alone leads down from the head to that of the empty stack, and its trees are as deep as
--- any for which its links stand
-pub record IsOnlyWay (links : List Link) (h : ℕ) (way : List Link) : Type 0 where
-  pub down : IsWay links h way 0
-  pub only : (other : List Link) → IsWay links h other 0 → other ≡ way
-  pub exact : AreExact way
-
--- one way alone leads down from the head to that of the empty stack, however deep its trees are
+-- one way alone leads down from the head to that of the empty stack
 pub record IsOneWay (links : List Link) (h : ℕ) (way : List Link) : Type 0 where
   pub down : IsWay links h way 0
   pub only : (other : List Link) → IsWay links h other 0 → other ≡ way
@@ -42,10 +30,6 @@ pub record EndsWithToken (way : List Link) : Type 0 where
 abbrev pub StandsAlone : List Head → ℕ → ℕ → Type 0
 StandsAlone heads n h =
     (k : ℕ) (other : Head) → slice_get heads k ≡ Some other → n ≤ other.place → k ≡ h
-
--- the configuration of the trees of a way, at a place
-abbrev pub way_config : List Link → ℕ → Configuration
-way_config way place = record { stack = way_trees way; place = place }
 
 -- the layer of a link
 abbrev pub packed_link : Link → PackedTree

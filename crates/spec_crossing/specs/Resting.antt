@@ -1,5 +1,5 @@
--- What is known of all runs of a text where a parser goes on from one configuration, and of the ends
--- in a graph of stacks.
+-- What is known of all runs of a text where a parser goes on from one configuration, and of the
+-- ends in a graph of stacks.
 use Rattle.std.specs.Prelude.{◌≡◌, ℕ, ◌<◌, ◌≤◌, ◌⊎◌, List, Option, Some, None}
 use Rattle.ts_base.specs.Bytes.{Bytes}
 use Rattle.ts_core.specs.declared.flat.FlatGrammar.{FlatGrammar}
@@ -10,7 +10,6 @@ use Rattle.spec_runs.specs.Configurations.{Configuration}
 use Rattle.spec_runs.specs.Runs.{IsReached, ComesTooDeep, AcceptsTree, StopsAt}
 use Rattle.spec_runs.specs.Outcomes.{SomeStopsAt}
 use Rattle.spec_packing.specs.Packing.{PackedStack, WasMet, GoesThrough}
-use Rattle.spec_packing.specs.Serving.{ComesToServe}
 use Rattle.spec_graph.specs.declared.graph.Head.{Head}
 use Rattle.spec_graph.specs.declared.graph.Link.{Link}
 use Rattle.spec_graph.specs.Laying.{Parsing}
@@ -35,17 +34,9 @@ pub record AccountsFor (g : FlatGrammar) (text : Bytes) (best : Option Tree) (st
   pub places : (q : ℕ) → StopsAt g text c q → IsPastStuck stuck q
   pub shallow : ComesTooDeep g text c → ⊥
 
--- Where one live head is left, and no tree is accepted: the configuration is reached, and the ends
--- at each other one that is reached are known, or it leads to one that may stand for that.
-pub record Rests (g : FlatGrammar) (text : Bytes) (stuck : Option ℕ) (c : Configuration)
-    : Type 0 where
-  pub reached : IsReached g text c
-  pub done : (d : Configuration) → IsReached g text d
-      → AccountsFor g text None stuck d ⊎ ComesToServe g text c d
-  pub stuck_from : (q : ℕ) → stuck ≡ Some q → SomeStopsAt g text q
-
--- The same where the live head stands for layers: they were met, and the ends at each configuration
--- that is reached are known, or a run to it goes through what the layers stand for.
+-- Where one live head is left, which stands for layers, and no tree is accepted: the layers were
+-- met, and the ends at each configuration that is reached are known, or a run to it goes through
+-- what the layers stand for.
 pub record PackedRests (g : FlatGrammar) (text : Bytes) (stuck : Option ℕ) (k : PackedStack)
     : Type 0 where
   pub met : WasMet g text k

@@ -12,24 +12,21 @@ ghost use Rattle.spec_trees.specs.Made.{filling, AreCounted};
 ghost use Rattle.spec_trees.specs.Choice.{code_of, IsInForm};
 ghost use Rattle.spec_runs.specs.Configurations.{Configuration};
 ghost use Rattle.spec_runs.specs.Moves.{IsUnused};
-ghost use Rattle.spec_runs.specs.Runs.{StepsOn, Run, IsReached};
+ghost use Rattle.spec_runs.specs.Runs.{StepsOn};
 ghost use Rattle.spec_runs.specs.Outcomes.{IsBestTree, IsLastStop};
-ghost use Rattle.spec_packing.specs.Packing.{stack_alone, GoesThrough};
-ghost use Rattle.spec_packing.specs.Serving.{ComesToServe};
+ghost use Rattle.spec_packing.specs.Packing.{PackedTree, PackedStack, packed_trees, WasMet, GoesThrough};
 ghost use Rattle.spec_graph.specs.declared.graph.Head.{Head};
 ghost use Rattle.spec_graph.specs.declared.graph.Link.{Link};
 ghost use Rattle.spec_graph.specs.States.{AreStates, AreRanks};
-ghost use Rattle.spec_graph.specs.Laying.{Parsing, from_start, Lays, IsBegun};
+ghost use Rattle.spec_graph.specs.Laying.{Parsing, from_start, IsBegun, IsMet, Lays};
 ghost use Rattle.spec_graph.specs.Grounded.{Spells, IsMadeTree, IsGrounded};
 ghost use Rattle.spec_graph.specs.Links.{IsAt, IsWay, way_trees, IsGraph, IsWholeTo};
 ghost use Rattle.spec_graph.specs.Laws.{GraphLaws};
-ghost use Rattle.spec_crossing.specs.Laws.{ServingLaws};
-ghost use Rattle.spec_crossing.specs.Leaving.{IsOnlyWay, IsOneWay, EndsWithToken, StandsAlone, way_config, way_stack, EndsBefore};
-ghost use Rattle.spec_crossing.specs.Resting.{Rests, PackedRests, AccountsForGraph};
+ghost use Rattle.spec_crossing.specs.Leaving.{IsOneWay, EndsWithToken, StandsAlone, way_stack, EndsBefore};
+ghost use Rattle.spec_crossing.specs.Resting.{PackedRests, AccountsForGraph};
 
 use spec_graph::graphs_are_sound;
 use spec_lexing::{fewer_tokens, one_answer, something_is_seen, token_within};
-use spec_packing::{configurations_step, ends_are_served, no_better_through, runs_are_served};
 use spec_reuse::{no_new_tokens, some_move_stays};
 use spec_runs::{
     bare_trees, empty_rules_are_unused, moves_have_their_place, repetitions_repeat,
@@ -52,150 +49,62 @@ fn laws_hold()
     some_move_stays();
 }
 
-/// Laws of configurations that may stand for others hold.
-fn serving_laws_hold()
-    ensures { ServingLaws }
-{
-    no_better_through();
-    configurations_step();
-    ends_are_served();
-    runs_are_served();
-}
-
-/// Where one head stands alone at a place or past it, and one way leads down from it, a parser may
-/// go on from the stack of that way's trees: it is reached, and all that runs come to ends in the
-/// graph before that place, or is served from that stack. Where the place is past the text, all
-/// ends are in the graph.
-pub fn one_stack_goes_on()
-    ensures reached { (P : Parsing) → Fit P.grammar → AreStates P.grammar P.goto
-        → (c : Configuration) → IsReached P.grammar P.text c → IsBegun P c
-        → (heads : List Head) (links : List Link) → IsGraph P heads links
-        → (h place : ℕ) (read : List ℕ) (way : List Link) → IsAt P heads h read place
-        → IsOnlyWay links h way → EndsWithToken way
-        → IsReached P.grammar P.text (way_config way place) }
-    ensures serves { (P : Parsing) → Fit P.grammar → AreStates P.grammar P.goto
-        → (c : Configuration) → IsReached P.grammar P.text c → IsBegun P c
-        → (rank : ℕ → ℕ) (most : ℕ) → AreRanks P.grammar rank most
-        → (heads : List Head) (links : List Link) → IsGraph P heads links
-        → (n : ℕ) → IsWholeTo P rank heads links (record { look = n; begins = n; rank = most })
-        → c.place < n
-        → (h place : ℕ) (read : List ℕ) (way : List Link) → IsAt P heads h read place
-        → StandsAlone heads n h → IsOnlyWay links h way → EndsWithToken way
-        → (d : Configuration) → IsReached P.grammar P.text d
-        → ComesToServe P.grammar P.text c d
-        → EndsBefore P heads links n d
-        ⊎ ComesToServe P.grammar P.text (way_config way place) d }
-    ensures ends { (P : Parsing) → Fit P.grammar → AreStates P.grammar P.goto
-        → (c : Configuration) → IsReached P.grammar P.text c → IsBegun P c
-        → (rank : ℕ → ℕ) (most : ℕ) → AreRanks P.grammar rank most
-        → (heads : List Head) (links : List Link) → IsGraph P heads links
-        → (n : ℕ) → IsWholeTo P rank heads links (record { look = n; begins = n; rank = most })
-        → c.place < n → length P.text < n → P.place ≤ length P.text
-        → (d : Configuration) → IsReached P.grammar P.text d
-        → ComesToServe P.grammar P.text c d → EndsBefore P heads links n d }
-{
-    laws_hold();
-    serving_laws_hold();
-}
-
-/// Where one head stands alone at a place or past it, and one way leads down from it, each run from
-/// the stack from which runs go on ends in the graph before that place, or goes through what the
-/// layers of that way stand for, however deep its trees are.
+/// Where one head stands alone at a place or past it, and one way leads down from it, each run that
+/// goes through what the stack from which runs go on stands for ends in the graph before that
+/// place, or goes through what the layers of that way stand for.
 pub fn runs_go_through()
     ensures { (P : Parsing) → Fit P.grammar → AreStates P.grammar P.goto
-        → (c : Configuration) → IsReached P.grammar P.text c → IsBegun P c
+        → (k : PackedStack) → IsBegun P k → WasMet P.grammar P.text k
         → (rank : ℕ → ℕ) (most : ℕ) → AreRanks P.grammar rank most
         → (heads : List Head) (links : List Link) → IsGraph P heads links
         → (n : ℕ) → IsWholeTo P rank heads links (record { look = n; begins = n; rank = most })
-        → c.place < n
+        → k.place < n
         → (h place : ℕ) (read : List ℕ) (way : List Link) → IsAt P heads h read place
         → StandsAlone heads n h → ((other : List Link) → IsWay links h other 0 → other ≡ way)
-        → (d : Configuration) → Run P.grammar P.text c d
+        → (d : Configuration) → GoesThrough P.grammar P.text k d
         → EndsBefore P heads links n d
         ⊎ GoesThrough P.grammar P.text (way_stack way place) d }
 {
     laws_hold();
-    serving_laws_hold();
 }
 
-/// What is known of all runs where they rest at a configuration, and the graph was followed from
-/// there: they rest at the stack that is left; and where the graph was followed past the text, the
-/// best tree or the greatest place is the outcome.
-pub fn followed_graphs_rest()
-    ensures leaves { (P : Parsing) → Fit P.grammar → AreStates P.grammar P.goto
-        → (c : Configuration) → IsReached P.grammar P.text c → IsBegun P c
-        → (rank : ℕ → ℕ) (most : ℕ) → AreRanks P.grammar rank most
-        → (heads : List Head) (links : List Link) → IsGraph P heads links
-        → (n : ℕ) → IsWholeTo P rank heads links (record { look = n; begins = n; rank = most })
-        → c.place < n
-        → (before stuck : Option ℕ) → AccountsForGraph P heads links n None before stuck
-        → Rests P.grammar P.text before c
-        → (h place : ℕ) (read : List ℕ) (way : List Link) → IsAt P heads h read place
-        → StandsAlone heads n h → IsOnlyWay links h way → EndsWithToken way
-        → Rests P.grammar P.text stuck (way_config way place) }
-    ensures tree { (P : Parsing) → Fit P.grammar → AreStates P.grammar P.goto
-        → (c : Configuration) → IsReached P.grammar P.text c → IsBegun P c
-        → (rank : ℕ → ℕ) (most : ℕ) → AreRanks P.grammar rank most
-        → (heads : List Head) (links : List Link) → IsGraph P heads links
-        → (n : ℕ) → IsWholeTo P rank heads links (record { look = n; begins = n; rank = most })
-        → c.place < n → length P.text < n → P.place ≤ length P.text
-        → (best : Option Tree) (before stuck : Option ℕ)
-        → AccountsForGraph P heads links n best before stuck
-        → Rests P.grammar P.text before c
-        → (b : Tree) → best ≡ Some b → IsBestTree P.grammar P.text (bare b) }
-    ensures stop { (P : Parsing) → Fit P.grammar → AreStates P.grammar P.goto
-        → (c : Configuration) → IsReached P.grammar P.text c → IsBegun P c
-        → (rank : ℕ → ℕ) (most : ℕ) → AreRanks P.grammar rank most
-        → (heads : List Head) (links : List Link) → IsGraph P heads links
-        → (n : ℕ) → IsWholeTo P rank heads links (record { look = n; begins = n; rank = most })
-        → c.place < n → length P.text < n → P.place ≤ length P.text
-        → (best : Option Tree) (before stuck : Option ℕ)
-        → AccountsForGraph P heads links n best before stuck
-        → Rests P.grammar P.text before c
-        → (q : ℕ) → best ≡ None → stuck ≡ Some q → IsLastStop P.grammar P.text q }
-{
-    laws_hold();
-    serving_laws_hold();
-    graphs_are_sound();
-}
-
-/// The same where they rest at layers: at a configuration that stands for itself alone, and then at
-/// the layers of the way that is left, however deep its trees are.
+/// What is known of all runs where they rest at a stack of layers, and the graph was followed from
+/// there: they rest at the layers of the way that is left; and where the graph was followed past
+/// the text, the best tree or the greatest place is the outcome.
 pub fn followed_graphs_pack()
     ensures leaves { (P : Parsing) → Fit P.grammar → AreStates P.grammar P.goto
-        → (c : Configuration) → IsReached P.grammar P.text c → IsBegun P c
+        → (k : PackedStack) → IsBegun P k
         → (rank : ℕ → ℕ) (most : ℕ) → AreRanks P.grammar rank most
         → (heads : List Head) (links : List Link) → IsGraph P heads links
         → (n : ℕ) → IsWholeTo P rank heads links (record { look = n; begins = n; rank = most })
-        → c.place < n
+        → k.place < n
         → (before stuck : Option ℕ) → AccountsForGraph P heads links n None before stuck
-        → PackedRests P.grammar P.text before (stack_alone c)
+        → PackedRests P.grammar P.text before k
         → (h place : ℕ) (read : List ℕ) (way : List Link) → IsAt P heads h read place
         → StandsAlone heads n h → IsOneWay links h way → EndsWithToken way
         → PackedRests P.grammar P.text stuck (way_stack way place) }
     ensures tree { (P : Parsing) → Fit P.grammar → AreStates P.grammar P.goto
-        → (c : Configuration) → IsReached P.grammar P.text c → IsBegun P c
+        → (k : PackedStack) → IsBegun P k
         → (rank : ℕ → ℕ) (most : ℕ) → AreRanks P.grammar rank most
         → (heads : List Head) (links : List Link) → IsGraph P heads links
         → (n : ℕ) → IsWholeTo P rank heads links (record { look = n; begins = n; rank = most })
-        → c.place < n → length P.text < n → P.place ≤ length P.text
+        → k.place < n → length P.text < n → P.place ≤ length P.text
         → (best : Option Tree) (before stuck : Option ℕ)
         → AccountsForGraph P heads links n best before stuck
-        → PackedRests P.grammar P.text before (stack_alone c)
+        → PackedRests P.grammar P.text before k
         → (b : Tree) → best ≡ Some b → IsBestTree P.grammar P.text (bare b) }
     ensures stop { (P : Parsing) → Fit P.grammar → AreStates P.grammar P.goto
-        → (c : Configuration) → IsReached P.grammar P.text c → IsBegun P c
+        → (k : PackedStack) → IsBegun P k
         → (rank : ℕ → ℕ) (most : ℕ) → AreRanks P.grammar rank most
         → (heads : List Head) (links : List Link) → IsGraph P heads links
         → (n : ℕ) → IsWholeTo P rank heads links (record { look = n; begins = n; rank = most })
-        → c.place < n → length P.text < n → P.place ≤ length P.text
+        → k.place < n → length P.text < n → P.place ≤ length P.text
         → (best : Option Tree) (before stuck : Option ℕ)
         → AccountsForGraph P heads links n best before stuck
-        → PackedRests P.grammar P.text before (stack_alone c)
+        → PackedRests P.grammar P.text before k
         → (q : ℕ) → best ≡ None → stuck ≡ Some q → IsLastStop P.grammar P.text q }
 {
     laws_hold();
-    serving_laws_hold();
     graphs_are_sound();
 }
 
@@ -218,13 +127,24 @@ pub fn followed_graphs_tell()
     something_is_seen();
 }
 
-/// What stands on a stack from which runs go on can be laid there, entry by entry.
+/// Each tree of a stack from which runs go on can be laid where it stands, and is no deeper than
+/// its layer says. Where the stack was met, some tree of its layer's depth can be laid there from
+/// the start of the text.
 pub fn stacks_are_laid()
-    ensures { (P : Parsing) → Fit P.grammar → AreStates P.grammar P.goto → (c : Configuration)
-        → IsReached P.grammar P.text c → IsBegun P c
-        → (above below : List Tree) (t : Tree) → P.stack ≡ above ++ t ∷ below
-        → Lays (from_start P) (filling below) (all_spans below) (t ∷ [])
-        (all_spans below + span_of t) (filling (t ∷ []) ++ filling below) }
+    ensures own { (P : Parsing) → Fit P.grammar → AreStates P.grammar P.goto → IsGrounded P
+        → (over under : List PackedTree) (l : PackedTree) → P.layers ≡ over ++ l ∷ under
+        → Lays P (filling (packed_trees under)) (all_spans (packed_trees under))
+        (l.tree ∷ []) (all_spans (packed_trees under) + span_of l.tree)
+        (filling (l.tree ∷ []) ++ filling (packed_trees under)) }
+    ensures shallow { (P : Parsing) → Fit P.grammar → AreStates P.grammar P.goto → IsGrounded P
+        → (over under : List PackedTree) (l : PackedTree) → P.layers ≡ over ++ l ∷ under
+        → tree_depth l.tree ≤ l.depth }
+    ensures deepest { (P : Parsing) → Fit P.grammar → AreStates P.grammar P.goto → IsMet P
+        → (over under : List PackedTree) (l : PackedTree) → P.layers ≡ over ++ l ∷ under
+        → (t : Tree) × Lays (from_start P) (filling (packed_trees under))
+        (all_spans (packed_trees under)) (t ∷ []) (all_spans (packed_trees under) + span_of l.tree)
+        (filling (l.tree ∷ []) ++ filling (packed_trees under))
+        × (tree_depth t ≡ l.depth) }
 {
     laws_hold();
 }

@@ -5,7 +5,7 @@
 mod laws;
 
 pub use laws::{
-    bare_trees_are_made, extras_are_flat, followed_graphs_pack, followed_graphs_rest,
-    followed_graphs_tell, links_are_made, one_stack_goes_on, runs_go_through, stacks_are_laid,
-    trees_are_spelled, unused_symbols_end, ways_are_read,
+    bare_trees_are_made, extras_are_flat, followed_graphs_pack, followed_graphs_tell,
+    links_are_made, runs_go_through, stacks_are_laid, trees_are_spelled, unused_symbols_end,
+    ways_are_read,
 };
