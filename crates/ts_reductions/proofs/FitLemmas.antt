@@ -1,15 +1,15 @@
 -- What was made for a reduction can be laid on the head below it.
-use Rattle.std.proofs.Common.{◌≡◌, ◌∙◌, sym, ap, refl, subst, ℕ, suc, ◌+◌, ◌≤◌, List, [], ◌∷◌, ◌++◌, append_assoc, length, map, reverse, Some, None, arith}
+use Rattle.std.proofs.Common.{◌≡◌, ◌∙◌, sym, ap, refl, subst, ℕ, suc, ◌+◌, ◌≤◌, true, List, [], ◌∷◌, ◌++◌, append_assoc, length, map, reverse, Some, None, arith}
 use Rattle.std.proofs.lemmas.List.{reverse-append, reverse-reverse}
 use Rattle.ts_base.specs.Bytes.{Bytes}
 use Rattle.spec_trees.specs.declared.tree.Tree.{Tree}
-use Rattle.spec_trees.specs.Trees.{span_of, all_spans, tree_depth, bare}
+use Rattle.spec_trees.specs.Trees.{is_extra_node, span_of, all_spans, tree_depth, bare}
 use Rattle.spec_trees.specs.Made.{form_of, reduced, EndBy, most_depth}
 use Rattle.spec_runs.specs.Configurations.{AreExtras}
 use Rattle.spec_graph.specs.declared.graph.Head.{Head}
 use Rattle.spec_graph.specs.declared.graph.Link.{Link}
 use Rattle.spec_graph.specs.States.{LeadsTo, by_goto}
-use Rattle.spec_graph.specs.Laying.{Parsing, Lays, node_made}
+use Rattle.spec_graph.specs.Laying.{Parsing, from_start, IsMet, Lays, node_made}
 use Rattle.spec_graph.specs.Replacing.{depth_over}
 use Rattle.spec_graph.specs.Links.{IsAt, way_trees, way_depth}
 use Rattle.ts_graph.specs.declared.view.GraphView.{GraphView}
@@ -105,10 +105,10 @@ module _ (laws : ReductionLaws) (nodes : NodeLaws) (t : ParseTable) (table : IsT
       (subst (λ (x : Tree). Lays P now k.begins (x ∷ []) end (asked.left ∷ now)) (sym node_bare)
       (laws.laid P parsed.fit parsed.states parsed.grounded (unit_rank t.grammar) g.heads links ready.sound.laid.graph (key_of k) number asked.left asked.production top.head e b (bare_links (outer_of way)) (bare_links (inner_of way)) over now end (ask.due laws t table text s g k top number way b ready asked) ready.late shallow))
 
-  deep_laid : (u : Tree) × Lays P now k.begins (u ∷ []) (k.begins + span_of node) (asked.left ∷ now) × (tree_depth u ≡ m.piece.depth)
-  deep_laid =
-      let d = laws.deepest P parsed.fit parsed.states parsed.grounded (unit_rank t.grammar) g.heads links ready.sound.laid.graph (key_of k) number asked.left asked.production top.head e b (bare_links (outer_of way)) (bare_links (inner_of way)) over now end (ask.due laws t table text s g k top number way b ready asked) ready.late shallow in
-      (d.0, subst (λ (n : ℕ). Lays P now k.begins (d.0 ∷ []) n (asked.left ∷ now)) (sym end_is) d.1, d.2 ∙ depth_is)
+  deep_laid : IsMet P → (u : Tree) × Lays (from_start P) now k.begins (u ∷ []) (k.begins + span_of node) (asked.left ∷ now) × (tree_depth u ≡ m.piece.depth)
+  deep_laid met =
+      let d = laws.deepest P parsed.fit parsed.states met (unit_rank t.grammar) g.heads links ready.sound.laid.graph (key_of k) number asked.left asked.production top.head e b (bare_links (outer_of way)) (bare_links (inner_of way)) over now end (ask.due laws t table text s g k top number way b ready asked) shallow in
+      (d.0, subst (λ (n : ℕ). Lays (from_start P) now k.begins (d.0 ∷ []) n (asked.left ∷ now)) (sym end_is) d.1, d.2 ∙ depth_is)
 
   same_under : bottom.head ≡ made.under
   same_under = let f : Some bottom.head ≡ Some made.under = sym bottom.is ∙ made.under_is in cc
@@ -122,12 +122,20 @@ module _ (laws : ReductionLaws) (nodes : NodeLaws) (t : ParseTable) (table : IsT
   look_within : k.look ≤ size
   look_within = making.look_within laws nodes t table text s g k top number way b ready asked
 
+  -- a node that is laid reads its rule, so it is no extra
+  never_extra : is_extra_node node ≡ true → ⊥
+  never_extra extra =
+      let same = laws.passes_same P parsed.fit parsed.states parsed.grounded now (asked.left ∷ now) k.begins (k.begins + span_of node) (bare node) own_laid ((laws.keeps node).extra ∙ extra) in
+      let longer : length (asked.left ∷ now) ≡ length now = ap length same in
+      omega (arith, longer)
+
   pub fits_node : FitsAfter P now k.begins node m.piece.depth m.piece.state
   fits_node = record {
     now = asked.left ∷ now;
     leads = leads;
     lays = own_laid;
     shallow = made.no_deeper;
+    flat = λ extra. absurd (never_extra extra);
     deepest = deep_laid;
     form = made.good.form;
     some = let c = making.some_span laws nodes t table text s g k top number way b ready asked in omega (arith, c, made.spans);
@@ -171,7 +179,8 @@ module _ (laws : ReductionLaws) (nodes : NodeLaws) (t : ParseTable) (table : IsT
           leads = leads;
           lays = laid;
           shallow = omega (arith, flat);
-          deepest = (bare x, laid, (laws.keeps x).depth ∙ flat);
+          flat = λ e. refl;
+          deepest = λ met. (bare x, laws.embeds P parsed.fit parsed.states met (asked.left ∷ now) (asked.left ∷ now) (end + all_spans done) (end + all_spans done + span_of x) (bare x ∷ []) laid, (laws.keeps x).depth ∙ flat);
           form = good.0.form;
           some = good.0.some;
           reach = reach.0;

@@ -54,6 +54,7 @@ module _ (P : Parsing) (heads heads' : List Head) (keep : KeepNumbers heads head
     above = at_stays l.above k.over k.to k.above;
     lays = k.lays;
     shallow = k.shallow;
+    flat = k.flat;
     deepest = k.deepest;
   }
 

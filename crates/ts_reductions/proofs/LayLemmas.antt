@@ -1,5 +1,5 @@
 -- A tree that is laid on a head: as a new link, or packed into the one that is there.
-use Rattle.std.proofs.Common.{◌≡◌, ◌∙◌, sym, ap, refl, subst, ℕ, suc, ◌+◌, ◌<◌, ◌≤◌, ◌⊎◌, inl, inr, ⊎_elim, List, [], ◌∷◌, ◌++◌, length, slice_get, Some, arith}
+use Rattle.std.proofs.Common.{◌≡◌, ◌∙◌, sym, ap, refl, subst, ℕ, suc, ◌+◌, ◌<◌, ◌≤◌, ◌⊎◌, inl, inr, ⊎_elim, true, List, [], ◌∷◌, ◌++◌, length, slice_get, Some, arith}
 use Rattle.std.specs.List.{Contains}
 use Rattle.std.proofs.lemmas.Option.{slice_get_within}
 use Rattle.std.proofs.lemmas.Bool.{cases_order}
@@ -11,7 +11,7 @@ use Rattle.spec_trees.specs.Made.{most_depth}
 use Rattle.spec_trees.specs.Choice.{IsInForm, AreOfOneGrammar}
 use Rattle.spec_graph.specs.declared.graph.Head.{Head}
 use Rattle.spec_graph.specs.declared.graph.Link.{Link}
-use Rattle.spec_graph.specs.Laying.{Parsing, Lays}
+use Rattle.spec_graph.specs.Laying.{Parsing, from_start, IsMet, Lays}
 use Rattle.spec_graph.specs.Replacing.{AreAlike, Replaces, ReplacesBoth}
 use Rattle.spec_graph.specs.Links.{IsAt, IsWay, IsLinked}
 use Rattle.ts_graph.specs.declared.view.GraphView.{GraphView}
@@ -66,8 +66,8 @@ module _ (laws : LayingLaws) (Q : Parsing) (old : GraphView) (below : ℕ) (tree
 
   -- a link between both heads, with the tree or one that was laid there
   module _ (l : Link) (b : l.below ≡ below) (a : l.above ≡ above) where
-    here_linked : (u : Tree) → Lays Q can.read can.from (bare l.tree ∷ []) to can.fits.now → tree_depth (bare l.tree) ≤ l.depth → Lays Q can.read can.from (u ∷ []) to can.fits.now → tree_depth u ≡ l.depth → IsLinked Q heads (bare_link l)
-    here_linked u lays shallow deep is = record {
+    here_linked : Lays Q can.read can.from (bare l.tree ∷ []) to can.fits.now → tree_depth (bare l.tree) ≤ l.depth → (is_extra_node (bare l.tree) ≡ true → l.depth ≡ 1) → (IsMet Q → (u : Tree) × Lays (from_start Q) can.read can.from (u ∷ []) to can.fits.now × (tree_depth u ≡ l.depth)) → IsLinked Q heads (bare_link l)
+    here_linked lays shallow flat deep = record {
       under = can.read;
       over = can.fits.now;
       from = can.from;
@@ -76,7 +76,8 @@ module _ (laws : LayingLaws) (Q : Parsing) (old : GraphView) (below : ℕ) (tree
       above = subst (λ (h : ℕ). IsAt Q heads h can.fits.now to) (sym a) high_at;
       lays = lays;
       shallow = shallow;
-      deepest = (u, deep, is);
+      flat = flat;
+      deepest = deep;
     }
 
     here_held : IsInForm Q.grammar l.tree → span_of l.tree ≡ span_of tree → can.from + node_extent l.tree ≤ suc (length Q.text) → l.depth ≤ most_depth → IsHeld Q heads l
@@ -169,7 +170,7 @@ module _ (laws : LayingLaws) (Q : Parsing) (old : GraphView) (below : ℕ) (tree
 
   one_so : IsLinked Q heads (bare_link one) × IsHeld Q heads one
   one_so = (
-    here_linked one refl refl can.fits.deepest.0 can.fits.lays bare_shallow can.fits.deepest.1 can.fits.deepest.2,
+    here_linked one refl refl can.fits.lays bare_shallow (λ e. can.fits.flat (sym (laws.keeps tree).extra ∙ e)) can.fits.deepest,
     here_held one refl refl can.fits.form refl can.fits.reach can.fits.not_deep,
   )
 
@@ -234,22 +235,29 @@ module _ (laws : LayingLaws) (Q : Parsing) (old : GraphView) (below : ℕ) (tree
     to_is : o_linked.to ≡ to
     to_is = same_place Q heads above o_linked.over can.fits.now o_linked.to to o_high high_at
 
+    at_low : IsAt Q heads below o_linked.under can.from
+    at_low = subst (λ (n : ℕ). IsAt Q heads below o_linked.under n) from_is o_low
+
+    at_high : IsAt Q heads above o_linked.over to
+    at_high = subst (λ (n : ℕ). IsAt Q heads above o_linked.over n) to_is o_high
+
     -- what was laid between the two heads
     module _ (u : Tree) (l : Lays Q o_linked.under o_linked.from (u ∷ []) o_linked.to o_linked.over) where
-      low_too : IsAt Q heads below o_linked.under can.from
-      low_too = subst (λ (n : ℕ). IsAt Q heads below o_linked.under n) from_is o_low
-
-      high_too : IsAt Q heads above o_linked.over to
-      high_too = subst (λ (n : ℕ). IsAt Q heads above o_linked.over n) to_is o_high
-
       moved : Lays Q o_linked.under can.from (u ∷ []) to o_linked.over
       moved = subst (λ (n : ℕ). Lays Q o_linked.under can.from (u ∷ []) n o_linked.over) to_is (subst (λ (n : ℕ). Lays Q o_linked.under n (u ∷ []) o_linked.to o_linked.over) from_is l)
 
       alike : AreAlike u (bare tree)
-      alike = laws.alike Q can.sound.parsed.fit can.sound.parsed.states can.sound.parsed.grounded heads below above o_linked.under can.read o_linked.over can.fits.now can.from to u (bare tree) low_too high_too low_at high_at moved can.fits.lays
+      alike = laws.alike Q can.sound.parsed.fit can.sound.parsed.states can.sound.parsed.grounded heads below above o_linked.under can.read o_linked.over can.fits.now can.from to u (bare tree) at_low at_high low_at high_at moved can.fits.lays
 
       comes_here : Lays Q can.read can.from (u ∷ []) to can.fits.now
-      comes_here = laws.either Q can.sound.parsed.fit can.sound.parsed.states can.sound.parsed.grounded heads below above o_linked.under can.read o_linked.over can.fits.now can.from to u (bare tree) low_too high_too low_at high_at moved can.fits.lays
+      comes_here = laws.either Q can.sound.parsed.fit can.sound.parsed.states can.sound.parsed.grounded heads below above o_linked.under can.read o_linked.over can.fits.now can.from to u (bare tree) at_low at_high low_at high_at moved can.fits.lays
+
+    -- what was laid there from the start
+    deep_here : IsMet Q → (u : Tree) → Lays (from_start Q) o_linked.under o_linked.from (u ∷ []) o_linked.to o_linked.over → Lays (from_start Q) can.read can.from (u ∷ []) to can.fits.now
+    deep_here met u l =
+        laws.deep Q can.sound.parsed.fit can.sound.parsed.states heads below above o_linked.under can.read o_linked.over can.fits.now can.from to u (can.fits.deepest met).0 at_low at_high low_at high_at
+        (subst (λ (n : ℕ). Lays (from_start Q) o_linked.under can.from (u ∷ []) n o_linked.over) to_is (subst (λ (n : ℕ). Lays (from_start Q) o_linked.under n (u ∷ []) o_linked.to o_linked.over) from_is l))
+        (can.fits.deepest met).1
 
     o_alike : AreAlike (bare o.tree) (bare tree)
     o_alike = alike (bare o.tree) o_linked.lays
@@ -306,16 +314,29 @@ module _ (laws : LayingLaws) (Q : Parsing) (old : GraphView) (below : ℕ) (tree
                 (subst (λ (x : Tree). can.from + node_extent x ≤ suc (length Q.text)) (sym e) (let low = ap (place_at heads) o_below ∙ low_place in omega (arith, low, o_held.reach))) m_not_deep,
           )
 
-      m_deep : (u : Tree) × Lays Q can.read can.from (u ∷ []) to can.fits.now × (tree_depth u ≡ m.depth)
-      m_deep = by (cases_order o.depth depth)
+      m_deep : IsMet Q → (u : Tree) × Lays (from_start Q) can.read can.from (u ∷ []) to can.fits.now × (tree_depth u ≡ m.depth)
+      m_deep met = by (cases_order o.depth depth)
         where
-          by : (o.depth ≡ depth) ⊎ ((o.depth < depth) ⊎ (depth < o.depth)) → (u : Tree) × Lays Q can.read can.from (u ∷ []) to can.fits.now × (tree_depth u ≡ m.depth)
-          by (inl same) = let d = packed.depth_is in (can.fits.deepest.0, can.fits.deepest.1, (let e = can.fits.deepest.2 in omega (arith, e, d, same)))
-          by (inr (inl lt)) = let d = packed.depth_is in (can.fits.deepest.0, can.fits.deepest.1, (let e = can.fits.deepest.2 in omega (arith, e, d, lt)))
-          by (inr (inr lt)) = let d = packed.depth_is in let x = o_linked.deepest in (x.0, comes_here x.0 x.1, (let e = x.2 in omega (arith, e, d, lt)))
+          by : (o.depth ≡ depth) ⊎ ((o.depth < depth) ⊎ (depth < o.depth)) → (u : Tree) × Lays (from_start Q) can.read can.from (u ∷ []) to can.fits.now × (tree_depth u ≡ m.depth)
+          by (inl same) = let d = packed.depth_is in let x = can.fits.deepest met in (x.0, x.1, (let e = x.2 in omega (arith, e, d, same)))
+          by (inr (inl lt)) = let d = packed.depth_is in let x = can.fits.deepest met in (x.0, x.1, (let e = x.2 in omega (arith, e, d, lt)))
+          by (inr (inr lt)) = let d = packed.depth_is in let x = o_linked.deepest met in (x.0, deep_here met x.0 x.1, (let e = x.2 in omega (arith, e, d, lt)))
+
+      -- both trees are extras where the one that stays is
+      m_flat : is_extra_node (bare m.tree) ≡ true → m.depth ≡ 1
+      m_flat e = ⊎_elim
+          (λ new. flat_both (sym (laws.keeps tree).extra ∙ ap (λ (x : Tree). is_extra_node (bare x)) (sym new) ∙ e))
+          (λ old. flat_both (sym (laws.keeps tree).extra ∙ sym o_alike.extra ∙ ap (λ (x : Tree). is_extra_node (bare x)) (sym old) ∙ e)) choice.which
+        where
+          flat_both : is_extra_node tree ≡ true → m.depth ≡ 1
+          flat_both is =
+              let one = can.fits.flat is in
+              let other = o_linked.flat (o_alike.extra ∙ (laws.keeps tree).extra ∙ is) in
+              let d = packed.depth_is in
+              omega (arith, one, other, d)
 
       m_so : IsLinked Q heads (bare_link m) × IsHeld Q heads m
-      m_so = let x = m_tree in let d = m_deep in (here_linked m m_below m_above d.0 x.0 x.1 d.1 d.2, x.2)
+      m_so = let x = m_tree in (here_linked m m_below m_above x.0 x.1 m_flat m_deep, x.2)
 
     module _ (new : GraphView) (m : Link) (m_is : slice_get new.links k ≡ Some m) (packed : IsPacked o tree depth m) (others : (j : ℕ) → (j ≡ k → ⊥) → slice_get new.links j ≡ slice_get old.links j) where
       m_there : Contains (bare_links new.links) (bare_link m)

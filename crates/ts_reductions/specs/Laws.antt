@@ -1,5 +1,5 @@
 -- The laws of other crates that the proofs of reductions rest on.
-use Rattle.std.specs.Prelude.{◌≡◌, ℕ, ◌+◌, ◌<◌, ◌≤◌, List, [], ◌∷◌, ◌++◌, All, length, map, reverse, slice_get, Option, Some, None}
+use Rattle.std.specs.Prelude.{◌≡◌, ℕ, ◌+◌, ◌<◌, ◌≤◌, true, List, [], ◌∷◌, ◌++◌, All, length, map, reverse, slice_get, Option, Some, None}
 use Rattle.ts_core.specs.declared.flat.FlatGrammar.{FlatGrammar}
 use Rattle.ts_core.specs.declared.flat.Production.{Production}
 use Rattle.ts_core.specs.declared.symbol.Symbol.{Symbol}
@@ -8,7 +8,7 @@ use Rattle.spec_lexing.specs.Lexing.{token}
 use Rattle.spec_tables.specs.Actions.{Act, reduce}
 use Rattle.spec_tables.specs.Fit.{Fit}
 use Rattle.spec_trees.specs.declared.tree.Tree.{Tree}
-use Rattle.spec_trees.specs.Trees.{span_of, all_spans, tree_depth, bare}
+use Rattle.spec_trees.specs.Trees.{is_extra_node, span_of, all_spans, tree_depth, bare}
 use Rattle.spec_trees.specs.Made.{IsNode, FitsProduction, form_of, of_next, left_of, reduced, filling, step_symbols, BeginsFilled, most_depth}
 use Rattle.spec_trees.specs.Choice.{IsInForm}
 use Rattle.spec_runs.specs.BareTrees.{KeepsAll}
@@ -17,7 +17,7 @@ use Rattle.spec_runs.specs.Moves.{StandsBefore, EndsWithProduction, RepeatsItsel
 use Rattle.spec_graph.specs.declared.graph.Head.{Head}
 use Rattle.spec_graph.specs.declared.graph.Link.{Link}
 use Rattle.spec_graph.specs.States.{ShareState, AreStates}
-use Rattle.spec_graph.specs.Laying.{Parsing, SeesAt, PassesAt, extra_tree, node_made, Lays, CanMakeNode}
+use Rattle.spec_graph.specs.Laying.{Parsing, from_start, IsMet, SeesAt, PassesAt, extra_tree, node_made, Lays, CanMakeNode}
 use Rattle.spec_graph.specs.Grounded.{IsGrounded}
 use Rattle.spec_graph.specs.Replacing.{Replaces}
 use Rattle.spec_graph.specs.Keys.{Key, Earlier, LaysBefore}
@@ -38,6 +38,12 @@ pub record ReductionLaws : Type 0 where
   pub spans : (P : Parsing) → Fit P.grammar → AreStates P.grammar P.goto → IsGrounded P
       → (read now : List ℕ) (from place : ℕ) (w : List Tree)
       → Lays P read from w place now → from + all_spans w ≡ place
+  pub embeds : (P : Parsing) → Fit P.grammar → AreStates P.grammar P.goto → IsMet P
+      → (read now : List ℕ) (from place : ℕ) (w : List Tree)
+      → Lays P read from w place now → Lays (from_start P) read from w place now
+  pub passes_same : (P : Parsing) → Fit P.grammar → AreStates P.grammar P.goto → IsGrounded P
+      → (read now : List ℕ) (from place : ℕ) (t : Tree)
+      → Lays P read from (t ∷ []) place now → is_extra_node t ≡ true → now ≡ read
   pub shared : (P : Parsing) → Fit P.grammar → AreStates P.grammar P.goto
       → (read other : List ℕ) (place : ℕ) (s : Symbol) (pad size : ℕ)
       → ShareState P.goto read other → PassesAt P read place s pad size
@@ -88,13 +94,13 @@ pub record ReductionLaws : Type 0 where
       → IsDue P rank heads links k number left p h e b outer inner over now end
       → tree_depth (node_made P number (reverse (way_trees inner)))
       ≤ way_depth P number left inner
-  pub deepest : (P : Parsing) → Fit P.grammar → AreStates P.grammar P.goto → IsGrounded P
+  pub deepest : (P : Parsing) → Fit P.grammar → AreStates P.grammar P.goto → IsMet P
       → (rank : ℕ → ℕ) (heads : List Head) (links : List Link) → IsGraph P heads links
       → (k : Key) (number left : ℕ) (p : Production) (h e b : ℕ) (outer inner : List Link)
       (over now : List ℕ) (end : ℕ)
       → IsDue P rank heads links k number left p h e b outer inner over now end
-      → P.place ≤ k.look → way_depth P number left inner ≤ most_depth
-      → (t : Tree) × Lays P now k.begins (t ∷ []) end (left ∷ now)
+      → way_depth P number left inner ≤ most_depth
+      → (t : Tree) × Lays (from_start P) now k.begins (t ∷ []) end (left ∷ now)
       × (tree_depth t ≡ way_depth P number left inner)
   pub extras : (P : Parsing) → Fit P.grammar → AreStates P.grammar P.goto → IsGrounded P
       → (rank : ℕ → ℕ) (heads : List Head) (links : List Link) → IsGraph P heads links

@@ -9,7 +9,7 @@ use Rattle.spec_trees.specs.Choice.{IsInForm}
 use Rattle.spec_graph.specs.declared.graph.Head.{Head}
 use Rattle.spec_graph.specs.declared.graph.Link.{Link}
 use Rattle.spec_graph.specs.States.{LeadsTo}
-use Rattle.spec_graph.specs.Laying.{Parsing, Lays, PassesAt, extra_tree}
+use Rattle.spec_graph.specs.Laying.{Parsing, from_start, IsMet, Lays, PassesAt, extra_tree}
 use Rattle.spec_graph.specs.Replacing.{Replaces}
 use Rattle.spec_graph.specs.Links.{IsAt, HasLink}
 use Rattle.ts_graph.specs.declared.view.GraphView.{GraphView}
@@ -18,15 +18,17 @@ use Rattle.ts_reductions.specs.declared.made.Made.{Made}
 use Rattle.ts_reductions.specs.SoundLinks.{bare_links, IsSoundFor}
 
 -- After these symbols, at this place, the tree can be laid, up to a state. It has bytes, and is no
--- deeper than the depth; and some tree of the depth can be laid there.
+-- deeper than the depth, which is one if it is an extra. Where the stack from which runs go on was
+-- met, some tree of the depth can be laid there from the start of the text.
 pub record FitsAfter (P : Parsing) (read : List ℕ) (from : ℕ) (tree : Tree)
     (depth state : ℕ) : Type 0 where
   pub now : List ℕ
   pub leads : LeadsTo P.goto now state
   pub lays : Lays P read from (bare tree ∷ []) (from + span_of tree) now
   pub shallow : tree_depth tree ≤ depth
-  pub deepest : (u : Tree)
-      × Lays P read from (u ∷ []) (from + span_of tree) now
+  pub flat : is_extra_node tree ≡ true → depth ≡ 1
+  pub deepest : IsMet P → (u : Tree)
+      × Lays (from_start P) read from (u ∷ []) (from + span_of tree) now
       × (tree_depth u ≡ depth)
   pub form : IsInForm P.grammar tree
   pub some : 0 < span_of tree

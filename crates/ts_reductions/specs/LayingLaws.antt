@@ -7,7 +7,7 @@ use Rattle.spec_trees.specs.Choice.{Better}
 use Rattle.spec_runs.specs.BareTrees.{KeepsAll}
 use Rattle.spec_graph.specs.declared.graph.Head.{Head}
 use Rattle.spec_graph.specs.States.{AreStates}
-use Rattle.spec_graph.specs.Laying.{Parsing, PassesTree, Lays}
+use Rattle.spec_graph.specs.Laying.{Parsing, from_start, IsMet, PassesTree, Lays}
 use Rattle.spec_graph.specs.Grounded.{IsGrounded}
 use Rattle.spec_graph.specs.Replacing.{AreAlike, Replaces, ReplacesBoth}
 use Rattle.spec_graph.specs.Links.{IsAt}
@@ -33,6 +33,16 @@ pub record LayingLaws : Type 0 where
       → Lays P read from (t ∷ []) to now
       → Lays P other from (u ∷ []) to then
       → Lays P other from (t ∷ []) to then
+  pub deep : (P : Parsing) → Fit P.grammar → AreStates P.grammar P.goto
+      → (heads : List Head) (a b : ℕ) (read other now then : List ℕ) (from to : ℕ) (t u : Tree)
+      → IsAt P heads a read from → IsAt P heads b now to
+      → IsAt P heads a other from → IsAt P heads b then to
+      → Lays (from_start P) read from (t ∷ []) to now
+      → Lays (from_start P) other from (u ∷ []) to then
+      → Lays (from_start P) other from (t ∷ []) to then
+  pub embeds : (P : Parsing) → Fit P.grammar → AreStates P.grammar P.goto → IsMet P
+      → (read now : List ℕ) (from place : ℕ) (w : List Tree)
+      → Lays P read from w place now → Lays (from_start P) read from w place now
   pub passes_tree : (P : Parsing) → Fit P.grammar → AreStates P.grammar P.goto → IsGrounded P
       → (read now : List ℕ) (from place : ℕ) (t : Tree)
       → P.place ≤ place → Lays P read from (t ∷ []) place now → is_extra_node t ≡ true

@@ -3,7 +3,7 @@
 use Rattle.std.specs.Prelude.{ℕ, List, []}
 use Rattle.std.specs.List.{Contains}
 use Rattle.ts_base.specs.Bytes.{Bytes}
-use Rattle.spec_trees.specs.declared.tree.Tree.{Tree}
+use Rattle.spec_packing.specs.Packing.{PackedTree}
 use Rattle.spec_graph.specs.declared.graph.Link.{Link}
 use Rattle.spec_graph.specs.Laying.{Parsing}
 use Rattle.ts_graph.specs.declared.view.GraphView.{GraphView}
@@ -12,14 +12,14 @@ use Rattle.ts_table.specs.Tables.{goto_of}
 use Rattle.ts_reductions.specs.Good.{IsGoodTree}
 use Rattle.ts_reductions.specs.SoundLinks.{IsSoundFor}
 
--- a stack from which runs go on, and the place where it ends
+-- the layers of a stack from which runs go on, and the place where it ends
 pub record Base : Type 0 where
-  pub stack : List Tree
+  pub layers : List PackedTree
   pub place : ℕ
 
--- the stack of these trees, which ends at this place
-abbrev pub base_at : List Tree → ℕ → Base
-base_at stack place = record { stack = stack; place = place }
+-- the stack of these layers, which ends at this place
+abbrev pub base_at : List PackedTree → ℕ → Base
+base_at layers place = record { layers = layers; place = place }
 
 -- the empty stack, from which all runs begin
 abbrev pub empty_base : Base
@@ -31,7 +31,7 @@ parsing_from t text base = record {
   grammar = t.grammar;
   text = text;
   goto = goto_of t;
-  stack = base.stack;
+  layers = base.layers;
   place = base.place;
 }
 

@@ -8,6 +8,8 @@ returns c = record {
   both = c.trees_replace.ensures.both;
   alike = c.links_pack.ensures.alike;
   either = c.links_pack.ensures.either;
+  deep = c.links_pack.ensures.deep;
+  embeds = c.runs_lay.ensures.embeds;
   passes_tree = c.extras_are_passed.ensures.tree;
   passes_same = c.extras_are_passed.ensures.same;
 }
