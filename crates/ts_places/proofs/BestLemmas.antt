@@ -30,7 +30,7 @@ use Rattle.ts_places.specs.EndLaws.{EndLaws}
 use Rattle.ts_places.specs.Choosing.{Withstands, KeepsBest, HasForm}
 use Rattle.ts_places.specs.Ends.{Accepts}
 use Rattle.ts_places.specs.Best.{CanChoose, AcceptsAmong, IsRootOn, IsBestOn, KeepsRoots, CanTakeRoot, IsRootBy}
-use Rattle.spec_graph.proofs.GroundLemmas.{ground_base}
+use Rattle.spec_graph.proofs.BaseLemmas.{ground_base}
 use Rattle.ts_places.proofs.WayLemmas.{Split, split_way, same_below}
 
 -- ---- roots
@@ -185,7 +185,7 @@ module _ (laws : EndLaws) (t : ParseTable) (text : Bytes) (g : GraphView) (sound
         below_same : map bare (way_trees r.below) ≡ map bare (way_trees parts.below)
         below_same =
             sym (trees_bare r.below)
-            ∙ same_below Q facts (ground_base Q sound.1.laid.parsed.grounded) g.heads links graph (bare_links r.below) (bare_links parts.below) ends.0 low_at.1 low_at.0 low_at.2
+            ∙ same_below Q facts (ground_base Q facts sound.1.laid.parsed.grounded) g.heads links graph (bare_links r.below) (bare_links parts.below) ends.0 low_at.1 low_at.0 low_at.2
             (way_bare g.links r.below ends.0 0 (subst (λ (b : ℕ). IsWay g.links b r.below 0) low r.under)) (way_bare g.links parts.below ends.0 0 ends.2)
             (subst AreExtras (sym (trees_bare r.below)) (bare_extras laws.graphs.runs.keeps (way_trees r.below) r.below_extras))
             (subst AreExtras (sym (trees_bare parts.below)) (bare_extras laws.graphs.runs.keeps (way_trees parts.below) below_extras))

@@ -126,7 +126,8 @@ module _ (look_laws : LookLaws) (laws : LeafLaws) (t : ParseTable) (text : Bytes
           leads = leads;
           lays = lays_there;
           shallow = let d = says.depth in omega (arith, d);
-          deepest = (bare u, lays_there, bare_depth);
+          flat = λ e. refl;
+          deepest = λ met. (bare u, laws.embeds P can.sound.laid.parsed.fit can.sound.laid.parsed.states met read now look (look + trees.span_of u) (bare u ∷ []) lays_there, bare_depth);
           form = says.form;
           some = let p = says.span in omega (arith, p, some);
           reach = let e = says.extent_is in let r = s.reach in omega (arith, e, r);

@@ -39,7 +39,7 @@ use Rattle.ts_places.specs.Ends.{Accepts}
 use Rattle.ts_places.specs.Best.{CanTakeRoot, IsRootBy}
 use Rattle.ts_places.proofs.ListLemmas.{none_fill, OneFills, one_fills, all_extra, back_again, Ended, ended, good_left, good_right, all_settled, all_in_form, few_nodes, all_few, flat_extras}
 use Rattle.spec_graph.proofs.LayLemmas.{IsBase, lays_ruled}
-use Rattle.spec_graph.proofs.GroundLemmas.{ground_base}
+use Rattle.spec_graph.proofs.BaseLemmas.{ground_base}
 use Rattle.ts_places.proofs.WayLemmas.{accepting_way}
 
 -- ---- down to the empty stack
@@ -138,7 +138,7 @@ module _ (laws : EndLaws) (t : ParseTable) (text : Bytes) (g : GraphView) (size 
   facts = record { laws = laws.graphs; fit = laid.parsed.fit; states = laid.parsed.states }
 
   base : IsBase P
-  base = ground_base P laid.parsed.grounded
+  base = ground_base P facts laid.parsed.grounded
 
   accepts_here : Accepts P g.heads h
   accepts_here =

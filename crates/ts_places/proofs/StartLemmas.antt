@@ -9,12 +9,14 @@ use Rattle.spec_trees.specs.declared.tree.Tree.{Tree}
 use Rattle.spec_trees.specs.Trees.{symbol_of, is_extra_node, span_of, all_spans}
 use Rattle.spec_trees.specs.Made.{filling, BeginsFilled}
 use Rattle.spec_runs.specs.Configurations.{HasMove}
+use Rattle.spec_packing.specs.Packing.{PackedTree, packed_trees}
 use Rattle.spec_graph.specs.declared.graph.Head.{Head}
 use Rattle.spec_graph.specs.declared.graph.Link.{Link}
 use Rattle.spec_graph.specs.States.{LeadsTo, at_first}
 use Rattle.spec_graph.specs.Laying.{Parsing, SeesAt, PassesAt, Lays, flat, stood, shifted, passed, made}
 use Rattle.spec_graph.specs.Grounded.{BeginsWithBytes}
 use Rattle.spec_graph.specs.Links.{IsAt, IsWay}
+use Rattle.spec_graph.proofs.ReadingLemmas.{packed_append, cover_filling, cover_spans, reading_layer}
 use Rattle.ts_graph.specs.declared.view.GraphView.{GraphView}
 use Rattle.ts_table.specs.declared.view.ParseTable.{ParseTable}
 use Rattle.ts_table.specs.Tables.{IsTable, goto_of, actions_of}
@@ -46,6 +48,10 @@ both_empty : {X : Type 0} (xs ys : List X) → xs ++ ys ≡ [] → (xs ≡ []) �
 both_empty [] ys e = (refl, e)
 both_empty {X = X} (x ∷ xs) ys e = absurd (let h : x ∷ (xs ++ ys) ≡ [] = e in cc)
 
+no_layers : (ls : List PackedTree) → packed_trees ls ≡ [] → ls ≡ []
+no_layers [] e = refl
+no_layers (l ∷ ls) e = absurd (let h : l.tree ∷ packed_trees ls ≡ [] = e in cc)
+
 -- ---- heads of the empty stack
 
 module _ (t : ParseTable) (text : Bytes) (base : Base) (g : GraphView) (sound : IsSoundBy t text base g) where
@@ -54,26 +60,27 @@ module _ (t : ParseTable) (text : Bytes) (base : Base) (g : GraphView) (sound : 
 
   -- the stack from which runs go on has extras alone up to the place
   record Stood (place : ℕ) : Type 0 where
-    above : List Tree
-    below : List Tree
-    is : base.stack ≡ above ++ below
-    ends : all_spans below ≡ place
-    extras : filling below ≡ []
+    above : List PackedTree
+    below : List PackedTree
+    is : base.layers ≡ above ++ below
+    ends : all_spans (packed_trees below) ≡ place
+    extras : filling (packed_trees below) ≡ []
 
   -- or it is empty, and what comes to nothing from the place on does so from the start on
   abbrev Begins : ℕ → Type 0
-  Begins place = Stood place ⊎ ((base.stack ≡ []) × (ComesToNothing t text place → IsOfNothing t text))
+  Begins place = Stood place ⊎ ((base.layers ≡ []) × (ComesToNothing t text place → IsOfNothing t text))
 
-  all_stood : (place : ℕ) → base.place ≤ place → (above below : List Tree) → base.stack ≡ above ++ below → all_spans below ≡ place → filling below ≡ [] → (base.stack ≡ []) × (place ≡ 0)
+  all_stood : (place : ℕ) → base.place ≤ place → (above below : List PackedTree) → base.layers ≡ above ++ below → all_spans (packed_trees below) ≡ place → filling (packed_trees below) ≡ [] → (base.layers ≡ []) × (place ≡ 0)
   all_stood place late [] below is ends extras =
-      let empty : below ≡ [] = no_symbols below (subst (λ (ts : List Tree). BeginsFilled ts) is sound.laid.parsed.grounded.begins) extras in
-      (is ∙ empty, sym ends ∙ ap all_spans empty)
+      let none = no_symbols (packed_trees below) (subst (λ (ls : List PackedTree). BeginsFilled (packed_trees ls)) is sound.laid.parsed.grounded.begins) extras in
+      (is ∙ no_layers below none, sym ends ∙ ap all_spans none)
   all_stood place late (a ∷ above) below is ends extras =
-      absurd (let some : 0 < span_of a = subst (λ (ts : List Tree). BeginsWithBytes ts) is sound.laid.parsed.grounded.some in
-      let whole : all_spans (a ∷ (above ++ below)) ≡ base.place = ap all_spans (sym is) ∙ sound.laid.parsed.grounded.spans in
-      omega (arith, some, whole, all_spans-append above below, ends, late))
+      absurd (let some : 0 < span_of a.tree = subst (λ (ls : List PackedTree). BeginsWithBytes (packed_trees ls)) is sound.laid.parsed.grounded.some in
+      let whole : all_spans (packed_trees (a ∷ (above ++ below))) ≡ base.place = ap (λ (ls : List PackedTree). all_spans (packed_trees ls)) (sym is) ∙ sound.laid.parsed.grounded.spans in
+      let parts : all_spans (packed_trees (above ++ below)) ≡ all_spans (packed_trees above ++ packed_trees below) = ap all_spans (packed_append above below) in
+      omega (arith, some, whole, parts, all_spans-append (packed_trees above) (packed_trees below), ends, late))
 
-  begins_at : (place : ℕ) → base.place ≤ place → Begins place → (base.stack ≡ []) × (ComesToNothing t text place → IsOfNothing t text)
+  begins_at : (place : ℕ) → base.place ≤ place → Begins place → (base.layers ≡ []) × (ComesToNothing t text place → IsOfNothing t text)
   begins_at place late (inr b) = b
   begins_at place late (inl s) =
       let a = all_stood place late s.above s.below s.is s.ends s.extras in
@@ -104,12 +111,14 @@ module _ (t : ParseTable) (text : Bytes) (base : Base) (g : GraphView) (sound : 
       let both = both_empty (filling (u ∷ [])) now o in
       let zero_state = lead_once P.goto [] share.0 0 (subst (λ (r : List ℕ). LeadsTo P.goto r share.0) both.1 share.2) at_first in
       let none = none_read (filling below) (subst (λ (n : ℕ). LeadsTo P.goto (filling below) n) zero_state share.1) in
+      let f = reading_layer P above below u at in
+      let spans : all_spans (packed_trees (f.layer ∷ f.under)) ≡ all_spans (u ∷ below) = cover_spans (f.layer ∷ f.under) (u ∷ below) (f.covers, f.rest) in
       inl (record {
-        above = above;
-        below = u ∷ below;
-        is = at;
-        ends = omega (arith, place);
-        extras = filling_more u below both.0 none;
+        above = f.over;
+        below = f.layer ∷ f.under;
+        is = f.is;
+        ends = omega (arith, place, spans);
+        extras = cover_filling (f.layer ∷ f.under) (u ∷ below) (f.covers, f.rest) ∙ filling_more u below both.0 none;
       })
   by_link _ _ _ _ _ (shifted read from w p now s pad size l late sees acts) x e o deeper = absurd (let h : s.0 ∷ now ≡ [] = o in cc)
   by_link _ _ _ _ _ (made read from w p now ks end over xs look number left pr l inner outer all late taken reduces count deep) x e o deeper = absurd (let h : left ∷ now ≡ [] = o in cc)
@@ -126,7 +135,7 @@ module _ (t : ParseTable) (text : Bytes) (base : Base) (g : GraphView) (sound : 
       let start = sound.laid.graph.start in
       let same = one_head g.heads 0 start.head at.head start.is (subst (λ (n : ℕ). slice_get g.heads n ≡ Some at.head) e at.is) in
       let place_is : 0 ≡ place = sym start.place_is ∙ ap (λ (x : Head). x.place) same ∙ at.place_is in
-      inl (record { above = base.stack; below = []; is = sym (append-nil base.stack); ends = place_is; extras = refl })
+      inl (record { above = base.layers; below = []; is = sym (append-nil base.layers); ends = place_is; extras = refl })
   down_from (l ∷ way) h place w at =
       let k = sound.laid.graph.linked l w.0 in
       let same = one_head g.heads h k.above.head at.head (subst (λ (n : ℕ). slice_get g.heads n ≡ Some k.above.head) w.1 k.above.is) at.is in

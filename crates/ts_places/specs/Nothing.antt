@@ -51,7 +51,7 @@ IsOfNothing t text = ComesToNothing t text 0
 
 -- Where runs go on from the empty stack, it is not so.
 abbrev pub IsOfSome : ParseTable → Bytes → Base → Type 0
-IsOfSome t text base = base.stack ≡ [] → IsOfNothing t text → ⊥
+IsOfSome t text base = base.layers ≡ [] → IsOfNothing t text → ⊥
 
 -- ---- what is seen on the way
 

@@ -18,7 +18,7 @@ use Rattle.spec_runs.specs.Moves.{StandsBefore}
 use Rattle.spec_graph.specs.declared.graph.Head.{Head}
 use Rattle.spec_graph.specs.declared.graph.Link.{Link}
 use Rattle.spec_graph.specs.States.{AreStates, AreRanks}
-use Rattle.spec_graph.specs.Laying.{Parsing}
+use Rattle.spec_graph.specs.Laying.{Parsing, from_start, IsMet, IsReading, Lays}
 use Rattle.spec_graph.specs.Grounded.{IsGrounded}
 use Rattle.spec_graph.specs.Keys.{Key, IsNextKey}
 use Rattle.spec_graph.specs.Links.{IsGraph, IsWholeTo, HasNoneDue, AreDone, HasGrown, AreAdded, IsOpened}
@@ -51,7 +51,10 @@ pub record LeafLaws : Type 0 where
   pub shifts : (g : FlatGrammar) (read : List ℕ) (t : ℕ) → Act g read t shift
       → IsToken g t × StandsBefore g read t
   pub low : (P : Parsing) → IsGrounded P → (above below : List Tree) (t : Tree)
-      → P.stack ≡ above ++ t ∷ below → all_spans below < P.place
+      → IsReading P (above ++ t ∷ below) → all_spans below < P.place
+  pub embeds : (P : Parsing) → Fit P.grammar → AreStates P.grammar P.goto → IsMet P
+      → (read now : List ℕ) (from place : ℕ) (w : List Tree)
+      → Lays P read from w place now → Lays (from_start P) read from w place now
 
 -- For proofs alone: laws of graphs that are whole up to later keys, and of keys that follow others.
 pub record NextLaws : Type 0 where

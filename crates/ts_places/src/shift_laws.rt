@@ -24,7 +24,9 @@ ghost use Rattle.ts_places.specs.Looking.{IsHeadAt, StopsThere, AreSights};
 ghost use Rattle.ts_places.specs.Passing.{first_key};
 ghost use Rattle.ts_places.specs.Shifting.{AreShifted};
 
-use spec_graph::{keys_follow, keys_pass, stacks_are_grounded, trees_replace, whole_to_the_next};
+use spec_graph::{
+    keys_follow, keys_pass, runs_lay, stacks_are_grounded, trees_replace, whole_to_the_next,
+};
 use spec_lexing::{beginnings, one_answer, token_within};
 use spec_runs::{bare_trees, moves_have_their_place};
 use ts_lexer::same_tokens;
@@ -49,6 +51,7 @@ pub(crate) fn leaf_laws_hold()
     trees_replace();
     moves_have_their_place();
     stacks_are_grounded();
+    runs_lay();
 }
 
 /// The laws of graphs that are whole up to later keys hold.

@@ -45,6 +45,7 @@ pub(crate) fn graph_laws_hold()
     bare_trees();
     trees_replace();
     links_pack();
+    runs_lay();
     extras_are_passed();
     stacks_are_grounded();
     moves_have_their_place();

@@ -8,4 +8,5 @@ returns c = record {
   through = c.trees_replace.ensures.through;
   shifts = c.moves_have_their_place.ensures.shift;
   low = c.stacks_are_grounded.ensures.low;
+  embeds = c.runs_lay.ensures.embeds;
 }

@@ -8,6 +8,8 @@ returns-clause-laying c = record {
   both = c.trees_replace.ensures.both;
   alike = c.links_pack.ensures.alike;
   either = c.links_pack.ensures.either;
+  deep = c.links_pack.ensures.deep;
+  embeds = c.runs_lay.ensures.embeds;
   passes_tree = c.extras_are_passed.ensures.tree;
   passes_same = c.extras_are_passed.ensures.same;
 }
@@ -20,4 +22,5 @@ returns-clause-leaves c = record {
   through = c.trees_replace.ensures.through;
   shifts = c.moves_have_their_place.ensures.shift;
   low = c.stacks_are_grounded.ensures.low;
+  embeds = c.runs_lay.ensures.embeds;
 }
