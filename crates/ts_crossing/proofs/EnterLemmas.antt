@@ -1,10 +1,11 @@
 -- A graph that is made of a stack.
-use Rattle.std.proofs.Common.{◌+◌, ◌≡◌, ◌∙◌, sym, ap, refl, subst, ℕ, zero, suc, ◌≤◌, List, [], ◌∷◌, ◌++◌, length, drop, slice_get, Some, arith}
+use Rattle.std.proofs.Common.{◌+◌, ◌≡◌, ◌∙◌, sym, ap, refl, subst, ℕ, suc, ◌≤◌, List, [], ◌∷◌, ◌++◌, length, slice_get, Some, arith}
 use Rattle.std.specs.List.{Contains}
 use Rattle.std.proofs.lemmas.Option.{slice_get_within}
 use Rattle.ts_base.specs.Bytes.{Bytes}
 use Rattle.spec_trees.specs.declared.tree.Tree.{Tree}
-use Rattle.spec_trees.specs.Trees.{span_of, all_spans, tree_depth}
+use Rattle.spec_packing.specs.Packing.{PackedTree}
+use Rattle.spec_trees.specs.Trees.{span_of, all_spans}
 use Rattle.spec_trees.specs.Made.{most_span}
 use Rattle.spec_forced.specs.Sound.{States, StandOnStack}
 use Rattle.spec_forced.proofs.SoundLemmas.{stack_lower}
@@ -18,9 +19,9 @@ use Rattle.ts_table.specs.declared.view.ParseTable.{ParseTable}
 use Rattle.ts_table.specs.Tables.{IsTable}
 use Rattle.ts_table.specs.Ranks.{unit_rank}
 use Rattle.ts_gss.specs.declared.layer.Layer.{Layer}
-use Rattle.ts_gss.specs.Stacks.{stack_at, trees_on, state_on, AreExact}
+use Rattle.ts_gss.specs.Stacks.{stack_at, trees_on, state_on}
 use Rattle.ts_graph.specs.declared.view.GraphView.{GraphView}
-use Rattle.ts_graph.specs.Down.{OpensAt, link_with}
+use Rattle.ts_graph.specs.Down.{OpensAt}
 use Rattle.ts_graph.specs.Under.{head_over, heads_on, links_on, graph_over}
 use Rattle.ts_graph.proofs.HeadLemmas.{stay_more, opens_last}
 use Rattle.ts_graph.proofs.UnderLemmas.{heads_many, head_last}
@@ -30,6 +31,7 @@ use Rattle.ts_reductions.specs.LayingLaws.{LayingLaws}
 use Rattle.ts_reductions.proofs.LayLemmas.{Opened, pushed}
 use Rattle.ts_steps.specs.declared.head.StackHead.{StackHead}
 use Rattle.ts_steps.specs.Good.{EachTree}
+use Rattle.ts_steps.specs.LiveHeads.{packed_layers}
 use Rattle.ts_steps.specs.Heads.{AreStatesOf, IsOwnWithin, StandOnHead}
 use Rattle.ts_steps.proofs.NodeLemmas.{each_right}
 use Rattle.ts_crossing.specs.Laws.{EnterLaws}
@@ -38,7 +40,7 @@ use Rattle.ts_reductions.specs.Keeping.{StandOnGraph}
 use Rattle.ts_crossing.specs.Entering.{CanEnter, IsEntered, IsUnder, Stands, LaidTo}
 use Rattle.ts_crossing.proofs.MemberLemmas.{none_contained, member_bare, place_is_at}
 use Rattle.ts_crossing.proofs.TableLemmas.{table_states}
-use Rattle.ts_crossing.proofs.StandLemmas.{stands_under, begun, enter_stands, grounded, place_is, bare_low}
+use Rattle.ts_crossing.proofs.StandLemmas.{stands_under, begun, enter_stands, grounded, place_is}
 use Rattle.ts_crossing.proofs.LayLemmas.{layer_can, layer_laid}
 
 -- ---- the empty stack
@@ -69,7 +71,7 @@ module _ (laws : EnterLaws) (t : ParseTable) (text : Bytes) (base : Base) (groun
       let one : head ≡ head_at 0 0 = cc in
       ap (λ (x : Head). x.place) one
 
-  never_stood : (over below : List Tree) (v : Tree) → [] ≡ over ++ v ∷ below → ⊥
+  never_stood : (over below : List PackedTree) (v : PackedTree) → [] ≡ over ++ v ∷ below → ⊥
   never_stood [] below v e = cc
   never_stood (x ∷ over) below v e = let h : [] ≡ x ∷ (over ++ v ∷ below) = e in cc
 
@@ -103,7 +105,7 @@ module _ (laws : EnterLaws) (t : ParseTable) (text : Bytes) (base : Base) (groun
 
 -- ---- one layer after another
 
-module _ (laws : EnterLaws) (laying : LayingLaws) (t : ParseTable) (text : Bytes) (base : Base) (l : Layer) (lower : List Layer) (stands : Stands t text base (l ∷ lower)) (exact : l.depth ≡ tree_depth l.tree)
+module _ (laws : EnterLaws) (laying : LayingLaws) (t : ParseTable) (text : Bytes) (base : Base) (l : Layer) (lower : List Layer) (stands : Stands t text base (l ∷ lower))
     (laid : LaidTo t text base lower (graph_over lower) (length lower)) where
   abbrev n : ℕ
   n = length lower
@@ -134,29 +136,23 @@ module _ (laws : EnterLaws) (laying : LayingLaws) (t : ParseTable) (text : Bytes
         (opens_last (heads_on lower) (heads_on lower ++ head ∷ []) head (suc n) refl above_is);
   }
 
-  links_are : links_on (l ∷ lower) ≡ links_on lower ++ link_with (suc n) n l.tree (tree_depth l.tree) ∷ []
-  links_are = ap (λ (d : ℕ). links_on lower ++ link_with (suc n) n l.tree d ∷ []) exact
-
   pub layer_over : LaidTo t text base (l ∷ lower) (graph_over (l ∷ lower)) (suc n)
   layer_over =
       layer_laid laws t text base l lower stands (graph_over lower) n laid (graph_over (l ∷ lower)) (suc n)
-      (pushed laying (parsing_from t text base) (graph_over lower) mid n (suc n) l.tree (tree_depth l.tree) l.state from (from + span_of l.tree) opened
-      (layer_can laws t text base l lower stands (graph_over lower) n laid) (graph_over (l ∷ lower)) refl links_are)
+      (pushed laying (parsing_from t text base) (graph_over lower) mid n (suc n) l.tree l.depth l.state from (from + span_of l.tree) opened
+      (layer_can laws t text base l lower stands (graph_over lower) n laid) (graph_over (l ∷ lower)) refl refl)
 
 module _ (laws : EnterLaws) (laying : LayingLaws) (t : ParseTable) (text : Bytes) (base : Base) (ground : IsGrounded (parsing_from t text base)) (table : IsTable t) (short : length text ≤ most_span) where
-  pub all_over : (layers : List Layer) → Stands t text base layers → AreExact layers → LaidTo t text base layers (graph_over layers) (length layers)
-  all_over [] stands exact = first_laid laws t text base ground table short (graph_over []) 0 refl refl refl
-  all_over (l ∷ layers) stands exact =
-      layer_over laws laying t text base l layers stands exact.0 (all_over layers (stands_under t text base (l ∷ layers) (omega arith) stands) exact.1)
+  pub all_over : (layers : List Layer) → Stands t text base layers → LaidTo t text base layers (graph_over layers) (length layers)
+  all_over [] stands = first_laid laws t text base ground table short (graph_over []) 0 refl refl refl
+  all_over (l ∷ layers) stands =
+      layer_over laws laying t text base l layers stands (all_over layers (stands_under t text base (l ∷ layers) (omega arith) stands))
 
 -- ---- the whole stack
 
 module _ (laws : EnterLaws) (t : ParseTable) (text : Bytes) (stacks : List (List Layer)) (h : StackHead) (can : CanEnter t text stacks h) (under : StackHead) (is : IsUnder stacks h under) where
-  abbrev stack : List Tree
-  stack = bare_low laws t text stacks h can under is
-
   abbrev pub entry : Base
-  entry = base_at stack under.place
+  entry = base_at (packed_layers (stack_at stacks under.top)) under.place
 
   pub entry_ground : IsGrounded (parsing_from t text entry)
   entry_ground = grounded laws t text stacks h can under is
@@ -169,7 +165,7 @@ module _ (laws : EnterLaws) (t : ParseTable) (text : Bytes) (stacks : List (List
     place_eq = place_is laws t text stacks h can under is
 
     stood : HasStood (parsing_from t text entry) g.heads (bare_links g.links)
-    stood = subst (λ (n : ℕ). HasStood (parsing_from t text (base_at stack n)) g.heads (bare_links g.links)) (sym place_eq) laid_on.stood
+    stood = subst (λ (n : ℕ). HasStood (parsing_from t text (base_at (packed_layers low) n)) g.heads (bare_links g.links)) (sym place_eq) laid_on.stood
 
     stand : (states : States) → AreStatesOf t states → StandOnHead t states text stacks h → StandOnGraph t.grammar states text entry g
     stand states named st =
@@ -178,7 +174,7 @@ module _ (laws : EnterLaws) (t : ParseTable) (text : Bytes) (stacks : List (List
 
     pub entered : IsEntered t text stacks h g under.place
     entered = record {
-      stack = stack;
+      layers = packed_layers low;
       begun = begun laws t text stacks h can under is;
       sound = record { laid = laid_on.sound; good = laid_on.good };
       stood = stood;
@@ -192,16 +188,8 @@ module _ (laws : EnterLaws) (t : ParseTable) (text : Bytes) (stacks : List (List
     }
 
   -- the graph over the stack
-  pub entered_over : LayingLaws → AreExact (stack_at stacks h.top) → IsEntered t text stacks h (graph_over (stack_at stacks under.top)) under.place
-  entered_over laying exact =
+  pub entered_over : LayingLaws → IsEntered t text stacks h (graph_over (stack_at stacks under.top)) under.place
+  entered_over laying =
       let low = stack_at stacks under.top in
       entered (graph_over low) (length low) refl
-      (all_over laws laying t text entry entry_ground can.table can.short low (enter_stands laws t text stacks h can under is) (exact_under exact))
-    where
-      exact_drop : (n : ℕ) (layers : List Layer) → AreExact layers → AreExact (drop n layers)
-      exact_drop zero layers e = e
-      exact_drop (suc n) [] e = tt
-      exact_drop (suc n) (l ∷ layers) e = exact_drop n layers e.1
-
-      exact_under : AreExact (stack_at stacks h.top) → AreExact (stack_at stacks under.top)
-      exact_under e = subst AreExact (sym is.lifted.rest) (exact_drop (length is.extras) (stack_at stacks h.top) e)
+      (all_over laws laying t text entry entry_ground can.table can.short low (enter_stands laws t text stacks h can under is))

@@ -1,9 +1,9 @@
 -- The trees of a stack are such as a parser makes, and stand, in the graph that is made of it.
-use Rattle.std.proofs.Common.{◌≡◌, ◌∙◌, sym, ap, subst, ℕ, ◌<◌, ◌≤◌, ⊎_elim, false, List, [], ◌∷◌, map, slice_get, Some, None, arith}
+use Rattle.std.proofs.Common.{◌≡◌, ◌∙◌, sym, ap, subst, ℕ, ◌<◌, ◌≤◌, ⊎_elim, false, List, [], ◌∷◌, slice_get, Some, None, arith}
 use Rattle.std.specs.List.{Contains}
 use Rattle.ts_base.specs.Bytes.{Bytes}
 use Rattle.spec_trees.specs.declared.tree.Tree.{Tree}
-use Rattle.spec_trees.specs.Trees.{is_extra_node, state_of, all_spans, tree_depth, bare}
+use Rattle.spec_trees.specs.Trees.{is_extra_node, state_of, all_spans}
 use Rattle.spec_trees.specs.Made.{filling}
 use Rattle.spec_forced.specs.Sound.{States, IsStateAfter, StandsForState, AllSound, HasState, StandOnStack}
 use Rattle.spec_graph.specs.declared.graph.Head.{Head}
@@ -19,7 +19,7 @@ use Rattle.ts_reductions.specs.SoundLinks.{bare_link}
 use Rattle.ts_reductions.specs.Laying.{head_at, IsLaid}
 use Rattle.ts_reductions.proofs.ClimbLemmas.{places_stay}
 use Rattle.ts_steps.specs.Good.{EachTree}
-use Rattle.ts_steps.specs.LiveHeads.{HaveStates}
+use Rattle.ts_steps.specs.LiveHeads.{packed_layers, HaveStates}
 use Rattle.ts_steps.specs.Heads.{AreStatesOf, IsOwnWithin}
 use Rattle.ts_reductions.specs.Sound.{Base, base_at, parsing_from}
 use Rattle.ts_reductions.specs.Keeping.{AreOwn, StandOnGraph}
@@ -28,7 +28,7 @@ use Rattle.ts_crossing.specs.Entering.{Stands, LaidTo}
 use Rattle.ts_crossing.proofs.MemberLemmas.{bare_member, place_is_at}
 
 module _ (laws : EnterLaws) (t : ParseTable) (text : Bytes) (base : Base) (l : Layer) (lower : List Layer) (stands : Stands t text base (l ∷ lower)) (g : GraphView) (top : ℕ) (laid : LaidTo t text base lower g top)
-    (new : GraphView) (above : ℕ) (is : IsLaid (parsing_from t text base) g new top (place_at g.heads top) l.tree (tree_depth l.tree) l.state above) where
+    (new : GraphView) (above : ℕ) (is : IsLaid (parsing_from t text base) g new top (place_at g.heads top) l.tree l.depth l.state above) where
   abbrev read : List ℕ
   read = filling (trees_on lower)
 
@@ -76,7 +76,7 @@ module _ (laws : EnterLaws) (t : ParseTable) (text : Bytes) (base : Base) (l : L
       λ plain. has.1 ∙ ap (λ (n : ℕ). Some n) (same_state has.0 (st.1 plain has.0 has.1)),
     )
 
-    old : StandOnGraph t.grammar states text (base_at (map bare (trees_on lower)) from) g
+    old : StandOnGraph t.grammar states text (base_at (packed_layers lower) from) g
     old = laid.stand states named st.3
 
     new_inner : (k : Link) → Contains new.links k → AllSound t.grammar states text (k.tree ∷ []) (place_at new.heads k.below)
@@ -114,5 +114,5 @@ module _ (laws : EnterLaws) (t : ParseTable) (text : Bytes) (base : Base) (l : L
         let e = ends k.above a.head a.is in
         absurd (omega (arith, past, p, e))
 
-    pub new_stand : StandOnGraph t.grammar states text (base_at (map bare (trees_on (l ∷ lower))) end) new
+    pub new_stand : StandOnGraph t.grammar states text (base_at (packed_layers (l ∷ lower)) end) new
     new_stand = record { inner = new_inner; stands = new_stands; none = new_none }

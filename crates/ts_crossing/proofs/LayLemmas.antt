@@ -1,7 +1,7 @@
 -- The topmost tree of a stack is laid above those below it.
 use Rattle.std.proofs.Common.{◌≡◌, ◌∙◌, sym, ap, refl, subst, ℕ, suc, ◌+◌, ◌<◌, ◌≤◌, ◌⊎◌, inl, inr, ⊎_elim, Bool, true, false, List, [], ◌∷◌, ◌++◌, length, map, reverse, slice_get, Some, arith}
 use Rattle.std.specs.List.{Contains}
-use Rattle.std.proofs.lemmas.List.{reverse-append}
+use Rattle.std.proofs.lemmas.List.{map-append, reverse-append}
 use Rattle.ts_base.specs.Bytes.{Bytes}
 use Rattle.ts_core.specs.declared.flat.FlatGrammar.{FlatGrammar}
 use Rattle.spec_trees.specs.declared.tree.Tree.{Tree}
@@ -11,8 +11,9 @@ use Rattle.spec_trees.specs.Made.{EndBy, filling}
 use Rattle.spec_graph.specs.declared.graph.Head.{Head}
 use Rattle.spec_graph.specs.declared.graph.Link.{Link}
 use Rattle.spec_graph.specs.States.{LeadsTo, at_first, by_goto, ShareState}
-use Rattle.spec_graph.specs.Laying.{Parsing, Lays, flat, stood}
-use Rattle.spec_graph.specs.Links.{IsAt, HasLink}
+use Rattle.spec_packing.specs.Packing.{PackedTree, packed_trees}
+use Rattle.spec_graph.specs.Laying.{Parsing, from_start, IsMet, Lays}
+use Rattle.spec_graph.specs.Links.{IsAt, HasLayer}
 use Rattle.ts_table.specs.declared.view.ParseTable.{ParseTable}
 use Rattle.ts_table.specs.Tables.{goto_of}
 use Rattle.ts_gss.specs.declared.layer.Layer.{Layer}
@@ -23,7 +24,8 @@ use Rattle.ts_reductions.specs.SoundLinks.{bare_links}
 use Rattle.ts_reductions.specs.Laying.{head_at, CanLayOn, IsLaid}
 use Rattle.ts_reductions.specs.Good.{IsGoodTree}
 use Rattle.ts_steps.specs.Good.{IsGoodTree as IsGoodOnStack}
-use Rattle.ts_steps.specs.LiveHeads.{HaveStates}
+use Rattle.ts_steps.specs.LiveHeads.{packed_tree, packed_layers, HaveStates}
+use Rattle.ts_steps.proofs.LayerLemmas.{layers_trees}
 use Rattle.ts_crossing.specs.Laws.{EnterLaws}
 use Rattle.ts_reductions.specs.Sound.{Base, base_at, parsing_from}
 use Rattle.ts_crossing.specs.Entering.{Stands, LaidTo}
@@ -102,10 +104,32 @@ module _ (laws : EnterLaws) (t : ParseTable) (text : Bytes) (base : Base) (l : L
       by [] s = at_first
       by (m ∷ ls) s = subst (λ (r : List ℕ). LeadsTo (goto_of t) r m.state) (sym (filling_bare laws.keeps (trees_on (m ∷ ls)))) (state_leads t (filling (trees_on (m ∷ ls))) m.state s.0)
 
+  -- what is laid on the layers below is laid on their trees
+  abbrev low : List Tree
+  low = packed_trees (packed_layers lower)
+
+  low_is : low ≡ under
+  low_is = layers_trees lower
+
+  moved : (Q : Parsing) (v : Tree) → Lays Q (filling low) (all_spans low) (v ∷ []) (all_spans low + span_of u) (filling (u ∷ []) ++ filling low) → Lays Q (filling under) from (v ∷ []) (from + span_of l.tree) (filling (u ∷ []) ++ filling under)
+  moved Q v lays =
+      subst (λ (n : ℕ). Lays Q (filling under) from (v ∷ []) (from + n) (filling (u ∷ []) ++ filling under)) (span_bare laws.keeps l.tree)
+      (subst (λ (n : ℕ). Lays Q (filling under) n (v ∷ []) (n + span_of u) (filling (u ∷ []) ++ filling under)) from_is
+      (subst (λ (ts : List Tree). Lays Q (filling ts) (all_spans ts) (v ∷ []) (all_spans ts + span_of u) (filling (u ∷ []) ++ filling ts)) low_is lays))
+
+  abbrev layer : PackedTree
+  layer = packed_tree l.tree l.depth
+
   lays_up : Lays P (filling under) from (u ∷ []) (from + span_of l.tree) (filling (u ∷ []) ++ filling under)
   lays_up =
-      subst (λ (n : ℕ). Lays P (filling under) from (u ∷ []) (from + n) (filling (u ∷ []) ++ filling under)) (span_bare laws.keeps l.tree)
-      (stood (filling under) from [] from (filling under) u stands.low.0 under (flat (filling under) from) stands.low.1 (sym from_is) (state_on lower, leads_low, leads_low))
+      let p = laid.sound.parsed in
+      moved P u (laws.own_laid P p.fit p.states p.grounded stands.low.0 (packed_layers lower) layer stands.low.1)
+
+  deep_up : IsMet P → (v : Tree) × Lays (from_start P) (filling under) from (v ∷ []) (from + span_of l.tree) (filling (u ∷ []) ++ filling under) × (tree_depth v ≡ l.depth)
+  deep_up met =
+      let p = laid.sound.parsed in
+      let d = laws.deep_laid P p.fit p.states met stands.low.0 (packed_layers lower) layer stands.low.1 in
+      (d.0, moved (from_start P) d.0 d.1, d.2)
 
   good : IsGoodTree t.grammar l.tree
   good = graph_tree t.grammar l.tree stands.good.0 stands.bytes.0
@@ -113,7 +137,7 @@ module _ (laws : EnterLaws) (t : ParseTable) (text : Bytes) (base : Base) (l : L
   at_top : IsAt P g.heads top (filling under) from
   at_top = record { head = head_at (state_on lower) from; is = laid.at; state = leads_low; place_is = refl }
 
-  pub layer_can : CanLayOn P g top l.tree (tree_depth l.tree) l.state
+  pub layer_can : CanLayOn P g top l.tree l.depth l.state
   layer_can = record {
     sound = laid.sound;
     read = filling under;
@@ -123,22 +147,23 @@ module _ (laws : EnterLaws) (t : ParseTable) (text : Bytes) (base : Base) (l : L
       now = filling (u ∷ []) ++ filling under;
       leads = leads_up;
       lays = lays_up;
-      shallow = omega arith;
-      deepest = (u, lays_up, (laws.keeps l.tree).depth);
+      shallow = stands.depths.0.own;
+      flat = λ e. stands.depths.0.flat e ∙ good.flat e;
+      deepest = deep_up;
       form = good.form;
       some = good.some;
       reach = last_reach (suc (length text)) l.tree (trees_on lower) stands.reach;
       within = let w = stands.within in omega (arith, w);
-      not_deep = good.node.sized.shallow;
+      not_deep = stands.depths.0.shallow;
     };
   }
 
-  module _ (new : GraphView) (above : ℕ) (is : IsLaid P g new top (place_at g.heads top) l.tree (tree_depth l.tree) l.state above) where
+  module _ (new : GraphView) (above : ℕ) (is : IsLaid P g new top (place_at g.heads top) l.tree l.depth l.state above) where
     abbrev end : ℕ
     end = all_spans (trees_on (l ∷ lower))
 
     abbrev Q : Parsing
-    Q = parsing_from t text (base_at (map bare (trees_on (l ∷ lower))) end)
+    Q = parsing_from t text (base_at (packed_layers (l ∷ lower)) end)
 
     place_is : place_at g.heads top + span_of l.tree ≡ end
     place_is = let p = place_is_at g.heads top (head_at (state_on lower) from) laid.at in omega (arith, p)
@@ -160,7 +185,7 @@ module _ (laws : EnterLaws) (t : ParseTable) (text : Bytes) (base : Base) (l : L
             let some = good.some in
             omega (arith, high, here, at_from, some))
 
-    stood_here : (b : ℕ) (read : List ℕ) (place : ℕ) → IsAt Q new.heads b read place → place ≡ from → ShareState (goto_of t) (filling under) read → HasLink Q new.heads (bare_links new.links) b u (place + span_of u) (filling (u ∷ []) ++ read)
+    stood_here : (b : ℕ) (read : List ℕ) (place : ℕ) → IsAt Q new.heads b read place → place ≡ from → ShareState (goto_of t) (filling under) read → HasLayer Q new.heads (bare_links new.links) b layer (place + span_of u) (filling (u ∷ []) ++ read)
     stood_here b read place a at_from share =
         let same = is_top b read place a at_from share in
         let has = is.has in
@@ -175,11 +200,12 @@ module _ (laws : EnterLaws) (t : ParseTable) (text : Bytes) (base : Base) (l : L
                 state = lead_tree t u (filling under) read l.state share leads_up;
                 place_is = let s = span_bare laws.keeps l.tree in omega (arith, at_from, s);
               });
-          stands = record { tree = has.replaces; depth = let d = (laws.keeps l.tree).depth in let n = has.no_less in omega (arith, d, n) };
+          tree = has.replaces;
+          depth = has.no_less;
         }
 
     -- links that were there stand for what they stood for
-    stood_still : (b : ℕ) (v : Tree) (place : ℕ) (now : List ℕ) → HasLink (parsing_from t text (base_at under from)) g.heads (bare_links g.links) b v place now → HasLink Q new.heads (bare_links new.links) b v place now
+    stood_still : (b : ℕ) (v : PackedTree) (place : ℕ) (now : List ℕ) → HasLayer (parsing_from t text (base_at (packed_layers lower) from)) g.heads (bare_links g.links) b v place now → HasLayer Q new.heads (bare_links new.links) b v place now
     stood_still b v place now has =
         let n = is.grows.links has.link has.there in
         record {
@@ -188,39 +214,38 @@ module _ (laws : EnterLaws) (t : ParseTable) (text : Bytes) (base : Base) (l : L
           below = n.3 ∙ has.below;
           above = subst (λ (k : ℕ). IsAt Q new.heads k now place) (sym n.2)
               (record { head = has.above.head; is = is.grows.stay has.link.above has.above.head has.above.is; state = has.above.state; place_is = has.above.place_is });
-          stands = record {
-            tree = laws.through n.0.tree has.link.tree v n.4 has.stands.tree;
-            depth = let d = has.stands.depth in let m = n.5 in omega (arith, d, m);
-          };
+          tree = laws.through n.0.tree has.link.tree v.tree n.4 has.tree;
+          depth = let d = has.depth in let m = n.5 in omega (arith, d, m);
         }
 
-    stood_low : (b : ℕ) (read : List ℕ) (place : ℕ) (v : Tree) (over below : List Tree) → IsAt Q new.heads b read place → under ≡ over ++ v ∷ below → place ≡ all_spans below → ShareState (goto_of t) (filling below) read → HasLink Q new.heads (bare_links new.links) b v (place + span_of v) (filling (v ∷ []) ++ read)
+    stood_low : (b : ℕ) (read : List ℕ) (place : ℕ) (v : PackedTree) (over below : List PackedTree) → IsAt Q new.heads b read place → packed_layers lower ≡ over ++ v ∷ below → place ≡ all_spans (packed_trees below) → ShareState (goto_of t) (filling (packed_trees below)) read → HasLayer Q new.heads (bare_links new.links) b v (place + span_of v.tree) (filling (v.tree ∷ []) ++ read)
     stood_low b read place v over below a split place_below share = by (is.only b a.head a.is)
       where
-        by : (slice_get g.heads b ≡ Some a.head) ⊎ (b ≡ above) → HasLink Q new.heads (bare_links new.links) b v (place + span_of v) (filling (v ∷ []) ++ read)
-        by (inl old) = stood_still b v (place + span_of v) (filling (v ∷ []) ++ read)
+        by : (slice_get g.heads b ≡ Some a.head) ⊎ (b ≡ above) → HasLayer Q new.heads (bare_links new.links) b v (place + span_of v.tree) (filling (v.tree ∷ []) ++ read)
+        by (inl old) = stood_still b v (place + span_of v.tree) (filling (v.tree ∷ []) ++ read)
             (laid.stood.each b read place v over below (record { head = a.head; is = old; state = a.state; place_is = a.place_is }) split place_below share)
         by (inr same) =
             absurd (let both : Some a.head ≡ Some (head_at l.state end) = sym a.is ∙ ap (λ (n : ℕ). slice_get new.heads n) same ∙ at_above in
             let one : a.head ≡ head_at l.state end = cc in
             let far : place ≡ end = sym a.place_is ∙ ap (λ (x : Head). x.place) one in
-            let parts : all_spans under ≡ all_spans (over ++ v ∷ below) = ap all_spans split in
-            let s = spans_append over (v ∷ below) in
+            let parts : all_spans under ≡ all_spans (packed_trees over ++ v.tree ∷ packed_trees below) = ap all_spans (sym low_is) ∙ ap (λ (ls : List PackedTree). all_spans (packed_trees ls)) split ∙ ap all_spans (map-append (λ (x : PackedTree). x.tree) over (v ∷ below)) in
+            let s = spans_append (packed_trees over) (v.tree ∷ packed_trees below) in
             let f = from_is in
             let b = good.some in
             omega (arith, far, parts, s, f, b, place_below))
 
-    stood_each : (b : ℕ) (read : List ℕ) (place : ℕ) (v : Tree) (over below : List Tree) → IsAt Q new.heads b read place → Q.stack ≡ over ++ v ∷ below → place ≡ all_spans below → ShareState (goto_of t) (filling below) read → HasLink Q new.heads (bare_links new.links) b v (place + span_of v) (filling (v ∷ []) ++ read)
+    stood_each : (b : ℕ) (read : List ℕ) (place : ℕ) (v : PackedTree) (over below : List PackedTree) → IsAt Q new.heads b read place → Q.layers ≡ over ++ v ∷ below → place ≡ all_spans (packed_trees below) → ShareState (goto_of t) (filling (packed_trees below)) read → HasLayer Q new.heads (bare_links new.links) b v (place + span_of v.tree) (filling (v.tree ∷ []) ++ read)
     stood_each b read place v [] below a split place_below share =
-        let e : u ∷ under ≡ v ∷ below = split in
-        let first : u ≡ v = cc in
-        let rest : under ≡ below = cc in
-        let at_from : place ≡ from = place_below ∙ ap all_spans (sym rest) ∙ from_is in
-        subst (λ (x : Tree). HasLink Q new.heads (bare_links new.links) b x (place + span_of x) (filling (x ∷ []) ++ read)) first
-        (stood_here b read place a at_from (subst (λ (ts : List Tree). ShareState (goto_of t) (filling ts) read) (sym rest) share))
+        let e : layer ∷ packed_layers lower ≡ v ∷ below = split in
+        let first : layer ≡ v = cc in
+        let rest : packed_layers lower ≡ below = cc in
+        let trees : packed_trees below ≡ under = ap (λ (ls : List PackedTree). packed_trees ls) (sym rest) ∙ low_is in
+        let at_from : place ≡ from = place_below ∙ ap all_spans trees ∙ from_is in
+        subst (λ (x : PackedTree). HasLayer Q new.heads (bare_links new.links) b x (place + span_of x.tree) (filling (x.tree ∷ []) ++ read)) first
+        (stood_here b read place a at_from (subst (λ (ts : List Tree). ShareState (goto_of t) (filling ts) read) trees share))
     stood_each b read place v (x ∷ over) below a split place_below share =
-        let e : u ∷ under ≡ x ∷ (over ++ v ∷ below) = split in
-        stood_low b read place v over below a (let h : under ≡ over ++ v ∷ below = cc in h) place_below share
+        let e : layer ∷ packed_layers lower ≡ x ∷ (over ++ v ∷ below) = split in
+        stood_low b read place v over below a (let h : packed_layers lower ≡ over ++ v ∷ below = cc in h) place_below share
 
     new_good : (k : Link) → Contains new.links k → IsGoodTree t.grammar k.tree
     new_good k there = ⊎_elim

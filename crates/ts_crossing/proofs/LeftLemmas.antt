@@ -3,12 +3,10 @@ use Rattle.std.proofs.Common.{◌≡◌, ◌∙◌, sym, ap, refl, subst, ℕ, s
 use Rattle.std.specs.Option.{option_map_or}
 use Rattle.std.proofs.lemmas.List.{map-append, reverse-append, drop_all}
 use Rattle.ts_base.specs.Bytes.{Bytes}
-use Rattle.ts_core.specs.declared.flat.FlatGrammar.{FlatGrammar}
 use Rattle.spec_trees.specs.declared.tree.Tree.{Tree}
 use Rattle.spec_trees.specs.Trees.{node_extent, all_spans, bare}
 use Rattle.spec_trees.specs.Inside.{itself}
 use Rattle.spec_trees.specs.Made.{EndBy, filling}
-use Rattle.spec_runs.specs.Configurations.{Configuration}
 use Rattle.spec_forced.specs.Forced.{Stands}
 use Rattle.spec_forced.specs.Sound.{States, IsStateAfter, AllSound, StandOnStack}
 use Rattle.spec_graph.specs.declared.graph.Head.{Head}
@@ -16,8 +14,7 @@ use Rattle.spec_graph.specs.declared.graph.Link.{Link}
 use Rattle.spec_graph.specs.States.{LeadsTo}
 use Rattle.spec_graph.specs.Laying.{Parsing}
 use Rattle.spec_graph.specs.Links.{IsAt, IsWay, way_trees, IsLinked}
-use Rattle.spec_runs.specs.Runs.{IsReached}
-use Rattle.spec_packing.specs.Packing.{PackedTree, PackedStack, packed_trees, own_config, packed_alone, stack_alone}
+use Rattle.spec_packing.specs.Packing.{PackedTree, PackedStack}
 use Rattle.spec_crossing.specs.Leaving.{packed_link, way_stack}
 use Rattle.ts_table.specs.declared.view.ParseTable.{ParseTable}
 use Rattle.ts_table.specs.Tables.{goto_of, IsTable, IsStateOf}
@@ -128,14 +125,6 @@ layer_trees heads (l ∷ way) = ap (λ (ts : List Tree). bare l.tree ∷ ts) (la
 layers_are : (heads : List Head) (way : List Link) → packed_layers (layers_of heads way) ≡ map packed_link (map bare_link way)
 layers_are heads [] = refl
 layers_are heads (l ∷ way) = ap (λ (ls : List PackedTree). packed_tree l.tree l.depth ∷ ls) (layers_are heads way)
-
--- what stands for itself alone is reached as it is
-alone_trees : (ts : List Tree) → packed_trees (map packed_alone ts) ≡ ts
-alone_trees [] = refl
-alone_trees (t ∷ ts) = ap (λ (us : List Tree). t ∷ us) (alone_trees ts)
-
-pub own_reached : (g : FlatGrammar) (text : Bytes) (c : Configuration) → IsReached g text (own_config (stack_alone c)) → IsReached g text c
-own_reached g text c reached = subst (λ (ts : List Tree). IsReached g text (record { stack = ts; place = c.place })) (alone_trees c.stack) reached
 
 module _ (laws : LeaveLaws) (t : ParseTable) (text : Bytes) (base : Base) (g : GraphView) (sound : IsSoundBy t text base g) where
   abbrev P : Parsing

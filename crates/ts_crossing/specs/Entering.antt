@@ -9,6 +9,7 @@ use Rattle.spec_forced.specs.Sound.{States, StandOnStack}
 use Rattle.spec_graph.specs.declared.graph.Head.{Head}
 use Rattle.spec_graph.specs.declared.graph.Link.{Link}
 use Rattle.spec_graph.specs.States.{AreRanks}
+use Rattle.spec_packing.specs.Packing.{PackedTree}
 use Rattle.spec_graph.specs.Laying.{IsBegun}
 use Rattle.spec_graph.specs.Grounded.{AreMadeTrees}
 use Rattle.spec_graph.specs.Links.{HasStood, IsWholeTo}
@@ -26,7 +27,7 @@ use Rattle.ts_reductions.specs.Good.{IsGoodTree}
 use Rattle.ts_steps.specs.declared.head.StackHead.{StackHead}
 use Rattle.ts_steps.specs.Good.{EachTree, AreGoodTrees}
 use Rattle.ts_steps.specs.Heads.{AreStatesOf, IsOwnWithin, StandOnHead}
-use Rattle.ts_steps.specs.LiveHeads.{config_of, HaveStates, IsLiveHead}
+use Rattle.ts_steps.specs.LiveHeads.{packed_layers, packed_of, HaveStates, HaveDepths, IsLiveHead}
 use Rattle.ts_reductions.specs.Sound.{Base, base_at, parsing_from, IsSoundBy}
 use Rattle.ts_reductions.specs.Keeping.{AreOwn, StandOnGraph}
 
@@ -45,16 +46,16 @@ pub record CanEnter (t : ParseTable) (text : Bytes) (stacks : List (List Layer))
 -- past the place, and the head of the stack over which it lies stands there, and no other.
 pub record IsEntered (t : ParseTable) (text : Bytes) (stacks : List (List Layer)) (h : StackHead)
     (g : GraphView) (place : ℕ) : Type 0 where
-  pub stack : List Tree
-  pub begun : IsBegun (parsing_from t text (base_at stack place)) (config_of stacks h)
-  pub sound : IsSoundBy t text (base_at stack place) g
-  pub stood : HasStood (parsing_from t text (base_at stack place)) g.heads (bare_links g.links)
+  pub layers : List PackedTree
+  pub begun : IsBegun (parsing_from t text (base_at layers place)) (packed_of stacks h)
+  pub sound : IsSoundBy t text (base_at layers place) g
+  pub stood : HasStood (parsing_from t text (base_at layers place)) g.heads (bare_links g.links)
   pub whole : (most : ℕ) → AreRanks t.grammar (unit_rank t.grammar) most
-      → IsWholeTo (parsing_from t text (base_at stack place)) (unit_rank t.grammar) g.heads
+      → IsWholeTo (parsing_from t text (base_at layers place)) (unit_rank t.grammar) g.heads
       (bare_links g.links) (record { look = place; begins = place; rank = most })
   pub own : EachTree (IsOwnWithin t.grammar) (trees_on (stack_at stacks h.top)) → AreOwn t.grammar g
   pub stand : (states : States) → AreStatesOf t states → StandOnHead t states text stacks h
-      → StandOnGraph t.grammar states text (base_at stack place) g
+      → StandOnGraph t.grammar states text (base_at layers place) g
   pub low : (k : ℕ) (head : Head) → slice_get g.heads k ≡ Some head → head.place ≤ place
   pub base_is : (state : ℕ) × (slice_get g.heads g.base ≡ Some (head_at state place))
   pub alone : (k : ℕ) (head : Head) → slice_get g.heads k ≡ Some head → head.place ≡ place
@@ -69,17 +70,18 @@ pub record IsUnder (stacks : List (List Layer)) (h under : StackHead) : Type 0 w
   pub there : under.top < length stacks
   pub place : under.place + all_spans extras ≡ h.place
 
--- What is known of a stack whose trees are laid one after another: they lie on the stack from which
--- runs go on, the lowest of it.
+-- What is known of a stack whose layers are laid one after another: they are the lowest of those
+-- from which runs go on.
 pub record Stands (t : ParseTable) (text : Bytes) (base : Base) (layers : List Layer)
     : Type 0 where
   pub table : IsTable t
   pub states : HaveStates t layers
+  pub depths : HaveDepths layers
   pub good : AreGoodTrees t.grammar (trees_on layers)
   pub bytes : HaveBytes (trees_on layers)
   pub reach : EndBy (suc (length text)) 0 (reverse (trees_on layers))
   pub within : all_spans (trees_on layers) ≤ length text
-  pub low : (above : List Tree) × (base.stack ≡ above ++ map bare (trees_on layers))
+  pub low : (above : List PackedTree) × (base.layers ≡ above ++ packed_layers layers)
 
 -- The graph has a head for the stack and for each below it, with a link for each tree.
 pub record LaidTo (t : ParseTable) (text : Bytes) (base : Base) (layers : List Layer)
@@ -87,12 +89,12 @@ pub record LaidTo (t : ParseTable) (text : Bytes) (base : Base) (layers : List L
   pub sound : IsSoundFor (parsing_from t text base) g
   pub good : (l : Link) → Contains g.links l → IsGoodTree t.grammar l.tree
   pub at : slice_get g.heads top ≡ Some (head_at (state_on layers) (all_spans (trees_on layers)))
-  pub stood : HasStood (parsing_from t text (base_at (map bare (trees_on layers))
+  pub stood : HasStood (parsing_from t text (base_at (packed_layers layers)
       (all_spans (trees_on layers)))) g.heads (bare_links g.links)
   pub own : EachTree (IsOwnWithin t.grammar) (trees_on layers) → AreOwn t.grammar g
   pub stand : (states : States) → AreStatesOf t states
       → StandOnStack t.grammar states text (trees_on layers)
-      → StandOnGraph t.grammar states text (base_at (map bare (trees_on layers))
+      → StandOnGraph t.grammar states text (base_at (packed_layers layers)
       (all_spans (trees_on layers))) g
   pub low : (k : ℕ) (head : Head) → slice_get g.heads k ≡ Some head
       → head.place ≤ all_spans (trees_on layers)

@@ -1,5 +1,5 @@
 -- The laws of other crates that the proofs here rest on.
-use Rattle.std.specs.Prelude.{◌≡◌, ℕ, true, false, List, [], ◌∷◌, ◌++◌, drop}
+use Rattle.std.specs.Prelude.{◌≡◌, ℕ, ◌+◌, true, false, List, [], ◌∷◌, ◌++◌, drop}
 use Rattle.std.specs.List.{Contains}
 use Rattle.ts_base.specs.Bytes.{Bytes}
 use Rattle.ts_core.specs.declared.flat.FlatGrammar.{FlatGrammar}
@@ -7,7 +7,7 @@ use Rattle.ts_core.specs.declared.symbol.Symbol.{Symbol}
 use Rattle.spec_tables.specs.Actions.{Move, Act, accept}
 use Rattle.spec_tables.specs.Fit.{Fit}
 use Rattle.spec_trees.specs.declared.tree.Tree.{Tree}
-use Rattle.spec_trees.specs.Trees.{is_extra_node, node_extent, elements_of, children_of, all_spans, tree_depth, bare}
+use Rattle.spec_trees.specs.Trees.{is_extra_node, node_extent, elements_of, children_of, span_of, all_spans, tree_depth, bare}
 use Rattle.spec_trees.specs.Inside.{IsNodeIn}
 use Rattle.spec_trees.specs.Made.{filling, AreCounted}
 use Rattle.spec_trees.specs.Choice.{code_of, IsInForm}
@@ -19,7 +19,8 @@ use Rattle.spec_forced.specs.Sound.{States, IsStateAfter, StandsForState}
 use Rattle.spec_graph.specs.declared.graph.Head.{Head}
 use Rattle.spec_graph.specs.declared.graph.Link.{Link}
 use Rattle.spec_graph.specs.States.{AreStates, AreRanks}
-use Rattle.spec_graph.specs.Laying.{Parsing}
+use Rattle.spec_packing.specs.Packing.{PackedTree, packed_trees}
+use Rattle.spec_graph.specs.Laying.{Parsing, from_start, IsMet, Lays}
 use Rattle.spec_graph.specs.Grounded.{Spells, IsMadeTree, IsGrounded}
 use Rattle.spec_graph.specs.Replacing.{Replaces}
 use Rattle.spec_graph.specs.Links.{IsAt, IsWay, way_trees, IsGraph, IsWholeTo, HasStood}
@@ -28,8 +29,8 @@ use Rattle.ts_table.specs.Tables.{IsTable, IsStateOf}
 use Rattle.ts_lexer.specs.States.{AreValid}
 use Rattle.ts_steps.specs.Heads.{AreStatesOf}
 
--- For proofs alone: laws of the states of tables, of nodes that stand, of bare trees, and of graphs
--- that begin.
+-- For proofs alone: laws of the states of tables, of nodes that stand, of bare trees, of what is
+-- laid on a stack, and of graphs that begin.
 pub record EnterLaws : Type 0 where
   pub keeps : (t : Tree) → KeepsAll t
   pub through : (t u v : Tree) → Replaces t u → Replaces u v → Replaces t v
@@ -47,6 +48,16 @@ pub record EnterLaws : Type 0 where
       (read : List ℕ)
       → IsStateAfter g states state read → Stands g read (drop place text) t (node_extent t)
       → StandsForState g states text place state t
+  pub own_laid : (P : Parsing) → Fit P.grammar → AreStates P.grammar P.goto → IsGrounded P
+      → (over under : List PackedTree) (l : PackedTree) → P.layers ≡ over ++ l ∷ under
+      → Lays P (filling (packed_trees under)) (all_spans (packed_trees under)) (l.tree ∷ [])
+      (all_spans (packed_trees under) + span_of l.tree)
+      (filling (l.tree ∷ []) ++ filling (packed_trees under))
+  pub deep_laid : (P : Parsing) → Fit P.grammar → AreStates P.grammar P.goto → IsMet P
+      → (over under : List PackedTree) (l : PackedTree) → P.layers ≡ over ++ l ∷ under
+      → (t : Tree) × Lays (from_start P) (filling (packed_trees under))
+      (all_spans (packed_trees under)) (t ∷ []) (all_spans (packed_trees under) + span_of l.tree)
+      (filling (l.tree ∷ []) ++ filling (packed_trees under)) × (tree_depth t ≡ l.depth)
   pub begins : (P : Parsing) → Fit P.grammar → AreStates P.grammar P.goto → IsGrounded P
       → (rank : ℕ → ℕ) (most : ℕ) → AreRanks P.grammar rank most
       → (heads : List Head) (links : List Link) → IsAt P heads 0 [] 0

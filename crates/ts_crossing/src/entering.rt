@@ -4,7 +4,7 @@ ghost use Rattle.std.specs.Prelude.{◌≡◌, ◌<◌, ◌≤◌, length};
 ghost use Rattle.ts_base.specs.Bytes.{Bytes};
 ghost use Rattle.spec_trees.specs.Trees.{all_spans};
 ghost use Rattle.ts_table.specs.declared.view.ParseTable.{ParseTable};
-ghost use Rattle.ts_gss.specs.Stacks.{stack_at, trees_on, AreExact, IsOneStack};
+ghost use Rattle.ts_gss.specs.Stacks.{stack_at, trees_on, IsOneStack};
 ghost use Rattle.ts_crossing.specs.Entering.{CanEnter, IsEntered, IsUnder};
 
 use crate::laws::{enter_laws_hold, laying_laws_hold};
@@ -34,7 +34,6 @@ fn under_extras(stacks: &Stacks, head: StackHead) -> StackHead
 pub fn enter(stacks: Stacks, head: StackHead, graph: &mut Graph) -> u32
     requires can { (t : ParseTable) × (text : Bytes) × CanEnter t text stacks head }
     requires one { IsOneStack stacks head.top }
-    requires exact { AreExact (stack_at stacks head.top) }
     ensures { (t : ParseTable) (text : Bytes) → CanEnter t text stacks head
         → IsEntered t text stacks head graph.new result }
 {

@@ -2,10 +2,9 @@
 //! is left. No value goes in or out.
 ghost use Rattle.std.specs.Prelude.{ℕ, ◌<◌, ◌≤◌, List, [], ◌∷◌, length, Option, None};
 ghost use Rattle.ts_base.specs.Bytes.{Bytes};
-ghost use Rattle.spec_runs.specs.Configurations.{Configuration};
 ghost use Rattle.spec_trees.specs.Made.{most_span};
 ghost use Rattle.spec_forced.specs.OnlyRuns.{IsFork};
-ghost use Rattle.spec_packing.specs.Packing.{stack_alone};
+ghost use Rattle.spec_packing.specs.Packing.{PackedStack};
 ghost use Rattle.spec_forced.specs.Sound.{States};
 ghost use Rattle.spec_graph.specs.States.{AreRanks};
 ghost use Rattle.spec_graph.specs.Laying.{IsBegun};
@@ -29,11 +28,11 @@ ghost use Rattle.ts_reductions.specs.Keeping.{AreOwn, StandOnGraph};
 ghost use Rattle.ts_crossing.specs.Leaving.{IsStack, IsLeft};
 
 use spec_crossing::{
-    bare_trees_are_made, extras_are_flat, followed_graphs_pack, links_are_made, trees_are_spelled,
-    unused_symbols_end, ways_are_read,
+    bare_trees_are_made, extras_are_flat, followed_graphs_pack, links_are_made, stacks_are_laid,
+    trees_are_spelled, unused_symbols_end, ways_are_read,
 };
 use spec_forced::{items_decide, states_tell};
-use spec_graph::{extras_are_passed, links_pack, trees_replace, whole_to_the_next};
+use spec_graph::{extras_are_passed, links_pack, runs_lay, trees_replace, whole_to_the_next};
 use spec_runs::bare_trees;
 use ts_lexer::tokens_of_states;
 use ts_steps::{states_are_named, tokens_are_known};
@@ -50,6 +49,7 @@ pub(crate) fn enter_laws_hold()
     tokens_of_states();
     tokens_are_known();
     unused_symbols_end();
+    stacks_are_laid();
     whole_to_the_next();
 }
 
@@ -60,6 +60,7 @@ pub(crate) fn laying_laws_hold()
     bare_trees();
     trees_replace();
     links_pack();
+    runs_lay();
     extras_are_passed();
 }
 
@@ -96,23 +97,23 @@ pub fn own_stacks_enter()
     made_laws_hold();
 }
 
-/// Where all runs rest at the stack over which the graph is sound, which stands for itself alone,
-/// and the ends before a place are accounted for, they rest at the layers of the stack that is
-/// left, where its head stands alone at the place or past it. And a parser made it, if a parser
-/// made the trees of the graph; and its trees stand, if those of the graph do.
+/// Where all runs rest at the stack over whose layers the graph is sound, and the ends before a
+/// place are accounted for, they rest at the layers of the stack that is left, where its head
+/// stands alone at the place or past it. And a parser made it, if a parser made the trees of the
+/// graph; and its trees stand, if those of the graph do.
 pub fn left_stacks_go_on()
     ensures rests { (t : ParseTable) (text : Bytes) (base : AnyBase) (g : GraphView) (h : ℕ)
         (numbers : List ℕ) (foot : ℕ) (stacks : List (List Layer)) (k : AnyHead)
         → IsSoundBy t text base g → h < length g.heads
         → (s : IsStack g h numbers foot) → IsLeft g h s.way stacks k
-        → (c : Configuration) → IsBegun (parsing_from t text base) c
+        → (start : PackedStack) → IsBegun (parsing_from t text base) start
         → (most : ℕ) → AreRanks t.grammar (unit_rank t.grammar) most
         → (n : ℕ) → IsWholeTo (parsing_from t text base) (unit_rank t.grammar) g.heads
         (bare_links g.links) (record { look = n; begins = n; rank = most })
-        → c.place < n → StandsAlone g.heads n h → (before stuck : Option ℕ)
+        → start.place < n → StandsAlone g.heads n h → (before stuck : Option ℕ)
         → AccountsForGraph (parsing_from t text base) g.heads (bare_links g.links) n None before
         stuck
-        → PackedRests t.grammar text before (stack_alone c)
+        → PackedRests t.grammar text before start
         → PackedRests t.grammar text stuck (packed_of stacks k) }
     ensures own { (t : ParseTable) (text : Bytes) (base : AnyBase) (g : GraphView) (h : ℕ)
         (numbers : List ℕ) (foot : ℕ) (stacks : List (List Layer)) (k : AnyHead)

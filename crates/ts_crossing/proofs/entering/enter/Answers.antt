@@ -39,4 +39,4 @@ pub returns : goal.returns
 returns c = λ t text can.
     subst (λ (g : GraphView). IsEntered t text c.args.stacks c.args.head g c.under_extras-under.result.place)
     (sym (c.lie_over.ensures ∙ ap (λ (ls : List Layer). graph_over ls) c.cut.ensures.stack))
-    (entered_over c.enter_laws_hold.ensures t text c.args.stacks c.args.head can c.under_extras-under.result c.under_extras-under.ensures.under c.laying_laws_hold.ensures c.requires.exact)
+    (entered_over c.enter_laws_hold.ensures t text c.args.stacks c.args.head can c.under_extras-under.result c.under_extras-under.ensures.under c.laying_laws_hold.ensures)

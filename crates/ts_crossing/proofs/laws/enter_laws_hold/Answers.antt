@@ -10,5 +10,7 @@ returns c = record {
   only_accepts = c.unused_symbols_end.ensures;
   named = c.states_are_named.ensures.after;
   told = c.states_tell.ensures.told;
+  own_laid = c.stacks_are_laid.ensures.own;
+  deep_laid = c.stacks_are_laid.ensures.deepest;
   begins = c.whole_to_the_next.ensures.begins;
 }
