@@ -7,19 +7,17 @@ use Rattle.ts_base.specs.Bytes.{Bytes}
 use Rattle.spec_grammar.specs.Symbols.{symbol_count}
 use Rattle.spec_tables.specs.Fit.{Fit}
 use Rattle.spec_trees.specs.declared.tree.Tree.{Tree}
-use Rattle.spec_trees.specs.Trees.{is_extra_node, span_of, all_spans, bare, tree_depth}
+use Rattle.spec_trees.specs.Trees.{is_extra_node, span_of, all_spans, bare}
 use Rattle.spec_trees.specs.Made.{filling}
-use Rattle.spec_runs.specs.BareTrees.{KeepsAll}
 use Rattle.spec_graph.specs.declared.graph.Head.{Head}
 use Rattle.spec_graph.specs.declared.graph.Link.{Link}
-use Rattle.spec_packing.specs.Packing.{PackedTree, PackedStack, packed_alone}
 use Rattle.spec_crossing.specs.Leaving.{StandsAlone}
-use Rattle.spec_crossing.specs.Resting.{IsPastStuck, AccountsForGraph, PackedRests}
+use Rattle.spec_crossing.specs.Resting.{IsPastStuck, AccountsForGraph}
 use Rattle.ts_table.specs.declared.view.ParseTable.{ParseTable}
 use Rattle.ts_table.specs.Tables.{IsTable}
 use Rattle.ts_table.specs.Ranks.{unit_rank}
 use Rattle.ts_gss.specs.declared.layer.Layer.{Layer}
-use Rattle.ts_gss.specs.Stacks.{stack_at, trees_on, AreExact, LieInOne, IsOneStack}
+use Rattle.ts_gss.specs.Stacks.{stack_at, trees_on, LieInOne, IsOneStack}
 use Rattle.ts_graph.specs.declared.view.GraphView.{GraphView}
 use Rattle.ts_graph.specs.Ways.{AreAt}
 use Rattle.ts_reductions.specs.declared.setting.Setting.{Setting}
@@ -27,7 +25,7 @@ use Rattle.ts_reductions.specs.SoundLinks.{bare_links}
 use Rattle.ts_reductions.specs.Sound.{parsing_from, IsSoundBy}
 use Rattle.ts_steps.specs.declared.found.FoundToken.{FoundToken}
 use Rattle.ts_steps.specs.declared.head.StackHead.{StackHead}
-use Rattle.ts_steps.specs.LiveHeads.{config_of, packed_tree, packed_layers}
+use Rattle.ts_steps.specs.LiveHeads.{config_of, packed_of}
 use Rattle.ts_steps.specs.Heads.{IsOwnHead}
 use Rattle.ts_places.specs.Frontiers.{StandsFrom}
 use Rattle.ts_places.specs.Best.{CanChoose, IsBestOn}
@@ -35,7 +33,6 @@ use Rattle.ts_crossing.specs.declared.leaving.Left.{Left}
 use Rattle.ts_graph.specs.Under.{layers_of}
 use Rattle.ts_crossing.specs.Entering.{CanEnter}
 use Rattle.ts_crossing.specs.Leaving.{IsStack, HasNoStack, IsLeft}
-use Rattle.ts_crossing.proofs.LeftLemmas.{own_reached}
 use Rattle.ts_crossing.proofs.BareLemmas.{filling_bare, filling_tree}
 use Rattle.ts_crossing.proofs.MemberLemmas.{first_contained, contained_at, place_is_at}
 use Rattle.ts_glr.specs.declared.outcome.Outcome.{Outcome}
@@ -158,7 +155,7 @@ module _ (laws : LeftLaws) (over : OverLaws) (t : ParseTable) (table : IsTable t
     rests = λ r.
         let account = over.counted t text p.base spread.graph spread.place spread.ends None before stuck p.ends (over.nothing t text spread.graph spread.ends.accepting.items w.none) one other known in
         let past : h.place < spread.place = (let a = all.low in let b = w.past in omega (arith, a, b)) in
-        laws.rests t text p.base spread.graph w.head w.numbers w.foot l.stacks l.head sound there w.stack w.is (config_of first h) p.begun p.most p.can.whole.ranks spread.place p.can.whole.whole past alone before stuck account (all.back.rests before r);
+        laws.rests t text p.base spread.graph w.head w.numbers w.foot l.stacks l.head sound there w.stack w.is (packed_of first h) p.begun p.most p.can.whole.ranks spread.place p.can.whole.whole past alone before stuck account (all.back.rests before r);
     stand = λ states are stand. laws.stand t text p.base spread.graph w.head w.numbers w.foot l.stacks l.head sound there w.stack w.is table states are (p.stand states are (all.back.stand states are stand));
   }
 
@@ -172,7 +169,7 @@ pub deep_ends : (over : OverLaws) (t : ParseTable) (text : Bytes) (stacks first 
 deep_ends over t text stacks first before start h spread back p = record {
   form = tt;
   own = tt;
-  fresh = λ r. over.deep t text p.base spread.graph (config_of first h) p.deep (own_reached t.grammar text (config_of first h) (back.rests before r).met.reached) p.begun;
+  fresh = λ r. over.deep t text p.base spread.graph p.deep (record { stack = packed_of first h; begun = p.begun; met = (back.rests before r).met });
   sound = λ states are stand. tt;
 }
 
@@ -192,7 +189,7 @@ module _ (over : OverLaws) (t : ParseTable) (text : Bytes) (first : List (List L
         record {
           form = is_best.form b is;
           own = over.root_own t text p.base spread.graph root.0 b p.whole.sound (p.ends.each root.0 root.1).0 root.2 p.own;
-          fresh = λ r. over.tree t text p.base p.most spread.graph (config_of first h) p.whole p.low p.begun back.within best before stuck account (back.rests before r) b is;
+          fresh = λ r. over.tree t text p.base p.most spread.graph (packed_of first h) p.whole p.low p.begun back.within best before stuck account (back.rests before r) b is;
           sound = λ states are stand. over.root_sound t text p.base spread.graph root.0 b p.whole.sound (p.ends.each root.0 root.1).0 root.2 table states are p.own (p.stand states are (back.stand states are stand));
         }
 
@@ -200,32 +197,18 @@ module _ (over : OverLaws) (t : ParseTable) (text : Bytes) (first : List (List L
     stop_ends q none is = record {
       form = tt;
       own = tt;
-      fresh = λ r. over.stop t text p.base p.most spread.graph (config_of first h) p.whole p.low p.begun back.within best before stuck account (back.rests before r) q none is;
+      fresh = λ r. over.stop t text p.base p.most spread.graph (packed_of first h) p.whole p.low p.begun back.within best before stuck account (back.rests before r) q none is;
       sound = λ states are stand. tt;
     }
 
 -- ---- the stack at which the graph begins
 
-exact_layers : (keeps : (t : Tree) → KeepsAll t) (layers : List Layer) → AreExact layers → packed_layers layers ≡ map packed_alone (map bare (trees_on layers))
-exact_layers keeps [] e = refl
-exact_layers keeps (l ∷ ls) e =
-    let own : l.depth ≡ tree_depth (bare l.tree) = e.0 ∙ sym (keeps l.tree).depth in
-    let first : packed_tree l.tree l.depth ≡ packed_alone (bare l.tree) = ap (λ (n : ℕ). packed_tree l.tree n) own in
-    ap (λ (x : PackedTree). x ∷ packed_layers ls) first ∙ ap (λ (xs : List PackedTree). packed_alone (bare l.tree) ∷ xs) (exact_layers keeps ls e.1)
-
--- a stack whose layers stand for themselves alone
-pub from_exact : (keeps : (t : Tree) → KeepsAll t) (t : ParseTable) (text : Bytes) (s : Setting) (stacks : List (List Layer)) (start : StackHead) (spread : Spread) → AreExact (stack_at stacks start.top) → IsOwnHead t (length text) stacks start → IsSpread t text s stacks start spread
+pub from_stack : (t : ParseTable) (text : Bytes) (s : Setting) (stacks : List (List Layer)) (start : StackHead) (spread : Spread) → IsOwnHead t (length text) stacks start → IsSpread t text s stacks start spread
     → IsSpreadFor t text s stacks start start.place spread
-from_exact keeps t text s stacks start spread exact own p = record {
+from_stack t text s stacks start spread own p = record {
   first = stacks;
   head = start;
-  back = record {
-    within = own.live.stack.within;
-    rests = λ stuck r.
-        subst (λ (k : PackedStack). PackedRests t.grammar text stuck k)
-        (ap {B = PackedStack} (λ (ls : List PackedTree). record { stack = ls; place = start.place }) (exact_layers keeps (stack_at stacks start.top) exact)) r;
-    stand = λ states are stand. stand;
-  };
+  back = record { within = own.live.stack.within; rests = λ stuck r. r; stand = λ states are stand. stand };
   low = omega arith;
   past = omega arith;
   laid = p;

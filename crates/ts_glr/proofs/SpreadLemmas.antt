@@ -7,6 +7,7 @@ use Rattle.spec_trees.specs.Trees.{is_extra_node, bare}
 use Rattle.spec_trees.specs.Made.{filling}
 use Rattle.spec_runs.specs.BareTrees.{KeepsAll}
 use Rattle.spec_runs.specs.Configurations.{AreExtras}
+use Rattle.spec_packing.specs.Packing.{PackedTree, packed_trees}
 use Rattle.spec_graph.specs.States.{AreRanks}
 use Rattle.spec_graph.specs.Laying.{IsBegun}
 use Rattle.ts_graph.specs.declared.view.GraphView.{GraphView}
@@ -21,7 +22,8 @@ use Rattle.ts_reductions.specs.declared.setting.Setting.{Setting}
 use Rattle.ts_reductions.specs.Lines.{IsSetting}
 use Rattle.ts_reductions.specs.Sound.{Base, base_at, parsing_from, IsSoundBy}
 use Rattle.ts_steps.specs.declared.head.StackHead.{StackHead}
-use Rattle.ts_steps.specs.LiveHeads.{config_of, HaveStates}
+use Rattle.ts_steps.specs.LiveHeads.{packed_of, HaveStates}
+use Rattle.ts_steps.proofs.LayerLemmas.{layers_trees}
 use Rattle.ts_steps.specs.Heads.{IsOwnHead}
 use Rattle.ts_places.specs.declared.sights.Sights.{Sights}
 use Rattle.ts_places.specs.Looking.{IsHeadAt}
@@ -69,11 +71,12 @@ extras_state keeps t (l ∷ layers) states e = none_first t (filling (trees_on (
 
 -- runs that go on from the empty stack begin at a stack of extras alone
 some_from : (keeps : (t : Tree) → KeepsAll t) (t : ParseTable) (text : Bytes) (first : List (List Layer)) (h : StackHead) → IsOwnHead t (length text) first h → IsOfSomeFrom t text first h
-    → (base : Base) → IsBegun (parsing_from t text base) (config_of first h) → IsOfSome t text base
+    → (base : Base) → IsBegun (parsing_from t text base) (packed_of first h) → IsOfSome t text base
 some_from keeps t text first h own some base begun none nothing =
     some
     (extras_state keeps t (stack_at first h.top) own.live.stack.states
-    (subst (λ (ts : List Tree). AreExtras ts) (sym (begun.stack_is ∙ ap (λ (ts : List Tree). begun.extras ++ ts) none ∙ append-nil begun.extras)) begun.all_extras))
+    (subst (λ (ts : List Tree). AreExtras ts)
+    (sym (sym (layers_trees (stack_at first h.top)) ∙ ap (λ (ls : List PackedTree). packed_trees ls) (begun.stack_is ∙ ap (λ (ls : List PackedTree). begun.extras ++ ls) none ∙ append-nil begun.extras))) begun.all_extras))
     nothing
 
 module _ (t : ParseTable) (text : Bytes) (s : Setting) (first : List (List Layer)) (h : StackHead) where
@@ -81,14 +84,14 @@ module _ (t : ParseTable) (text : Bytes) (s : Setting) (first : List (List Layer
   pub begun : ((t : Tree) → KeepsAll t) → IsOfSomeFrom t text first h → (most : ℕ) → AreRanks t.grammar (unit_rank t.grammar) most → IsOwnHead t (length text) first h → IsSetting t (length text) s → (g : GraphView) (place : ℕ) (frontier : Frontier) (ends : Ends) (sights : Sights) (numbers : Vec ℕ)
       → IsEntered t text first h g place → AreOpen g place frontier.heads.items → AreEnds t text g place place ends → IsSpread t text s first h (record { graph = g; frontier = frontier; ends = ends; sights = sights; numbers = numbers; place = place })
   begun keeps some most ranks own setting g place frontier ends sights numbers e are_open none = record {
-    base = base_at e.stack place;
+    base = base_at e.layers place;
     most = most;
     begun = e.begun;
     can = record {
       setting = setting;
       whole = record { early = omega arith; ranks = ranks; sound = e.sound; whole = e.whole most ranks };
       are_open = are_open;
-      some = some_from keeps t text first h own some (base_at e.stack place) e.begun;
+      some = some_from keeps t text first h own some (base_at e.layers place) e.begun;
     };
     ends = none;
     within = e.sound.laid.within g.base (head_at e.base_is.0 place) e.base_is.1;

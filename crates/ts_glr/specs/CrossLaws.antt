@@ -5,13 +5,11 @@ use Rattle.ts_base.specs.Bytes.{Bytes}
 use Rattle.spec_trees.specs.declared.tree.Tree.{Tree}
 use Rattle.spec_trees.specs.Trees.{children_of, state_of, bare}
 use Rattle.spec_runs.specs.BareTrees.{KeepsAll}
-use Rattle.spec_runs.specs.Configurations.{Configuration}
-use Rattle.spec_runs.specs.Runs.{IsReached}
 use Rattle.spec_runs.specs.Outcomes.{SomeIsTooDeep, IsBestTree, IsLastStop}
 use Rattle.spec_forced.specs.Sound.{States, IsSound}
-use Rattle.spec_packing.specs.Packing.{stack_alone}
+use Rattle.spec_packing.specs.Packing.{PackedStack}
 use Rattle.spec_graph.specs.States.{AreRanks}
-use Rattle.spec_graph.specs.Laying.{IsBegun}
+use Rattle.spec_graph.specs.Laying.{IsBegun, IsMet}
 use Rattle.spec_graph.specs.Links.{IsWholeTo}
 use Rattle.spec_crossing.specs.Leaving.{StandsAlone}
 use Rattle.spec_crossing.specs.Resting.{IsPastStuck, PackedRests, AccountsForGraph}
@@ -41,14 +39,14 @@ pub record LeftLaws : Type 0 where
       (numbers : List ℕ) (foot : ℕ) (stacks : List (List Layer)) (k : StackHead)
       → IsSoundBy t text base g → h < length g.heads
       → (s : IsStack g h numbers foot) → IsLeft g h s.way stacks k
-      → (c : Configuration) → IsBegun (parsing_from t text base) c
+      → (start : PackedStack) → IsBegun (parsing_from t text base) start
       → (most : ℕ) → AreRanks t.grammar (unit_rank t.grammar) most
       → (n : ℕ) → IsWholeTo (parsing_from t text base) (unit_rank t.grammar) g.heads
       (bare_links g.links) (record { look = n; begins = n; rank = most })
-      → c.place < n → StandsAlone g.heads n h → (before stuck : Option ℕ)
+      → start.place < n → StandsAlone g.heads n h → (before stuck : Option ℕ)
       → AccountsForGraph (parsing_from t text base) g.heads (bare_links g.links) n None before
       stuck
-      → PackedRests t.grammar text before (stack_alone c)
+      → PackedRests t.grammar text before start
       → PackedRests t.grammar text stuck (packed_of stacks k)
   pub own : (t : ParseTable) (text : Bytes) (base : Base) (g : GraphView) (h : ℕ)
       (numbers : List ℕ) (foot : ℕ) (stacks : List (List Layer)) (k : StackHead)
@@ -75,24 +73,26 @@ pub record OverLaws : Type 0 where
       before after
   pub nothing : (t : ParseTable) (text : Bytes) (g : GraphView) (heads : List ℕ)
       → heads ≡ [] → IsBestOn t text g heads None
-  pub deep : (t : ParseTable) (text : Bytes) (base : Base) (g : GraphView) (c : Configuration)
-      → IsTooDeep t text base g → IsReached t.grammar text c
-      → IsBegun (parsing_from t text base) c → SomeIsTooDeep t.grammar text
+  pub deep : (t : ParseTable) (text : Bytes) (base : Base) (g : GraphView)
+      → IsTooDeep t text base g → IsMet (parsing_from t text base)
+      → SomeIsTooDeep t.grammar text
   pub tree : (t : ParseTable) (text : Bytes) (base : Base) (most : ℕ) (g : GraphView)
-      (c : Configuration) → IsWholeAt t text base most g (suc (length text))
-      → base.place ≤ length text → IsBegun (parsing_from t text base) c → c.place ≤ length text
+      (start : PackedStack) → IsWholeAt t text base most g (suc (length text))
+      → base.place ≤ length text → IsBegun (parsing_from t text base) start
+      → start.place ≤ length text
       → (best : Option Tree) (before stuck : Option ℕ)
       → AccountsForGraph (parsing_from t text base) g.heads (bare_links g.links)
       (suc (length text)) best before stuck
-      → PackedRests t.grammar text before (stack_alone c)
+      → PackedRests t.grammar text before start
       → (b : Tree) → best ≡ Some b → IsBestTree t.grammar text (bare b)
   pub stop : (t : ParseTable) (text : Bytes) (base : Base) (most : ℕ) (g : GraphView)
-      (c : Configuration) → IsWholeAt t text base most g (suc (length text))
-      → base.place ≤ length text → IsBegun (parsing_from t text base) c → c.place ≤ length text
+      (start : PackedStack) → IsWholeAt t text base most g (suc (length text))
+      → base.place ≤ length text → IsBegun (parsing_from t text base) start
+      → start.place ≤ length text
       → (best : Option Tree) (before stuck : Option ℕ)
       → AccountsForGraph (parsing_from t text base) g.heads (bare_links g.links)
       (suc (length text)) best before stuck
-      → PackedRests t.grammar text before (stack_alone c)
+      → PackedRests t.grammar text before start
       → (q : ℕ) → best ≡ None → stuck ≡ Some q → IsLastStop t.grammar text q
   pub some : (t : ParseTable) (text : Bytes) (base : Base) (most : ℕ) (g : GraphView)
       → IsWholeAt t text base most g (suc (length text)) → base.place ≤ length text

@@ -3,14 +3,13 @@
 use Rattle.std.specs.Prelude.{◌≡◌, ℕ, ◌<◌, ◌≤◌, suc, List, [], ◌∷◌, length, Option, None}
 use Rattle.ts_base.specs.Bytes.{Bytes}
 use Rattle.spec_forced.specs.Sound.{States}
-use Rattle.spec_packing.specs.Packing.{stack_alone}
 use Rattle.spec_graph.specs.Laying.{IsBegun}
 use Rattle.spec_crossing.specs.Resting.{PackedRests}
 use Rattle.ts_table.specs.declared.view.ParseTable.{ParseTable}
 use Rattle.ts_gss.specs.declared.layer.Layer.{Layer}
 use Rattle.ts_gss.specs.Stacks.{stack_at, state_on, IsOneStack}
 use Rattle.ts_steps.specs.declared.head.StackHead.{StackHead}
-use Rattle.ts_steps.specs.LiveHeads.{config_of, packed_of}
+use Rattle.ts_steps.specs.LiveHeads.{packed_of}
 use Rattle.ts_steps.specs.Heads.{AreStatesOf, StandOnHead}
 use Rattle.ts_reductions.specs.declared.setting.Setting.{Setting}
 use Rattle.ts_reductions.specs.Sound.{Base, parsing_from}
@@ -41,7 +40,7 @@ pub record IsSpread (t : ParseTable) (text : Bytes) (s : Setting) (first : List 
     (h : StackHead) (spread : Spread) : Type 0 where
   pub base : Base
   pub most : ℕ
-  pub begun : IsBegun (parsing_from t text base) (config_of first h)
+  pub begun : IsBegun (parsing_from t text base) (packed_of first h)
   pub can : CanFollow t text s base most spread.graph spread.place spread.frontier
   pub ends : AreEnds t text spread.graph base.place spread.place spread.ends
   pub within : spread.place ≤ length text
@@ -54,7 +53,7 @@ pub record IsSpreadOut (t : ParseTable) (text : Bytes) (first : List (List Layer
     (h : StackHead) (spread : Spread) : Type 0 where
   pub base : Base
   pub most : ℕ
-  pub begun : IsBegun (parsing_from t text base) (config_of first h)
+  pub begun : IsBegun (parsing_from t text base) (packed_of first h)
   pub low : base.place ≤ length text
   pub whole : IsWholeAt t text base most spread.graph (suc (length text))
   pub ends : AreEnds t text spread.graph base.place (suc (length text)) spread.ends
@@ -66,7 +65,7 @@ pub record IsSpreadOut (t : ParseTable) (text : Bytes) (first : List (List Layer
 pub record IsSpreadDeep (t : ParseTable) (text : Bytes) (first : List (List Layer))
     (h : StackHead) (spread : Spread) : Type 0 where
   pub base : Base
-  pub begun : IsBegun (parsing_from t text base) (config_of first h)
+  pub begun : IsBegun (parsing_from t text base) (packed_of first h)
   pub deep : IsTooDeep t text base spread.graph
 
 -- What is known of runs at a stack is so of the one at which the graph begins, and its trees stand.
@@ -74,7 +73,7 @@ pub record GoesBackTo (t : ParseTable) (text : Bytes) (stacks : List (List Layer
     (start : StackHead) (first : List (List Layer)) (h : StackHead) : Type 0 where
   pub within : h.place ≤ length text
   pub rests : (stuck : Option ℕ) → PackedRests t.grammar text stuck (packed_of stacks start)
-      → PackedRests t.grammar text stuck (stack_alone (config_of first h))
+      → PackedRests t.grammar text stuck (packed_of first h)
   pub stand : (states : States) → AreStatesOf t states → StandOnHead t states text stacks start
       → StandOnHead t states text first h
 

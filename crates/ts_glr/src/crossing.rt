@@ -8,7 +8,7 @@ ghost use Rattle.spec_graph.specs.Laying.{Parsing};
 ghost use Rattle.spec_crossing.specs.Resting.{IsPastStuck};
 ghost use Rattle.ts_table.specs.declared.view.ParseTable.{ParseTable};
 ghost use Rattle.ts_gss.specs.declared.layer.Layer.{Layer};
-ghost use Rattle.ts_gss.specs.Stacks.{AreExact, IsOneStack, stack_at, state_on};
+ghost use Rattle.ts_gss.specs.Stacks.{IsOneStack, stack_at, state_on};
 ghost use Rattle.ts_reductions.specs.SoundLinks.{IsSoundFor};
 ghost use Rattle.ts_steps.specs.declared.head.StackHead.{StackHead as AnyHead};
 ghost use Rattle.ts_steps.specs.LiveHeads.{config_of};
@@ -19,7 +19,7 @@ ghost use Rattle.ts_places.specs.Nothing.{IsOfNothing};
 ghost use Rattle.ts_crossing.specs.Leaving.{IsStack, IsLeft};
 ghost use Rattle.ts_glr.specs.Spreading.{IsSpread, IsSpreadOut, StaysSpread, GoesBackTo, IsSpreadFor, IsLeftOf, AsksFor, Crosses};
 
-use crate::laws::{laws_hold, left_laws_hold, over_laws_hold, packing_laws_hold};
+use crate::laws::{left_laws_hold, over_laws_hold, packing_laws_hold};
 use crate::outcome::Outcome;
 use crate::spread::{Passed, Spread};
 use std::alloc::{AllocError, Global};
@@ -192,31 +192,15 @@ fn ending(
     }
 }
 
-/// Whether the graph begins at a stack: more than extras lie on it, and none of its layers stands
-/// for deeper trees too.
+/// Whether the graph begins at a stack: more than extras lie on it.
 fn begins_there(stacks: &Stacks, start: StackHead) -> bool
     requires { start.top < length stacks.now }
-    ensures exact { result ≡ true → AreExact (stack_at stacks.now start.top) }
-    ensures some { result ≡ true → state_on (stack_at stacks.now start.top) ≡ 0 → ⊥ }
+    ensures { result ≡ true → state_on (stack_at stacks.now start.top) ≡ 0 → ⊥ }
 {
-    stacks.state(start.top) != 0 && stacks.is_exact(start.top)
+    stacks.state(start.top) != 0
 }
 
-/// The place past which one stack is asked for, where the graph of a stack begins at the start of
-/// the text. Where extras alone lie on the stack, its graph begins there in any case. Else it is
-/// past twice as many bytes: what is followed once more is no more than what is followed then.
-fn far_enough(stacks: &Stacks, start: StackHead) -> u32
-    requires { start.top < length stacks.now }
-    ensures { start.place ≤ result }
-{
-    if stacks.state(start.top) == 0 {
-        start.place
-    } else {
-        start.place.saturating_add(start.place)
-    }
-}
-
-/// The graph of a stack. It begins at the start of the text where it cannot begin at the stack.
+/// The graph of a stack. It begins at the start of the text where extras alone lie on the stack.
 /// None where it would, and the text has nothing but extras before a token on which a reduction
 /// over nothing stays.
 fn begin<L: Tokens>(
@@ -242,7 +226,6 @@ fn begin<L: Tokens>(
         (L.Text.bytes text.now) setting.now stacks.old start from spread.new)) }
     ensures kept { IfOk result (λ o. o ≡ None → stacks.new ≡ stacks.old) }
 {
-    laws_hold();
     packing_laws_hold();
     own_stacks_enter();
     table.stands();
@@ -256,7 +239,7 @@ fn begin<L: Tokens>(
     }
     let none = Stacks::new(alloc);
     spread.begin(none, StackHead { top: 0, place: 0 })?;
-    Ok(Some(far_enough(stacks, start)))
+    Ok(Some(start.place))
 }
 
 /// Follows all ways to read a text on the graph of stacks, from a stack on, until one stack is

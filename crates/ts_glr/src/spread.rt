@@ -4,7 +4,7 @@ ghost use Rattle.std.specs.Prelude.{List, length, IfOk, OnOk};
 ghost use Rattle.ts_base.specs.Bytes.{Bytes};
 ghost use Rattle.ts_table.specs.declared.view.ParseTable.{ParseTable};
 ghost use Rattle.ts_gss.specs.declared.layer.Layer.{Layer};
-ghost use Rattle.ts_gss.specs.Stacks.{AreExact, IsOneStack, stack_at};
+ghost use Rattle.ts_gss.specs.Stacks.{IsOneStack};
 ghost use Rattle.ts_steps.specs.declared.head.StackHead.{StackHead as AnyHead};
 ghost use Rattle.ts_steps.specs.Heads.{IsOwnHead};
 ghost use Rattle.ts_reductions.specs.declared.setting.Setting.{Setting as AnySetting};
@@ -64,7 +64,6 @@ impl Spread {
     pub(crate) fn begin(&mut self, stacks: Stacks, start: StackHead) -> Result<(), AllocError>
         requires can { (t : ParseTable) × (text : Bytes) × CanEnter t text stacks start }
         requires one { IsOneStack stacks start.top }
-        requires exact { AreExact (stack_at stacks start.top) }
         ensures { OnOk result ((t : ParseTable) (text : Bytes) (s : AnySetting)
             → CanEnter t text stacks start → IsOwnHead t (length text) stacks start
             → IsOfSomeFrom t text stacks start → IsSetting t (length text) s

@@ -9,9 +9,6 @@ enter-requires-clause-can c = c.requires.can
 pub enter-requires-clause-one : goal.enter-requires-clause-one
 enter-requires-clause-one c = c.requires.one
 
-pub enter-requires-clause-exact : goal.enter-requires-clause-exact
-enter-requires-clause-exact c = c.requires.exact
-
 pub returns : goal.returns
 returns c t text s can own some setting =
     let ranks = c.unit_ranks.ensures t.grammar can.table.fit in
