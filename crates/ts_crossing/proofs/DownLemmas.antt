@@ -3,7 +3,6 @@ use Rattle.std.proofs.Common.{◌≡◌, ◌∙◌, sym, ap, refl, subst, ℕ, �
 use Rattle.std.proofs.lemmas.List.{length-take-le}
 use Rattle.std.proofs.lemmas.Option.{slice_get_within}
 use Rattle.spec_trees.specs.declared.tree.Tree.{Tree}
-use Rattle.spec_trees.specs.Trees.{tree_depth}
 use Rattle.spec_graph.specs.declared.graph.Link.{Link}
 use Rattle.ts_graph.specs.Down.{links_down, links_from}
 use Rattle.ts_crossing.proofs.MemberLemmas.{read_at}

@@ -1,5 +1,5 @@
 -- A stack of the trees of a way.
-use Rattle.std.proofs.Common.{◌≡◌, ◌∙◌, sym, ap, refl, subst, ℕ, suc, ◌+◌, ◌<◌, ◌≤◌, List, [], ◌∷◌, ◌++◌, append-nil, append_assoc, length, length-append, map, reverse, drop, slice_get, Option, Some, arith}
+use Rattle.std.proofs.Common.{◌≡◌, ◌∙◌, sym, ap, refl, subst, ℕ, suc, ◌+◌, ◌-◌, ◌<◌, ◌≤◌, List, [], ◌∷◌, ◌++◌, append-nil, append_assoc, length, length-append, map, reverse, take, drop, slice_get, Option, Some, arith}
 use Rattle.std.specs.Option.{option_map_or}
 use Rattle.std.proofs.lemmas.List.{map-append, reverse-append, drop_all}
 use Rattle.ts_base.specs.Bytes.{Bytes}
@@ -89,6 +89,11 @@ pushed_last pieces old below left stacks top none so =
 
 pub piece_less : (old new : List Piece) (x : Piece) → old ≡ new ++ x ∷ [] → length new < length old
 piece_less old new x is = let e = ap (λ (ps : List Piece). length ps) is in let n = length-append new (x ∷ []) in omega (arith, e, n)
+
+pub none_left : (old new : List Piece) (count : ℕ) → old ≡ new ++ [] → count ≡ 0 → new ≡ take (count - 1) old → old ≡ []
+none_left old new count is none rest =
+    let empty : new ≡ [] = rest ∙ ap (λ (n : ℕ). take (n - 1) old) none in
+    is ∙ ap (λ (ps : List Piece). ps ++ []) empty
 
 -- the layers of links, one piece after another
 pub pieces_more : (heads : List Head) (way : List Link) (i : ℕ) (l : Link) (old new : List Piece) (p : Piece) → drop i way ≡ l ∷ drop (i + 1) way → layer_with_piece p ≡ layer_of_link heads l → new ≡ old ++ p ∷ []

@@ -1,4 +1,5 @@
-use Rattle.ts_crossing.proofs.LeftLemmas.{pushed_first, pushed_more, pushed_last, piece_less, one_there}
+use Rattle.std.proofs.Common.{vec_len}
+use Rattle.ts_crossing.proofs.LeftLemmas.{pushed_first, pushed_more, pushed_last, piece_less, none_left, one_there}
 use Rattle.ts_crossing.proofs.leaving.push_all.Goals as goal
 
 pub loop-piece-init : goal.loop-piece-init
@@ -20,4 +21,6 @@ pub returns-clause-one : goal.returns-clause-one
 returns-clause-one c = c.loop-piece.invariant.one
 
 pub returns-clause-stack : goal.returns-clause-stack
-returns-clause-stack c = pushed_last c.args.pieces.items c.args.stacks.now c.args.below c.loop-piece.left.items c.loop-piece.stacks c.loop-piece.top c.in_default.ensures.items c.loop-piece.invariant.stack
+returns-clause-stack c =
+    pushed_last c.args.pieces.items c.args.stacks.now c.args.below c.loop-piece.left.items c.loop-piece.stacks c.loop-piece.top
+    (none_left c.loop-piece.left.items c.pop.new.self.items (vec_len c.loop-piece.left) c.in_default.ensures.items c.in_default.ensures.cases.0 c.in_default.ensures.rest) c.loop-piece.invariant.stack
