@@ -1,4 +1,4 @@
-use Rattle.std.proofs.Common.{refl, [], ◌∷◌, arith}
+use Rattle.std.proofs.Common.{refl, arith}
 use Rattle.ts_gss.specs.Stacks.{stack_at, trees_on}
 use Rattle.ts_crossing.proofs.ForkLemmas.{fork_bytes}
 use Rattle.ts_crossing.proofs.MadeLemmas.{trees_made}
