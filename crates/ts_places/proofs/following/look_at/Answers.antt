@@ -3,7 +3,7 @@ use Rattle.ts_places.proofs.AgainLemmas.{led_none}
 use Rattle.ts_places.proofs.following.look_at.Goals as goal
 
 pub look_all-requires-clause-count : goal.look_all-requires-clause-count
-look_all-requires-clause-count g c = (c.new-sights.ensures c.args.table.now (g.L.Text.Content.bytes c.args.text.now) c.args.graph.now 0).count
+look_all-requires-clause-count g c = (c.clear.ensures c.args.table.now (g.L.Text.Content.bytes c.args.text.now) c.args.graph.now 0).count
 
 pub returns-clause-sights : goal.returns-clause-sights
 returns-clause-sights g c = λ base look sound late stand has. record {
