@@ -2,9 +2,6 @@ pub mod Lists
 pub mod Weights
 pub mod Steps
 pub mod Laws
-pub mod Seeing
-pub mod Settling
-pub mod Joining
 pub mod Search
 pub mod Outcomes
 pub mod Turns

@@ -19,11 +19,11 @@ use Rattle.ts_steps.specs.declared.found.FoundToken.{FoundToken}
 use Rattle.ts_steps.specs.declared.head.StackHead.{StackHead}
 use Rattle.ts_steps.specs.Good.{EachTree}
 use Rattle.ts_steps.specs.LiveHeads.{config_of, packed_of, IsLiveHead, IsRootOf}
-use Rattle.ts_steps.specs.Heads.{IsOwnWithin, IsOwnHead, StandOnHead}
+use Rattle.ts_steps.specs.Heads.{AreStatesOf, IsOwnWithin, IsOwnHead, StandOnHead}
 use Rattle.ts_glr.specs.declared.acting.Moved.{Moved}
 use Rattle.ts_glr.specs.declared.acting.Moved.TheVariants.{To, Ended, TooDeep}
 use Rattle.ts_glr.specs.Lists.{OfEach, Any}
-use Rattle.ts_glr.specs.Steps.{ActionLeads, LayersLead, IsTooDeep, StandAfter, IsSoundRoot}
+use Rattle.ts_glr.specs.Steps.{HasForm, ActionLeads, LayersLead, IsTooDeep, StandAfter, IsSoundRoot}
 
 -- the heads that an action came to
 abbrev pub heads_of : Moved → List StackHead
@@ -122,11 +122,11 @@ pub record Searching (t : ParseTable) (text : Bytes) (stacks : List (List Layer)
 
 -- ---- what is kept of the stacks
 
--- A parser of the grammar made the trees on the live stacks, which end behind a place, and the best
--- tree; and there is a head, a tree or a place.
-pub record Owns (t : ParseTable) (size from : ℕ) (stacks : List (List Layer))
-    (live : List StackHead) (best : Option Tree) (stuck : Option ℕ) : Type 0 where
-  pub heads : OfEach (λ h. IsOwnHead t size stacks h × (from ≤ h.place)) live
+-- A parser of the grammar made the trees on the live stacks, and the best tree; and there is a head,
+-- a tree or a place.
+pub record Owns (t : ParseTable) (size : ℕ) (stacks : List (List Layer)) (live : List StackHead)
+    (best : Option Tree) (stuck : Option ℕ) : Type 0 where
+  pub heads : OfEach (λ h. IsOwnHead t size stacks h) live
   pub tree : (b : Tree) → best ≡ Some b
       → EachTree (IsOwnWithin t.grammar) (children_of b) × (state_of b ≡ None)
   pub some : HasSome live best stuck
@@ -136,3 +136,11 @@ pub record AllStand (t : ParseTable) (states : States) (text : Bytes) (stacks : 
     (live : List StackHead) (best : Option Tree) : Type 0 where
   pub heads : OfEach (λ h. StandOnHead t states text stacks h) live
   pub tree : (b : Tree) → best ≡ Some b → IsSound t.grammar states text b
+
+-- what is known under way
+pub record Following (t : ParseTable) (text : Bytes) (stacks : List (List Layer))
+    (stuck : Option ℕ) (live : List StackHead) (best : Option Tree) : Type 0 where
+  pub form : HasForm t.grammar best
+  pub owns : Owns t (length text) stacks live best stuck
+  pub search : Searching t text stacks live best stuck
+  pub stand : (states : States) → AreStatesOf t states → AllStand t states text stacks live best

@@ -1,13 +1,13 @@
 -- All ways to read a text on the graph of stacks, from a stack on at which several moves stay. It
 -- serves private clauses and proofs alone.
-use Rattle.std.specs.Prelude.{◌≡◌, ℕ, ◌<◌, ◌≤◌, suc, List, [], ◌∷◌, length, Option, None}
+use Rattle.std.specs.Prelude.{◌≡◌, ℕ, ◌<◌, ◌≤◌, suc, List, [], ◌∷◌, length, Option}
 use Rattle.ts_base.specs.Bytes.{Bytes}
 use Rattle.spec_forced.specs.Sound.{States}
 use Rattle.spec_graph.specs.Laying.{IsBegun}
 use Rattle.spec_crossing.specs.Resting.{PackedRests}
 use Rattle.ts_table.specs.declared.view.ParseTable.{ParseTable}
 use Rattle.ts_gss.specs.declared.layer.Layer.{Layer}
-use Rattle.ts_gss.specs.Stacks.{stack_at, state_on, IsOneStack}
+use Rattle.ts_gss.specs.Stacks.{stack_at, state_on}
 use Rattle.ts_steps.specs.declared.head.StackHead.{StackHead}
 use Rattle.ts_steps.specs.LiveHeads.{packed_of}
 use Rattle.ts_steps.specs.Heads.{AreStatesOf, StandOnHead}
@@ -25,9 +25,6 @@ use Rattle.ts_glr.specs.declared.spread.Passed.{Passed}
 use Rattle.ts_glr.specs.declared.spread.Passed.TheVariants.{On, Over, Deep}
 use Rattle.ts_glr.specs.declared.crossing.Asked.{Asked}
 use Rattle.ts_glr.specs.declared.crossing.Asked.TheVariants.{Waits, Fails, Leaves}
-use Rattle.ts_glr.specs.declared.crossing.Crossed.{Crossed}
-use Rattle.ts_glr.specs.declared.crossing.Crossed.TheVariants.{One, Told}
-use Rattle.ts_glr.specs.Forks.{LeavesOne, EndsAll}
 
 -- if the stack of the head has extras alone, the text is not of nothing
 abbrev pub IsOfSomeFrom : ParseTable → Bytes → List (List Layer) → StackHead → Type 0
@@ -77,15 +74,13 @@ pub record GoesBackTo (t : ParseTable) (text : Bytes) (stacks : List (List Layer
   pub stand : (states : States) → AreStatesOf t states → StandOnHead t states text stacks start
       → StandOnHead t states text first h
 
--- The graph was begun for a stack, at that stack or at the start of the text. One stack is asked
--- for past a place that is behind both.
+-- the graph was begun for a stack, at that stack or at the start of the text
 pub record IsSpreadFor (t : ParseTable) (text : Bytes) (s : Setting) (stacks : List (List Layer))
-    (start : StackHead) (from : ℕ) (spread : Spread) : Type 0 where
+    (start : StackHead) (spread : Spread) : Type 0 where
   pub first : List (List Layer)
   pub head : StackHead
   pub back : GoesBackTo t text stacks start first head
-  pub low : head.place ≤ from
-  pub past : start.place ≤ from
+  pub low : head.place ≤ start.place
   pub laid : IsSpread t text s first head spread
 
 -- what following the graph over a place came to
@@ -120,11 +115,3 @@ abbrev pub AsksFor : Spread → Spread → ℕ → Asked → Type 0
 AsksFor old new from Waits = StaysSpread old new
 AsksFor old new from Fails = StaysSpread old new
 AsksFor old new from (Leaves l) = IsLeftOf old from l
-
--- what following the graph came to, from a stack on: one that is left, or the outcome
-abbrev pub Crosses : ParseTable → Bytes → List (List Layer) → Option ℕ → StackHead → Crossed
-    → Type 0
-Crosses t text first before h (One l stuck) =
-    LeavesOne t text first l.stacks before stuck [] None h l.head
-    × IsOneStack l.stacks l.head.top
-Crosses t text first before h (Told out) = EndsAll t text first before h out

@@ -12,12 +12,10 @@ ghost use Rattle.ts_steps.specs.Heads.{IsOwnHead};
 ghost use Rattle.ts_steps.specs.Looking.{IsTokenAhead};
 ghost use Rattle.ts_glr.specs.Steps.{HasForm, IsActed, IsTooDeep};
 ghost use Rattle.ts_glr.specs.Search.{heads_of, is_deep, Acting};
-ghost use Rattle.ts_glr.specs.Seeing.{AreSeen};
 
 use crate::choosing::keep;
-use crate::laws::{again_laws_hold, laws_hold};
+use crate::laws::laws_hold;
 use crate::readings::Readings;
-use crate::seeing::note;
 use std::alloc::{AllocError, Global};
 use ts_core::Action;
 use ts_steps::{FoundToken, ParseSetting, StackHead, TokenAhead, accept, reduce, shift};
@@ -52,17 +50,12 @@ fn act(
     ensures form { OnOk result (HasForm table.now.grammar readings.new.best) }
     ensures live { OnOk result (readings.new.live.items ≡ readings.old.live.items) }
     ensures stuck { OnOk result (readings.new.stuck ≡ readings.old.stuck) }
-    ensures seen { OnOk result ((text : Bytes) → length text ≡ setting.now.size
-        → IsTokenAhead table.now text readings.old.graph head found
-        → AreSeen table.now text readings.old.graph readings.old.seen.items
-        → AreSeen table.now text readings.new.graph readings.new.seen.items) }
     ensures acted { IfOk result (λ m. (text : Bytes) → length text ≡ setting.now.size
         → IsTokenAhead table.now text readings.old.graph head found
         → IsActed table.now text readings.old.graph readings.new.graph head found
         readings.old.best readings.new.best action m) }
 {
     laws_hold();
-    again_laws_hold();
     table.stands();
     let ahead = TokenAhead { found, only: false };
     let graph = &mut readings.graph;
@@ -73,10 +66,7 @@ fn act(
         }
         Action::Reduce(number) => {
             match reduce(alloc, table, setting, graph, head, number, ahead, false)? {
-                Some(next) => {
-                    note(table, graph, &mut readings.seen, next, found)?;
-                    Ok(Moved::To(next))
-                }
+                Some(next) => Ok(Moved::To(next)),
                 None => Ok(Moved::TooDeep),
             }
         }
@@ -125,10 +115,6 @@ pub(crate) fn act_all(
     ensures grows { OnOk result (GainsStacks readings.old.graph readings.new.graph) }
     ensures form { OnOk result (HasForm table.now.grammar readings.new.best) }
     ensures stuck { OnOk result (readings.new.stuck ≡ readings.old.stuck) }
-    ensures seen { OnOk result ((text : Bytes) → length text ≡ setting.now.size
-        → IsTokenAhead table.now text readings.old.graph head found
-        → AreSeen table.now text readings.old.graph readings.old.seen.items
-        → AreSeen table.now text readings.new.graph readings.new.seen.items) }
     ensures deep { IfOk result (λ b. b ≡ true → (a : AnyAction) × Contains actions.now a
         × IsTooDeep table.now.grammar (packed_of readings.old.graph head) a) }
     ensures done { IfOk result (λ b. b ≡ false → (text : Bytes) → length text ≡ setting.now.size

@@ -1,6 +1,6 @@
 //! Following all ways to read a text on the graph of stacks, from a stack on at which several moves
 //! stay: the stack goes in; the one that is left comes out, or what the text comes to.
-ghost use Rattle.std.specs.Prelude.{◌≡◌, ℕ, ◌<◌, ◌≤◌, ◌⊎◌, ◌∷◌, [], true, List, length, Some, None, IfOk, IfSome};
+ghost use Rattle.std.specs.Prelude.{◌≡◌, ℕ, ◌<◌, ◌≤◌, ◌⊎◌, ◌∷◌, [], true, List, length, Some, None, IfOk, IfSome, OnOk};
 ghost use Rattle.ts_base.specs.Bytes.{Bytes};
 ghost use Rattle.spec_trees.specs.Made.{most_span};
 ghost use Rattle.spec_forced.specs.OnlyRuns.{IsFork};
@@ -8,26 +8,26 @@ ghost use Rattle.spec_graph.specs.Laying.{Parsing};
 ghost use Rattle.spec_crossing.specs.Resting.{IsPastStuck};
 ghost use Rattle.ts_table.specs.declared.view.ParseTable.{ParseTable};
 ghost use Rattle.ts_gss.specs.declared.layer.Layer.{Layer};
-ghost use Rattle.ts_gss.specs.Stacks.{IsOneStack, stack_at, state_on};
+ghost use Rattle.ts_gss.specs.Stacks.{IsOneStack};
 ghost use Rattle.ts_reductions.specs.SoundLinks.{IsSoundFor};
 ghost use Rattle.ts_steps.specs.declared.head.StackHead.{StackHead as AnyHead};
 ghost use Rattle.ts_steps.specs.LiveHeads.{config_of};
 ghost use Rattle.ts_steps.specs.Heads.{IsOwnHead};
 ghost use Rattle.ts_reductions.specs.declared.setting.Setting.{Setting as AnySetting};
 ghost use Rattle.ts_reductions.specs.Lines.{IsSetting};
-ghost use Rattle.ts_places.specs.Nothing.{IsOfNothing};
+ghost use Rattle.ts_crossing.specs.Entering.{CanEnter};
 ghost use Rattle.ts_crossing.specs.Leaving.{IsStack, IsLeft};
-ghost use Rattle.ts_glr.specs.Spreading.{IsSpread, IsSpreadOut, StaysSpread, GoesBackTo, IsSpreadFor, IsLeftOf, AsksFor, Crosses};
+ghost use Rattle.ts_glr.specs.Forks.{ComesTo};
+ghost use Rattle.ts_glr.specs.Spreading.{IsOfSomeFrom, IsSpread, IsSpreadOut, StaysSpread, GoesBackTo, IsSpreadFor, IsLeftOf, AsksFor};
 
 use crate::laws::{left_laws_hold, over_laws_hold, packing_laws_hold};
 use crate::outcome::Outcome;
 use crate::spread::{Passed, Spread};
 use std::alloc::{AllocError, Global};
-use std::mem::replace;
 use ts_crossing::{Left, leave, one_stack, own_stacks_enter};
 use ts_gss::Graph as Stacks;
 use ts_lexer::Tokens;
-use ts_places::{best_of, is_of_nothing};
+use ts_places::best_of;
 use ts_reductions::Setting;
 use ts_steps::StackHead;
 use ts_table::{Table, unit_ranks};
@@ -178,7 +178,7 @@ fn ending(
     ensures { IfOk result (λ crossed. (text : Bytes) (stacks first : List (List Layer))
         (start h : AnyHead) → GoesBackTo table.now text stacks start first h
         → IsSpreadOut table.now text first h spread.now → size ≡ length text
-        → Crosses table.now text stacks before start crossed) }
+        → ComesTo table.now text stacks before start crossed) }
 {
     over_laws_hold();
     table.stands();
@@ -192,111 +192,79 @@ fn ending(
     }
 }
 
-/// Whether the graph begins at a stack: more than extras lie on it.
-fn begins_there(stacks: &Stacks, start: StackHead) -> bool
-    requires { start.top < length stacks.now }
-    ensures { result ≡ true → state_on (stack_at stacks.now start.top) ≡ 0 → ⊥ }
-{
-    stacks.state(start.top) != 0
-}
-
 /// The graph of a stack. It begins at the start of the text where extras alone lie on the stack.
-/// None where it would, and the text has nothing but extras before a token on which a reduction
-/// over nothing stays.
-fn begin<L: Tokens>(
+fn begin(
     alloc: Global,
-    table: &Table,
-    setting: &Setting,
-    lexer: &mut L,
-    text: &L::Text,
-    stacks: &mut Stacks,
+    stacks: Stacks,
     start: StackHead,
     spread: &mut Spread,
-) -> Result<Option<u32>, AllocError>
-    requires made { L.made_for lexer.old table.now }
-    requires setting { IsSetting table.now (length (L.Text.bytes text.now)) setting.now }
-    requires short { length (L.Text.bytes text.now) ≤ most_span }
-    requires own { IsOwnHead table.now (length (L.Text.bytes text.now)) stacks.old start }
-    requires fork { IsFork table.now.grammar (L.Text.bytes text.now) (config_of stacks.old start) }
-    requires one { IsOneStack stacks.old start.top }
-    ensures made { L.made_for lexer.new table.now }
-    ensures nothing { IfOk result (λ o. o ≡ None
-        → IsOfNothing table.now (L.Text.bytes text.now)) }
-    ensures begins { IfOk result (λ o. IfSome o (λ from. IsSpreadFor table.now
-        (L.Text.bytes text.now) setting.now stacks.old start from spread.new)) }
-    ensures kept { IfOk result (λ o. o ≡ None → stacks.new ≡ stacks.old) }
+) -> Result<(), AllocError>
+    requires can { (t : ParseTable) × (text : Bytes) × CanEnter t text stacks start }
+    requires one { IsOneStack stacks start.top }
+    ensures { OnOk result ((t : ParseTable) (text : Bytes) (s : AnySetting)
+        → CanEnter t text stacks start → IsOwnHead t (length text) stacks start
+        → IsOfSomeFrom t text stacks start → IsSetting t (length text) s
+        → IsSpreadFor t text s stacks start spread.new) }
 {
     packing_laws_hold();
     own_stacks_enter();
-    table.stands();
-    if begins_there(stacks, start) {
-        let own = replace(stacks, Stacks::new(alloc));
-        spread.begin(own, start)?;
-        return Ok(Some(start.place));
-    }
-    if is_of_nothing(table, setting, lexer, text) {
-        return Ok(None);
+    if stacks.state(start.top) != 0 {
+        spread.begin(stacks, start)?;
+        return Ok(());
     }
     let none = Stacks::new(alloc);
     spread.begin(none, StackHead { top: 0, place: 0 })?;
-    Ok(Some(start.place))
+    Ok(())
 }
 
 /// Follows all ways to read a text on the graph of stacks, from a stack on, until one stack is
 /// left, before any tree is accepted, or there is none. Where one head waits alone and several
 /// ways lead down from it, it is asked again only after as many places as were followed so far:
 /// asking so costs little beside following, and at most twice as many places are followed as had
-/// to be. None where the graph would begin at the start of the text, and the text has nothing but
-/// extras before a token on which a reduction over nothing stays; the stack stays then. Else it is
-/// moved into the graph where that begins at it.
+/// to be.
 pub(crate) fn cross<L: Tokens>(
     alloc: Global,
     table: &Table,
     setting: &Setting,
     lexer: &mut L,
     text: &L::Text,
-    stacks: &mut Stacks,
+    stacks: Stacks,
     start: StackHead,
     before: Option<u32>,
     spread: &mut Spread,
-) -> Result<Option<Crossed>, AllocError>
+) -> Result<Crossed, AllocError>
     requires made { L.made_for lexer.old table.now }
     requires setting { IsSetting table.now (length (L.Text.bytes text.now)) setting.now }
     requires short { length (L.Text.bytes text.now) ≤ most_span }
-    requires own { IsOwnHead table.now (length (L.Text.bytes text.now)) stacks.old start }
-    requires fork { IsFork table.now.grammar (L.Text.bytes text.now) (config_of stacks.old start) }
-    requires one { IsOneStack stacks.old start.top }
+    requires own { IsOwnHead table.now (length (L.Text.bytes text.now)) stacks start }
+    requires fork { IsFork table.now.grammar (L.Text.bytes text.now) (config_of stacks start) }
+    requires one { IsOneStack stacks start.top }
+    requires some { IsOfSomeFrom table.now (L.Text.bytes text.now) stacks start }
     ensures made { L.made_for lexer.new table.now }
-    ensures nothing { IfOk result (λ o. o ≡ None
-        → IsOfNothing table.now (L.Text.bytes text.now)) }
-    ensures crosses { IfOk result (λ o. IfSome o (Crosses table.now (L.Text.bytes text.now)
-        stacks.old before start)) }
-    ensures kept { IfOk result (λ o. o ≡ None → stacks.new ≡ stacks.old) }
+    ensures comes { IfOk result (ComesTo table.now (L.Text.bytes text.now) stacks before start) }
 {
     left_laws_hold();
     over_laws_hold();
+    own_stacks_enter();
     unit_ranks();
     table.stands();
-    let from = match begin(alloc, table, setting, lexer, text, stacks, start, spread)? {
-        None => return Ok(None),
-        Some(from) => from,
-    };
+    begin(alloc, stacks, start, spread)?;
     let mut pace = Pace {
         places: 0,
         asked: 1,
     };
-    'places: loop {
+    loop {
         match spread.pass(alloc, table, setting, lexer, text)? {
-            Passed::Deep => return Ok(Some(Crossed::Told(Outcome::Deep))),
+            Passed::Deep => return Ok(Crossed::Told(Outcome::Deep)),
             Passed::Over => {
                 let crossed = ending(alloc, table, spread, setting.size, before)?;
-                return Ok(Some(crossed));
+                return Ok(crossed);
             }
-            Passed::On => match ask_in_turn(alloc, spread, from, &mut pace)? {
+            Passed::On => match ask_in_turn(alloc, spread, start.place, &mut pace)? {
                 None => {}
                 Some(left) => {
                     let stuck = further(before, spread.ends.stuck);
-                    return Ok(Some(Crossed::One(left, stuck)));
+                    return Ok(Crossed::One(left, stuck));
                 }
             },
         }

@@ -1,22 +1,17 @@
 //! The laws of other crates that the proofs here rest on. No value goes in or out.
 ghost use Rattle.ts_steps.specs.MoveLaws.{Laws};
-ghost use Rattle.ts_glr.specs.Laws.{AgainLaws, PackingLaws};
+ghost use Rattle.ts_glr.specs.Laws.{PackingLaws};
 ghost use Rattle.ts_glr.specs.CrossLaws.{LeftLaws, OverLaws};
 
 use spec_crossing::{followed_graphs_pack, followed_graphs_tell};
-use spec_forced::lexings_are_decided;
 use spec_graph::graphs_are_sound;
 use spec_lexing::{beginnings, token_within};
-use spec_packing::{
-    no_better_through, packed_stacks_end, packed_stacks_follow, packed_stacks_join, trees_serve,
-};
-use spec_reuse::same_token_again;
+use spec_packing::{no_better_through, packed_stacks_end, packed_stacks_follow};
 use spec_runs::{
     bare_trees, empty_rules_are_unused, moves_have_their_place, one_reduction, one_sight,
     repetitions_repeat, start_is_no_repetition,
 };
 use ts_crossing::left_stacks_go_on;
-use ts_lexer::tokens_of_states;
 use ts_places::{ends_account, roots_are_own};
 use ts_steps::steps_fall;
 
@@ -35,24 +30,13 @@ pub(crate) fn laws_hold()
     token_within();
 }
 
-/// The laws of a token that is seen again behind a reduction hold.
-pub(crate) fn again_laws_hold()
-    ensures { AgainLaws }
-{
-    same_token_again();
-    lexings_are_decided();
-    tokens_of_states();
-}
-
 /// All laws of readings that stand for others hold.
 pub(crate) fn packing_laws_hold()
     ensures { PackingLaws }
 {
     no_better_through();
-    trees_serve();
     packed_stacks_follow();
     packed_stacks_end();
-    packed_stacks_join();
 }
 
 /// The laws of a stack that is left in a graph hold.

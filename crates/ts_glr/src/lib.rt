@@ -5,15 +5,11 @@
 mod acting;
 mod choosing;
 mod crossing;
-mod following;
-mod forking;
-mod joining;
 mod laws;
+mod nothing;
 mod outcome;
 mod parsing;
 mod readings;
-mod seeing;
-mod settling;
 mod spread;
 mod turning;
 

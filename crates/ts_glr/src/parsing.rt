@@ -12,13 +12,13 @@ ghost use Rattle.ts_steps.specs.Heads.{AreStatesOf};
 ghost use Rattle.ts_steps.specs.Reparsing.{AreHonest, AreHonestlyLent, IsLent, IsOffered};
 ghost use Rattle.ts_glr.specs.Outcomes.{value_of_outcome, IsTreeOf, IsOwnOutcome, IsSoundOutcome};
 
-use crate::forking::Forked;
+use crate::crossing::Crossed;
 use crate::laws::{laws_hold, packing_laws_hold};
 use crate::outcome::Outcome;
-use crate::readings::readings_of;
 use crate::spread::Spread;
 use crate::turning::follow_fork;
 use std::alloc::{AllocError, Global};
+use ts_gss::Graph as Stacks;
 use ts_lexer::{Content, Tokens};
 use ts_offer::{Nothing, Offers};
 use ts_steps::{Reparsed, StackHead, parse_setting, reparse, states_are_named};
@@ -71,20 +71,16 @@ pub fn parse_with<'t, L: Tokens, O: Offers<'t>>(
     packing_laws_hold();
     table.stands();
     let setting = parse_setting(alloc, table, text.len())?;
-    let mut readings = readings_of(alloc);
+    let mut stacks = Stacks::new(alloc);
+    let mut head = StackHead { top: 0, place: 0 };
+    let mut stuck = None;
     let mut kept = None;
     let mut spread = Spread::new(alloc);
-    let mut head = StackHead { top: 0, place: 0 };
-    let mut known = None;
     loop {
-        let graph = &mut readings.graph;
-        match reparse(
-            alloc, table, &setting, lexer, text, offers, graph, head, known,
-        )? {
+        let own = &mut stacks;
+        match reparse(alloc, table, &setting, lexer, text, offers, own, head, None)? {
             Reparsed::Accepted(root) => return Ok(Outcome::Accepted(root)),
-            Reparsed::Stuck(place) => {
-                return Ok(Outcome::Stuck(furthest(readings.stuck, place)));
-            }
+            Reparsed::Stuck(place) => return Ok(Outcome::Stuck(furthest(stuck, place))),
             Reparsed::Deep => return Ok(Outcome::Deep),
             Reparsed::Forks(fork) => {
                 match follow_fork(
@@ -93,16 +89,18 @@ pub fn parse_with<'t, L: Tokens, O: Offers<'t>>(
                     &setting,
                     lexer,
                     text,
-                    &mut readings,
+                    &mut stacks,
+                    fork.head,
+                    stuck,
                     &mut kept,
-                    fork,
                     &mut spread,
                 )? {
-                    Forked::One(next, ahead) => {
-                        head = next;
-                        known = ahead;
+                    Crossed::One(left, place) => {
+                        stacks = left.stacks;
+                        head = left.head;
+                        stuck = place;
                     }
-                    Forked::Over(outcome) => return Ok(outcome),
+                    Crossed::Told(outcome) => return Ok(outcome),
                 }
             }
         }

@@ -1,31 +1,27 @@
-//! Following all ways to read a text from a stack on at which several moves stay, on plain stacks
-//! first, and on the graph of stacks where that takes many steps: the stack goes in; the one that
-//! is left comes out, or what the text comes to.
-ghost use Rattle.std.specs.Prelude.{◌≡◌, ◌<◌, ◌≤◌, ◌+◌, [], length, take, None, IfOk, IfSome, OnOk};
+//! Following all ways to read a text from a stack on at which several moves stay, on the graph of
+//! stacks: the stack goes in; the one that is left comes out, or what the text comes to.
+ghost use Rattle.std.specs.Prelude.{◌≡◌, ◌<◌, ◌≤◌, false, length, None, IfOk, IfSome, OnOk};
 ghost use Rattle.spec_trees.specs.Made.{most_span};
 ghost use Rattle.spec_forced.specs.OnlyRuns.{IsFork};
 ghost use Rattle.ts_gss.specs.Stacks.{IsOneStack};
 ghost use Rattle.ts_steps.specs.LiveHeads.{config_of};
 ghost use Rattle.ts_steps.specs.Settings.{IsParseSetting};
 ghost use Rattle.ts_steps.specs.Heads.{IsOwnHead};
-ghost use Rattle.ts_steps.specs.Looking.{IsTokenAhead};
 ghost use Rattle.ts_reductions.specs.Lines.{IsSetting};
-ghost use Rattle.ts_places.specs.Nothing.{IsOfNothing};
 ghost use Rattle.ts_glr.specs.Forks.{ComesTo};
+ghost use Rattle.ts_glr.specs.Spreading.{IsOfSomeFrom};
 
 use crate::crossing::{Crossed, cross};
-use crate::forking::{Forked, follow_all, follow_each};
-use crate::readings::Readings;
+use crate::nothing::follow_each;
 use crate::spread::Spread;
 use std::alloc::{AllocError, Global};
+use std::mem::replace;
+use ts_gss::Graph as Stacks;
 use ts_lexer::Tokens;
+use ts_places::is_of_nothing;
 use ts_reductions::{Setting, setting_of};
-use ts_steps::{Fork, FoundToken, ParseSetting, StackHead};
+use ts_steps::{ParseSetting, StackHead};
 use ts_table::Table;
-
-/// How many steps are followed on plain stacks. Where the ways to read a text come together soon,
-/// these cost less than the graph.
-const MOST_STEPS: u32 = 256;
 
 /// What stays the same on the graph of stacks, which is made where there is none yet.
 fn take_setting(
@@ -36,7 +32,8 @@ fn take_setting(
 ) -> Result<Setting, AllocError>
     requires short { size ≤ most_span }
     requires kept { IfSome kept.old (IsSetting table.now size) }
-    ensures { IfOk result (IsSetting table.now size) }
+    ensures setting { IfOk result (IsSetting table.now size) }
+    ensures taken { kept.new ≡ None }
 {
     match kept.take() {
         Some(setting) => Ok(setting),
@@ -47,155 +44,65 @@ fn take_setting(
     }
 }
 
-/// Goes back to where nothing was followed from a stack on. Stacks that were put there after it are
-/// taken out.
-fn begin_anew(alloc: Global, readings: &mut Readings, top: usize, stuck: Option<u32>)
-    requires { top < length readings.old.graph }
-    ensures graph { readings.new.graph ≡ take (top + 1) readings.old.graph }
-    ensures stuck { readings.new.stuck ≡ stuck }
-    ensures live { readings.new.live.items ≡ [] }
-    ensures best { readings.new.best ≡ None }
-{
-    readings.graph.cut(top);
-    readings.stuck = stuck;
-    readings.live = Vec::new(alloc);
-    readings.best = None;
-}
-
-/// Follows all ways on the graph of stacks. None where it would begin at the start of the text, and
-/// the text has nothing but extras before a token on which a reduction over nothing stays; nothing
-/// is changed then.
-fn follow_graph<L: Tokens>(
-    alloc: Global,
+/// Whether extras alone lie on a stack, and the text has nothing but extras before a token on which
+/// a reduction over nothing stays.
+fn is_nothing<L: Tokens>(
     table: &Table,
     setting: &Setting,
     lexer: &mut L,
     text: &L::Text,
-    readings: &mut Readings,
+    stacks: &Stacks,
     start: StackHead,
-    spread: &mut Spread,
-) -> Result<Option<Forked>, AllocError>
+) -> bool
     requires made { L.made_for lexer.old table.now }
     requires setting { IsSetting table.now (length (L.Text.bytes text.now)) setting.now }
-    requires short { length (L.Text.bytes text.now) ≤ most_span }
-    requires own { IsOwnHead table.now (length (L.Text.bytes text.now)) readings.old.graph start }
-    requires fork { IsFork table.now.grammar (L.Text.bytes text.now)
-        (config_of readings.old.graph start) }
-    requires one { IsOneStack readings.old.graph start.top }
-    requires alone { readings.old.live.items ≡ [] }
-    requires best { readings.old.best ≡ None }
+    requires there { start.top < length stacks.now }
     ensures made { L.made_for lexer.new table.now }
-    ensures follows { IfOk result (λ o. IfSome o (ComesTo table.now (L.Text.bytes text.now)
-        readings.old.graph readings.new.graph readings.old.stuck readings.new.stuck
-        readings.new.live.items readings.new.best start)) }
-    ensures nothing { IfOk result (λ o. o ≡ None
-        → IsOfNothing table.now (L.Text.bytes text.now)) }
-    ensures kept { IfOk result (λ o. o ≡ None → readings.new ≡ readings.old) }
+    ensures some { result ≡ false
+        → IsOfSomeFrom table.now (L.Text.bytes text.now) stacks.now start }
 {
-    let stacks = &mut readings.graph;
-    let known = readings.stuck;
-    match cross(
-        alloc, table, setting, lexer, text, stacks, start, known, spread,
-    )? {
-        None => Ok(None),
-        Some(crossed) => match crossed {
-            Crossed::One(left, stuck) => {
-                readings.graph = left.stacks;
-                readings.stuck = stuck;
-                Ok(Some(Forked::One(left.head, None)))
-            }
-            Crossed::Told(outcome) => Ok(Some(Forked::Over(outcome))),
-        },
+    if stacks.state(start.top) != 0 {
+        return false;
     }
-}
-
-/// Follows all ways on the graph of stacks, and on plain stacks where the text is of nothing.
-fn follow_long<L: Tokens>(
-    alloc: Global,
-    table: &Table,
-    setting: &ParseSetting,
-    lexer: &mut L,
-    text: &L::Text,
-    readings: &mut Readings,
-    kept: &mut Option<Setting>,
-    start: StackHead,
-    found: FoundToken,
-    spread: &mut Spread,
-) -> Result<Forked, AllocError>
-    requires made { L.made_for lexer.old table.now }
-    requires setting { IsParseSetting table.now (length (L.Text.bytes text.now)) setting.now }
-    requires own { IsOwnHead table.now (length (L.Text.bytes text.now)) readings.old.graph start }
-    requires sees { IsTokenAhead table.now (L.Text.bytes text.now) readings.old.graph start found }
-    requires fork { IsFork table.now.grammar (L.Text.bytes text.now)
-        (config_of readings.old.graph start) }
-    requires kept { IfSome kept.old (IsSetting table.now (length (L.Text.bytes text.now))) }
-    requires one { IsOneStack readings.old.graph start.top }
-    requires alone { readings.old.live.items ≡ [] }
-    requires best { readings.old.best ≡ None }
-    ensures made { L.made_for lexer.new table.now }
-    ensures follows { IfOk result (ComesTo table.now (L.Text.bytes text.now) readings.old.graph
-        readings.new.graph readings.old.stuck readings.new.stuck readings.new.live.items
-        readings.new.best start) }
-    ensures kept { OnOk result (IfSome kept.new
-        (IsSetting table.now (length (L.Text.bytes text.now)))) }
-{
-    let lines = take_setting(alloc, table, kept, setting.size)?;
-    let crossed = follow_graph(alloc, table, &lines, lexer, text, readings, start, spread)?;
-    *kept = Some(lines);
-    match crossed {
-        Some(forked) => Ok(forked),
-        None => {
-            let out = follow_each(alloc, table, setting, lexer, text, readings, start, found)?;
-            Ok(Forked::Over(out))
-        }
-    }
+    is_of_nothing(table, setting, lexer, text)
 }
 
 /// Follows all ways to read a text from a stack on, on whose token several moves stay, until one
-/// stack is left, before any tree is accepted, or there is none.
+/// stack is left, before any tree is accepted, or there is none. This is the greatest place at
+/// which one stopped before.
 pub(crate) fn follow_fork<L: Tokens>(
     alloc: Global,
     table: &Table,
     setting: &ParseSetting,
     lexer: &mut L,
     text: &L::Text,
-    readings: &mut Readings,
+    stacks: &mut Stacks,
+    start: StackHead,
+    before: Option<u32>,
     kept: &mut Option<Setting>,
-    fork: Fork,
     spread: &mut Spread,
-) -> Result<Forked, AllocError>
+) -> Result<Crossed, AllocError>
     requires made { L.made_for lexer.old table.now }
     requires setting { IsParseSetting table.now (length (L.Text.bytes text.now)) setting.now }
-    requires own { IsOwnHead table.now (length (L.Text.bytes text.now)) readings.old.graph
-        fork.head }
-    requires sees { IsTokenAhead table.now (L.Text.bytes text.now) readings.old.graph fork.head
-        fork.found }
-    requires fork { IsFork table.now.grammar (L.Text.bytes text.now)
-        (config_of readings.old.graph fork.head) }
+    requires own { IsOwnHead table.now (length (L.Text.bytes text.now)) stacks.old start }
+    requires fork { IsFork table.now.grammar (L.Text.bytes text.now) (config_of stacks.old start) }
+    requires one { IsOneStack stacks.old start.top }
     requires kept { IfSome kept.old (IsSetting table.now (length (L.Text.bytes text.now))) }
-    requires one { IsOneStack readings.old.graph fork.head.top }
-    requires alone { readings.old.live.items ≡ [] }
-    requires best { readings.old.best ≡ None }
     ensures made { L.made_for lexer.new table.now }
-    ensures follows { IfOk result (ComesTo table.now (L.Text.bytes text.now) readings.old.graph
-        readings.new.graph readings.old.stuck readings.new.stuck readings.new.live.items
-        readings.new.best fork.head) }
+    ensures comes { IfOk result (ComesTo table.now (L.Text.bytes text.now) stacks.old before
+        start) }
     ensures kept { OnOk result (IfSome kept.new
         (IsSetting table.now (length (L.Text.bytes text.now)))) }
 {
-    let Fork { head, found } = fork;
-    let before = readings.stuck;
-    let limit = MOST_STEPS;
-    match follow_all(
-        alloc, table, setting, lexer, text, readings, head, found, limit,
-    )? {
-        Some(forked) => Ok(forked),
-        None => {
-            begin_anew(alloc, readings, head.top, before);
-            let forked = follow_long(
-                alloc, table, setting, lexer, text, readings, kept, head, found, spread,
-            )?;
-            Ok(forked)
-        }
+    let lines = take_setting(alloc, table, kept, setting.size)?;
+    if is_nothing(table, &lines, lexer, text, stacks, start) {
+        let outcome = follow_each(alloc, table, setting, lexer, text)?;
+        return Ok(Crossed::Told(outcome));
     }
+    let own = replace(stacks, Stacks::new(alloc));
+    let crossed = cross(
+        alloc, table, &lines, lexer, text, own, start, before, spread,
+    )?;
+    *kept = Some(lines);
+    Ok(crossed)
 }
