@@ -6,6 +6,8 @@ use Rattle.std.proofs.lemmas.Option.{slice_get_within}
 use Rattle.ts_base.specs.Bytes.{Bytes}
 use Rattle.spec_grammar.specs.Symbols.{symbol_count}
 use Rattle.spec_tables.specs.Fit.{Fit}
+use Rattle.spec_runs.specs.Outcomes.{Fresh}
+use Rattle.spec_forced.specs.Sound.{States}
 use Rattle.spec_trees.specs.declared.tree.Tree.{Tree}
 use Rattle.spec_trees.specs.Trees.{is_extra_node, span_of, all_spans, bare}
 use Rattle.spec_trees.specs.Made.{filling}
@@ -17,21 +19,19 @@ use Rattle.ts_table.specs.declared.view.ParseTable.{ParseTable}
 use Rattle.ts_table.specs.Tables.{IsTable}
 use Rattle.ts_table.specs.Ranks.{unit_rank}
 use Rattle.ts_gss.specs.declared.layer.Layer.{Layer}
-use Rattle.ts_gss.specs.Stacks.{stack_at, trees_on, LieInOne, IsOneStack}
+use Rattle.ts_gss.specs.Stacks.{stack_at, trees_on}
 use Rattle.ts_graph.specs.declared.view.GraphView.{GraphView}
 use Rattle.ts_graph.specs.Ways.{AreAt}
 use Rattle.ts_reductions.specs.declared.setting.Setting.{Setting}
 use Rattle.ts_reductions.specs.SoundLinks.{bare_links}
 use Rattle.ts_reductions.specs.Sound.{parsing_from, IsSoundBy}
-use Rattle.ts_steps.specs.declared.found.FoundToken.{FoundToken}
 use Rattle.ts_steps.specs.declared.head.StackHead.{StackHead}
 use Rattle.ts_steps.specs.LiveHeads.{config_of, packed_of}
-use Rattle.ts_steps.specs.Heads.{IsOwnHead}
+use Rattle.ts_steps.specs.Heads.{AreStatesOf, IsOwnHead}
 use Rattle.ts_places.specs.Frontiers.{StandsFrom}
 use Rattle.ts_places.specs.Best.{CanChoose, IsBestOn}
 use Rattle.ts_crossing.specs.declared.leaving.Left.{Left}
 use Rattle.ts_graph.specs.Under.{layers_of}
-use Rattle.ts_crossing.specs.Entering.{CanEnter}
 use Rattle.ts_crossing.specs.Leaving.{IsStack, HasNoStack, IsLeft}
 use Rattle.ts_crossing.proofs.BareLemmas.{filling_bare, filling_tree}
 use Rattle.ts_crossing.proofs.MemberLemmas.{first_contained, contained_at, place_is_at}
@@ -45,14 +45,13 @@ use Rattle.ts_places.specs.Following.{CanFollow}
 use Rattle.ts_glr.specs.declared.crossing.Asked.{Asked}
 use Rattle.ts_glr.specs.declared.crossing.Asked.TheVariants.{Waits, Fails, Leaves}
 use Rattle.ts_glr.specs.declared.crossing.Crossed.{Crossed}
-use Rattle.ts_glr.specs.declared.crossing.Crossed.TheVariants.{One, Told}
-use Rattle.ts_glr.specs.declared.readings.Readings.{Readings}
 use Rattle.ts_glr.specs.declared.spread.Spread.{Spread}
 use Rattle.ts_glr.specs.Laws.{PackingLaws}
+use Rattle.ts_glr.specs.Outcomes.{value_of_outcome, IsTreeOf, IsOwnOutcome, IsSoundOutcome}
 use Rattle.ts_glr.specs.CrossLaws.{LeftLaws, OverLaws}
 use Rattle.ts_glr.specs.Turns.{turn_weight}
-use Rattle.ts_glr.specs.Forks.{LeavesOne, EndsAll, SeesKnown}
-use Rattle.ts_glr.specs.Spreading.{IsOfSomeFrom, StaysSpread, IsSpread, IsSpreadOut, IsSpreadDeep, GoesBackTo, IsSpreadFor, IsLeftOf, AsksFor, Crosses}
+use Rattle.ts_glr.specs.Forks.{LeavesOne, EndsAll, ComesTo}
+use Rattle.ts_glr.specs.Spreading.{StaysSpread, IsSpread, IsSpreadOut, IsSpreadDeep, GoesBackTo, IsSpreadFor, IsLeftOf, AsksFor}
 use Rattle.ts_glr.proofs.RestLemmas.{rests_start}
 use Rattle.ts_glr.proofs.TurnLemmas.{turn_far}
 
@@ -100,7 +99,7 @@ waits_there t text s first h spread p head alone =
     slice_get_within spread.graph.heads head st.0 st.1
 
 module _ (laws : LeftLaws) (over : OverLaws) (t : ParseTable) (table : IsTable t) (ranks : (x : ℕ) → unit_rank t.grammar x < symbol_count t.grammar) (text : Bytes) (s : Setting) (stacks : List (List Layer)) (before stuck : Option ℕ) (start : StackHead)
-    (from : ℕ) (spread : Spread) (all : IsSpreadFor t text s stacks start from spread) (l : Left) (w : IsLeftOf spread from l) where
+    (spread : Spread) (all : IsSpreadFor t text s stacks start spread) (l : Left) (w : IsLeftOf spread start.place l) where
   abbrev first : List (List Layer)
   first = all.first
 
@@ -126,7 +125,7 @@ module _ (laws : LeftLaws) (over : OverLaws) (t : ParseTable) (table : IsTable t
   place_is = w.is.place ∙ place_is_at spread.graph.heads w.head stands.0 stands.1
 
   far : start.place < l.head.place
-  far = let a = w.past in let b = stands.2 in let q = all.past in omega (arith, a, b, place_is, q)
+  far = let a = w.past in let b = stands.2 in omega (arith, a, b, place_is)
 
   own : IsOwnHead t (length text) l.stacks l.head
   own = laws.own t text p.base spread.graph w.head w.numbers w.foot l.stacks l.head sound there w.stack w.is p.own
@@ -144,24 +143,19 @@ module _ (laws : LeftLaws) (over : OverLaws) (t : ParseTable) (table : IsTable t
   lighter : turn_weight t.grammar (length text) (config_of l.stacks l.head) < turn_weight t.grammar (length text) (config_of stacks start)
   lighter = turn_far t.grammar ranks (length text) (config_of stacks start) (config_of l.stacks l.head) far own.live.stack.within low
 
-  leaves : ((q : ℕ) → IsPastStuck before q → IsPastStuck stuck q) → ((q : ℕ) → IsPastStuck spread.ends.stuck q → IsPastStuck stuck q) → ((q : ℕ) → stuck ≡ Some q → (before ≡ Some q) ⊎ (spread.ends.stuck ≡ Some q))
-      → LeavesOne t text stacks l.stacks before stuck [] None start l.head
-  leaves one other known = record {
+  pub left_one : ((q : ℕ) → IsPastStuck before q → IsPastStuck stuck q) → ((q : ℕ) → IsPastStuck spread.ends.stuck q → IsPastStuck stuck q) → ((q : ℕ) → stuck ≡ Some q → (before ≡ Some q) ⊎ (spread.ends.stuck ≡ Some q))
+      → LeavesOne t text stacks before stuck start l
+  left_one one other known = record {
     own = own;
+    one = w.is.one;
     far = (let f = far in omega (arith, f));
     lighter = lighter;
-    empty = refl;
-    none = refl;
     rests = λ r.
         let account = over.counted t text p.base spread.graph spread.place spread.ends None before stuck p.ends (over.nothing t text spread.graph spread.ends.accepting.items w.none) one other known in
         let past : h.place < spread.place = (let a = all.low in let b = w.past in omega (arith, a, b)) in
         laws.rests t text p.base spread.graph w.head w.numbers w.foot l.stacks l.head sound there w.stack w.is (packed_of first h) p.begun p.most p.can.whole.ranks spread.place p.can.whole.whole past alone before stuck account (all.back.rests before r);
     stand = λ states are stand. laws.stand t text p.base spread.graph w.head w.numbers w.foot l.stacks l.head sound there w.stack w.is table states are (p.stand states are (all.back.stand states are stand));
   }
-
-  pub left_one : ((q : ℕ) → IsPastStuck before q → IsPastStuck stuck q) → ((q : ℕ) → IsPastStuck spread.ends.stuck q → IsPastStuck stuck q) → ((q : ℕ) → stuck ≡ Some q → (before ≡ Some q) ⊎ (spread.ends.stuck ≡ Some q))
-      → LeavesOne t text stacks l.stacks before stuck [] None start l.head × IsOneStack l.stacks l.head.top
-  left_one one other known = (leaves one other known, w.is.one)
 
 -- ---- the outcome
 
@@ -201,31 +195,31 @@ module _ (over : OverLaws) (t : ParseTable) (text : Bytes) (first : List (List L
       sound = λ states are stand. tt;
     }
 
+-- where the outcome is known, it is so from each stack on
+pub all_end : (t : ParseTable) (text : Bytes) (stacks : List (List Layer)) (before : Option ℕ) (start : StackHead) (out : Outcome) → IsTreeOf t.grammar out → IsOwnOutcome t out → Fresh t.grammar text (value_of_outcome out)
+    → ((states : States) → AreStatesOf t states → IsSoundOutcome t states text out) → EndsAll t text stacks before start out
+all_end t text stacks before start out form own fresh sound = record { form = form; own = own; fresh = λ r. fresh; sound = λ states are stand. sound states are }
+
+-- a stack that was moved is the same
+pub comes_same : (t : ParseTable) (text : Bytes) (stacks own : List (List Layer)) (before : Option ℕ) (start : StackHead) (x : Crossed) → own ≡ stacks → ComesTo t text own before start x → ComesTo t text stacks before start x
+comes_same t text stacks own before start x is w = subst (λ (ss : List (List Layer)). ComesTo t text ss before start x) is w
+
 -- ---- the stack at which the graph begins
 
 pub from_stack : (t : ParseTable) (text : Bytes) (s : Setting) (stacks : List (List Layer)) (start : StackHead) (spread : Spread) → IsOwnHead t (length text) stacks start → IsSpread t text s stacks start spread
-    → IsSpreadFor t text s stacks start start.place spread
+    → IsSpreadFor t text s stacks start spread
 from_stack t text s stacks start spread own p = record {
   first = stacks;
   head = start;
   back = record { within = own.live.stack.within; rests = λ stuck r. r; stand = λ states are stand. stand };
   low = omega arith;
-  past = omega arith;
   laid = p;
 }
 
--- a stack that was moved is the same
-pub begun_same : (t : ParseTable) (text : Bytes) (s : Setting) (stacks own : List (List Layer)) (start : StackHead) (spread : Spread) → own ≡ stacks
-    → (CanEnter t text own start → IsOwnHead t (length text) own start → IsOfSomeFrom t text own start → IsSpread t text s own start spread)
-    → CanEnter t text stacks start → IsOwnHead t (length text) stacks start → IsOfSomeFrom t text stacks start → IsSpread t text s stacks start spread
-begun_same t text s stacks own start spread is =
-    subst (λ (ss : List (List Layer)). (CanEnter t text ss start → IsOwnHead t (length text) ss start → IsOfSomeFrom t text ss start → IsSpread t text s ss start spread)
-    → CanEnter t text stacks start → IsOwnHead t (length text) stacks start → IsOfSomeFrom t text stacks start → IsSpread t text s stacks start spread) (sym is) (λ known. known)
-
 -- the start of the text
-pub from_start : (packing : PackingLaws) (t : ParseTable) → Fit t.grammar → (text : Bytes) (s : Setting) (stacks first : List (List Layer)) (start : StackHead) (from : ℕ) (spread : Spread) → start.place ≤ from → first ≡ [] ∷ []
-    → IsSpread t text s first (record { top = 0; place = 0 }) spread → IsSpreadFor t text s stacks start from spread
-from_start packing t fit text s stacks first start from spread past is p = record {
+pub from_start : (packing : PackingLaws) (t : ParseTable) → Fit t.grammar → (text : Bytes) (s : Setting) (stacks first : List (List Layer)) (start : StackHead) (spread : Spread) → first ≡ [] ∷ []
+    → IsSpread t text s first (record { top = 0; place = 0 }) spread → IsSpreadFor t text s stacks start spread
+from_start packing t fit text s stacks first start spread is p = record {
   first = first;
   head = record { top = 0; place = 0 };
   back = subst (λ (ss : List (List Layer)). GoesBackTo t text stacks start ss (record { top = 0; place = 0 })) (sym is) (record {
@@ -234,7 +228,6 @@ from_start packing t fit text s stacks first start from spread past is p = recor
     stand = λ states are stand. tt;
   });
   low = omega arith;
-  past = past;
   laid = p;
 }
 
@@ -248,24 +241,8 @@ can_choose t text _ _ spread size p size_is = record {
 -- ---- by the answer
 
 -- the graph was followed over one more place
-pub spread_for : (t : ParseTable) (text : Bytes) (s : Setting) (stacks : List (List Layer)) (start : StackHead) (from : ℕ) (old new : Spread) (all : IsSpreadFor t text s stacks start from old) → IsSpread t text s all.first all.head new → IsSpreadFor t text s stacks start from new
-spread_for t text s stacks start from old new all laid = record { first = all.first; head = all.head; back = all.back; low = all.low; past = all.past; laid = laid }
-
--- what holds of the answer, if there is one
-pub has_it : {X : Type 0} (P : X → Type 0) (o : Option X) (x : X) → o ≡ Some x → IfSome o P → P x
-has_it {X = X} P o x is h = subst (λ (y : Option X). IfSome y P) is h
-
-module _ (t : ParseTable) (text : Bytes) (first : List (List Layer)) (before : Option ℕ) (h : StackHead) (x : Crossed) (crosses : Crosses t text first before h x) where
-  pub one_by : (l : Left) (stuck : Option ℕ) (live : List StackHead) (best : Option Tree) → x ≡ One l stuck → live ≡ [] → best ≡ None → LeavesOne t text first l.stacks before stuck live best h l.head × SeesKnown t text l.stacks l.head None × (LieInOne first h.top → IsOneStack l.stacks l.head.top)
-  one_by l stuck live best is empty none =
-      let w = subst (λ (y : Crossed). Crosses t text first before h y) is crosses in (
-        record { own = w.0.own; far = w.0.far; lighter = w.0.lighter; empty = empty; none = none; rests = w.0.rests; stand = w.0.stand },
-        (λ f e. absurd (let q : ◌≡◌ {A = Option FoundToken} None (Some f) = e in cc)),
-        λ lie. w.1,
-      )
-
-  pub told_by : (out : Outcome) → x ≡ Told out → EndsAll t text first before h out
-  told_by out is = subst (λ (y : Crossed). Crosses t text first before h y) is crosses
+pub spread_for : (t : ParseTable) (text : Bytes) (s : Setting) (stacks : List (List Layer)) (start : StackHead) (old new : Spread) (all : IsSpreadFor t text s stacks start old) → IsSpread t text s all.first all.head new → IsSpreadFor t text s stacks start new
+spread_for t text s stacks start old new all laid = record { first = all.first; head = all.head; back = all.back; low = all.low; laid = laid }
 
 pub left_by : (old new : Spread) (from : ℕ) (x : Asked) (l : Left) → x ≡ Leaves l → AsksFor old new from x → IsLeftOf old from l
 left_by old new from x l is a = subst (λ (y : Asked). AsksFor old new from y) is a
@@ -285,13 +262,12 @@ pub some_stack : (g : GraphView) (head : ℕ) (o : Option Left) (l : Left) → o
 some_stack g head o l is a = subst (λ (y : Option Left). IfSome y (λ (x : Left). (numbers : List ℕ) × (foot : ℕ) × (s : IsStack g head numbers foot) × IsLeft g head s.way x.stacks x.head)) is a
 
 -- what was begun for a stack stays so where all that was followed does
-pub stays_for : (t : ParseTable) (text : Bytes) (s : Setting) (stacks : List (List Layer)) (start : StackHead) (from : ℕ) (old new : Spread) → StaysSpread old new → IsSpreadFor t text s stacks start from old → IsSpreadFor t text s stacks start from new
-stays_for t text s stacks start from old new stays all = record {
+pub stays_for : (t : ParseTable) (text : Bytes) (s : Setting) (stacks : List (List Layer)) (start : StackHead) (old new : Spread) → StaysSpread old new → IsSpreadFor t text s stacks start old → IsSpreadFor t text s stacks start new
+stays_for t text s stacks start old new stays all = record {
   first = all.first;
   head = all.head;
   back = all.back;
   low = all.low;
-  past = all.past;
   laid = record {
     base = p.base;
     most = p.most;
@@ -310,7 +286,3 @@ stays_for t text s stacks start from old new stays all = record {
   where
     p : IsSpread t text s all.first all.head old
     p = all.laid
-
--- what is known with the same stacks is the same
-pub with_graph : (r : Readings) (ss : List (List Layer)) → ss ≡ r.graph → record { graph = ss; live = r.live; seen = r.seen; best = r.best; stuck = r.stuck } ≡ r
-with_graph r ss is = ap (λ (xs : List (List Layer)). record { graph = xs; live = r.live; seen = r.seen; best = r.best; stuck = r.stuck }) is

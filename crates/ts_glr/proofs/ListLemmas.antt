@@ -1,5 +1,5 @@
 -- What holds of each element of a list, or of some one.
-use Rattle.std.proofs.Common.{◌≡◌, sym, subst, refl, ℕ, ◌<◌, zero, suc, List, [], ◌∷◌, ◌++◌, length, get_or, ◌⊎◌, inl, inr, ⊎_elim, arith}
+use Rattle.std.proofs.Common.{◌≡◌, subst, refl, ℕ, ◌<◌, zero, suc, List, [], ◌∷◌, ◌++◌, length, get_or, ◌⊎◌, inl, inr, ⊎_elim, arith}
 use Rattle.std.specs.List.{Contains}
 use Rattle.ts_glr.specs.Lists.{OfEach, Any}
 
@@ -61,19 +61,3 @@ module _ {X : Type 0} where
   any_to P Q [] f a = absurd a
   any_to P Q (x ∷ xs) f (inl a) = f x (0, (omega arith), refl) a
   any_to P Q (x ∷ xs) f (inr a) = any_to P Q xs (λ y w p. f y (suc w.0, (let lt : w.0 < length xs = w.1 in omega arith), w.2) p) a
-
-  -- an element that stands last
-  pub each_last : (P : X → Type 0) (xs : List X) (y : X) (ys zs : List X) → zs ≡ xs ++ ys → OfEach P (xs ++ y ∷ ys) → OfEach P (zs ++ y ∷ [])
-  each_last P xs y ys zs is a =
-      let r = each_right P xs (y ∷ ys) a in
-      each_append P zs (y ∷ []) (subst (OfEach P) (sym is) (each_append P xs ys (each_left P xs (y ∷ ys) a) r.1)) (r.0, tt)
-
-  pub any_last : (P : X → Type 0) (xs : List X) (y : X) (ys zs : List X) → zs ≡ xs ++ ys → Any P (xs ++ y ∷ ys) → Any P (zs ++ y ∷ [])
-  any_last P xs y ys zs is a = ⊎_elim (λ b. front (any_left P xs ys b)) (λ b. back b) (any_cases P xs (y ∷ ys) a)
-    where
-      front : Any P (xs ++ ys) → Any P (zs ++ y ∷ [])
-      front b = any_left P zs (y ∷ []) (subst (Any P) (sym is) b)
-
-      back : Any P (y ∷ ys) → Any P (zs ++ y ∷ [])
-      back (inl b) = any_right P zs (y ∷ []) (inl b)
-      back (inr b) = front (any_right P xs ys b)

@@ -11,8 +11,6 @@ use Rattle.spec_packing.specs.Packing.{WasMet}
 use Rattle.spec_crossing.specs.Resting.{IsPastStuck, PackedRests}
 use Rattle.ts_table.specs.declared.view.ParseTable.{ParseTable}
 use Rattle.ts_gss.specs.declared.layer.Layer.{Layer}
-use Rattle.ts_gss.specs.Stacks.{LieInOne, IsOneStack}
-use Rattle.ts_steps.specs.declared.found.FoundToken.{FoundToken}
 use Rattle.ts_steps.specs.declared.head.StackHead.{StackHead}
 use Rattle.ts_steps.specs.Good.{EachTree}
 use Rattle.ts_steps.specs.LiveHeads.{config_of, packed_of}
@@ -21,12 +19,13 @@ use Rattle.ts_steps.specs.declared.reparsed.Reparsed.{Reparsed}
 use Rattle.ts_steps.specs.declared.reparsed.Reparsed.TheVariants.{Accepted, Stuck, Deep, Forks}
 use Rattle.ts_steps.specs.Heads.{IsOwnWithin, IsOwnHead, StandOnHead}
 use Rattle.ts_steps.specs.Reparsing.{OnFork, IsForkFrom, IsOwnResult, IsResult, ComesByLayers}
+use Rattle.ts_crossing.specs.declared.leaving.Left.{Left}
 use Rattle.ts_glr.specs.declared.outcome.Outcome.{Outcome}
-use Rattle.ts_glr.specs.declared.forking.Forked.{Forked}
-use Rattle.ts_glr.specs.declared.forking.Forked.TheVariants.{One, Over}
+use Rattle.ts_glr.specs.declared.crossing.Crossed.{Crossed}
+use Rattle.ts_glr.specs.declared.crossing.Crossed.TheVariants.{One, Told}
 use Rattle.ts_glr.specs.Laws.{PackingLaws}
 use Rattle.ts_glr.specs.Turns.{turn_weight}
-use Rattle.ts_glr.specs.Forks.{LeavesOne, EndsAll, SeesKnown, ComesTo}
+use Rattle.ts_glr.specs.Forks.{LeavesOne, EndsAll, ComesTo}
 use Rattle.ts_glr.proofs.TurnLemmas.{turn_le}
 use Rattle.ts_glr.proofs.RestLemmas.{rests_start, rests_on, rests_tree, rests_stuck}
 
@@ -42,11 +41,13 @@ own_start t size stacks is = subst (λ (s : List (List Layer)). IsOwnHead t size
   made = tt;
 })
 
-pub start_rests : (packing : PackingLaws) (t : ParseTable) → Fit t.grammar → (states : States) (text : Bytes) (stacks : List (List Layer)) (stuck : Option ℕ) → stacks ≡ [] ∷ [] → stuck ≡ None
-    → PackedRests t.grammar text stuck (packed_of stacks (record { top = 0; place = 0 })) × StandOnHead t states text stacks (record { top = 0; place = 0 })
-start_rests packing t fit states text stacks stuck is none =
-    subst (λ (s : List (List Layer)). PackedRests t.grammar text stuck (packed_of s (record { top = 0; place = 0 })) × StandOnHead t states text s (record { top = 0; place = 0 })) (sym is)
-    (rests_start packing t.grammar fit text stuck (λ q e. absurd (let f : ◌≡◌ {A = Option ℕ} None (Some q) = subst (λ (o : Option ℕ). o ≡ Some q) none e in cc)), tt)
+pub start_rests : (packing : PackingLaws) (t : ParseTable) → Fit t.grammar → (text : Bytes) (stacks : List (List Layer)) (stuck : Option ℕ) → stacks ≡ [] ∷ [] → stuck ≡ None → PackedRests t.grammar text stuck (packed_of stacks (record { top = 0; place = 0 }))
+start_rests packing t fit text stacks stuck is none =
+    subst (λ (s : List (List Layer)). PackedRests t.grammar text stuck (packed_of s (record { top = 0; place = 0 }))) (sym is)
+    (rests_start packing t.grammar fit text stuck (λ q e. absurd (let f : ◌≡◌ {A = Option ℕ} None (Some q) = subst (λ (o : Option ℕ). o ≡ Some q) none e in cc)))
+
+pub start_stands : (t : ParseTable) (states : States) (text : Bytes) (stacks : List (List Layer)) → stacks ≡ [] ∷ [] → StandOnHead t states text stacks (record { top = 0; place = 0 })
+start_stands t states text stacks is = subst (λ (s : List (List Layer)). StandOnHead t states text s (record { top = 0; place = 0 })) (sym is) tt
 
 -- ---- one stack
 
@@ -81,12 +82,12 @@ at_fork P r k is on = subst (λ (x : Reparsed). OnFork P x) is on
 
 -- ---- several stacks
 
-module _ (t : ParseTable) (text : Bytes) (first stacks : List (List Layer)) (before stuck : Option ℕ) (live : List StackHead) (best : Option Tree) (h : StackHead) (o : Forked) (comes : ComesTo t text first stacks before stuck live best h o) where
-  pub leaves_one : (k : StackHead) (known : Option FoundToken) → o ≡ One k known → LeavesOne t text first stacks before stuck live best h k × SeesKnown t text stacks k known × (LieInOne first h.top → IsOneStack stacks k.top)
-  leaves_one k known is = subst (λ (x : Forked). ComesTo t text first stacks before stuck live best h x) is comes
+module _ (t : ParseTable) (text : Bytes) (first : List (List Layer)) (before : Option ℕ) (h : StackHead) (o : Crossed) (comes : ComesTo t text first before h o) where
+  pub leaves_one : (l : Left) (stuck : Option ℕ) → o ≡ One l stuck → LeavesOne t text first before stuck h l
+  leaves_one l stuck is = subst (λ (x : Crossed). ComesTo t text first before h x) is comes
 
-  pub ends_all : (out : Outcome) → o ≡ Over out → EndsAll t text first before h out
-  ends_all out is = subst (λ (x : Forked). ComesTo t text first stacks before stuck live best h x) is comes
+  pub ends_all : (out : Outcome) → o ≡ Told out → EndsAll t text first before h out
+  ends_all out is = subst (λ (x : Crossed). ComesTo t text first before h x) is comes
 
 -- what is left weighs less than the stack from which the turn began
 pub turn_falls : (t : ParseTable) (text : Bytes) (old mid new : List (List Layer)) (h k : StackHead) (f : Fork) → IsForkFrom t text old mid h f

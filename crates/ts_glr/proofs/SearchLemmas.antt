@@ -1,7 +1,6 @@
 -- All runs are accounted for, from where one head is left to the outcome.
 use Rattle.std.proofs.Common.{◌≡◌, sym, ap, refl, subst, ℕ, ◌<◌, List, [], ◌∷◌, ◌++◌, length, Option, Some, None, ◌⊎◌, inl, inr, ⊎_elim, arith, length-append}
 use Rattle.ts_base.specs.Bytes.{Bytes}
-use Rattle.ts_core.specs.declared.flat.FlatGrammar.{FlatGrammar}
 use Rattle.spec_trees.specs.declared.tree.Tree.{Tree}
 use Rattle.spec_trees.specs.Trees.{bare}
 use Rattle.spec_tables.specs.Fit.{Fit}
@@ -9,7 +8,7 @@ use Rattle.spec_trees.specs.Choice.{Better}
 use Rattle.spec_runs.specs.Configurations.{Configuration}
 use Rattle.spec_runs.specs.Runs.{StepsOn, IsReached, AcceptsTree, StopsAt}
 use Rattle.spec_runs.specs.Outcomes.{SomeIsTooDeep, Fresh}
-use Rattle.spec_packing.specs.Packing.{PackedStack, Packs, WasMet, GoesThrough, PackedStepsOn, PackedIsTooDeep, joined_stacks}
+use Rattle.spec_packing.specs.Packing.{PackedStack, Packs, WasMet, GoesThrough, PackedStepsOn, PackedIsTooDeep}
 use Rattle.spec_crossing.specs.Resting.{AccountsFor, PackedRests}
 use Rattle.ts_table.specs.declared.view.ParseTable.{ParseTable}
 use Rattle.ts_gss.specs.declared.layer.Layer.{Layer}
@@ -20,17 +19,10 @@ use Rattle.ts_glr.specs.Lists.{OfEach, Any}
 use Rattle.ts_steps.specs.Heads.{IsOwnHead}
 use Rattle.ts_glr.specs.Steps.{HasForm, StandAfter}
 use Rattle.ts_glr.specs.Laws.{PackingLaws}
-use Rattle.ts_glr.specs.Joining.{IsTakenOut, JoinsOne}
 use Rattle.ts_glr.specs.Search.{StackStays, StacksStay, Keeps, AccountsForLayers, Spent, Searching}
 use Rattle.ts_glr.specs.Outcomes.{value_of_outcome, EndsAs, IsTreeOf}
-use Rattle.ts_glr.proofs.ListLemmas.{each_append, each_map, each_both, each_left, each_right, any_left, any_right, any_cases, any_map, any_both, each_last, any_last}
+use Rattle.ts_glr.proofs.ListLemmas.{each_append, each_map, each_both, each_left, each_right, any_left, any_right, any_cases, any_map, any_both}
 use Rattle.ts_glr.proofs.StackLemmas.{live_kept, packed_kept, own_is}
-
--- one head was joined with another, and stands for both
-pub record Joined (t : ParseTable) (text : Bytes) (stacks new : List (List Layer)) (rest now : List StackHead) (h : StackHead) : Type 0 where
-  pub joins : JoinsOne stacks new rest now h
-  pub live : IsLiveHead t (length text) new joins.joined
-  pub packed : packed_of new joins.joined ≡ joined_stacks (packed_of stacks joins.kept.head) (packed_of stacks joins.kept.other)
 
 module _ (packing : PackingLaws) (t : ParseTable) (fit : Fit t.grammar) (text : Bytes) where
   abbrev Live : List (List Layer) → StackHead → Type 0
@@ -38,10 +30,6 @@ module _ (packing : PackingLaws) (t : ParseTable) (fit : Fit t.grammar) (text : 
 
   abbrev LeadsBy : List (List Layer) → Configuration → StackHead → Type 0
   LeadsBy stacks c h = GoesThrough t.grammar text (packed_of stacks h) c
-
-  -- it leads on in both lists of stacks
-  abbrev InBoth : List (List Layer) → List (List Layer) → Configuration → StackHead → Type 0
-  InBoth new stacks c k = LeadsBy new c k × LeadsBy stacks c k
 
   abbrev Steps : List Tree → Configuration → PackedStack → List (List Layer) → StackHead → Type 0
   Steps trees c k stacks h = IsOwnHead t (length text) stacks h × StandAfter t text trees stacks h × StepsOn t.grammar text c (config_of stacks h) × PackedStepsOn t.grammar text k (packed_of stacks h)
@@ -60,26 +48,12 @@ module _ (packing : PackingLaws) (t : ParseTable) (fit : Fit t.grammar) (text : 
     some = inl (omega arith);
   }
 
-  pub rests_search : (stacks : List (List Layer)) (h : StackHead) (stuck : Option ℕ) → Searching t text stacks (h ∷ []) None stuck → PackedRests t.grammar text stuck (packed_of stacks h)
-  rests_search stacks h stuck s = record {
-    met = s.heads.0.1;
-    done = λ c reached. ⊎_elim (λ cov. inl cov) (λ w. inr (only_one c w)) (s.done c reached);
-    stuck_from = s.stuck_from;
-  }
-    where
-      only_one : (c : Configuration) → Any (LeadsBy stacks c) (h ∷ []) → GoesThrough t.grammar text (packed_of stacks h) c
-      only_one c (inl w) = w
-      only_one c (inr w) = absurd w
-
   covers_more : (c d : Configuration) (best best' : Option Tree) (stuck stuck' : Option ℕ) → Keeps t.grammar text d best best' stuck stuck' → AccountsFor t.grammar text best stuck c → AccountsFor t.grammar text best' stuck' c
   covers_more c d best best' stuck stuck' k cov = record {
     accepted = λ u a. k.others u (cov.accepted u a);
     places = λ q s. k.past q (cov.places q s);
     shallow = cov.shallow;
   }
-
-  pub all_live : (stacks : List (List Layer)) (live : List StackHead) (best : Option Tree) (stuck : Option ℕ) → Searching t text stacks live best stuck → OfEach (λ k. IsLiveHead t (length text) stacks k) live
-  all_live stacks live best stuck s = each_map (Live stacks) (λ (k : StackHead). IsLiveHead t (length text) stacks k) live (λ k w. w.0) s.heads
 
   -- what is accounted for at layers is at each configuration for which they stand
   covers_packed : (c : Configuration) (stacks : List (List Layer)) (h : StackHead) (best : Option Tree) (stuck : Option ℕ) → IsReached t.grammar text c → WasMet t.grammar text (packed_of stacks h) → Packs (packed_of stacks h) c
@@ -96,9 +70,6 @@ module _ (packing : PackingLaws) (t : ParseTable) (fit : Fit t.grammar) (text : 
   -- the head that stands last
   pub head_there : (stacks : List (List Layer)) (rest : List StackHead) (h : StackHead) (best : Option Tree) (stuck : Option ℕ) → Searching t text stacks (rest ++ h ∷ []) best stuck → Live stacks h
   head_there stacks rest h best stuck s = (each_right (Live stacks) rest (h ∷ []) s.heads).0
-
-  pub rest_live : (stacks : List (List Layer)) (rest : List StackHead) (h : StackHead) (best : Option Tree) (stuck : Option ℕ) → Searching t text stacks (rest ++ h ∷ []) best stuck → OfEach (λ k. IsLiveHead t (length text) stacks k) rest
-  rest_live stacks rest h best stuck s = each_left (λ (k : StackHead). IsLiveHead t (length text) stacks k) rest (h ∷ []) (all_live stacks (rest ++ h ∷ []) best stuck s)
 
   live_still : (old new : List (List Layer)) (h : StackHead) → StackStays old new h → Live old h → Live new h
   live_still old new h stays l = (
@@ -159,97 +130,6 @@ module _ (packing : PackingLaws) (t : ParseTable) (fit : Fit t.grammar) (text : 
           (λ more. ⊎_elim (λ deep. absurd (sp.covers.shallow deep)) (λ next. inr (next_leads c next)) more)
           (packing.on t.grammar fit text (packed_of old h) c met w)
       in_head c r (inr w) = absurd w
-
-  -- ---- the choice of the next head, and joining
-
-  -- one head stands last
-  pub search_taken : (stacks : List (List Layer)) (live rest : List StackHead) (h : StackHead) (best : Option Tree) (stuck : Option ℕ) → IsTakenOut stacks live rest h → Searching t text stacks live best stuck → Searching t text stacks (rest ++ h ∷ []) best stuck
-  search_taken stacks live rest h best stuck k s = record {
-    heads = each_last (Live stacks) k.left h k.right rest k.new_is (subst (OfEach (Live stacks)) k.old_is s.heads);
-    done = λ c r. ⊎_elim (λ cov. inl cov) (λ w. inr (any_last (LeadsBy stacks c) k.left h k.right rest k.new_is (subst (Any (LeadsBy stacks c)) k.old_is w))) (s.done c r);
-    tree_from = s.tree_from;
-    stuck_from = s.stuck_from;
-    some = inl (omega (arith, length-append rest (h ∷ [])));
-  }
-
-  -- two heads as one lead to what both lead to
-  pub search_joined : (stacks new : List (List Layer)) (rest live : List StackHead) (h : StackHead) (best : Option Tree) (stuck : Option ℕ) → StacksStay stacks new rest → Joined t text stacks new rest live h
-      → Searching t text stacks (rest ++ h ∷ []) best stuck → Searching t text new live best stuck
-  search_joined stacks new rest live h best stuck stay w s = record {
-    heads = subst (OfEach (Live new)) (sym j.new_is) (each_append (Live new) j.left (j.joined ∷ j.right) (each_left (Live new) j.left (j.other ∷ j.right) all) (joined_live, (each_right (Live new) j.left (j.other ∷ j.right) all).1));
-    done = λ c r. ⊎_elim (λ cov. inl cov) (λ u. inr (subst (Any (LeadsBy new c)) (sym j.new_is) (⊎_elim (λ v. in_rest c (in_old c v)) (λ v. in_head c v)
-        (any_cases (LeadsBy stacks c) rest (h ∷ []) u)))) (s.done c r);
-    tree_from = s.tree_from;
-    stuck_from = s.stuck_from;
-    some = inl (omega (arith, ap (λ (l : List StackHead). length l) j.new_is, length-append j.left (j.joined ∷ j.right)));
-  }
-    where
-      j : JoinsOne stacks new rest live h
-      j = w.joins
-
-      olds : OfEach (Live stacks) rest
-      olds = each_left (Live stacks) rest (h ∷ []) s.heads
-
-      both : OfEach (Live stacks) (j.left ++ j.other ∷ j.right)
-      both = subst (OfEach (Live stacks)) j.old_is olds
-
-      kept : OfEach (λ k. StackStays stacks new k × Live stacks k) rest
-      kept = each_both (StackStays stacks new) (Live stacks) (λ k. StackStays stacks new k × Live stacks k) rest (λ k a b. (a, b)) stay olds
-
-      all : OfEach (Live new) (j.left ++ j.other ∷ j.right)
-      all = subst (OfEach (Live new)) j.old_is (each_map (λ k. StackStays stacks new k × Live stacks k) (Live new) rest (λ k p. live_still stacks new k p.0 p.1) kept)
-
-      other_live : Live stacks j.other
-      other_live = (each_right (Live stacks) j.left (j.other ∷ j.right) both).0
-
-      last : Live stacks h
-      last = (each_right (Live stacks) rest (h ∷ []) s.heads).0
-
-      met_of : (k : StackHead) → (k ≡ j.other) ⊎ (k ≡ h) → WasMet t.grammar text (packed_of stacks k)
-      met_of k (inl is) = subst (λ (x : StackHead). WasMet t.grammar text (packed_of stacks x)) (sym is) other_live.1
-      met_of k (inr is) = subst (λ (x : StackHead). WasMet t.grammar text (packed_of stacks x)) (sym is) last.1
-
-      kept_is : (j.kept.head ≡ j.other) ⊎ (j.kept.head ≡ h)
-      kept_is = ⊎_elim (λ p. inl p.0) (λ p. inr p.0) j.kept_is.1
-
-      other_is : (j.kept.other ≡ j.other) ⊎ (j.kept.other ≡ h)
-      other_is = ⊎_elim (λ p. inr p.1) (λ p. inl p.1) j.kept_is.1
-
-      joined_live : Live new j.joined
-      joined_live = (
-        w.live,
-        subst (λ (k : PackedStack). WasMet t.grammar text k) (sym w.packed)
-            (packing.joined_met t.grammar text (packed_of stacks j.kept.head) (packed_of stacks j.kept.other) (met_of j.kept.head kept_is) (met_of j.kept.other other_is) j.kept_is.0),
-      )
-
-      by_either : (c : Configuration) → LeadsBy stacks c j.kept.head ⊎ LeadsBy stacks c j.kept.other → LeadsBy new c j.joined
-      by_either c u = subst (λ (k : PackedStack). GoesThrough t.grammar text k c) (sym w.packed)
-          (packing.leads t.grammar text (packed_of stacks j.kept.head) (packed_of stacks j.kept.other) c j.kept_is.0 u)
-
-      by_other : (c : Configuration) → LeadsBy stacks c j.other → LeadsBy new c j.joined
-      by_other c u = by_either c (⊎_elim (λ p. inl (subst (LeadsBy stacks c) (sym p.0) u)) (λ p. inr (subst (LeadsBy stacks c) (sym p.1) u)) j.kept_is.1)
-
-      by_head : (c : Configuration) → LeadsBy stacks c h → LeadsBy new c j.joined
-      by_head c u = by_either c (⊎_elim (λ p. inr (subst (LeadsBy stacks c) (sym p.1) u)) (λ p. inl (subst (LeadsBy stacks c) (sym p.0) u)) j.kept_is.1)
-
-      in_old : (c : Configuration) → Any (LeadsBy stacks c) rest → Any (InBoth new stacks c) (j.left ++ j.other ∷ j.right)
-      in_old c u = subst (Any (InBoth new stacks c)) j.old_is
-          (any_both (λ k. StackStays stacks new k × Live stacks k) (LeadsBy stacks c) (InBoth new stacks c) rest
-          (λ k p v. (subst (λ (d : PackedStack). GoesThrough t.grammar text d c) (sym (packed_kept t (length text) stacks new k p.0 p.1.0)) v, v)) kept u)
-
-      in_rest : (c : Configuration) → Any (InBoth new stacks c) (j.left ++ j.other ∷ j.right) → Any (LeadsBy new c) (j.left ++ j.joined ∷ j.right)
-      in_rest c u =
-          ⊎_elim (λ a. any_left (LeadsBy new c) j.left (j.joined ∷ j.right) (any_map (InBoth new stacks c) (LeadsBy new c) j.left (λ k p. p.0) a))
-          (λ b. any_right (LeadsBy new c) j.left (j.joined ∷ j.right) (here b))
-          (any_cases (InBoth new stacks c) j.left (j.other ∷ j.right) u)
-        where
-          here : Any (InBoth new stacks c) (j.other ∷ j.right) → Any (LeadsBy new c) (j.joined ∷ j.right)
-          here (inl p) = inl (by_other c p.1)
-          here (inr more) = inr (any_map (InBoth new stacks c) (LeadsBy new c) j.right (λ k p. p.0) more)
-
-      in_head : (c : Configuration) → Any (LeadsBy stacks c) (h ∷ []) → Any (LeadsBy new c) (j.left ++ j.joined ∷ j.right)
-      in_head c (inl u) = any_right (LeadsBy new c) j.left (j.joined ∷ j.right) (inl (by_head c u))
-      in_head c (inr u) = absurd u
 
   -- ---- the outcome
 

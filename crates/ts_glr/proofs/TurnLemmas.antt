@@ -19,12 +19,6 @@ heavier left more s b low high h le =
 wide : (size most : ℕ) → most + most ≤ (size + 3) * most
 wide size most = let x : (size + 3) * most ≡ size * most + 3 * most = add-mul size 3 most in omega (arith, x)
 
-one_more : (p q low high : ℕ) → p + low < q + high → p + suc low ≤ q + high
-one_more p q low high h = omega (arith, h)
-
-one_less : (p q low high : ℕ) → p + suc low ≤ q + high → p + low < q + high
-one_less p q low high h = omega (arith, h)
-
 byte_more : (left right b low high : ℕ) → suc left ≤ right → low < b → left * b + low < right * b + high
 byte_more left right b low high more small =
     let x : suc left * b ≤ right * b = mul-le-mul_right b more in
@@ -46,13 +40,6 @@ turn_more g size c d low high later w =
 -- where the place does not go back, what weighs no more does so for turns
 pub turn_le : (g : FlatGrammar) (size : ℕ) (c d : Configuration) → c.place ≤ d.place → config_weight g size d ≤ config_weight g size c → turn_weight g size d ≤ turn_weight g size c
 turn_le g size c d later w = turn_more g size c d (config_climb g d) (config_climb g c) later w
-
--- and what weighs less
-pub turn_lt : (g : FlatGrammar) (size : ℕ) (c d : Configuration) → c.place ≤ d.place → config_weight g size d < config_weight g size c → turn_weight g size d < turn_weight g size c
-turn_lt g size c d later w =
-    one_less ((size - d.place) * most_climb g size) ((size - c.place) * most_climb g size) (config_climb g d) (config_climb g c)
-    (turn_more g size c d (suc (config_climb g d)) (config_climb g c) later
-    (one_more ((size - d.place) * (symbol_count g + symbol_count g)) ((size - c.place) * (symbol_count g + symbol_count g)) (config_climb g d) (config_climb g c) w))
 
 climb_small : (rank : ℕ → ℕ) (most height size : ℕ) (o : Option ℕ) → ((x : ℕ) → rank x < most) → 0 < most → height ≤ size → climb rank most height o < (size + 3) * most
 climb_small rank most height size None ranks some low = let x : (size + 3) * most ≡ size * most + 3 * most = add-mul size 3 most in omega (arith, x, some)

@@ -30,7 +30,6 @@ pub(crate) enum Moved {
 
 /// Does one action on the token that a head sees. All stacks stay, and a node that is made has no
 /// state.
-#[inline(always)]
 fn act(
     alloc: Global,
     table: &Table,
@@ -79,7 +78,6 @@ fn act(
 }
 
 /// Adds what an action came to, and tells whether a node would be too deep.
-#[inline(always)]
 fn add(live: &mut Vec<StackHead>, moved: Moved) -> Result<bool, AllocError>
     ensures deep { IfOk result (λ b. b ≡ is_deep moved) }
     ensures live { OnOk result (live.new.items ≡ live.old.items ++ heads_of moved) }
@@ -95,7 +93,6 @@ fn add(live: &mut Vec<StackHead>, moved: Moved) -> Result<bool, AllocError>
 }
 
 /// Does each action on the token that a head sees, and tells whether a node would be too deep.
-#[inline(always)]
 pub(crate) fn act_all(
     alloc: Global,
     table: &Table,

@@ -28,7 +28,6 @@ use ts_table::Table;
 
 /// Does all that the token that a head sees asks for, and tells whether a node would be too deep.
 /// All stacks stay.
-#[inline(always)]
 fn follow(
     alloc: Global,
     table: &Table,
@@ -71,7 +70,6 @@ fn follow(
 
 /// Follows a head by one step in all ways, and tells whether a node would be too deep. All stacks
 /// stay.
-#[inline(always)]
 fn advance<L: Tokens>(
     alloc: Global,
     table: &Table,

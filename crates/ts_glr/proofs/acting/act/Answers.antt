@@ -1,6 +1,4 @@
-use Rattle.std.proofs.Common.{refl}
 use Rattle.ts_glr.proofs.ActLemmas.{shift_room, reduce_stays, accept_stays, some_seen, seen_within, acted_shift, acted_reduce, acted_too_deep, acted_accept}
-use Rattle.ts_glr.proofs.SeenLemmas.{seen_stay, seen_next}
 use Rattle.ts_glr.proofs.acting.act.Goals as goal
 
 pub shift-requires-clause-room : goal.shift-requires-clause-room
@@ -33,8 +31,8 @@ returns-in_ok-next-in-Shift-clause-acted c text long ahead =
     acted_shift c.laws_hold.ensures c.args.table.now c.args.setting.now.size c.args.readings.now.graph c.args.head c.args.found c.args.action c.requires.acts text long ahead c.stands.ensures c.requires.live c.shift.new.graph c.args.readings.now.best
     c.in-Shift.state c.in_ok-next-in-Shift.next c.in-Shift.is c.in_ok-next-in-Shift.ensures.config c.in_ok-next-in-Shift.ensures.layers c.in_ok-next-in-Shift.ensures.live c.in_ok-next-in-Shift.ensures.stand
 
-pub returns-in_ok-note-in-Some-clause-acted : goal.returns-in_ok-note-in-Some-clause-acted
-returns-in_ok-note-in-Some-clause-acted c text long ahead =
+pub returns-in-Some-clause-acted : goal.returns-in-Some-clause-acted
+returns-in-Some-clause-acted c text long ahead =
     acted_reduce c.laws_hold.ensures c.args.table.now c.args.setting.now.size c.args.readings.now.graph c.args.head c.args.found c.args.action c.requires.acts text long ahead c.stands.ensures c.requires.live c.reduce.new.graph c.args.readings.now.best
     c.in-Reduce.number c.in_ok-next-in-Reduce.field-0 c.in-Some.next c.in-Some.is c.in-Reduce.is c.in_ok-next-in-Reduce.ensures.done c.in_ok-next-in-Reduce.ensures.live c.in_ok-next-in-Reduce.ensures.stand
 
@@ -47,16 +45,3 @@ pub returns-in_ok-node-in-Accept-clause-acted : goal.returns-in_ok-node-in-Accep
 returns-in_ok-node-in-Accept-clause-acted c text long ahead =
     acted_accept c.laws_hold.ensures c.args.table.now c.args.setting.now.size c.args.readings.now.graph c.args.head c.args.found c.args.action c.requires.acts text long ahead c.stands.ensures c.requires.live c.args.readings.now.graph c.args.readings.now.best
     c.in_ok-node-in-Accept.node c.keep.new.best c.in-Accept.is c.in_ok-node-in-Accept.ensures.root c.keep.ensures.kept c.in_ok-node-in-Accept.ensures.own c.in_ok-node-in-Accept.ensures.state c.in_ok-node-in-Accept.ensures.sound
-
-pub returns-in_ok-next-in-Shift-clause-seen : goal.returns-in_ok-next-in-Shift-clause-seen
-returns-in_ok-next-in-Shift-clause-seen c text long ahead all = seen_stay c.args.table.now text c.args.readings.now.graph c.shift.new.graph c.args.readings.now.seen.items c.in_ok-next-in-Shift.ensures.grows all
-
-pub returns-in_ok-note-in-Some-clause-seen : goal.returns-in_ok-note-in-Some-clause-seen
-returns-in_ok-note-in-Some-clause-seen c text long ahead all =
-    let next = seen_next c.laws_hold.ensures c.again_laws_hold.ensures c.args.table.now text c.args.setting.now.size c.args.readings.now.graph c.reduce.new.graph c.args.head c.in-Some.next c.args.found c.args.action c.in-Reduce.number c.in_ok-next-in-Reduce.field-0 long c.stands.ensures c.requires.acts c.in-Reduce.is
-    c.in-Some.is c.in_ok-next-in-Reduce.ensures.done c.in_ok-next-in-Reduce.ensures.live ahead in
-    c.in_ok-note-in-Some.ensures text next.0 next.1
-    (seen_stay c.args.table.now text c.args.readings.now.graph c.reduce.new.graph c.args.readings.now.seen.items (c.in_ok-next-in-Reduce.ensures.grows refl) all)
-
-pub returns-in-None-clause-seen : goal.returns-in-None-clause-seen
-returns-in-None-clause-seen c text long ahead all = seen_stay c.args.table.now text c.args.readings.now.graph c.reduce.new.graph c.args.readings.now.seen.items (c.in_ok-next-in-Reduce.ensures.grows refl) all

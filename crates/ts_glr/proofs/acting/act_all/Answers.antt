@@ -17,7 +17,6 @@ loop-action-init c = record {
   grows = grows_none c.args.readings.now.graph;
   form = c.requires.form;
   stuck = refl;
-  seen = λ text long ahead all. all;
   acting = λ text long ahead.
       acting_begins c.args.table.now text (trees_on (stack_at c.args.readings.now.graph c.args.head.top)) (config_of c.args.readings.now.graph c.args.head) (packed_of c.args.readings.now.graph c.args.head) c.args.found c.args.readings.now.graph c.args.readings.now.live.items c.args.readings.now.best;
 }
@@ -49,9 +48,6 @@ returns-then-branch-clause-deep c true_is =
           (sym c.in_ok-add.ensures.deep ∙ c.if-branch.true),
     )
 
-pub returns-then-branch-clause-seen : goal.returns-then-branch-clause-seen
-returns-then-branch-clause-seen c text long ahead all = c.in_ok-moved.ensures.seen text long (ahead_stays c.args.table.now c.args.setting.now.size text c.args.readings.now.graph c.loop-action.readings.graph c.args.head c.args.found c.loop-action.invariant.grows c.requires.live.live ahead) (c.loop-action.invariant.seen text long ahead all)
-
 pub loop-action-preserved : goal.loop-action-preserved
 loop-action-preserved c =
     let item : Action = slice_index_or c.args.actions.now c.loop-action.action-index (Shift 0) in
@@ -60,7 +56,6 @@ loop-action-preserved c =
       grows = grows_more c.args.readings.now.graph c.loop-action.readings.graph c.act.new.readings.graph c.loop-action.invariant.grows c.in_ok-moved.ensures.grows;
       form = c.in_ok-moved.ensures.form;
       stuck = c.in_ok-moved.ensures.stuck ∙ c.loop-action.invariant.stuck;
-      seen = λ text long ahead all. c.in_ok-moved.ensures.seen text long (ahead_stays c.args.table.now c.args.setting.now.size text c.args.readings.now.graph c.loop-action.readings.graph c.args.head c.args.found c.loop-action.invariant.grows c.requires.live.live ahead) (c.loop-action.invariant.seen text long ahead all);
       acting = λ text long ahead. subst (λ (done : List Action). Acting c.args.table.now text trees c.act.new.readings.graph (config_of c.args.readings.now.graph c.args.head) (packed_of c.args.readings.now.graph c.args.head) c.args.found done c.args.readings.now.live.items c.add.new.live.items c.args.readings.now.best c.act.new.readings.best)
           (sym (take_more c.args.actions.now c.loop-action.action-index (Shift 0) c.loop-action-test.true))
           (acting_more c.args.table.now text trees (config_of c.args.readings.now.graph c.args.head) (packed_of c.args.readings.now.graph c.args.head) c.args.found c.loop-action.readings.graph c.act.new.readings.graph c.args.head (take c.loop-action.action-index c.args.actions.now) item c.in_ok-moved.moved

@@ -5,7 +5,6 @@ use Rattle.ts_steps.specs.LiveHeads.{config_of, packed_of, GainsStacks}
 use Rattle.ts_steps.specs.Looking.{IsTokenAhead}
 use Rattle.ts_glr.specs.Steps.{HasForm}
 use Rattle.ts_glr.specs.Search.{Acting}
-use Rattle.ts_glr.specs.Seeing.{AreSeen}
 use Rattle.ts_glr.proofs.acting.act_all.Given as goal
 
 abbrev pub invariant-loop-action : goal.invariant-loop-action
@@ -13,8 +12,6 @@ invariant-loop-action l = record {
   grows : GainsStacks l.initial.readings.graph l.readings.graph;
   form : HasForm l.table.grammar l.readings.best;
   stuck : l.readings.stuck ≡ l.initial.readings.stuck;
-  seen : (text : Bytes) → length text ≡ l.setting.size → IsTokenAhead l.table text l.initial.readings.graph l.head l.found
-      → AreSeen l.table text l.initial.readings.graph l.initial.readings.seen.items → AreSeen l.table text l.readings.graph l.readings.seen.items;
   acting : (text : Bytes) → length text ≡ l.setting.size → IsTokenAhead l.table text l.initial.readings.graph l.head l.found
       → Acting l.table text (trees_on (stack_at l.initial.readings.graph l.head.top)) l.readings.graph (config_of l.initial.readings.graph l.head) (packed_of l.initial.readings.graph l.head) l.found (take l.action-index l.actions) l.initial.readings.live.items l.readings.live.items l.initial.readings.best l.readings.best;
 }

@@ -3,7 +3,6 @@ use Rattle.ts_glr.proofs.laws.packing_laws_hold.Goals as goal
 pub returns : goal.returns
 returns c = record {
   no_better = c.no_better_through.ensures;
-  same_tree = c.trees_serve.ensures.same;
   own = c.packed_stacks_follow.ensures.own;
   met = c.packed_stacks_follow.ensures.met;
   too_deep = c.packed_stacks_follow.ensures.deep;
@@ -11,6 +10,4 @@ returns c = record {
   deep = c.packed_stacks_end.ensures.deep;
   stops = c.packed_stacks_end.ensures.stops;
   accepts = c.packed_stacks_end.ensures.accepts;
-  leads = c.packed_stacks_join.ensures.leads;
-  joined_met = c.packed_stacks_join.ensures.met;
 }

@@ -6,7 +6,7 @@ use Rattle.ts_steps.specs.LiveHeads.{config_of, packed_of}
 use Rattle.ts_steps.specs.Looking.{SeesAhead}
 use Rattle.ts_glr.proofs.StackLemmas.{grows_none, own_is}
 use Rattle.ts_glr.proofs.SpentLemmas.{spent_absent}
-use Rattle.ts_glr.proofs.following.advance.Goals as goal
+use Rattle.ts_glr.proofs.nothing.advance.Goals as goal
 
 pub returns-in-Absent-clause-grows : goal.returns-in-Absent-clause-grows
 returns-in-Absent-clause-grows g c = grows_none c.args.readings.now.graph
@@ -14,5 +14,5 @@ returns-in-Absent-clause-grows g c = grows_none c.args.readings.now.graph
 pub returns-in-Absent-clause-done : goal.returns-in-Absent-clause-done
 returns-in-Absent-clause-done g c shallow =
     spent_absent c.laws_hold.ensures c.args.table.now (g.L.Text.Content.bytes c.args.text.now) (config_of c.args.readings.now.graph c.args.head) (packed_of c.args.readings.now.graph c.args.head) (own_is c.args.readings.now.graph c.args.head) c.in-Absent.place
-    (subst (λ (l : Lexed). SeesAhead c.args.table.now (g.L.Text.Content.bytes c.args.text.now) c.args.readings.now.graph c.args.head l) c.in-Absent.is c.look_once.ensures.sees)
+    (subst (λ (l : Lexed). SeesAhead c.args.table.now (g.L.Text.Content.bytes c.args.text.now) c.args.readings.now.graph c.args.head l) c.in-Absent.is c.look.ensures.sees)
     (trees_on (stack_at c.args.readings.now.graph c.args.head.top)) c.args.readings.now.graph (most_actions c.args.table.now) c.args.readings.now.live.items c.args.readings.now.best c.args.readings.now.stuck c.stick.new.stuck c.stick.ensures.mine c.stick.ensures.others c.stick.ensures.from

@@ -4,8 +4,7 @@ use Rattle.ts_core.specs.declared.action.Action.{Action}
 use Rattle.ts_table.specs.Tables.{IsStateOf, ActsBy}
 use Rattle.ts_steps.specs.LiveHeads.{read_on}
 use Rattle.ts_glr.proofs.FollowLemmas.{none_there, some_there, head_state, follow_room, follow_passes, follow_acts, follow_deep}
-use Rattle.ts_glr.proofs.SeenLemmas.{seen_stay}
-use Rattle.ts_glr.proofs.following.follow.Goals as goal
+use Rattle.ts_glr.proofs.nothing.follow.Goals as goal
 
 pub pass-requires-clause-room : goal.pass-requires-clause-room
 pass-requires-clause-room c =
@@ -42,6 +41,3 @@ returns-clause-done c shallow text stuck long ahead =
     let exact : (a : Action) → Contains c.actions-actions.result.now a ↔ ActsBy c.args.table.now (read_on c.args.readings.now.graph c.args.head) c.args.found.token.0 a = λ a. c.actions-actions.ensures.exact (read_on c.args.readings.now.graph c.args.head) a st in
     follow_acts c.laws_hold.ensures c.args.table.now c.stands.ensures c.args.setting.now.size c.args.readings.now.graph c.args.head c.args.found c.state.result st c.actions-actions.result.now exact text ahead c.act_all.new.readings.graph c.args.readings.now.live.items c.act_all.new.readings.live.items c.args.readings.now.best c.act_all.new.readings.best stuck
     (some_there c.actions-actions.result.now c.is_empty.result c.if-is_empty.false c.is_empty.ensures) c.actions-actions.ensures.few (c.in_ok-deep.ensures.done shallow text long ahead)
-
-pub returns-then-is_empty-clause-seen : goal.returns-then-is_empty-clause-seen
-returns-then-is_empty-clause-seen c text long ahead all = seen_stay c.args.table.now text c.args.readings.now.graph c.pass.new.graph c.args.readings.now.seen.items c.in_ok-next.ensures.grows all
