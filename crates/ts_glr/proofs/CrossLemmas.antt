@@ -201,8 +201,8 @@ pub all_end : (t : ParseTable) (text : Bytes) (stacks : List (List Layer)) (befo
 all_end t text stacks before start out form own fresh sound = record { form = form; own = own; fresh = λ r. fresh; sound = λ states are stand. sound states are }
 
 -- a stack that was moved is the same
-pub comes_same : (t : ParseTable) (text : Bytes) (stacks own : List (List Layer)) (before : Option ℕ) (start : StackHead) (x : Crossed) → own ≡ stacks → ComesTo t text own before start x → ComesTo t text stacks before start x
-comes_same t text stacks own before start x is w = subst (λ (ss : List (List Layer)). ComesTo t text ss before start x) is w
+pub comes_same : (t : ParseTable) (text : Bytes) (stacks moved : List (List Layer)) (before : Option ℕ) (start : StackHead) (x : Crossed) → moved ≡ stacks → ComesTo t text moved before start x → ComesTo t text stacks before start x
+comes_same t text stacks moved before start x is w = subst (λ (ss : List (List Layer)). ComesTo t text ss before start x) is w
 
 -- ---- the stack at which the graph begins
 

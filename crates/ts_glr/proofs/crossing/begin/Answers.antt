@@ -16,8 +16,8 @@ begin-requires-clause-can c = c.requires.can
 pub begin-requires-clause-one : goal.begin-requires-clause-one
 begin-requires-clause-one c = c.requires.one
 
-pub returns-then-state : goal.returns-then-state
-returns-then-state c t text s can own some setting =
+pub returns-then-state-ne0 : goal.returns-then-state-ne0
+returns-then-state-ne0 c t text s can own some setting =
     from_stack t text s c.args.stacks c.args.start c.begin.new.self own (c.in_ok-begin.ensures t text s can own some setting)
 
 pub begin-requires-2-clause-can : goal.begin-requires-2-clause-can
@@ -36,4 +36,4 @@ returns c t text s can own some setting =
     let none = c.new-none.result in
     let start = subst (λ (ss : List (List Layer)). CanEnter t text ss (record { top = 0; place = 0 })) (sym c.new-none.ensures) (c.own_stacks_enter.ensures.start t text can.table can.short) in
     from_start c.packing_laws_hold.ensures t can.table.fit text s c.args.stacks none c.args.start c.begin-2.new.self c.new-none.ensures
-    (c.in_ok-begin-2.ensures t text s start (own_start t (length text) none c.new-none.ensures) (λ zero. some (c.if-state.false)) setting)
+    (c.in_ok-begin-2.ensures t text s start (own_start t (length text) none c.new-none.ensures) (λ zero. some (c.if-state-ne0.false)) setting)

@@ -22,5 +22,7 @@ leave-requires-clause-stack c =
 
 pub returns-in_ok-left-in-Some-clause-left : goal.returns-in_ok-left-in-Some-clause-left
 returns-in_ok-left-in-Some-clause-left c =
-    let s = leave-requires-clause-stack c in
+    let s : IsStack c.args.spread.now.graph c.args.head c.as_slice-links.result.now c.in-Some.foot =
+    subst (λ (ns : List ℕ). IsStack c.args.spread.now.graph c.args.head ns c.in-Some.foot) (sym c.as_slice-links.ensures.value)
+    (found_by c.args.spread.now.graph c.args.head c.one_stack.new.numbers.items c.in_ok-one_stack.field-0 c.in-Some.foot c.in-Some.is c.in_ok-one_stack.ensures) in
     (c.as_slice-links.result.now, c.in-Some.foot, s, c.in_ok-left-in-Some.ensures s)

@@ -1,4 +1,4 @@
-use Rattle.std.specs.Global.{vec_len}
+use Rattle.std.specs.Vec.{vec_len}
 use Rattle.ts_glr.proofs.EachLemmas.{begins, none_left, some_end, form_over, fresh_over, own_over, sound_over, head_own, taken_deep, follows_falls, follows}
 use Rattle.ts_glr.proofs.nothing.follow_each.Goals as goal
 

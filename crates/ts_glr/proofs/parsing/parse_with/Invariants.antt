@@ -12,8 +12,8 @@ use Rattle.ts_steps.specs.Reparsing.{AreHonest, AreHonestlyLent}
 use Rattle.ts_glr.specs.Turns.{turn_weight}
 use Rattle.ts_glr.proofs.parsing.parse_with.Given as goal
 
-abbrev pub invariant-loop : goal.invariant-loop
-invariant-loop g l = record {
+abbrev pub invariant-loop-spread : goal.invariant-loop-spread
+invariant-loop-spread g l = record {
   made : g.L.Tokens.made_for l.lexer l.table;
   least : g.O.Offers.least l.offers ≤ l.head.place;
   gives : (place state : ℕ) (t : Tree) → g.O.Offers.gives l.offers place state t → g.O.Offers.gives l.initial.offers place state t;
@@ -26,5 +26,5 @@ invariant-loop g l = record {
       → PackedRests l.table.grammar (g.L.Text.Content.bytes l.text) l.stuck (packed_of l.stacks l.head) × StandOnHead l.table states (g.L.Text.Content.bytes l.text) l.stacks l.head;
 }
 
-abbrev pub decreases-loop : goal.decreases-loop
-decreases-loop g l = turn_weight l.table.grammar (length (g.L.Text.Content.bytes l.text)) (config_of l.stacks l.head)
+abbrev pub decreases-loop-spread : goal.decreases-loop-spread
+decreases-loop-spread g l = turn_weight l.table.grammar (length (g.L.Text.Content.bytes l.text)) (config_of l.stacks l.head)
