@@ -8,8 +8,8 @@ use Rattle.spec_tables.specs.Actions.{Move, Act, shift, reduce, accept}
 use Rattle.spec_tables.specs.Items.{IsToken}
 use Rattle.spec_trees.specs.declared.tree.Tree.{Tree}
 use Rattle.spec_trees.specs.Made.{most_span}
-use Rattle.spec_trees.specs.Trees.{children_of, state_of, tree_depth, bare}
-use Rattle.spec_runs.specs.Configurations.{Configuration, pushed, token_tree, IsReduction}
+use Rattle.spec_trees.specs.Trees.{children_of, state_of, bare}
+use Rattle.spec_runs.specs.Configurations.{Configuration, pushed, token_tree}
 use Rattle.spec_packing.specs.Packing.{PackedTree, PackedStack, packed_with, IsPackedReduction}
 use Rattle.spec_packing.proofs.OneLemmas.{one_packed}
 use Rattle.spec_forced.specs.Sound.{States, IsSound}

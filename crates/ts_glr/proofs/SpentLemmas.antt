@@ -15,7 +15,7 @@ use Rattle.spec_trees.specs.declared.tree.Tree.{Tree}
 use Rattle.spec_trees.specs.Trees.{bare}
 use Rattle.spec_trees.specs.Made.{as_extra}
 use Rattle.spec_runs.specs.Configurations.{Configuration, stack_symbols, pushed, token_tree, HasMove, NextIs}
-use Rattle.spec_runs.specs.Runs.{StepsOn, shift_token, pass_extra, reduce_trees, CanMove, ComesTooDeep, StopsAt}
+use Rattle.spec_runs.specs.Runs.{StepsOn, shift_token, pass_extra, reduce_trees, CanMove, StopsAt}
 use Rattle.spec_packing.specs.Packing.{PackedStack, packed_trees, own_config, packed_with, PackedStepsOn, shift_packed, pass_packed, reduce_packed, PackedIsTooDeep}
 use Rattle.spec_crossing.specs.Resting.{Withstands, IsPastStuck}
 use Rattle.ts_table.specs.declared.view.ParseTable.{ParseTable}

@@ -1,4 +1,4 @@
-use Rattle.std.proofs.Common.{sym, subst, List, length}
+use Rattle.std.proofs.Common.{◌∙◌, sym, subst, List, length}
 use Rattle.ts_gss.specs.declared.layer.Layer.{Layer}
 use Rattle.ts_gss.specs.Stacks.{IsOneStack}
 use Rattle.ts_gss.proofs.OneLemmas.{one_first}
@@ -36,4 +36,4 @@ returns c t text s can own some setting =
     let none = c.new-none.result in
     let start = subst (λ (ss : List (List Layer)). CanEnter t text ss (record { top = 0; place = 0 })) (sym c.new-none.ensures) (c.own_stacks_enter.ensures.start t text can.table can.short) in
     from_start c.packing_laws_hold.ensures t can.table.fit text s c.args.stacks none c.args.start c.begin-2.new.self c.new-none.ensures
-    (c.in_ok-begin-2.ensures t text s start (own_start t (length text) none c.new-none.ensures) (λ zero. some (c.if-state-ne0.false)) setting)
+    (c.in_ok-begin-2.ensures t text s start (own_start t (length text) none c.new-none.ensures) (λ zero. some (sym c.state.ensures ∙ c.if-state-ne0.false)) setting)

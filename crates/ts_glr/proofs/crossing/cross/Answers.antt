@@ -45,8 +45,8 @@ ending-requires g c =
       c.requires.setting.size_is,
     )
 
-pub returns-in_ok-crossed-in-Over-clause-comes : goal.returns-in_ok-crossed-in-Over-clause-comes
-returns-in_ok-crossed-in-Over-clause-comes g c =
+pub returns-in-Over-clause-comes : goal.returns-in-Over-clause-comes
+returns-in-Over-clause-comes g c =
     let t = c.args.table.now in
     let text = g.L.Text.Content.bytes c.args.text.now in
     let all = c.loop-spread.invariant.spread in
@@ -87,7 +87,8 @@ loop-spread-smaller g c =
     let w = passed_on t text c.args.setting.now c.loop-spread.invariant.spread.first c.loop-spread.invariant.spread.head c.loop-spread.spread c.pass.new.self c.in_ok-pass.field-0 (c.in_ok-pass.ensures.passes c.loop-spread.invariant.spread.first c.loop-spread.invariant.spread.head c.loop-spread.invariant.spread.laid) c.in-On.is in
     let within = w.0.within in
     let past = w.1 in
-    omega (arith, within, past)
+    let stays = (c.in_ok-ask_in_turn-in-On.ensures.stays c.in-None.is).place in
+    omega (arith, within, past, stays)
 
 pub loop-spread-preserved : goal.loop-spread-preserved
 loop-spread-preserved g c =
