@@ -1,6 +1,6 @@
 //! What the ways to read a text came to so far: an accepted tree or a stuck place goes in, and the
 //! better tree, or the greater place, is kept.
-ghost use Rattle.std.specs.Prelude.{◌≡◌, ℕ, ◌≤◌, ◌⊎◌, Some, true, false};
+ghost use Rattle.std.specs.Prelude.{◌≡◌, ℕ, ◌⊎◌, Some, true, false};
 ghost use Rattle.ts_core.specs.declared.flat.FlatGrammar.{FlatGrammar};
 ghost use Rattle.spec_trees.specs.Trees.{bare};
 ghost use Rattle.spec_trees.specs.Choice.{IsInForm};
@@ -36,24 +36,17 @@ pub(crate) fn keep(best: &mut Option<Node>, node: Node)
     }
 }
 
-/// Whether a place is past the greatest so far.
-fn goes_past(stuck: &Option<u32>, place: u32) -> bool
-    ensures yes { result ≡ true → (q : ℕ) → IsPastStuck stuck.now q → q ≤ place }
-    ensures no { result ≡ false → IsPastStuck stuck.now place }
+/// The greater of two places, or the one that there is.
+pub(crate) fn further(one: Option<u32>, other: Option<u32>) -> Option<u32>
+    ensures first { (q : ℕ) → IsPastStuck one q → IsPastStuck result q }
+    ensures second { (q : ℕ) → IsPastStuck other q → IsPastStuck result q }
+    ensures from { (q : ℕ) → result ≡ Some q → (one ≡ Some q) ⊎ (other ≡ Some q) }
 {
-    match stuck {
-        None => true,
-        Some(old) => *old < place,
-    }
-}
-
-/// Keeps the greater place.
-pub(crate) fn stick(stuck: &mut Option<u32>, place: u32)
-    ensures mine { IsPastStuck stuck.new place }
-    ensures others { (q : ℕ) → IsPastStuck stuck.old q → IsPastStuck stuck.new q }
-    ensures from { (q : ℕ) → stuck.new ≡ Some q → (stuck.old ≡ Some q) ⊎ (q ≡ place) }
-{
-    if goes_past(stuck, place) {
-        *stuck = Some(place);
+    match one {
+        None => other,
+        Some(place) => match other {
+            None => one,
+            Some(next) => { if place < next { other } else { one } }
+        },
     }
 }

@@ -1,11 +1,10 @@
 //! Following all ways to read a text on the graph of stacks, from a stack on at which several moves
 //! stay: the stack goes in; the one that is left comes out, or what the text comes to.
-ghost use Rattle.std.specs.Prelude.{◌≡◌, ℕ, ◌<◌, ◌≤◌, ◌⊎◌, ◌∷◌, [], true, List, length, Some, None, IfOk, IfSome, OnOk};
+ghost use Rattle.std.specs.Prelude.{◌≡◌, ℕ, ◌<◌, ◌≤◌, ◌∷◌, [], true, List, length, None, IfOk, IfSome, OnOk};
 ghost use Rattle.ts_base.specs.Bytes.{Bytes};
 ghost use Rattle.spec_trees.specs.Made.{most_span};
 ghost use Rattle.spec_forced.specs.OnlyRuns.{IsFork};
 ghost use Rattle.spec_graph.specs.Laying.{Parsing};
-ghost use Rattle.spec_crossing.specs.Resting.{IsPastStuck};
 ghost use Rattle.ts_table.specs.declared.view.ParseTable.{ParseTable};
 ghost use Rattle.ts_gss.specs.declared.layer.Layer.{Layer};
 ghost use Rattle.ts_gss.specs.Stacks.{IsOneStack};
@@ -20,6 +19,7 @@ ghost use Rattle.ts_crossing.specs.Leaving.{IsStack, IsLeft};
 ghost use Rattle.ts_glr.specs.Forks.{ComesTo};
 ghost use Rattle.ts_glr.specs.Spreading.{IsOfSomeFrom, IsSpread, IsSpreadOut, StaysSpread, GoesBackTo, IsSpreadFor, IsLeftOf, AsksFor};
 
+use crate::choosing::further;
 use crate::laws::{left_laws_hold, over_laws_hold, packing_laws_hold};
 use crate::outcome::Outcome;
 use crate::spread::{Passed, Spread};
@@ -48,21 +48,6 @@ pub(crate) enum Asked {
     /// Several ways lead down from the one head that waits.
     Fails,
     Leaves(Left),
-}
-
-/// The greater of two places, or the one that there is.
-fn further(one: Option<u32>, other: Option<u32>) -> Option<u32>
-    ensures first { (q : ℕ) → IsPastStuck one q → IsPastStuck result q }
-    ensures second { (q : ℕ) → IsPastStuck other q → IsPastStuck result q }
-    ensures from { (q : ℕ) → result ≡ Some q → (one ≡ Some q) ⊎ (other ≡ Some q) }
-{
-    match one {
-        None => other,
-        Some(place) => match other {
-            None => one,
-            Some(next) => { if place < next { other } else { one } }
-        },
-    }
 }
 
 /// Whether one head waits alone, past a place, and no tree was accepted.

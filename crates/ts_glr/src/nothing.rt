@@ -17,7 +17,7 @@ ghost use Rattle.ts_glr.specs.Steps.{HasForm};
 ghost use Rattle.ts_glr.specs.Search.{Spent};
 
 use crate::acting::act_all;
-use crate::choosing::stick;
+use crate::choosing::further;
 use crate::laws::{laws_hold, packing_laws_hold};
 use crate::outcome::Outcome;
 use crate::readings::{Readings, outcome, readings_of};
@@ -97,7 +97,7 @@ fn advance<L: Tokens>(
     laws_hold();
     match look(table, lexer, text, &readings.graph, head) {
         Lexed::Absent { place, extent: _ } => {
-            stick(&mut readings.stuck, place);
+            readings.stuck = further(readings.stuck, Some(place));
             Ok(false)
         }
         Lexed::Token {
