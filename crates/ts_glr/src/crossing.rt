@@ -107,23 +107,26 @@ fn ask(alloc: Global, spread: &mut Spread, from: u32) -> Result<Asked, AllocErro
     }
 }
 
-/// How many places were followed, and after how many one stack is asked for.
+/// How many links were walked in vain to ask for one stack that is left.
 #[derive(Drop)]
 struct Pace {
-    places: u32,
-    asked: u32,
+    walked: usize,
 }
 
 impl Pace {
-    /// One more place was followed. Whether one stack is asked for behind it.
-    fn is_due(&mut self) -> bool {
-        self.places = self.places.saturating_add(1);
-        self.places >= self.asked
+    /// Whether one stack is asked for where so many heads were made.
+    fn is_due(&self, made: usize) -> bool {
+        self.walked <= made
+    }
+
+    /// So many links more were walked in vain.
+    fn walk(&mut self, links: usize) {
+        self.walked = self.walked.saturating_add(links).saturating_add(1);
     }
 }
 
-/// The one stack that is left past a place, if it is asked for behind this place. Where several
-/// ways led down from the head that waits alone, it is asked for only after twice as many places.
+/// The one stack that is left past a place, if it is asked for behind this place: it is not where
+/// more links were walked in vain than heads were made.
 fn ask_in_turn(
     alloc: Global,
     spread: &mut Spread,
@@ -136,13 +139,14 @@ fn ask_in_turn(
     ensures stays { IfOk result (λ o. o ≡ None → StaysSpread spread.old spread.new) }
     ensures ends { spread.new.ends ≡ spread.old.ends }
 {
-    if !pace.is_due() {
+    let made = spread.graph.count().saturating_sub(spread.graph.base());
+    if !pace.is_due(made) {
         return Ok(None);
     }
     match ask(alloc, spread, from)? {
         Asked::Waits => Ok(None),
         Asked::Fails => {
-            pace.asked = pace.places.saturating_mul(2);
+            pace.walk(spread.numbers.len());
             Ok(None)
         }
         Asked::Leaves(left) => Ok(Some(left)),
@@ -203,10 +207,10 @@ fn begin(
 }
 
 /// Follows all ways to read a text on the graph of stacks, from a stack on, until one stack is
-/// left, before any tree is accepted, or there is none. Where one head waits alone and several
-/// ways lead down from it, it is asked again only after as many places as were followed so far:
-/// asking so costs little beside following, and at most twice as many places are followed as had
-/// to be.
+/// left, before any tree is accepted, or there is none. Where one head waits alone, links are
+/// walked down from it until several lead down from one head. Behind a place one stack is asked for
+/// unless more links were walked in vain than heads were made, so that asking costs little beside
+/// following.
 pub(crate) fn cross<L: Tokens>(
     alloc: Global,
     table: &Table,
@@ -234,10 +238,7 @@ pub(crate) fn cross<L: Tokens>(
     unit_ranks();
     table.stands();
     begin(alloc, stacks, start, spread)?;
-    let mut pace = Pace {
-        places: 0,
-        asked: 1,
-    };
+    let mut pace = Pace { walked: 0 };
     loop {
         match spread.pass(alloc, table, setting, lexer, text)? {
             Passed::Deep => return Ok(Crossed::Told(Outcome::Deep)),
