@@ -7,6 +7,8 @@ import subprocess
 import sys
 import time
 
+import tuning  # for the programs that are run
+
 TOP = os.path.dirname(os.path.dirname(os.path.abspath(__file__)))
 
 

@@ -228,6 +228,8 @@ fn tree_in(outcome: Outcome) -> Option<Node> {
 /// How much of an edit is done.
 #[derive(Clone, Copy, PartialEq)]
 enum Work {
+    /// The text is parsed whole again, and nothing of its tree is offered.
+    Whole,
     /// The text with the edit in it is made.
     Copied,
     /// It is parsed too, with what its marked tree offers.
@@ -306,6 +308,12 @@ fn edited(
     let Some(mut tree) = tree_in(parse_with(alloc, table, &mut lexer, &text, &mut Nothing)?) else {
         return Ok(tally);
     };
+    if work == Work::Whole {
+        for _ in 0..count {
+            let _again = tree_in(parse_with(alloc, table, &mut lexer, &text, &mut Nothing)?);
+        }
+        return Ok(tally);
+    }
     for number in 0..count {
         let at = (places.len() / 2 + (number as usize) * (step as usize)) % places.len();
         let Some(edit) = edit_at(alloc, places[at], number)? else {
@@ -388,6 +396,7 @@ fn main(rt: HostRuntime) -> io::Result<()> {
         return Ok(());
     };
     let work = match work.as_str() {
+        "whole" => Work::Whole,
         "copied" => Work::Copied,
         "parsed" => Work::Parsed,
         _ => Work::Noted,

@@ -1,5 +1,6 @@
 """The most memory that a program takes. The system begins its count with what whoever starts a program has in memory,
 so the program is started by GNU time, which is small."""
+import tuning  # for the programs that are run
 
 
 def under_time(report, words):
